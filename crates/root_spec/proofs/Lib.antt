@@ -1,0 +1,6 @@
+pub mod Isqrt
+pub mod RootOf
+pub mod Rounding
+pub mod Patterns
+pub mod Whole
+pub mod Floats

@@ -1,0 +1,5 @@
+pub mod Cases
+pub mod Scaling
+pub mod Sum
+pub mod Near
+pub mod HypotCases
