@@ -6,3 +6,4 @@ pub mod Whole
 pub mod Floats
 pub mod Halfway
 pub mod Values
+pub mod Correct
