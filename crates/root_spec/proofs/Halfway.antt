@@ -17,7 +17,7 @@ pub record Rounded (n u q c : ℕ) : Type 0 where
   pub even-low : c ≡ q + 1 → 4 * n ≡ (c + q) * (c + q) * u → c % 2 ≡ 0
   pub even-high : 4 * n ≡ (c + (c + 1)) * (c + (c + 1)) * u → c % 2 ≡ 0
 
-doubled : (x u : ℕ) → (x + x) * (x + x) * u ≡ 4 * (x * x * u)
+pub doubled : (x u : ℕ) → (x + x) * (x + x) * u ≡ 4 * (x * x * u)
 doubled x u = simp ring (omega arith)
 
 abbrev mid : ℕ → ℕ → ℕ

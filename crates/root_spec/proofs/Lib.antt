@@ -6,4 +6,5 @@ pub mod Whole
 pub mod Floats
 pub mod Halfway
 pub mod Values
+pub mod Neighbours
 pub mod Correct
