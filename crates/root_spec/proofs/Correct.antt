@@ -1,30 +1,27 @@
 -- `rootOf`, `sqrtOf` and `hypotOf` are correctly rounded, for every format and every fraction, in the words of specs/Nearest.antt. Assumes nothing.
 use mathlib.Core.Path.{_≡_, refl, sym, ap, _∙_, subst}
-use mathlib.Core.Bool.{Bool, true, false, cond, not, true≢false}
-use mathlib.Core.Logic.{_⊎_, inl, inr}
-use Prim.Native.Nat.{ℕ, zero, suc, _+_, _-_, _*_, _/_, _%_, _^_, _≤_, _<_, compare}
-use native.Mathlib.Nat.{le-of-mul-le-mul-right, mul-right-comm, mul-mul-mul-comm, pow-suc, eq-of-mul-eq-mul-right, zero-mul, add-zero, add-comm, le-refl, le-trans, le-of-eq, le-of-lt, le-antisymm, lt-of-lt-of-le, lt-of-le-of-lt, lt-irrefl, lt-of-not-le, eq-or-lt-of-le, eq-zero-or-pos, add-mul, mul-pos, mul-le-mul, mul-le-mul-left, mul-le-mul-right, mul-lt-mul-of-pos-right, lt-of-mul-lt-mul-right, mul-assoc, mul-comm, mul-left-comm, pow-succ', div-div-eq-div-mul}
+use mathlib.Core.Bool.{Bool, true, false, cond, true≢false}
+use mathlib.Core.Logic.{inl, inr}
+use Prim.Native.Nat.{ℕ, zero, suc, _+_, _*_, _%_, _^_, _≤_, _<_}
+use native.Mathlib.Nat.{le-of-mul-le-mul-right, mul-right-comm, mul-mul-mul-comm, pow-suc, eq-of-mul-eq-mul-right, zero-mul, add-comm, le-trans, le-of-eq, le-of-lt, le-antisymm, lt-of-lt-of-le, lt-of-le-of-lt, lt-irrefl, lt-of-not-le, eq-or-lt-of-le, add-mul, mul-pos, mul-le-mul-left, mul-le-mul-right, mul-lt-mul-of-pos-right, mul-assoc}
 use native.Mathlib.Omega.{arith}
 use native.Mathlib.Decide.{decLe}
-use lib.Arith.{le→nltb, lt-of-le-ne}
+use lib.Arith.{le→nltb}
 use lib.Dec.{T, ltb, eqb·suc-zero}
 use lib.IntN.{ℤ}
-use lib.Pow.{pow-add, pow-pos, pow-mono, pow-lt}
-use lib.Ieee.{Float, nan, inf, fin, Format, prec, emax, low, hid, up, down, size, nearest, odd, units, fits, toBits}
+use lib.Pow.{pow-add, pow-pos, pow-mono}
+use lib.Ieee.{Float, nan, inf, fin, Format, prec, emax, low, hid, up, down, odd, units, fits}
 use lib.Ieee.Bits.{cond-no}
-use lib.Ieee.Digits.{size-lt, size-reaches}
 use lib.Ieee.Exact.{HasValue}
-use lib.Ieee.Fits.{two, reach, down-pos, nearest-le}
+use lib.Ieee.Fits.{two, reach, down-pos}
 use Rattle.nat_laws.proofs.Ring.{ring}
-use Rattle.nat_laws.proofs.Power.{four, four-pos, quad, scaled}
-use Rattle.root_spec.specs.Root.{isqrt, rootOf, sqrtOf, hypotOf}
+use Rattle.nat_laws.proofs.Power.{four, four-pos, quad}
+use Rattle.root_spec.specs.Root.{rootOf, sqrtOf, hypotOf}
 use Rattle.root_spec.specs.Nearest.{Holds, root, middle, NearestRoot, largest, next}
-use Rattle.root_spec.proofs.Isqrt.{Rooted, rooted}
-use Rattle.root_spec.proofs.RootOf.{root-low, root-high}
 use Rattle.root_spec.proofs.Halfway.{doubled}
-use Rattle.root_spec.proofs.Patterns.{Keeps, pattern, twice-hid, units-hold}
-use Rattle.root_spec.proofs.Values.{Significand, highest, bounds, decompose, same-value, step-up, add-one-mul, largest-lt, largest-keeps, largest-holds, below-next, at-most-largest}
-use Rattle.root_spec.proofs.Neighbours.{Kept, keep, square-le, square-lt, square-up, even-bits, too-large, small-enough, units-nearest}
+use Rattle.root_spec.proofs.Patterns.{Keeps, pattern, units-hold}
+use Rattle.root_spec.proofs.Values.{bounds, decompose, same-value, step-up, add-one-mul, largest-lt, at-most-largest}
+use Rattle.root_spec.proofs.Neighbours.{keep, square-le, square-lt, square-up, too-large, small-enough, units-nearest}
 
 -- ---- every fraction
 units-infinite : (f : Format) (c k : ℕ) → next f ≤ c * 2 ^ k → units f false c k ≡ inf false

@@ -3,28 +3,26 @@
 -- at most q * 2 ^ k, where q is the root cut off, c or c - 1 (`step-up`). So the middle of the result and another value is at least (c + (c + 1)) / 2 or at most (c + q) / 2
 -- times 2 ^ k, and with these the root was compared (`halfway`). The overflow is the same argument, with 2 ^ (emax + 1) taken for a value.
 use mathlib.Core.Path.{_≡_, refl, sym, ap, _∙_, subst}
-use mathlib.Core.Bool.{Bool, true, false, cond, not}
-use mathlib.Core.Logic.{_⊎_, inl, inr}
-use Prim.Native.Nat.{ℕ, zero, suc, _+_, _-_, _*_, _/_, _%_, _^_, _≤_, _<_, compare}
+use mathlib.Core.Bool.{false}
+use mathlib.Core.Logic.{inl, inr}
+use Prim.Native.Nat.{ℕ, suc, _+_, _-_, _*_, _/_, _%_, _^_, _≤_, _<_, compare}
 use native.Mathlib.Nat.{add-zero, le-refl, le-trans, le-of-eq, le-of-lt, le-antisymm, lt-of-lt-of-le, lt-of-le-of-lt, lt-irrefl, lt-of-not-le, eq-or-lt-of-le, eq-zero-or-pos, add-mul, mul-pos, mul-le-mul, mul-le-mul-left, mul-le-mul-right, mul-lt-mul-of-pos-right, lt-of-mul-lt-mul-right, mul-assoc, mul-comm, mul-left-comm, pow-succ', div-div-eq-div-mul}
 use native.Mathlib.Omega.{arith}
 use native.Mathlib.Decide.{decLe}
-use lib.Arith.{le→nltb, lt-of-le-ne}
-use lib.Dec.{T, ltb}
-use lib.Pow.{pow-add, pow-pos, pow-mono, pow-lt}
-use lib.Ieee.{Float, nan, inf, fin, Format, prec, emax, low, hid, up, down, size, nearest, odd, units, fits, toBits}
-use lib.Ieee.Bits.{cond-no}
+use lib.Arith.{lt-of-le-ne}
+use lib.Pow.{pow-add, pow-pos, pow-mono}
+use lib.Ieee.{Float, Format, prec, low, hid, size, nearest, units, toBits}
 use lib.Ieee.Digits.{size-lt, size-reaches}
 use lib.Ieee.Exact.{HasValue}
-use lib.Ieee.Fits.{two, down-pos, nearest-le}
+use lib.Ieee.Fits.{two, nearest-le}
 use Rattle.nat_laws.proofs.Power.{four-pos, scaled}
-use Rattle.root_spec.specs.Root.{isqrt, rootOf, sqrtOf, hypotOf}
-use Rattle.root_spec.specs.Nearest.{Holds, root, middle, NearestRoot, largest, next}
+use Rattle.root_spec.specs.Root.{isqrt, rootOf}
+use Rattle.root_spec.specs.Nearest.{root, middle, NearestRoot, largest, next}
 use Rattle.root_spec.proofs.Isqrt.{Rooted, rooted}
 use Rattle.root_spec.proofs.RootOf.{root-low, root-high}
 use Rattle.root_spec.proofs.Halfway.{Rounded, halfway}
 use Rattle.root_spec.proofs.Patterns.{Keeps, pattern, twice-hid, units-hold}
-use Rattle.root_spec.proofs.Values.{Significand, highest, bounds, decompose, same-value, step-up, next-is, largest-next, largest-lt, largest-keeps, largest-holds, below-next, at-most-largest}
+use Rattle.root_spec.proofs.Values.{highest, decompose, step-up, next-is, largest-lt, largest-keeps, largest-holds, below-next}
 
 -- ---- squares
 pub square-le : (den a b : ℕ) → a ≤ b → a * a * den ≤ b * b * den
