@@ -6,13 +6,12 @@ use mathlib.Core.Path.{_≡_, refl, sym, ap, _∙_, subst}
 use mathlib.Core.Bool.{false}
 use mathlib.Core.Logic.{inl, inr}
 use Prim.Native.Nat.{ℕ, suc, _+_, _-_, _*_, _/_, _%_, _^_, _≤_, _<_, compare}
-use native.Mathlib.Nat.{add-zero, le-refl, le-trans, le-of-eq, le-of-lt, le-antisymm, lt-of-lt-of-le, lt-of-le-of-lt, lt-irrefl, lt-of-not-le, eq-or-lt-of-le, eq-zero-or-pos, add-mul, mul-pos, mul-le-mul, mul-le-mul-left, mul-le-mul-right, mul-lt-mul-of-pos-right, lt-of-mul-lt-mul-right, mul-assoc, mul-comm, mul-left-comm, pow-succ', div-div-eq-div-mul}
+use native.Mathlib.Nat.{add-zero, le-refl, le-trans, le-of-eq, le-of-lt, le-antisymm, lt-of-lt-of-le, lt-of-le-of-lt, lt-irrefl, lt-of-not-le, eq-or-lt-of-le, add-mul, mul-pos, mul-le-mul, mul-le-mul-left, mul-le-mul-right, mul-lt-mul-of-pos-right, mul-assoc, mul-comm, mul-left-comm, pow-succ', div-div-eq-div-mul}
 use native.Mathlib.Omega.{arith}
 use native.Mathlib.Decide.{decLe}
 use lib.Arith.{lt-of-le-ne}
-use lib.Pow.{pow-add, pow-pos, pow-mono}
+use lib.Pow.{pow-pos}
 use lib.Ieee.{Float, Format, prec, low, hid, size, nearest, units, toBits}
-use lib.Ieee.Digits.{size-lt, size-reaches}
 use lib.Ieee.Exact.{HasValue}
 use lib.Ieee.Fits.{two, nearest-le}
 use Rattle.nat_laws.proofs.Power.{four-pos, scaled}
@@ -22,7 +21,7 @@ use Rattle.root_spec.proofs.Isqrt.{Rooted, rooted}
 use Rattle.root_spec.proofs.RootOf.{root-low, root-high}
 use Rattle.root_spec.proofs.Halfway.{Rounded, halfway}
 use Rattle.root_spec.proofs.Patterns.{Keeps, pattern, twice-hid, units-hold}
-use Rattle.root_spec.proofs.Values.{highest, decompose, step-up, next-is, largest-lt, largest-keeps, largest-holds, below-next}
+use Rattle.root_spec.proofs.Values.{cut-digits, highest, decompose, step-up, next-is, largest-lt, largest-keeps, largest-holds, below-next}
 
 -- ---- squares
 pub square-le : (den a b : ℕ) → a ≤ b → a * a * den ≤ b * b * den
@@ -101,17 +100,22 @@ module _ (f : Format) (num den q c k : ℕ) (D : 0 < den) (keeps : Keeps (prec f
   -- less: the root is below that middle. Where it were at the middle, c would be the largest value's significand, which is odd
   pub small-enough : c * 2 ^ k < next f → middle den (largest f) (next f) ≤ root f num → ⊥
   small-enough l o =
-      let z : next f ≡ 2 ^ prec f * 2 ^ (highest f) = next-is f in
-      let l' : c * 2 ^ k < 2 ^ prec f * 2 ^ (highest f) = lt-of-lt-of-le l (le-of-eq z) in
-      let a : root f num ≤ middle den (c * 2 ^ k) (next f) = subst (λ (x : ℕ). root f num ≤ middle den (c * 2 ^ k) x) (sym z) (above (2 ^ prec f) (highest f) (le-refl (2 ^ prec f)) l') in
-      let g : largest f + next f ≤ c * 2 ^ k + next f = square-up den (largest f + next f) (c * 2 ^ k + next f) D (le-trans o a) in
-      let e : c * 2 ^ k ≡ largest f = le-antisymm (below-next f c k most l) (omega arith) in
+      let j = highest f in
+      let m = 2 ^ prec f - 1 in
+      let z : next f ≡ 2 ^ prec f * 2 ^ j = next-is f in
+      let g : c * 2 ^ k < 2 ^ prec f * 2 ^ j = lt-of-lt-of-le l (le-of-eq z) in
+      let a : root f num ≤ middle den (c * 2 ^ k) (next f) = rw z (above (2 ^ prec f) j (le-refl (2 ^ prec f)) g) in
+      let u : largest f + next f ≤ c * 2 ^ k + next f = square-up den (largest f + next f) (c * 2 ^ k + next f) D (le-trans o a) in
+      let e : c * 2 ^ k ≡ m * 2 ^ j = le-antisymm (below-next f c k most l) (omega arith) in
       let t : root f num ≡ middle den (c * 2 ^ k) (next f) = le-antisymm a (le-trans (le-of-eq (ap (λ (x : ℕ). middle den x (next f)) e)) o) in
-      let even : c % 2 ≡ 0 = even-above (2 ^ prec f) (highest f) (le-refl (2 ^ prec f)) l' (subst (λ (x : ℕ). root f num ≡ middle den (c * 2 ^ k) x) z t) in
-      let v = largest-holds f in
-      let w = subst (λ (x : ℕ). HasValue (units f false (2 ^ prec f - 1) (highest f)) false x (2 ^ low f)) (sym e) (v .1) in
-      odd-bits (2 ^ prec f) (hid f) (k * hid f + c) ((highest f) * hid f) (even-bits f c k even) (ap (λ (x : ℕ). x % 2) (sym (add-zero ((highest f) * hid f))) ∙ even-bits f 0 (highest f) refl) (twice-hid (prec f) (two f)) (pow-pos (prec f))
-      (sym (bits (units f false (2 ^ prec f - 1) (highest f)) w) ∙ pattern f (units f false (2 ^ prec f - 1) (highest f)) (2 ^ prec f - 1) (highest f) (v .1) (largest-keeps f) (omega arith))
+      let v = largest-holds f .1 in
+      let w = subst (λ (x : ℕ). HasValue (units f false m j) false x (2 ^ low f)) (sym e) v in
+      odd-bits (2 ^ prec f) (hid f) (k * hid f + c) (j * hid f)
+      (even-bits f c k (even-above (2 ^ prec f) j (le-refl (2 ^ prec f)) g (rw z at t)))
+      (ap (λ (x : ℕ). x % 2) (sym (add-zero (j * hid f))) ∙ even-bits f 0 j refl)
+      (twice-hid (prec f) (two f))
+      (pow-pos (prec f))
+      (sym (bits (units f false m j) w) ∙ pattern f (units f false m j) m j v (largest-keeps f) (omega arith))
     where
       odd-bits : (t h a b : ℕ) → a % 2 ≡ 0 → b % 2 ≡ 0 → t ≡ 2 * h → 0 < t → a ≡ b + (t - 1) → ⊥
       odd-bits t h a b x y e g i = omega arith
@@ -139,27 +143,6 @@ pub record Kept (f : Format) (num den : ℕ) : Type 0 where
   pub rounded : Rounded (num * 4 ^ low f) (den * 4 ^ k) q c
   pub is : rootOf f num den ≡ units f false c k
 
-root-keeps : (p w q : ℕ) → 2 ≤ p → Rooted (w / 4 ^ (size (isqrt w) - p)) q → Keeps p q (size (isqrt w) - p) × (q < 2 ^ p)
-root-keeps p w q P r =
-    let k = size (isqrt w) - p in (
-      elim (eq-zero-or-pos k) [
-        | inl z ↦ inl z
-        | inr g ↦
-            let l = lt-of-le-of-lt (le-trans (le-of-eq (sym (pow-add 2 (p - 1) k))) (size-reaches (isqrt w) (p - 1 + k) (more (size (isqrt w)) g))) (root-high w k q r) in
-            inr (back (2 ^ (p - 1)) (lt-of-mul-lt-mul-right (2 ^ k) l))
-      ],
-      lt-of-mul-lt-mul-right (2 ^ k) (lt-of-le-of-lt (root-low w k q r) (lt-of-lt-of-le (size-lt (isqrt w)) (le-trans (pow-mono (cover (size (isqrt w)))) (le-of-eq (pow-add 2 p k))))),
-    )
-  where
-    more : (z : ℕ) → 0 < z - p → p - 1 + (z - p) < z
-    more z g = omega arith
-
-    cover : (z : ℕ) → z ≤ p + (z - p)
-    cover z = omega arith
-
-    back : (a : ℕ) → a < q + 1 → a ≤ q
-    back a h = omega arith
-
 pub keep : (f : Format) (num den : ℕ) → 0 < den → Kept f num den
 unfolding rootOf
 keep f num den D =
@@ -168,7 +151,8 @@ keep f num den D =
     let k = size (isqrt w) - prec f in
     let u = den * 4 ^ k in
     let q = isqrt (n / u) in
-    let s = root-keeps (prec f) w q (two f) (subst (λ (x : ℕ). Rooted x q) (sym (div-div-eq-div-mul n den (4 ^ k))) (rooted (n / u))) in
+    let r : Rooted (w / 4 ^ k) q = subst (λ (x : ℕ). Rooted x q) (sym (div-div-eq-div-mul n den (4 ^ k))) (rooted (n / u)) in
+    let s = cut-digits (prec f) (isqrt w) q (two f) (root-low w k q r) (root-high w k q r) in
     record {
       q = q;
       c = nearest q (compare (4 * n) ((2 * q + 1) * (2 * q + 1) * u));
