@@ -4,3 +4,7 @@ pub mod Rounding
 pub mod Patterns
 pub mod Whole
 pub mod Floats
+pub mod Halfway
+pub mod Values
+pub mod Neighbours
+pub mod Correct

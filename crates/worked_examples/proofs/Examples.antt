@@ -1,0 +1,23 @@
+-- Every worked example comes out as the scope says, by computation. Assumes nothing.
+use mathlib.Core.Path.{_≡_, refl}
+use mathlib.Core.List.{List, [], _∷_, map, List·Memᴰ, List·Memᴰ·head, List·Memᴰ·tail, List·Memᴰ·not-nil}
+use lib.Count.{trailingZeros}
+use lib.Ieee.{size, span, climb, units, odd}
+use Rattle.root_spec.specs.Root.{isqrtIn, isqrt, rootOf, sqrtOf, hypotOf}
+use Rattle.worked_examples.specs.Examples.{Example, examples}
+
+abbrev AsExpected : List Example → Type 0
+AsExpected es = map (λ (e : Example). e .answer) es ≡ map (λ (e : Example). e .expected) es
+
+-- the one computation, over the whole list
+as-expected : AsExpected examples
+unfolding examples sqrtOf hypotOf rootOf isqrt isqrtIn size span climb units odd trailingZeros
+as-expected = refl
+
+among : (es : List Example) → AsExpected es → (e : Example) → List·Memᴰ e es → e .answer ≡ e .expected
+among [] h e m = absurd (List·Memᴰ·not-nil m)
+among (x ∷ es) h e (List·Memᴰ·head p) = cc
+among (x ∷ es) h e (List·Memᴰ·tail m) = among es (cc) e m
+
+pub every-example : (e : Example) → List·Memᴰ e examples → e .answer ≡ e .expected
+every-example e m = among examples as-expected e m
