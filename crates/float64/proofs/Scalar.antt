@@ -6,14 +6,16 @@ use native.Mathlib.Omega.{arith}
 use native.Mathlib.Nat.{mod-eq-of-lt}
 use lib.Dec.{T, ltb}
 use lib.IntN.{ℤ, pos}
-use lib.Ieee.{Float, nan, inf, fin, binary64, low, toBits, ofBits, fits, isNan, ne, lt, neg, div}
+use lib.Ieee.{Float, nan, inf, fin, Format, binary64, toBits, ofBits, fits, isNan, ne, lt, neg, div}
 use lib.Ieee.Bits.{is-false}
+use lib.Ieee.Fits.{inf-fits}
 use lib.Ieee.Compare.{differs-from-itself}
 use Rattle.root_spec.proofs.Floats.{no-nan}
 use borrow.Author.Tests.{lt-ltb, le-ltb}
 use Rattle.float64.specs.Scalar.{one, negative, absOf, isFinite}
 use Rattle.float64.specs.TotalOrder.{half}
-use Rattle.float64.proofs.Bits.{pattern, mag, toBits-fin, pattern-small, fin-below, fits-either}
+use Rattle.float64.proofs.Values.{fits-either}
+use Rattle.float64.proofs.Bits.{toBits-fin, pattern-small, fin-below}
 
 -- `x != x` is the test for a NaN
 pub nan-of : (x : Float) → ne x x ≡ true → isNan x ≡ true
@@ -66,14 +68,14 @@ abs-bits (inf false) p h = unfold toBits in refl
 abs-bits (fin true m e) p h = mod-half (toBits binary64 (fin true m e)) (toBits binary64 (fin false m e)) (omega (arith, toBits-fin false m e, pattern-small true m e p)) (omega (arith, toBits-fin true m e, toBits-fin false m e))
 abs-bits (fin false m e) p h = mod-eq-of-lt (omega (arith, toBits-fin false m e, pattern-small false m e p))
 
-pub abs-fits : (x : Float) → T (fits binary64 x) → T (fits binary64 (absOf x))
+pub abs-fits : (f : Format) (x : Float) → T (fits f x) → T (fits f (absOf x))
 unfolding absOf
-abs-fits nan p = p
-abs-fits (inf s) p = unfold fits in tt
-abs-fits (fin s m e) p = fits-either s false m e p
+abs-fits f nan p = p
+abs-fits f (inf s) p = inf-fits f false
+abs-fits f (fin s m e) p = fits-either f s false m e p
 
 pub abs-low : (x : Float) → T (fits binary64 x) → isNan x ≡ false → toBits binary64 (absOf x) ≤ 0x7ff0_0000_0000_0000
 unfolding absOf isNan
 abs-low nan p h = absurd (true≢false h)
 abs-low (inf s) p h = unfold toBits in omega arith
-abs-low (fin s m e) p h = omega (arith, toBits-fin false m e, fin-below m e (fits-either s false m e p))
+abs-low (fin s m e) p h = omega (arith, toBits-fin false m e, fin-below m e (fits-either binary64 s false m e p))

@@ -11,7 +11,8 @@ use lib.Ieee.Bits.{ofBits-toBits, toBits-lt}
 use borrow.Author.Tests.{lt-ltb, le-ltb}
 use Rattle.float64.specs.Scalar.{negative}
 use Rattle.float64.specs.TotalOrder.{half, turned, totalKey, totalLess}
-use Rattle.float64.proofs.Bits.{pattern, mag, toBits-fin, pattern-small, fin-below, fits-either, cross}
+use Rattle.float64.proofs.Values.{ulps, fits-either}
+use Rattle.float64.proofs.Bits.{pattern, toBits-fin, pattern-small, fin-below, cross}
 
 pub turned-low : (b : ℕ) → b < half → b + half ≡ turned b
 unfolding turned
@@ -22,17 +23,17 @@ unfolding turned
 turned-high b h = rw (le-ltb b half h) refl
 
 -- ---- keys of values
-key-plus : (m : ℕ) (e : ℤ) → T (fits binary64 (fin false m e)) → totalKey (fin false m e) ≡ half + pattern (mag (low binary64) m e)
+key-plus : (m : ℕ) (e : ℤ) → T (fits binary64 (fin false m e)) → totalKey (fin false m e) ≡ half + pattern (ulps binary64 m e)
 unfolding totalKey
 key-plus m e h =
-    let a : toBits binary64 (fin false m e) ≡ 0 + pattern (mag (low binary64) m e) = toBits-fin false m e in
+    let a : toBits binary64 (fin false m e) ≡ 0 + pattern (ulps binary64 m e) = toBits-fin false m e in
     let b : toBits binary64 (fin false m e) < half = omega (arith, a, pattern-small false m e h) in
     omega (arith, a, turned-low (toBits binary64 (fin false m e)) b)
 
-key-minus : (m : ℕ) (e : ℤ) → T (fits binary64 (fin true m e)) → totalKey (fin true m e) + pattern (mag (low binary64) m e) + 1 ≡ half
+key-minus : (m : ℕ) (e : ℤ) → T (fits binary64 (fin true m e)) → totalKey (fin true m e) + pattern (ulps binary64 m e) + 1 ≡ half
 unfolding totalKey
 key-minus m e h =
-    let a : toBits binary64 (fin true m e) ≡ half + pattern (mag (low binary64) m e) = toBits-fin true m e in
+    let a : toBits binary64 (fin true m e) ≡ half + pattern (ulps binary64 m e) = toBits-fin true m e in
     let b : half ≤ toBits binary64 (fin true m e) = omega (arith, a) in
     omega (arith, a, pattern-small true m e h, turned-high (toBits binary64 (fin true m e)) b)
 
@@ -74,24 +75,24 @@ totalKey-less (inf true) (inf true) p q = rw key-low refl
 totalKey-less (inf true) (inf false) p q = rw (key-low, key-inf) refl
 totalKey-less (inf false) (inf true) p q = rw (key-low, key-inf) refl
 totalKey-less (inf false) (inf false) p q = rw key-inf refl
-totalKey-less (inf true) (fin true n d) p q = lt-ltb (totalKey (inf true)) (totalKey (fin true n d)) (omega (arith, key-low, key-minus n d q, fin-below n d (fits-either true false n d q)))
+totalKey-less (inf true) (fin true n d) p q = lt-ltb (totalKey (inf true)) (totalKey (fin true n d)) (omega (arith, key-low, key-minus n d q, fin-below n d (fits-either binary64 true false n d q)))
 totalKey-less (inf true) (fin false n d) p q = lt-ltb (totalKey (inf true)) (totalKey (fin false n d)) (omega (arith, key-low, key-plus n d q))
 totalKey-less (inf false) (fin true n d) p q = le-ltb (totalKey (inf false)) (totalKey (fin true n d)) (omega (arith, key-inf, key-minus n d q))
 totalKey-less (inf false) (fin false n d) p q = le-ltb (totalKey (inf false)) (totalKey (fin false n d)) (omega (arith, key-inf, key-plus n d q, fin-below n d q))
 totalKey-less (fin true m e) nan p q = lt-ltb (totalKey (fin true m e)) (totalKey nan) (omega (arith, key-none, key-minus m e p))
 totalKey-less (fin false m e) nan p q = lt-ltb (totalKey (fin false m e)) (totalKey nan) (omega (arith, key-none, key-plus m e p, fin-below m e p))
-totalKey-less (fin true m e) (inf true) p q = le-ltb (totalKey (fin true m e)) (totalKey (inf true)) (omega (arith, key-low, key-minus m e p, fin-below m e (fits-either true false m e p)))
+totalKey-less (fin true m e) (inf true) p q = le-ltb (totalKey (fin true m e)) (totalKey (inf true)) (omega (arith, key-low, key-minus m e p, fin-below m e (fits-either binary64 true false m e p)))
 totalKey-less (fin true m e) (inf false) p q = lt-ltb (totalKey (fin true m e)) (totalKey (inf false)) (omega (arith, key-inf, key-minus m e p))
 totalKey-less (fin false m e) (inf true) p q = le-ltb (totalKey (fin false m e)) (totalKey (inf true)) (omega (arith, key-low, key-plus m e p))
 totalKey-less (fin false m e) (inf false) p q = lt-ltb (totalKey (fin false m e)) (totalKey (inf false)) (omega (arith, key-inf, key-plus m e p, fin-below m e p))
 totalKey-less (fin false m e) (fin false n d) p q =
     rw (and-false, or-false)
-    (ltb-same (totalKey (fin false m e)) (totalKey (fin false n d)) (pattern (mag (low binary64) m e)) (pattern (mag (low binary64) n d))
+    (ltb-same (totalKey (fin false m e)) (totalKey (fin false n d)) (pattern (ulps binary64 m e)) (pattern (ulps binary64 n d))
     (λ h. omega (arith, h, key-plus m e p, key-plus n d q)) (λ h. omega (arith, h, key-plus m e p, key-plus n d q))
     ∙ cross false m e n d p q)
 totalKey-less (fin true m e) (fin true n d) p q =
     rw (and-false, or-false)
-    (ltb-same (totalKey (fin true m e)) (totalKey (fin true n d)) (pattern (mag (low binary64) n d)) (pattern (mag (low binary64) m e))
+    (ltb-same (totalKey (fin true m e)) (totalKey (fin true n d)) (pattern (ulps binary64 n d)) (pattern (ulps binary64 m e))
     (λ h. omega (arith, h, key-minus m e p, key-minus n d q)) (λ h. omega (arith, h, key-minus m e p, key-minus n d q))
     ∙ cross true n d m e q p)
 totalKey-less (fin true m e) (fin false n d) p q =

@@ -25,7 +25,7 @@ float-from-bits-result : tie.Need-float-from-bits-result
 float-from-bits-result c = inf-bits _ (rw (abs-bits (c .before .args .x) (held (c .before)) (number-of _ (c .if1 .left))) (abs-low (c .before .args .x) (held (c .before)) (number-of _ (c .if1 .left))))
 
 returns-2 : tie.Need-returns-2
-returns-2 c = ap (ofBits binary64) (abs-bits (c .before .args .x) (held (c .before)) (number-of _ (c .if1 .left))) ∙ ofBits-toBits binary64 (absOf (c .before .args .x)) (abs-fits (c .before .args .x) (held (c .before)))
+returns-2 c = ap (ofBits binary64) (abs-bits (c .before .args .x) (held (c .before)) (number-of _ (c .if1 .left))) ∙ ofBits-toBits binary64 (absOf (c .before .args .x)) (abs-fits binary64 (c .before .args .x) (held (c .before)))
 
 pub abs-spec : {M : Type 1} → statement M
 abs-spec = tie.close (tie.spec returns float-to-bits-result float-from-bits-result returns-2)
