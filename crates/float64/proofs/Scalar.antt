@@ -12,7 +12,7 @@ use lib.Ieee.Fits.{inf-fits}
 use lib.Ieee.Compare.{differs-from-itself}
 use Rattle.root_spec.proofs.Floats.{no-nan}
 use borrow.Author.Tests.{lt-ltb, le-ltb}
-use Rattle.float64.specs.Scalar.{one, negative, absOf, isFinite}
+use Rattle.float64.specs.Scalar.{zero, one, two, negative, absOf, isFinite}
 use Rattle.float64.specs.TotalOrder.{half}
 use Rattle.float64.proofs.Values.{fits-either}
 use Rattle.float64.proofs.Bits.{toBits-fin, pattern-small, fin-below}
@@ -27,7 +27,7 @@ number-of x h = is-false (isNan x) (no-nan x h)
 
 -- ---- the finite values lie between the infinities
 abbrev infinity : Float
-infinity = div binary64 (ofBits binary64 0x3ff0_0000_0000_0000) (ofBits binary64 0)
+infinity = div binary64 one zero
 
 infinity-is : infinity ≡ inf false
 unfolding div ofBits
@@ -43,11 +43,20 @@ finite-test (fin s m e) = refl
 pub finite-tests : (x : Float) → isFinite x ≡ cond (lt x infinity) (lt (neg infinity) x) false
 finite-tests x = subst (λ (i : Float). isFinite x ≡ cond (lt x i) (lt (neg i) x) false) (sym infinity-is) (finite-test x)
 
--- ---- the sign's bit
-pub one-is : ofBits binary64 0x3ff0_0000_0000_0000 ≡ one
+-- ---- the constants
+pub zero-is : zero ≡ fin false 0 (pos 0)
+unfolding ofBits
+zero-is = refl
+
+pub one-is : one ≡ fin false 1 (pos 0)
 unfolding ofBits
 one-is = refl
 
+pub two-is : two ≡ fin false 1 (pos 1)
+unfolding ofBits
+two-is = refl
+
+-- ---- the sign's bit
 pub sign-bit : (x : Float) → T (fits binary64 x) → isNan x ≡ false → ltb (toBits binary64 x) half ≡ not (negative x)
 unfolding negative isNan
 sign-bit nan p h = absurd (true≢false h)

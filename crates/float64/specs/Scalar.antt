@@ -1,12 +1,17 @@
 -- The functions of Rust's f64 that the operators do not give. Definitions only.
-use Prim.Native.Nat.{ℕ}
 use mathlib.Core.Bool.{Bool, true, false, cond}
-use lib.IntN.{pos}
-use lib.Ieee.{Float, nan, inf, fin, lt, neg, isNan}
+use lib.Ieee.{Float, nan, inf, fin, binary64, ofBits, lt, neg, isNan}
 use lib.Ieee.Scale.{finite}
 
+-- 0.0, 1.0 and 2.0, as the code writes them
+abbrev pub zero : Float
+zero = ofBits binary64 0
+
 abbrev pub one : Float
-one = fin false 1 (pos 0)
+one = ofBits binary64 0x3ff0_0000_0000_0000
+
+abbrev pub two : Float
+two = ofBits binary64 0x4000_0000_0000_0000
 
 -- a minus sign, also of a zero or an infinity
 unfoldable pub negative : Float → Bool
