@@ -1,0 +1,4 @@
+pub mod Values
+pub mod Bits
+pub mod Scalar
+pub mod TotalOrder

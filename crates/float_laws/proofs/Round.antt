@@ -1,0 +1,146 @@
+-- Rounding: it keeps the order of fractions of any sign, changes no value that the format holds, and overflows from 2 ^ (emax + 1) on. Assumes nothing.
+--     round-neg, round-signed (a ≤ b gives round a ≤ round b), round-zero, round-own (a value that fits), round-over
+use Prim.Native.Nat.{ℕ, zero, suc, _+_, _-_, _*_, _/_, _%_, _^_, _≤_, _<_, zero-le, compare}
+use mathlib.Core.Bool.{Bool, true, false, not, cond}
+use mathlib.Core.Path.{_≡_, refl, sym, ap, _∙_, subst}
+use native.Mathlib.Omega.{arith}
+use native.Mathlib.Nat.{le-trans, le-of-eq, lt-of-le-of-lt, lt-of-lt-of-le, mul-one, zero-mul, mul-comm, mul-right-comm, mul-lt-mul-of-pos-right, lt-of-mul-lt-mul-right}
+use lib.Dec.{T, ltb, lit<}
+use lib.IntN.{ℤ, pos}
+use lib.Pow.{pow-pos, pow-add}
+use lib.Ieee.{Float, nan, inf, fin, Format, binary32, binary64, size, prec, low, emax, up, down, odd, units, round, nearest, neg, le}
+use lib.Ieee.Fits.{down-pos, round-is}
+use lib.Ieee.Exact.{HasValue, round-exact}
+use lib.Ieee.Order.{round-mono}
+use lib.Ieee.Scale.{round-same}
+use Rattle.float64.proofs.Values.{FitsIn, grid}
+use Rattle.float_laws.proofs.Signed.{SLe, unsigned, signed-refl, zero-of}
+use Rattle.float_laws.proofs.Order.{neg-le}
+
+-- ---- the sign goes through
+odd-neg : (d q k l : ℕ) → odd d true q k l ≡ neg (odd d false q k l)
+unfolding odd neg
+odd-neg d zero k l = refl
+odd-neg d (suc q) k l = refl
+
+units-neg : (f : Format) (q k : ℕ) → units f true q k ≡ neg (units f false q k)
+unfolding units neg
+units-neg f q k = go (ltb (q * 2 ^ k) (2 ^ (low f + suc (emax f))))
+  where
+    go : (b : Bool) → cond b (odd (suc (prec f)) true q k (low f)) (inf true) ≡ neg (cond b (odd (suc (prec f)) false q k (low f)) (inf false))
+    go true = odd-neg (suc (prec f)) q k (low f)
+    go false = refl
+
+pub round-neg : (f : Format) (a c : ℕ) → round f true a c ≡ neg (round f false a c)
+round-neg f a c =
+    let n = a * 2 ^ low f in
+    let k = size (n / c) - prec f in
+    round-is f true a c ∙ units-neg f (nearest (n / (c * 2 ^ k)) (compare (n % (c * 2 ^ k) * 2) (c * 2 ^ k))) k ∙ ap neg (sym (round-is f false a c))
+
+-- ---- zero
+one-zero : (f : Format) (s : Bool) → round f s 0 1 ≡ fin s 0 (pos 0)
+unfolding round
+one-zero binary32 true = refl
+one-zero binary32 false = refl
+one-zero binary64 true = refl
+one-zero binary64 false = refl
+
+pub round-zero : (f : Format) (s : Bool) (c : ℕ) → 0 < c → round f s 0 c ≡ fin s 0 (pos 0)
+round-zero f s c C = round-same f s 0 c 0 1 C (lit< tt) (zero-mul 1 ∙ sym (zero-mul c)) ∙ one-zero f s
+
+-- ---- a value that the format holds
+in-range : (f : Format) (m : ℕ) (e : ℤ) (h : FitsIn f m e) → m * 2 ^ (grid f m e (h .deep) .j) < 2 ^ (low f + suc (emax f))
+in-range f m e h =
+    let g = grid f m e (h .deep) in
+    lt-of-mul-lt-mul-right (down e)
+    (lt-of-le-of-lt (le-of-eq (sym (g .is)))
+    (lt-of-lt-of-le (mul-lt-mul-of-pos-right (h .under) (pow-pos (low f))) (le-of-eq (mul-right-comm (2 ^ suc (emax f)) (down e) (2 ^ low f) ∙ ap (λ (x : ℕ). x * down e) (mul-comm (2 ^ suc (emax f)) (2 ^ low f) ∙ sym (pow-add 2 (low f) (suc (emax f))))))))
+
+own-value : (f : Format) (s : Bool) (m : ℕ) (e : ℤ) → FitsIn f m e → HasValue (round f s (m * up e) (down e)) s (m * up e) (down e)
+own-value f s m e h = let g = grid f m e (h .deep) in round-exact f s (m * up e) (down e) m (g .j) (down-pos e) (h .few) (in-range f m e h) (g .is)
+
+-- values with one sign and one magnitude
+same-value : (s : Bool) (m : ℕ) (e : ℤ) (v : Float) → HasValue v s (m * up e) (down e) → T (le (fin s m e) v) × T (le v (fin s m e))
+unfolding le
+same-value s m e nan h = absurd h
+same-value s m e (inf t) h = absurd h
+same-value s m e (fin t n d) h =
+    let x : n * up d * down e ≡ m * up e * down d = h .1 in
+    let r : SLe s (m * up e * down d) t (n * up d * down e) = rw (x, h .0) (signed-refl s (m * up e * down d)) in
+    let l : SLe t (n * up d * down e) s (m * up e * down d) = rw (x, h .0) (signed-refl s (m * up e * down d)) in
+    (unsigned s (m * up e * down d) t (n * up d * down e) r, unsigned t (n * up d * down e) s (m * up e * down d) l)
+
+pub round-own : (f : Format) (s : Bool) (m : ℕ) (e : ℤ) → FitsIn f m e → T (le (fin s m e) (round f s (m * up e) (down e))) × T (le (round f s (m * up e) (down e)) (fin s m e))
+round-own f s m e h = same-value s m e (round f s (m * up e) (down e)) (own-value f s m e h)
+
+-- ---- the order
+-- not below zero
+abbrev natural : Float → Bool
+natural nan = false
+natural (inf s) = not s
+natural (fin s m e) = not s
+
+odd-natural : (d q k l : ℕ) → T (natural (odd d false q k l))
+unfolding odd
+odd-natural d zero k l = tt
+odd-natural d (suc q) k l = tt
+
+units-natural : (f : Format) (q k : ℕ) → T (natural (units f false q k))
+unfolding units
+units-natural f q k = go (ltb (q * 2 ^ k) (2 ^ (low f + suc (emax f))))
+  where
+    go : (b : Bool) → T (natural (cond b (odd (suc (prec f)) false q k (low f)) (inf false)))
+    go true = odd-natural (suc (prec f)) q k (low f)
+    go false = tt
+
+round-natural : (f : Format) (a c : ℕ) → T (natural (round f false a c))
+round-natural f a c =
+    let n = a * 2 ^ low f in
+    let k = size (n / c) - prec f in
+    subst (λ (v : Float). T (natural v)) (sym (round-is f false a c)) (units-natural f (nearest (n / (c * 2 ^ k)) (compare (n % (c * 2 ^ k) * 2) (c * 2 ^ k))) k)
+
+across : (x y : Float) → T (natural x) → T (natural y) → T (le (neg x) y)
+unfolding le neg
+across nan y p q = absurd p
+across (inf true) y p q = absurd p
+across (inf false) nan p q = absurd q
+across (inf false) (inf true) p q = absurd q
+across (inf false) (inf false) p q = tt
+across (inf false) (fin t n d) p q = tt
+across (fin true m e) y p q = absurd p
+across (fin false m e) nan p q = absurd q
+across (fin false m e) (inf true) p q = absurd q
+across (fin false m e) (inf false) p q = tt
+across (fin false m e) (fin true n d) p q = absurd q
+across (fin false m e) (fin false n d) p q = unsigned true (m * up e * down d) false (n * up d * down e) tt
+
+zeros : T (le (fin false 0 (pos 0)) (fin true 0 (pos 0)))
+unfolding le
+zeros = tt
+
+pub round-signed : (f : Format) (s t : Bool) (a b c d : ℕ) → 0 < c → 0 < d → SLe s (a * d) t (b * c) → T (le (round f s a c) (round f t b d))
+round-signed f false false a b c d C D h = round-mono f a c b d C D h
+round-signed f false true a b c d C D h =
+    let x : a ≡ 0 = zero-of a d D (h .0) in
+    let y : b ≡ 0 = zero-of b c C (h .1) in
+    rw (x, y, round-zero f false c C, round-zero f true d D) zeros
+round-signed f true false a b c d C D h = rw (round-neg f a c) (across (round f false a c) (round f false b d) (round-natural f a c) (round-natural f b d))
+round-signed f true true a b c d C D h = rw (round-neg f a c, round-neg f b d) (neg-le (round f false b d) (round f false a c) (round-mono f b d a c D C h))
+
+-- ---- overflow
+one-over : (f : Format) → round f false (2 ^ suc (emax f)) 1 ≡ inf false
+unfolding round
+one-over binary32 = refl
+one-over binary64 = refl
+
+at-top : (x : Float) → T (le (inf false) x) → x ≡ inf false
+unfolding le
+at-top nan h = absurd h
+at-top (inf true) h = absurd h
+at-top (inf false) h = refl
+at-top (fin s m e) h = absurd h
+
+pub round-over : (f : Format) (a c : ℕ) → 0 < c → 2 ^ suc (emax f) * c ≤ a → round f false a c ≡ inf false
+round-over f a c C h =
+    at-top (round f false a c)
+    (subst (λ (v : Float). T (le v (round f false a c))) (one-over f) (round-mono f (2 ^ suc (emax f)) 1 a c (lit< tt) C (le-trans h (le-of-eq (sym (mul-one a))))))
