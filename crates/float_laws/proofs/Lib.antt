@@ -1,3 +1,9 @@
 pub mod Signed
 pub mod Order
+pub mod Rank
 pub mod Round
+pub mod Sum
+pub mod Product
+pub mod MinMax
+pub mod Bounds
+pub mod Middle
