@@ -1,5 +1,6 @@
 pub mod Signed
 pub mod Order
+pub mod Total
 pub mod Rank
 pub mod Round
 pub mod Sum

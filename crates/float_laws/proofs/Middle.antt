@@ -1,6 +1,6 @@
 -- Half of a value, and the middle (a + b) / 2 of two, as computed. A middle lies between the two wherever their sum does not overflow. Assumes nothing.
 --     half         half-mono, half-neg (x / 2 and -x / 2), half-number, half-twice (half of x + x is x where the double of x is in range)
---     middle       middle-above (a ≤ (a + b) / 2 where a ≤ b), middle-below ((a + b) / 2 ≤ b)
+--     middle       middle-above (a ≤ (a + b) / 2 where a ≤ b), middle-below ((a + b) / 2 ≤ b), middle-between (both, for doubles of at most 2 ^ 1000)
 use Prim.Native.Nat.{ℕ, suc, _+_, _*_, _^_, _≤_, _<_}
 use mathlib.Core.Bool.{Bool, true, false, not}
 use mathlib.Core.Path.{_≡_, refl, sym, ap, _∙_, subst}
@@ -10,7 +10,7 @@ use native.Mathlib.Omega.{arith}
 use lib.Dec.{T, lit<}
 use lib.IntN.{ℤ, pos}
 use lib.Pow.{pow-pos, pow-add}
-use lib.Ieee.{Float, nan, inf, fin, Format, prec, low, emax, up, down, round, add, sub, neg, div, le, eq, fits}
+use lib.Ieee.{Float, nan, inf, fin, Format, binary64, prec, low, emax, up, down, round, add, sub, neg, div, le, eq, fits}
 use lib.Ieee.Fits.{down-pos, add-fits, neg-fits}
 use lib.Ieee.Exact.{HasValue, round-exact}
 use lib.Ieee.Scale.{finite, round-same}
@@ -22,6 +22,7 @@ use Rattle.float_laws.proofs.Signed.{SLe, signed, signed-up}
 use Rattle.float_laws.proofs.Order as order
 use Rattle.float_laws.proofs.Order.{Number, finite-number, le-antisym, eq-finite, neg-neg, neg-finite, neg-le, eq-le, eq-sym, le-number-l}
 use Rattle.float_laws.proofs.Round.{round-own, round-signed, round-over, round-not}
+use Rattle.float_laws.proofs.Bounds.{Small, small-finite, small-add}
 use Rattle.float_laws.proofs.Sum.{add-mono, sub-turn, sub-of-neg}
 
 -- ---- a half
@@ -169,3 +170,11 @@ middle-below f a b F G p S h =
     order.le-trans (neg b) (div f d two) (neg m) (middle-above f (neg b) (neg a) (neg-finite b G) (neg-finite a F) (neg-fits f b p) D (neg-le a b h))
     (subst (λ (v : Float). T (le (div f d two) v)) (half-neg f (add f a b) S) (half-mono f d (neg (add f a b)) D (neg-finite (add f a b) S) (eq-le d (neg (add f a b)) e))) in
     subst (λ (v : Float). T (le v b)) (neg-neg m) (subst (λ (v : Float). T (le (neg (neg m)) v)) (neg-neg b) (neg-le (neg b) (neg m) l))
+
+-- of two doubles that are not too large, as those from 0 to 10,000,000
+pub middle-between : (a b : Float) → Small a → Small b → T (fits binary64 a) → T (fits binary64 b) → T (le a b) → T (le a (div binary64 (add binary64 a b) two)) × T (le (div binary64 (add binary64 a b) two) b)
+middle-between a b A B p q h =
+    let F = small-finite a A in
+    let G = small-finite b B in
+    let S = small-add a b A B in
+    (middle-above binary64 a b F G p S h, middle-below binary64 a b F G q S h)
