@@ -64,8 +64,12 @@ ulps-is f m e h =
     ap (λ (x : ℕ). x / down e * down e) (g .is) ∙ ap (λ (x : ℕ). x * down e) (mul-div-cancel (m * 2 ^ (g .j)) (down-pos e)) ∙ sym (g .is)
 
 -- all magnitudes are below the overflow threshold
-pub overflow : Format → ℕ
+unfoldable pub overflow : Format → ℕ
 overflow f = 2 ^ suc (emax f) * 2 ^ low f
+
+pub overflow-pos : (f : Format) → 0 < overflow f
+unfolding overflow
+overflow-pos f = mul-pos (pow-pos (suc (emax f))) (pow-pos (low f))
 
 pub ulps-lt : (f : Format) (m : ℕ) (e : ℤ) → FitsIn f m e → ulps f m e < overflow f
 unfolding overflow

@@ -3,7 +3,7 @@
 --     order       le-refl, le-trans, lt-trans, lt-le-trans, le-lt-trans, lt-irrefl, lt-le, eq-le
 --     totality    le-total, le-or-lt, not-le-lt, not-lt-le, lt-not-le
 --     equality    le-antisym, eq-refl, eq-sym, eq-trans, eq-same, eq-same-sign (equal doubles are the same, or both are zeros)
---     between     finite-between (two finite values)
+--     between     finite-between (two finite values), eq-finite
 --     sign        neg-neg, neg-finite, neg-number, neg-le, neg-lt, neg-eq
 use Prim.Native.Nat.{ℕ, _*_, _≤_}
 use mathlib.Core.Bool.{Bool, true, false, cond, not, _&&_, _||_, Bool·beq, and-false, and-not-self}
@@ -217,6 +217,9 @@ finite-between (fin s m e) (inf false) nan a c h k = absurd c
 finite-between (fin s m e) (inf false) (inf t) a c h k = absurd c
 finite-between (fin s m e) (inf false) (fin t n d) a c h k = absurd k
 finite-between (fin s m e) (fin u l g) z a c h k = tt
+
+pub eq-finite : (x y : Float) → T (eq x y) → T (finite x) → T (finite y)
+eq-finite x y h a = finite-between x y x a a (eq-le x y h) (eq-le y x (eq-sym x y h))
 
 -- ---- equal doubles are the same, but for the sign of a zero
 eq-key : (x y : Float) → T (fits binary64 x) → T (fits binary64 y) → T (eq x y) → negative x ≡ negative y → totalKey x ≤ totalKey y

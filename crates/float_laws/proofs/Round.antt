@@ -1,5 +1,5 @@
 -- Rounding: it keeps the order of fractions of any sign, changes no value that the format holds, and overflows from 2 ^ (emax + 1) on. Assumes nothing.
---     round-neg, round-signed (a ≤ b gives round a ≤ round b), round-zero, round-own (a value that fits), round-over
+--     round-not (the sign goes through), round-signed (a ≤ b gives round a ≤ round b), round-zero, round-own (a value that fits), round-over
 use Prim.Native.Nat.{ℕ, zero, suc, _+_, _-_, _*_, _/_, _%_, _^_, _≤_, _<_, zero-le, compare}
 use mathlib.Core.Bool.{Bool, true, false, not, cond}
 use mathlib.Core.Path.{_≡_, refl, sym, ap, _∙_, subst}
@@ -15,7 +15,7 @@ use lib.Ieee.Order.{round-mono}
 use lib.Ieee.Scale.{round-same}
 use Rattle.float64.proofs.Values.{FitsIn, grid}
 use Rattle.float_laws.proofs.Signed.{SLe, unsigned, signed-refl, zero-of}
-use Rattle.float_laws.proofs.Order.{neg-le}
+use Rattle.float_laws.proofs.Order.{neg-le, neg-neg}
 
 -- ---- the sign goes through
 odd-neg : (d q k l : ℕ) → odd d true q k l ≡ neg (odd d false q k l)
@@ -31,11 +31,15 @@ units-neg f q k = go (ltb (q * 2 ^ k) (2 ^ (low f + suc (emax f))))
     go true = odd-neg (suc (prec f)) q k (low f)
     go false = refl
 
-pub round-neg : (f : Format) (a c : ℕ) → round f true a c ≡ neg (round f false a c)
+round-neg : (f : Format) (a c : ℕ) → round f true a c ≡ neg (round f false a c)
 round-neg f a c =
     let n = a * 2 ^ low f in
     let k = size (n / c) - prec f in
     round-is f true a c ∙ units-neg f (nearest (n / (c * 2 ^ k)) (compare (n % (c * 2 ^ k) * 2) (c * 2 ^ k))) k ∙ ap neg (sym (round-is f false a c))
+
+pub round-not : (f : Format) (s : Bool) (a c : ℕ) → round f (not s) a c ≡ neg (round f s a c)
+round-not f false a c = round-neg f a c
+round-not f true a c = sym (ap neg (round-neg f a c) ∙ neg-neg (round f false a c))
 
 -- ---- zero
 one-zero : (f : Format) (s : Bool) → round f s 0 1 ≡ fin s 0 (pos 0)
