@@ -29,7 +29,7 @@ room r j w h = omega (arith, le-trans (le-mul-of-pos-right (r + 1) (pow-pos (8 *
 pub room-less : (r b i j w : ℕ) → b < 256 → j ≡ i + 1 → (r + 1) * 2 ^ (8 * j) ≤ w → (256 * r + b + 1) * 2 ^ (8 * i) ≤ w
 room-less r b i j w hb e h =
     let t : (256 * (r + 1)) * 2 ^ (8 * i) ≡ (r + 1) * 2 ^ (8 * j) =
-        ap (λ (x : ℕ). x * 2 ^ (8 * i)) (mul-comm 256 (r + 1)) ∙ mul-assoc (r + 1) 256 (2 ^ (8 * i)) ∙ ap (λ (x : ℕ). (r + 1) * x) (sym (pow-add 2 8 (8 * i)) ∙ ap (λ (x : ℕ). 2 ^ x) (omega arith)) in
+    ap (λ (x : ℕ). x * 2 ^ (8 * i)) (mul-comm 256 (r + 1)) ∙ mul-assoc (r + 1) 256 (2 ^ (8 * i)) ∙ ap (λ (x : ℕ). (r + 1) * x) (sym (pow-add 2 8 (8 * i)) ∙ ap (λ (x : ℕ). 2 ^ x) (omega arith)) in
     let le : 256 * r + b + 1 ≤ 256 * (r + 1) = omega arith in
     le-trans (subst (λ (x : ℕ). (256 * r + b + 1) * 2 ^ (8 * i) ≤ x) t (mul-le-mul-right (2 ^ (8 * i)) le)) h
 

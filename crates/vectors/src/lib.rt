@@ -1,4 +1,5 @@
 // Reading stored cases and comparing floats with them, for the programs that replay files of cases.
+use libc::STDOUT_FILENO;
 ghost use mathlib.Core.Path.{_≡_};
 ghost use Prim.Native.Nat.{_+_, _*_, _≤_};
 ghost use lib.ListN.{length};
@@ -61,4 +62,31 @@ pub fn agrees(x: f64, bits: u64) -> bool
     ensures { λ r. ⌜ r ≡ Records·agrees x bits ⌝ }
 {
     pattern(x) == pattern(float(bits))
+}
+
+// Prints a space and a number's 16 hexadecimal digits.
+pub fn print_word(n: u64) {
+    io::write_all(STDOUT_FILENO, b" ");
+    io::print_hex(STDOUT_FILENO, n, 16);
+}
+
+// Prints n numbers of s, from number k on.
+pub fn print_words(s: &[u8], k: usize, n: usize)
+    requires { ⌜ 8 * (k + n) ≤ length (now s) ⌝ }
+{
+    let mut i: usize = 0;
+    while i < n {
+        print_word(word(s, k + i));
+        i += 1;
+    }
+}
+
+// Prints a line that says how many cases a file has and how many of them differ.
+pub fn report(name: &[u8], cases: u64, differences: u64) {
+    io::write_all(STDOUT_FILENO, name);
+    io::write_all(STDOUT_FILENO, b": ");
+    io::print_decimal(STDOUT_FILENO, cases);
+    io::write_all(STDOUT_FILENO, b" cases, ");
+    io::print_decimal(STDOUT_FILENO, differences);
+    io::write_all(STDOUT_FILENO, b" differences\n");
 }

@@ -1,6 +1,5 @@
 -- `vectors::agrees` meets its contract. Assumes nothing.
 use borrow.Author.Needs.{needs}
-use mathlib.Core.Path.{ap, _∙_}
 use Rattle.vectors.specs.Records.{agrees}
 use Rattle.vectors.proofs.agrees.Statement.{statement}
 use Rattle.vectors.proofs.agrees.Tie as tie

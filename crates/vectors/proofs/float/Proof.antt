@@ -1,6 +1,6 @@
 -- `vectors::float` meets its contract. Assumes nothing.
 use borrow.Author.Needs.{needs}
-use mathlib.Core.Path.{_≡_, sym, ap, subst, _∙_}
+use mathlib.Core.Path.{sym, subst, _∙_}
 use mathlib.Core.Bool.{Bool, not}
 use lib.Dec.{T}
 use lib.Ieee.{binary64, div, ofBits}
@@ -9,8 +9,6 @@ use borrow.Author.Tests.{le-ltb}
 use Rattle.vectors.proofs.Laws.{nan-is}
 use Rattle.vectors.proofs.float.Statement.{statement}
 use Rattle.vectors.proofs.float.Tie as tie
-use Rattle.vectors.proofs.float.Reads as reads
-use Rattle.vectors.proofs.float.Lts as lts
 
 returns : tie.Need-returns
 unfolding div ofBits

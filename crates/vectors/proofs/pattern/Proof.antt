@@ -4,8 +4,6 @@ use Rattle.root_spec.proofs.Floats.{no-nan}
 use Rattle.vectors.proofs.Laws.{nan-pattern}
 use Rattle.vectors.proofs.pattern.Statement.{statement}
 use Rattle.vectors.proofs.pattern.Tie as tie
-use Rattle.vectors.proofs.pattern.Reads as reads
-use Rattle.vectors.proofs.pattern.Lts as lts
 
 returns : tie.Need-returns
 returns c = nan-pattern _ (c .if1 .taken)

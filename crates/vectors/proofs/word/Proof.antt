@@ -1,17 +1,14 @@
 -- `vectors::word` meets its contract. The loop takes the bytes from the most significant down: r is the number of those that it has taken,
 -- and leaves room for the j that are to come. Assumes nothing.
-use mathlib.Core.Path.{_≡_, refl, sym, ap, _∙_}
+use mathlib.Core.Path.{_≡_, refl, ap, _∙_}
 use Prim.Native.Nat.{ℕ, _+_, _-_, _*_, _^_, _≤_, _<_}
 use native.Mathlib.Nat.{add-zero}
 use native.Mathlib.Omega.{arith}
-use lib.ListN.{length, take, drop}
+use lib.ListN.{take, drop}
 use Rattle.vectors.specs.Records.{littleEndian, wordAt}
 use Rattle.vectors.proofs.Laws.{byte-below, room, room-less}
 use Rattle.vectors.proofs.word.Statement.{statement}
 use Rattle.vectors.proofs.word.Tie as tie
-use Rattle.vectors.proofs.word.Reads as reads
-use Rattle.vectors.proofs.word.Lts as lts
-use Rattle.vectors.proofs.wide.Reads as wide-reads
 
 abbrev Inv-loop : tie.InvT-loop
 Inv-loop s k i r₀ j₀ r j = (j ≤ 8) × (r ≡ littleEndian (take (8 - j) (drop (i + j) s))) × ((r + 1) * 2 ^ (8 * j) ≤ 2 ^ 64)
