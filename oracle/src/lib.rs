@@ -1,6 +1,9 @@
 //! The Rust that is ported, runnable: as published and as the scope
 //! document fixes its square root, hypot, min, max and powi.
+pub mod compare;
+pub mod dump;
 pub mod exact;
+pub mod generate;
 pub mod job;
 pub mod reading;
 pub mod slip;
