@@ -1,13 +1,14 @@
-//! Unequal answers: the copy against the published file, and the published
-//! reading against the patched one.
-use crate::dump::{bits, piece_bits, state, win_bits};
-use crate::exact::{Field, Refusal};
+//! Unequal answers: the copy against the published file, and one reading
+//! against another.
+use crate::dump::{View, bits, piece_bits, view, win_bits};
+use crate::exact::{Field, Refusal, judge_pseudo};
 use crate::generate::rng::Rng;
 use crate::job::{Job, Mesh};
-use crate::reading::{Patched, Published, Reading};
+use crate::reading::{Published, Reading};
 use crate::slip::print_out;
-use crate::upstream::{Questions, State, solve};
+use crate::upstream::{Questions, solve};
 use crate::vector::{axpy, sub};
+use std::ops::AddAssign;
 
 /// Places to ask about: on edges at their ends and between, in faces at
 /// vertices, on edges, inside and outside.
@@ -22,17 +23,16 @@ pub fn questions(mesh: &Mesh, rng: &mut Rng, most: usize) -> Questions {
         let f = if mesh.t.len() > most { rng.below(mesh.t.len()) } else { f };
         let [a, b, c] = mesh.t[f].map(|k| mesh.v[k as usize]);
         let on = axpy(a, rng.unit(), sub(b, a));
-        let ins = axpy(on, rng.unit(), sub(c, on));
+        let inside = axpy(on, rng.unit(), sub(c, on));
         let outside = axpy(on, rng.between(-1., 2.), sub(c, on));
-        q.at.extend([a, on, ins, outside].map(|p| (f as u32, p)));
+        q.at.extend([a, on, inside, outside].map(|p| (f as u32, p)));
     }
     q
 }
 
-/// How many of each kind of answer are unequal to the bit.
+/// Counts of answers, or of unequal ones among them.
 #[derive(Clone, Copy, Debug, Default, PartialEq, Eq)]
-pub struct Unequal {
-    pub made: u64,
+pub struct Counts {
     pub windows: u64,
     pub chains: u64,
     pub vertices: u64,
@@ -43,33 +43,14 @@ pub struct Unequal {
     pub edge_at: u64,
 }
 
-fn unequal<T, K: PartialEq>(x: &[T], y: &[T], key: impl Fn(&T) -> K) -> u64 {
-    let differ = x.iter().zip(y).filter(|(a, b)| key(a) != key(b)).count();
-    (differ + x.len().abs_diff(y.len())) as u64
-}
-
-pub fn states(x: &State, y: &State) -> Unequal {
-    Unequal {
-        made: (x.wins.len() != y.wins.len()).into(),
-        windows: unequal(&x.wins, &y.wins, win_bits),
-        chains: unequal(&x.on_edge, &y.on_edge, Vec::clone),
-        vertices: unequal(&x.vertex, &y.vertex, |d| bits(*d)),
-        emitted: unequal(&x.emitted, &y.emitted, |d| bits(*d)),
-        entries: unequal(&x.in_face, &y.in_face, |(f, list)| {
-            (*f, list.iter().map(piece_bits).collect::<Vec<_>>())
-        }),
-        steps: (x.steps != y.steps).into(),
-        at: 0,
-        edge_at: 0,
-    }
-}
-
-impl Unequal {
+impl Counts {
     pub fn any(&self) -> bool {
-        *self != Unequal::default()
+        *self != Counts::default()
     }
-    pub fn sum(&mut self, o: &Unequal) {
-        self.made += o.made;
+}
+
+impl AddAssign for Counts {
+    fn add_assign(&mut self, o: Counts) {
         self.windows += o.windows;
         self.chains += o.chains;
         self.vertices += o.vertices;
@@ -81,116 +62,221 @@ impl Unequal {
     }
 }
 
-fn ask<R: Reading>(field: &Field<R>, q: &Questions) -> (Vec<f64>, Vec<f64>) {
-    (
-        q.at.iter().map(|&(f, p)| field.at(f, p)).collect(),
-        q.edge_at.iter().map(|&(e, x)| field.edge_at(e, x)).collect(),
-    )
+fn unequal<T, K: PartialEq>(x: &[T], y: &[T], key: impl Fn(&T) -> K) -> u64 {
+    let differ = x.iter().zip(y).filter(|(a, b)| key(a) != key(b)).count();
+    (differ + x.len().abs_diff(y.len())) as u64
 }
 
-/// What was compared, so that a count of unequal answers means something.
+/// Unequal windows by number, chains by edge, distances by vertex; steps
+/// counts 1 where the step counts differ.
+fn unequal_views(x: &View, y: &View) -> Counts {
+    let entry_bits = |p: &(u32, &[crate::exact::Piece])| -> Vec<Vec<u64>> {
+        p.1.iter().map(piece_bits).collect()
+    };
+    Counts {
+        windows: unequal(x.wins, y.wins, win_bits),
+        chains: unequal(x.on_edge, y.on_edge, Vec::clone),
+        vertices: unequal(x.vertex, y.vertex, |d| bits(*d)),
+        emitted: unequal(x.emitted, y.emitted, |d| bits(*d)),
+        entries: unequal(&x.in_face, &y.in_face, |p| (p.0, entry_bits(p))),
+        steps: (x.steps != y.steps).into(),
+        at: 0,
+        edge_at: 0,
+    }
+}
+
+struct Asked {
+    at: Vec<f64>,
+    edge_at: Vec<f64>,
+}
+
+fn ask<R: Reading>(field: &Field<R>, q: &Questions) -> Asked {
+    Asked {
+        at: q.at.iter().map(|&(f, p)| field.at(f, p)).collect(),
+        edge_at: q.edge_at.iter().map(|&(e, x)| field.edge_at(e, x)).collect(),
+    }
+}
+
+fn size<R: Reading>(field: &Field<R>, q: &Questions) -> Counts {
+    Counts {
+        windows: field.wins.len() as u64,
+        chains: field.on_edge.len() as u64,
+        vertices: field.vertex.len() as u64,
+        emitted: field.emitted.len() as u64,
+        entries: field.in_face.values().map(|list| list.len() as u64).sum(),
+        steps: field.steps,
+        at: q.at.len() as u64,
+        edge_at: q.edge_at.len() as u64,
+    }
+}
+
+/// The two sides of a comparison of fields.
 #[derive(Clone, Copy, Debug, Default)]
 pub struct Compared {
-    pub windows: u64,
-    pub vertices: u64,
-    pub queries: u64,
-    pub steps: u64,
-}
-
-impl Compared {
-    pub fn sum(&mut self, o: &Compared) {
-        self.windows += o.windows;
-        self.vertices += o.vertices;
-        self.queries += o.queries;
-        self.steps += o.steps;
-    }
-}
-
-/// The copy, published reading, against the published file: unequal answers
-/// of a job that the copy does not refuse, the topology and the judged flags
-/// counted as emptiness of the message.
-pub fn faithful(job: &Job, seed: u64) -> Result<Result<(Unequal, Compared), String>, Refusal> {
-    let mesh = Mesh::new(job)?;
-    let field = mesh.field::<Published>()?;
-    let q = questions(&mesh, &mut Rng::new(seed), 40);
-    let flags: Vec<bool> = job.flags.iter().map(|&b| b == 1).collect();
-    let answers = match solve(&mesh.v, &mesh.t, &flags, &mesh.pieces, job.limit, &q) {
-        Ok(answers) => answers,
-        Err(text) => return Ok(Err(text)),
-    };
-    if answers.judged != crate::exact::judge_pseudo(&mesh.v, &mesh.t) {
-        return Ok(Err("judged flags".into()));
-    }
-    if format!("{:?}", answers.topology) != format!("{:?}", mesh.topo) {
-        return Ok(Err("topology".into()));
-    }
-    let mut u = states(&state(&field), &answers.state);
-    let (at, edge_at) = ask(&field, &q);
-    u.at = unequal(&at, &answers.at, |d| bits(*d));
-    u.edge_at = unequal(&edge_at, &answers.edge_at, |d| bits(*d));
-    let compared = Compared {
-        windows: field.wins.len() as u64,
-        vertices: field.vertex.len() as u64,
-        queries: (at.len() + edge_at.len()) as u64,
-        steps: field.steps,
-    };
-    Ok(Ok((u, compared)))
-}
-
-/// The two readings of one job.
-#[derive(Debug)]
-pub enum Readings {
-    /// Both refuse, with these numbers.
-    Refused(Refusal, Refusal),
-    /// One refuses.
-    Split(Option<Refusal>, Option<Refusal>),
-    Fields(Box<Fields>),
-}
-
-#[derive(Debug)]
-pub struct Fields {
-    pub unequal: Unequal,
-    pub compared: Compared,
-    /// The print-outs differ.
+    pub unequal: Counts,
+    pub of: Counts,
+    /// Whether the numbers of windows made, and the print-outs, differ.
+    pub made: bool,
     pub print_out: bool,
     /// The largest difference of a vertex distance or a query.
     pub largest: f64,
     pub nan_keys: usize,
 }
 
-fn largest(pairs: impl Iterator<Item = (f64, f64)>) -> f64 {
-    let gap = |(x, y): (f64, f64)| if x == y { 0. } else { (x - y).abs() };
-    pairs.map(gap).fold(0., f64::max)
+/// The copy in the published reading against the published file. The outer
+/// error is the copy's refusal, the inner one a difference before any field.
+pub fn faithful(job: &Job, seed: u64) -> Result<Result<Compared, String>, Refusal> {
+    let mesh = Mesh::new(job)?;
+    let field = mesh.field::<Published>()?;
+    let q = questions(&mesh, &mut Rng::new(seed), 200);
+    let solved = solve(&mesh.v, &mesh.t, &mesh.topo.pseudo, &mesh.pieces, job.limit, &q);
+    let answers = match solved {
+        Ok(answers) => answers,
+        Err(text) => return Ok(Err(text)),
+    };
+    if answers.judged != judge_pseudo(&mesh.v, &mesh.t) {
+        return Ok(Err("the judged flags differ".into()));
+    }
+    if format!("{:?}", answers.topology) != format!("{:?}", mesh.topo) {
+        return Ok(Err("the topologies differ".into()));
+    }
+    let asked = ask(&field, &q);
+    let mut unequal_counts = unequal_views(&view(&field), &answers.state.view());
+    unequal_counts.at = unequal(&asked.at, &answers.at, |d| bits(*d));
+    unequal_counts.edge_at = unequal(&asked.edge_at, &answers.edge_at, |d| bits(*d));
+    Ok(Ok(Compared {
+        unequal: unequal_counts,
+        of: size(&field, &q),
+        made: field.wins.len() != answers.state.wins.len(),
+        nan_keys: field.peaks.nan_keys,
+        ..Compared::default()
+    }))
 }
 
-pub fn readings(job: &Job, seed: u64) -> Readings {
+/// The answers of two readings to one job.
+#[derive(Debug)]
+pub enum Readings {
+    Refused(Refusal),
+    /// A refusal on one side only, or two different ones.
+    Split(Option<Refusal>, Option<Refusal>),
+    Fields(Box<Compared>),
+}
+
+fn largest<'a>(x: &'a [f64], y: &'a [f64]) -> f64 {
+    let gap = |(x, y): (&f64, &f64)| if x == y { 0. } else { (x - y).abs() };
+    x.iter().zip(y).map(gap).fold(0., f64::max)
+}
+
+pub fn readings<A: Reading, B: Reading>(job: &Job, seed: u64) -> Readings {
     let mesh = match Mesh::new(job) {
         Ok(mesh) => mesh,
-        Err(r) => return Readings::Refused(r, r),
+        Err(r) => return Readings::Refused(r),
     };
-    let (published, patched) = match (mesh.field::<Published>(), mesh.field::<Patched>()) {
-        (Err(a), Err(b)) => return Readings::Refused(a, b),
+    let (a, b) = match (mesh.field::<A>(), mesh.field::<B>()) {
+        (Err(a), Err(b)) if a == b => return Readings::Refused(a),
         (Ok(a), Ok(b)) => (a, b),
         (a, b) => return Readings::Split(a.err(), b.err()),
     };
     let q = questions(&mesh, &mut Rng::new(seed), 200);
-    let (x, y) = (ask(&published, &q), ask(&patched, &q));
-    let mut unequal_ = states(&state(&published), &state(&patched));
-    unequal_.at = unequal(&x.0, &y.0, |d| bits(*d));
-    unequal_.edge_at = unequal(&x.1, &y.1, |d| bits(*d));
-    let pair = |a: &[f64], b: &[f64]| largest(a.iter().copied().zip(b.iter().copied()));
-    Readings::Fields(Box::new(Fields {
-        unequal: unequal_,
-        compared: Compared {
-            windows: patched.wins.len() as u64,
-            vertices: patched.vertex.len() as u64,
-            queries: (q.at.len() + q.edge_at.len()) as u64,
-            steps: patched.steps,
-        },
-        print_out: print_out(&mesh, &published) != print_out(&mesh, &patched),
-        largest: pair(&published.vertex, &patched.vertex)
-            .max(pair(&x.0, &y.0))
-            .max(pair(&x.1, &y.1)),
-        nan_keys: patched.peaks.nan_keys,
+    let (x, y) = (ask(&a, &q), ask(&b, &q));
+    let mut unequal_counts = unequal_views(&view(&a), &view(&b));
+    unequal_counts.at = unequal(&x.at, &y.at, |d| bits(*d));
+    unequal_counts.edge_at = unequal(&x.edge_at, &y.edge_at, |d| bits(*d));
+    Readings::Fields(Box::new(Compared {
+        unequal: unequal_counts,
+        of: size(&b, &q),
+        made: a.wins.len() != b.wins.len(),
+        print_out: print_out(&mesh, &a) != print_out(&mesh, &b),
+        largest: largest(&a.vertex, &b.vertex)
+            .max(largest(&x.at, &y.at))
+            .max(largest(&x.edge_at, &y.edge_at)),
+        nan_keys: a.peaks.nan_keys + b.peaks.nan_keys,
     }))
+}
+
+/// A run over many jobs: jobs by outcome, jobs with an unequal answer of
+/// each kind, and the sums.
+#[derive(Debug, Default)]
+pub struct Tally {
+    pub jobs: u64,
+    pub fields: u64,
+    pub refused: std::collections::BTreeMap<u32, u64>,
+    pub split: u64,
+    pub unequal_fields: u64,
+    pub made: u64,
+    pub print_outs: u64,
+    /// Jobs with at least one unequal answer of the kind.
+    pub jobs_with: Counts,
+    pub unequal: Counts,
+    pub of: Counts,
+    pub largest: f64,
+    pub nan_keys: usize,
+}
+
+impl Tally {
+    pub fn refuse(&mut self, r: Refusal) {
+        self.jobs += 1;
+        *self.refused.entry(r.0).or_default() += 1;
+    }
+
+    pub fn compare(&mut self, c: &Compared) {
+        self.jobs += 1;
+        self.fields += 1;
+        self.unequal_fields += u64::from(c.unequal.any());
+        self.made += u64::from(c.made);
+        self.print_outs += u64::from(c.print_out);
+        self.unequal += c.unequal;
+        self.of += c.of;
+        self.largest = self.largest.max(c.largest);
+        self.nan_keys += c.nan_keys;
+        let one = |n: u64| n.min(1);
+        let u = c.unequal;
+        self.jobs_with += Counts {
+            windows: one(u.windows),
+            chains: one(u.chains),
+            vertices: one(u.vertices),
+            emitted: one(u.emitted),
+            entries: one(u.entries),
+            steps: one(u.steps),
+            at: one(u.at),
+            edge_at: one(u.edge_at),
+        };
+    }
+
+    pub fn add(&mut self, r: &Readings) {
+        match r {
+            Readings::Refused(r) => self.refuse(*r),
+            Readings::Split(..) => {
+                self.jobs += 1;
+                self.split += 1;
+            }
+            Readings::Fields(c) => self.compare(c),
+        }
+    }
+
+    pub fn text(&self) -> String {
+        let refused: u64 = self.refused.values().sum();
+        format!(
+            "jobs {}, fields {}, refused alike {refused} {:?}, refused otherwise {}\n\
+             fields with any unequal answer {}, unequal numbers of windows made {}, \
+             unequal step counts {}, unequal print-outs {}\n\
+             fields with unequal answers by kind: {:?}\n\
+             unequal answers: {:?}\n\
+             answers compared: {:?}\n\
+             largest difference of a distance {:e}, NaN keys {}",
+            self.jobs,
+            self.fields,
+            self.refused,
+            self.split,
+            self.unequal_fields,
+            self.made,
+            self.jobs_with.steps,
+            self.print_outs,
+            self.jobs_with,
+            self.unequal,
+            self.of,
+            self.largest,
+            self.nan_keys
+        )
+    }
 }

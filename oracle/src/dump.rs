@@ -10,17 +10,41 @@ pub fn bits(x: f64) -> u64 {
     if x.is_nan() { 0x7ff8_0000_0000_0000 } else { x.to_bits() }
 }
 
-pub fn state<R: Reading>(field: &Field<R>) -> State {
-    let mut in_face: Vec<(u32, Vec<Piece>)> =
-        field.in_face.iter().map(|(&f, list)| (f, list.clone())).collect();
+/// A finished field, of the copy or of the published file.
+pub struct View<'a> {
+    pub wins: &'a [Win],
+    pub on_edge: &'a [Vec<u32>],
+    pub vertex: &'a [f64],
+    pub emitted: &'a [f64],
+    /// By rising face.
+    pub in_face: Vec<(u32, &'a [Piece])>,
+    pub steps: u64,
+}
+
+pub fn view<'a, R: Reading>(field: &'a Field<R>) -> View<'a> {
+    let mut in_face: Vec<(u32, &[Piece])> =
+        field.in_face.iter().map(|(&f, list)| (f, &list[..])).collect();
     in_face.sort_by_key(|x| x.0);
-    State {
-        wins: field.wins.clone(),
-        on_edge: field.on_edge.clone(),
-        vertex: field.vertex.clone(),
-        emitted: field.emitted.clone(),
+    View {
+        wins: &field.wins,
+        on_edge: &field.on_edge,
+        vertex: &field.vertex,
+        emitted: &field.emitted,
         in_face,
         steps: field.steps,
+    }
+}
+
+impl State {
+    pub fn view(&self) -> View<'_> {
+        View {
+            wins: &self.wins,
+            on_edge: &self.on_edge,
+            vertex: &self.vertex,
+            emitted: &self.emitted,
+            in_face: self.in_face.iter().map(|(f, list)| (*f, &list[..])).collect(),
+            steps: self.steps,
+        }
     }
 }
 
@@ -90,9 +114,9 @@ pub fn text<R: Reading>(mesh: &Mesh, field: &Field<R>) -> String {
         let list: String = list.iter().map(|i| format!(" {i}")).collect();
         let _ = writeln!(out, "chain {e}{list}");
     }
-    for (f, list) in state(field).in_face {
+    for (f, list) in view(field).in_face {
         for piece in list {
-            let (kind, ends) = match piece {
+            let (kind, ends) = match *piece {
                 Piece::Point(_, a) => (0, hex(a)),
                 Piece::Segment(_, a, b) => (1, hex(a.into_iter().chain(b))),
             };

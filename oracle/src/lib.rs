@@ -8,6 +8,7 @@ pub mod job;
 pub mod reading;
 pub mod slip;
 pub mod upstream;
+pub mod vectors;
 pub mod vector;
 
 /// Stands in for the module of the same name that upstream/exact.rs imports.

@@ -1,11 +1,11 @@
 //! Commands of the oracle; README.md lists them.
-use oracle::compare::{self, Compared, Readings, Unequal};
-use oracle::generate::workshop::{self, Shape};
+use oracle::compare::{self, Readings, Tally};
 use oracle::generate::small;
-use oracle::job::Mesh;
-use oracle::reading::{Patched, Published};
+use oracle::generate::workshop::{self, Shape};
+use oracle::job::{Job, Mesh};
+use oracle::reading::{AllButHypot, OnlyHypot, Patched, Published};
 use oracle::slip::{self, Sizes};
-use std::collections::BTreeMap;
+use oracle::{dump, vectors};
 use std::io::{Read, Write};
 use std::time::Instant;
 
@@ -18,23 +18,34 @@ fn main() {
     }
 }
 
-fn number(text: &str) -> Result<u64, String> {
-    text.parse().map_err(|_| format!("not a number: {text}"))
-}
-
 fn run(args: &[&str]) -> Result<(), String> {
     match args {
         ["slip"] => print(slip::program::<Patched>(&stdin()?, &Sizes::FIELDSLIP).as_bytes()),
         ["slip", "published"] => {
             print(slip::program::<Published>(&stdin()?, &Sizes::FIELDSLIP).as_bytes())
         }
+        ["dump", reading] => print(dump_slip(reading)?.as_bytes()),
+        ["make-slip", "small", seed] => print(&slip::write(&small::job(number(seed)?))),
+        ["make-slip", shape, triangles, lines, limit, seed] => {
+            print(&slip::write(&workshop_job(shape, triangles, lines, limit, seed)?))
+        }
         ["faithful", first, count] => faithful(number(first)?, number(count)?),
-        ["faithful-workshop", first, count] => faithful_workshop(number(first)?, number(count)?),
+        ["faithful-workshop"] => faithful_workshop(),
         ["count", first, count] => count_small(number(first)?, number(count)?),
         ["count-workshop"] => count_workshop(),
-        ["time", shape, triangles, lines, limit] => time(shape, triangles, lines, limit),
-        _ => Err("see oracle/README.md for the commands".into()),
+        ["vectors", leaf, seed, count] => {
+            print(&vectors::make(leaf, number(seed)?, number(count)? as u32)?)
+        }
+        ["pairs", seed, count] => vectors::hypot_pairs(number(seed)?, number(count)?),
+        ["time", shape, triangles, lines, limit] => {
+            time(&workshop_job(shape, triangles, lines, limit, "1")?)
+        }
+        _ => Err("oracle/README.md lists the commands".into()),
     }
+}
+
+fn number(text: &str) -> Result<u64, String> {
+    text.parse().map_err(|_| format!("not a number: {text}"))
 }
 
 fn stdin() -> Result<Vec<u8>, String> {
@@ -47,70 +58,155 @@ fn print(bytes: &[u8]) -> Result<(), String> {
     std::io::stdout().write_all(bytes).map_err(|e| e.to_string())
 }
 
+fn workshop_job(
+    shape: &str,
+    triangles: &str,
+    lines: &str,
+    limit: &str,
+    seed: &str,
+) -> Result<Job, String> {
+    let shape = Shape::parse(shape).ok_or("no such shape")?;
+    let limit: f64 = limit.parse().map_err(|_| "the limit is not a number")?;
+    let (triangles, lines) = (number(triangles)? as usize, number(lines)? as usize);
+    Ok(workshop::job(shape, triangles, lines, limit, number(seed)?))
+}
+
+fn dump_slip(reading: &str) -> Result<String, String> {
+    let refused = |r| slip::refused(r);
+    let job = match slip::read(&stdin()?, &Sizes::UNBOUNDED) {
+        Ok(job) => job,
+        Err(r) => return Ok(refused(r)),
+    };
+    let mesh = match Mesh::new(&job) {
+        Ok(mesh) => mesh,
+        Err(r) => return Ok(refused(r)),
+    };
+    match reading {
+        "patched" => Ok(mesh.field::<Patched>().map_or_else(refused, |f| dump::text(&mesh, &f))),
+        "published" => {
+            Ok(mesh.field::<Published>().map_or_else(refused, |f| dump::text(&mesh, &f)))
+        }
+        _ => Err("the reading is published or patched".into()),
+    }
+}
+
 fn faithful(first: u64, count: u64) -> Result<(), String> {
-    let (mut unequal, mut compared, mut fields) = (Unequal::default(), Compared::default(), 0);
-    let mut refusals: BTreeMap<u32, u64> = BTreeMap::new();
+    let (mut tally, mut otherwise) = (Tally::default(), 0);
     for seed in first..first + count {
         match compare::faithful(&small::job(seed), seed) {
-            Err(r) => *refusals.entry(r.0).or_default() += 1,
-            Ok(Err(text)) => println!("seed {seed}: {text}"),
-            Ok(Ok((u, c))) => {
-                fields += 1;
-                if u.any() {
-                    println!("seed {seed}: {u:?}");
-                }
-                unequal.sum(&u);
-                compared.sum(&c);
+            Err(r) => tally.refuse(r),
+            Ok(Ok(c)) => tally.compare(&c),
+            Ok(Err(text)) => {
+                otherwise += 1;
+                println!("seed {seed}: {text}");
             }
         }
     }
-    println!("jobs {count} fields {fields} refusals {refusals:?}");
-    println!("compared {compared:?}\nunequal {unequal:?}");
+    println!("{}\ndifferent before any field {otherwise}", tally.text());
     Ok(())
 }
 
-fn faithful_workshop(first: u64, count: u64) -> Result<(), String> {
-    let (mut unequal, mut compared) = (Unequal::default(), Compared::default());
-    for seed in first..first + count {
-        let shape = Shape::ALL[seed as usize % 6];
-        let job = workshop::job(shape, 2_000, [1, 10, 100][seed as usize % 3], 20., seed);
-        match compare::faithful(&job, seed) {
-            Ok(Ok((u, c))) => {
-                unequal.sum(&u);
-                compared.sum(&c);
-            }
-            other => println!("seed {seed}: {other:?}"),
+fn faithful_workshop() -> Result<(), String> {
+    let mut tally = Tally::default();
+    for (n, (shape, triangles, lines, limit)) in workshop_mix().into_iter().enumerate() {
+        if triangles > 10_000 {
+            continue;
+        }
+        let job = workshop::job(shape, triangles, lines, limit, n as u64);
+        match compare::faithful(&job, n as u64) {
+            Err(r) => tally.refuse(r),
+            Ok(Ok(c)) => tally.compare(&c),
+            Ok(Err(text)) => println!("{shape:?} {triangles} {lines}: {text}"),
         }
     }
-    println!("jobs {count}\ncompared {compared:?}\nunequal {unequal:?}");
+    println!("{}", tally.text());
     Ok(())
 }
 
 fn count_small(first: u64, count: u64) -> Result<(), String> {
-    let _ = (first, count);
+    let mut tallies = [Tally::default(), Tally::default(), Tally::default()];
+    for seed in first..first + count {
+        let job = small::job(seed);
+        tallies[0].add(&compare::readings::<Published, Patched>(&job, seed));
+        tallies[1].add(&compare::readings::<Published, OnlyHypot>(&job, seed));
+        tallies[2].add(&compare::readings::<Published, AllButHypot>(&job, seed));
+    }
+    report(&tallies);
     Ok(())
+}
+
+fn report(tallies: &[Tally; 3]) {
+    let names = ["published against patched", "hypot alone patched", "all but hypot patched"];
+    for (name, tally) in names.iter().zip(tallies) {
+        println!("== {name}\n{}", tally.text());
+    }
+}
+
+/// Every shape, size and number of start lines. Long ruled triangles make
+/// windows out of proportion, so large ones get a limit.
+fn workshop_mix() -> Vec<(Shape, usize, usize, f64)> {
+    let mut mix = vec![];
+    for triangles in [2_000, 10_000, 30_000, 60_000] {
+        for shape in Shape::ALL {
+            for lines in [1, 10, 100, 300] {
+                let ruled = shape == Shape::Ruled && triangles > 2_000;
+                mix.push((shape, triangles, lines, if ruled { 60. } else { 1e7 }));
+            }
+        }
+    }
+    mix
 }
 
 fn count_workshop() -> Result<(), String> {
+    let mut tallies = [Tally::default(), Tally::default(), Tally::default()];
+    for (n, (shape, triangles, lines, limit)) in workshop_mix().into_iter().enumerate() {
+        let n = n as u64;
+        let job = workshop::job(shape, triangles, lines, limit, n);
+        let pair = compare::readings::<Published, Patched>(&job, n);
+        if let Readings::Fields(c) = &pair {
+            println!(
+                "{shape:?} triangles {} pieces {} windows {} steps {}: unequal windows {} steps {} vertices {} queries {} print-out {} largest {:e}",
+                job.triangles.len() / 3,
+                job.piece_kinds.len(),
+                c.of.windows,
+                c.of.steps,
+                c.unequal.windows,
+                c.unequal.steps,
+                c.unequal.vertices,
+                c.unequal.at + c.unequal.edge_at,
+                u8::from(c.print_out),
+                c.largest
+            );
+        } else {
+            println!("{shape:?} {triangles} {lines}: {pair:?}");
+        }
+        tallies[0].add(&pair);
+        if triangles <= 10_000 {
+            tallies[1].add(&compare::readings::<Published, OnlyHypot>(&job, n));
+            tallies[2].add(&compare::readings::<Published, AllButHypot>(&job, n));
+        }
+    }
+    report(&tallies);
     Ok(())
 }
 
-fn time(shape: &str, triangles: &str, lines: &str, limit: &str) -> Result<(), String> {
-    let shape = Shape::parse(shape).ok_or("no such shape")?;
-    let limit: f64 = limit.parse().map_err(|_| "limit")?;
-    let job = workshop::job(shape, number(triangles)? as usize, number(lines)? as usize, limit, 1);
-    let mesh = Mesh::new(&job).map_err(|r| format!("refused {}", r.0))?;
+fn time(job: &Job) -> Result<(), String> {
+    let refused = |r: oracle::exact::Refusal| format!("refused {}", r.0);
+    let mesh = Mesh::new(job).map_err(refused)?;
     let start = Instant::now();
-    let field = mesh.field::<Published>().map_err(|r| format!("refused {}", r.0))?;
-    let published = start.elapsed();
-    let (made, steps, peaks) = (field.wins.len(), field.steps, field.peaks);
+    let field = mesh.field::<Published>().map_err(refused)?;
+    println!("published {:?} windows {}", start.elapsed(), field.wins.len());
     drop(field);
     let start = Instant::now();
-    let field = mesh.field::<Patched>().map_err(|r| format!("refused {}", r.0))?;
+    let field = mesh.field::<Patched>().map_err(refused)?;
     println!(
-        "{shape:?} triangles {} pieces {} published {published:?} windows {made} steps {steps} {peaks:?}\n  patched {:?} windows {} steps {}",
-        mesh.t.len(), mesh.pieces.len(), start.elapsed(), field.wins.len(), field.steps
+        "patched {:?} triangles {} pieces {} windows {} steps {} {:?}",
+        start.elapsed(),
+        mesh.t.len(),
+        mesh.pieces.len(),
+        field.wins.len(),
+        field.steps,
+        field.peaks
     );
-    if let Readings::Refused(..) = compare::readings(&job, 1) {}
     Ok(())
 }

@@ -271,7 +271,7 @@ fn buffers(rng: &mut Rng) -> Buffers {
 }
 
 /// One thing (or two) wrong with the job.
-fn defect(rng: &mut Rng, job: &mut Job) {
+pub fn defect(rng: &mut Rng, job: &mut Job) {
     let bad = [f64::NAN, f64::INFINITY, -1_000_001., 1_000_000.0000000001, 1e300];
     let n = job.vertices.len().max(1);
     match rng.below(14) {

@@ -1,0 +1,199 @@
+//! Lists of candidate windows through `add`, with pops and touches between.
+use super::leaves::{likely, near, number, src};
+use super::Out;
+use crate::exact::{Buffers, Field, NONE, Refusal, Src, Topology, Win};
+use crate::generate::rng::Rng;
+use crate::reading::Patched;
+
+/// Edges on their own: edge e joins vertices 2e and 2e + 1.
+fn edges(rng: &mut Rng) -> Topology {
+    let n = 1 + rng.below(3);
+    let lengths = [4., 1., 0.001, 3_464_101.615137755, 10., 0.37, 1234.5];
+    Topology {
+        edges: (0..n as u32).map(|e| [2 * e, 2 * e + 1]).collect(),
+        len: (0..n).map(|_| rng.pick(&lengths)).collect(),
+        pseudo: (0..2 * n).map(|_| rng.one_in(2)).collect(),
+        ..Topology::default()
+    }
+}
+
+/// A source in the scale of the edge.
+fn source(rng: &mut Rng, l: f64, last: &Src) -> Src {
+    match rng.below(12) {
+        0 => src(rng),
+        1 => Src::Point { x: number(rng), y: number(rng), s: number(rng) },
+        2 | 3 => near(rng, last),
+        4 => *last,
+        5 => likely(rng),
+        6 => {
+            let turn = rng.between(0., std::f64::consts::PI);
+            Src::Line { ux: turn.cos(), uy: turn.sin(), c: rng.between(0., l) }
+        }
+        7 => Src::Line { ux: rng.pick(&[1., -1., 0.]), uy: 0., c: rng.between(0., l) },
+        8 => Src::Point { x: rng.pick(&[0., l, l / 2.]), y: rng.pick(&[-0., 0., -l]), s: 0. },
+        _ => {
+            let s = if rng.one_in(2) { 0. } else { rng.between(0., l) };
+            Src::Point { x: rng.between(-l, 2. * l), y: -rng.between(0., l), s }
+        }
+    }
+}
+
+/// An end from 0 to l: places of older ends, those exactly tiny away from
+/// them and beside that, the edge's own ends, minus zero.
+fn end(rng: &mut Rng, l: f64, seen: &[f64]) -> f64 {
+    let tiny = 1e-11 * l;
+    let old = if seen.is_empty() { l / 2. } else { rng.pick(seen) };
+    let x = match rng.below(9) {
+        0 => old,
+        1 => old + rng.pick(&[tiny, -tiny, 2. * tiny, 0.5 * tiny]),
+        2 => rng.pick(&[(old + tiny).next_up(), (old + tiny).next_down(), old.next_up()]),
+        3 => 0.,
+        4 => rng.pick(&[-0., l, tiny, l - tiny]),
+        5 => l * rng.below(9) as f64 / 8.,
+        _ => rng.unit() * l,
+    };
+    if (0. ..=l).contains(&x) { x } else { l }
+}
+
+fn candidate(rng: &mut Rng, topo: &Topology, seen: &mut [Vec<f64>], last: &mut Src) -> Win {
+    let e = rng.below(topo.edges.len());
+    let l = topo.len[e];
+    *last = source(rng, l, last);
+    let (a, b) = (end(rng, l, &seen[e]), end(rng, l, &seen[e]));
+    let whole = rng.one_in(6);
+    let (b0, b1) = if whole { (0., l) } else if b < a && !rng.one_in(20) { (b, a) } else { (a, b) };
+    seen[e].extend([b0, b1]);
+    let into = if rng.one_in(4) { NONE } else { rng.below(5) as u32 };
+    let (edge, queued) = (e as u32, into != NONE);
+    Win { edge, into, b0, b1, src: *last, alive: true, queued, low: 0. }
+}
+
+fn buffers(rng: &mut Rng, length: usize) -> Buffers {
+    let mut few = || match rng.below(8) {
+        0 => rng.below(length) as u32,
+        1 => rng.below(12) as u32,
+        _ => 20 * length as u32,
+    };
+    Buffers { windows: few(), events: few(), cuts: few(), face_entries: 0 }
+}
+
+/// The chain of an edge: numbers and ends.
+fn chain(out: &mut Out, field: &Field<Patched>, e: usize) {
+    out.count(field.on_edge[e].len());
+    for &id in &field.on_edge[e] {
+        let w = field.wins[id as usize];
+        out.u32(id);
+        out.f64s(&[w.b0, w.b1]);
+    }
+}
+
+fn add(out: &mut Out, field: &mut Field<Patched>, w: Win, detail: bool) -> Result<(), Refusal> {
+    out.u8(0);
+    out.u32(w.edge);
+    out.u32(w.into);
+    out.u8(w.queued.into());
+    out.f64s(&[w.b0, w.b1]);
+    out.src(&w.src);
+    let answer = field.add(w);
+    out.u8(answer.err().map_or(0, |r| r.0 as u8));
+    if detail && answer.is_ok() {
+        chain(out, field, w.edge as usize);
+    }
+    answer
+}
+
+/// As the search pops: a live, queued window is queued no more.
+fn pop(out: &mut Out, field: &mut Field<Patched>) {
+    out.u8(1);
+    let event = field.pop();
+    out.u8(event.is_some().into());
+    let some = event.is_some();
+    let (key, id, vertex) = event.map_or((0., 0, false), |e| (e.0, e.1, e.2));
+    out.f64(key);
+    out.u32(id);
+    out.u8(vertex.into());
+    if some && !vertex && field.wins[id as usize].alive {
+        field.wins[id as usize].queued = false;
+    }
+}
+
+fn touch(rng: &mut Rng, out: &mut Out, field: &mut Field<Patched>) -> Result<(), Refusal> {
+    out.u8(2);
+    let vx = rng.below(field.vertex.len()) as u32;
+    let d = if rng.one_in(4) { number(rng) } else { rng.between(0., 10.) };
+    out.u32(vx);
+    out.f64(d);
+    let answer = field.touch(vx, d);
+    out.u8(answer.err().map_or(0, |r| r.0 as u8));
+    out.f64(field.vertex[vx as usize]);
+    answer
+}
+
+/// The state after the list, or after the last step that was not refused.
+fn state(out: &mut Out, field: &mut Field<Patched>, topo: &Topology) {
+    out.count(field.wins.len());
+    for w in field.wins.clone() {
+        out.win(&Win { low: w.src.lowest::<Patched>(w.b0, w.b1), ..w });
+    }
+    for e in 0..topo.edges.len() {
+        chain(out, field, e);
+        let slivers = field.slivers.as_ref().map_or(&[][..], |s| &s[e]);
+        out.count(slivers.len());
+        slivers.iter().for_each(|&(a, b)| out.f64s(&[a, b]));
+        out.u32(field.sliver_bound[e] as u32);
+    }
+    out.f64s(&field.vertex);
+    out.count(field.queue.len());
+    while let Some(event) = field.queue.pop() {
+        out.f64(event.0);
+        out.u32(event.1);
+        out.u8(event.2.into());
+    }
+}
+
+pub fn list(rng: &mut Rng, out: &mut Out, most: usize, detail: bool) {
+    let topo = edges(rng);
+    let limit = rng.pick(&[10., 10., 1e7, 1., 0., 4_000_000., 2.5]);
+    let length = if detail { 1 + rng.below(most) } else { most };
+    let capacity = buffers(rng, most);
+    out.f64(limit);
+    out.count(topo.edges.len());
+    out.f64s(&topo.len);
+    topo.pseudo.iter().for_each(|&b| out.u8(b.into()));
+    for n in [capacity.windows, capacity.events, capacity.cuts] {
+        out.u32(n);
+    }
+    out.u8(detail.into());
+    let mut field: Field<Patched> = Field::empty(&[], &[], &topo, limit, capacity);
+    field.slivers = Some(vec![vec![]; topo.edges.len()]);
+    field.sliver_bound = vec![0; topo.edges.len()];
+    let mut seen = vec![vec![]; topo.edges.len()];
+    let mut last = likely(rng);
+    let mut ops = Out::default();
+    let mut done = 0;
+    while done < length {
+        done += 1;
+        let answer = match rng.below(12) {
+            0 => {
+                pop(&mut ops, &mut field);
+                Ok(())
+            }
+            1 => touch(rng, &mut ops, &mut field),
+            _ => {
+                let w = candidate(rng, &topo, &mut seen, &mut last);
+                add(&mut ops, &mut field, w, detail)
+            }
+        };
+        if answer.is_err() {
+            // What a refused step leaves is not defined: only its number.
+            out.count(done);
+            out.0.extend(ops.0);
+            out.u8(0);
+            return;
+        }
+    }
+    out.count(done);
+    out.0.extend(ops.0);
+    out.u8(1);
+    state(out, &mut field, &topo);
+}
