@@ -36,6 +36,10 @@ fn run(args: &[&str]) -> Result<(), String> {
         ["vectors", leaf, seed, count] => {
             print(&vectors::make(leaf, number(seed)?, number(count)? as u32)?)
         }
+        ["stream", shape, triangles, lines, limit, seed] => {
+            let job = workshop_job(shape, triangles, lines, limit, seed)?;
+            print(&vectors::stream(&job).map_err(slip::refused)?)
+        }
         ["pairs", seed, count] => vectors::hypot_pairs(number(seed)?, number(count)?),
         ["time", shape, triangles, lines, limit] => {
             time(&workshop_job(shape, triangles, lines, limit, "1")?)

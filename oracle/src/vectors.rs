@@ -10,8 +10,9 @@ mod topology;
 pub use pairs::hypot_pairs;
 
 use crate::dump::{bits, src_parts};
-use crate::exact::{Src, Win};
+use crate::exact::{Refusal, Src, Win};
 use crate::generate::rng::Rng;
+use crate::job::Job;
 
 /// Bytes being written.
 #[derive(Default)]
@@ -46,6 +47,14 @@ impl Out {
         self.f64s(&[w.b0, w.b1, w.low]);
         self.src(&w.src);
     }
+}
+
+/// One list: the candidates and pops of a job's field.
+pub fn stream(job: &Job) -> Result<Vec<u8>, Refusal> {
+    let mut out = Out::default();
+    out.u32(1);
+    candidates::stream(job, &mut out)?;
+    Ok(out.0)
 }
 
 /// A count, then as many records.

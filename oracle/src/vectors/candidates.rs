@@ -1,39 +1,46 @@
 //! Lists of candidate windows through `add`, with pops and touches between.
 use super::leaves::{likely, near, number, src};
 use super::Out;
-use crate::exact::{Buffers, Field, NONE, Refusal, Src, Topology, Win};
+use crate::exact::{Buffers, Field, NONE, Op, Refusal, Src, Topology, Win};
 use crate::generate::rng::Rng;
+use crate::job::{Job, Mesh};
 use crate::reading::Patched;
 
-/// Edges on their own: edge e joins vertices 2e and 2e + 1.
-fn edges(rng: &mut Rng) -> Topology {
+/// A path of edges without faces: edge e joins vertices e and e + 1.
+fn path(rng: &mut Rng) -> Topology {
     let n = 1 + rng.below(3);
     let lengths = [4., 1., 0.001, 3_464_101.615137755, 10., 0.37, 1234.5];
     Topology {
-        edges: (0..n as u32).map(|e| [2 * e, 2 * e + 1]).collect(),
+        edges: (0..n as u32).map(|e| [e, e + 1]).collect(),
         len: (0..n).map(|_| rng.pick(&lengths)).collect(),
-        pseudo: (0..2 * n).map(|_| rng.one_in(2)).collect(),
+        pseudo: (0..=n).map(|_| rng.one_in(2)).collect(),
         ..Topology::default()
     }
 }
 
-/// A source in the scale of the edge.
-fn source(rng: &mut Rng, l: f64, last: &Src) -> Src {
-    match rng.below(12) {
+/// A source in the scale of the edge; carried distances fall as `left` does,
+/// so that later windows still win ground. The first six kinds can take a
+/// whole edge for good.
+fn source(rng: &mut Rng, l: f64, left: f64, wild: bool, last: &Src) -> Src {
+    let kind = if wild { rng.below(12) } else { 4 + rng.below(8) };
+    match kind {
         0 => src(rng),
         1 => Src::Point { x: number(rng), y: number(rng), s: number(rng) },
         2 | 3 => near(rng, last),
         4 => *last,
-        5 => likely(rng),
-        6 => {
+        5 if wild => likely(rng),
+        5 | 6 => {
             let turn = rng.between(0., std::f64::consts::PI);
-            Src::Line { ux: turn.cos(), uy: turn.sin(), c: rng.between(0., l) }
+            Src::Line { ux: turn.cos(), uy: turn.sin(), c: rng.between(1., 2.) * l * left }
         }
-        7 => Src::Line { ux: rng.pick(&[1., -1., 0.]), uy: 0., c: rng.between(0., l) },
-        8 => Src::Point { x: rng.pick(&[0., l, l / 2.]), y: rng.pick(&[-0., 0., -l]), s: 0. },
+        7 => Src::Line { ux: rng.pick(&[1., -1., 0.]), uy: 0., c: rng.between(1., 2.) * l * left },
+        8 => {
+            let y = rng.pick(&[-0., 0., -l]);
+            Src::Point { x: rng.pick(&[0., l, l / 2.]), y, s: 2. * l * left }
+        }
         _ => {
-            let s = if rng.one_in(2) { 0. } else { rng.between(0., l) };
-            Src::Point { x: rng.between(-l, 2. * l), y: -rng.between(0., l), s }
+            let s = rng.between(0.99, 1.01) * l * left;
+            Src::Point { x: rng.between(-0.2 * l, 1.2 * l), y: -rng.between(0., 0.1 * l), s }
         }
     }
 }
@@ -55,10 +62,16 @@ fn end(rng: &mut Rng, l: f64, seen: &[f64]) -> f64 {
     if (0. ..=l).contains(&x) { x } else { l }
 }
 
-fn candidate(rng: &mut Rng, topo: &Topology, seen: &mut [Vec<f64>], last: &mut Src) -> Win {
+fn candidate(
+    rng: &mut Rng,
+    topo: &Topology,
+    (left, wild): (f64, bool),
+    seen: &mut [Vec<f64>],
+    last: &mut Src,
+) -> Win {
     let e = rng.below(topo.edges.len());
     let l = topo.len[e];
-    *last = source(rng, l, last);
+    *last = source(rng, l, left, wild, last);
     let (a, b) = (end(rng, l, &seen[e]), end(rng, l, &seen[e]));
     let whole = rng.one_in(6);
     let (b0, b1) = if whole { (0., l) } else if b < a && !rng.one_in(20) { (b, a) } else { (a, b) };
@@ -69,11 +82,15 @@ fn candidate(rng: &mut Rng, topo: &Topology, seen: &mut [Vec<f64>], last: &mut S
 }
 
 fn buffers(rng: &mut Rng, length: usize) -> Buffers {
+    let enough = 20 * length as u32;
     let mut few = || match rng.below(8) {
         0 => rng.below(length) as u32,
         1 => rng.below(12) as u32,
-        _ => 20 * length as u32,
+        _ => enough,
     };
+    if length > 100 {
+        return Buffers { windows: enough, events: enough, cuts: enough, face_entries: 0 };
+    }
     Buffers { windows: few(), events: few(), cuts: few(), face_entries: 0 }
 }
 
@@ -151,49 +168,85 @@ fn state(out: &mut Out, field: &mut Field<Patched>, topo: &Topology) {
     }
 }
 
-pub fn list(rng: &mut Rng, out: &mut Out, most: usize, detail: bool) {
-    let topo = edges(rng);
-    let limit = rng.pick(&[10., 10., 1e7, 1., 0., 4_000_000., 2.5]);
-    let length = if detail { 1 + rng.below(most) } else { most };
-    let capacity = buffers(rng, most);
+/// What a list starts from.
+fn start(out: &mut Out, topo: &Topology, limit: f64, capacity: Buffers, detail: bool) {
     out.f64(limit);
-    out.count(topo.edges.len());
-    out.f64s(&topo.len);
+    out.count(topo.pseudo.len());
     topo.pseudo.iter().for_each(|&b| out.u8(b.into()));
+    out.count(topo.edges.len());
+    for (&[a, b], &l) in topo.edges.iter().zip(&topo.len) {
+        out.u32(a);
+        out.u32(b);
+        out.f64(l);
+    }
     for n in [capacity.windows, capacity.events, capacity.cuts] {
         out.u32(n);
     }
     out.u8(detail.into());
-    let mut field: Field<Patched> = Field::empty(&[], &[], &topo, limit, capacity);
+}
+
+fn field(topo: &Topology, limit: f64, capacity: Buffers) -> Field<'_, Patched> {
+    let mut field = Field::empty(&[], &[], topo, limit, capacity);
     field.slivers = Some(vec![vec![]; topo.edges.len()]);
     field.sliver_bound = vec![0; topo.edges.len()];
+    field
+}
+
+pub fn list(rng: &mut Rng, out: &mut Out, most: usize, detail: bool) {
+    let topo = path(rng);
+    let limit = rng.pick(&[10., 10., 1e7, 1e7, 1., 0., 4_000_000., 2.5]);
+    let length = if detail { 1 + rng.below(most) } else { most };
+    let capacity = buffers(rng, most);
+    start(out, &topo, limit, capacity, detail);
+    let mut field = field(&topo, limit, capacity);
     let mut seen = vec![vec![]; topo.edges.len()];
+    let wild = detail || rng.one_in(4);
     let mut last = likely(rng);
     let mut ops = Out::default();
     let mut done = 0;
-    while done < length {
+    let mut answer = Ok(());
+    while done < length && answer.is_ok() {
+        let left = 1. - done as f64 / length as f64;
         done += 1;
-        let answer = match rng.below(12) {
+        answer = match rng.below(12) {
             0 => {
                 pop(&mut ops, &mut field);
                 Ok(())
             }
             1 => touch(rng, &mut ops, &mut field),
             _ => {
-                let w = candidate(rng, &topo, &mut seen, &mut last);
+                let w = candidate(rng, &topo, (left, wild), &mut seen, &mut last);
                 add(&mut ops, &mut field, w, detail)
             }
         };
-        if answer.is_err() {
-            // What a refused step leaves is not defined: only its number.
-            out.count(done);
-            out.0.extend(ops.0);
-            out.u8(0);
-            return;
-        }
     }
     out.count(done);
     out.0.extend(ops.0);
+    out.u8(answer.is_ok().into());
+    // What a refused step leaves is not compared: only its number.
+    if answer.is_ok() {
+        state(out, &mut field, &topo);
+    }
+}
+
+/// The candidates and pops of a whole field, in the format of a list.
+pub fn stream(job: &Job, out: &mut Out) -> Result<(), Refusal> {
+    let mesh = Mesh::new(job)?;
+    let mut real = mesh.empty::<Patched>();
+    real.record = Some(vec![]);
+    real.run(&mesh.pieces, job.max_steps.into())?;
+    let ops = real.record.take().unwrap_or_default();
+    let capacity = Buffers { windows: u32::MAX, events: u32::MAX, cuts: u32::MAX, face_entries: 0 };
+    start(out, &mesh.topo, job.limit, capacity, false);
+    let mut field = field(&mesh.topo, job.limit, capacity);
+    out.count(ops.len());
+    for op in ops {
+        match op {
+            Op::Add(w) => add(out, &mut field, w, false)?,
+            Op::Pop => pop(out, &mut field),
+        }
+    }
     out.u8(1);
-    state(out, &mut field, &topo);
+    state(out, &mut field, &mesh.topo);
+    Ok(())
 }
