@@ -73,6 +73,16 @@ fn random_grid(rng: &mut Rng) -> Soup {
     })
 }
 
+/// Large enough for windows to meet often.
+fn noisy_grid(rng: &mut Rng) -> Soup {
+    let (nx, ny) = (4 + rng.below(6), 4 + rng.below(6));
+    let noise = rng.pick(&[0.1, 0.5, 2.]);
+    grid(nx, ny, |i, j| {
+        let mut off = |k: f64| rng.between(-k, k);
+        [i as f64 + off(0.2), j as f64 + off(0.2), off(noise)]
+    })
+}
+
 fn fan(rng: &mut Rng) -> Soup {
     let n = 3 + rng.below(6);
     let (turn, height) = (rng.pick(&[0.9, 1., 1.7, 2.5]), rng.pick(&[0., 0.5, -2.]));
@@ -142,8 +152,9 @@ fn long(rng: &mut Rng) -> Soup {
 }
 
 fn mesh(rng: &mut Rng) -> Soup {
-    match rng.below(12) {
+    match rng.below(13) {
         0 | 1 => random_grid(rng),
+        12 => noisy_grid(rng),
         2 => fan(rng),
         3 => bowtie(rng),
         4 => tetrahedron(rng),
@@ -288,7 +299,7 @@ pub fn defect(rng: &mut Rng, job: &mut Job) {
             let copy: Vec<f64> = job.vertices.iter().copied().take(3).collect();
             job.vertices.extend(copy);
             job.flags.push(0);
-            let last = (job.vertices.len() / 3) as u32 - 1;
+            let last = (job.vertices.len() / 3).saturating_sub(1) as u32;
             job.triangles.extend([0, 1, last]);
         }
         10 => job.piece_faces.iter_mut().for_each(|f| *f += 1_000),

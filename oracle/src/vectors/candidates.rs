@@ -250,3 +250,60 @@ pub fn stream(job: &Job, out: &mut Out) -> Result<(), Refusal> {
     state(out, &mut field, &mesh.topo);
     Ok(())
 }
+
+#[cfg(test)]
+mod tests {
+    use super::*;
+
+    /// The claim about a list, on one edge: order, widths, shared parts,
+    /// the bound on slivers, and the cover at every end ever offered.
+    fn check(field: &Field<Patched>, topo: &Topology, e: usize, admitted: &[(f64, f64)]) {
+        let tiny = 1e-11 * topo.len[e];
+        let live: Vec<(f64, f64)> = field.on_edge[e]
+            .iter()
+            .map(|&i| (field.wins[i as usize].b0, field.wins[i as usize].b1))
+            .collect();
+        let slivers = &field.slivers.as_ref().expect("slivers are noted")[e];
+        assert!(live.iter().all(|w| w.1 - w.0 > tiny));
+        for (k, u) in live.iter().enumerate() {
+            for w in &live[k + 1..] {
+                assert!(u.0 < w.0 && u.1 < w.1 && u.1.min(w.1) - u.0.max(w.0) <= tiny);
+            }
+        }
+        assert!(slivers.len() as u64 <= field.sliver_bound[e]);
+        assert!(slivers.iter().all(|s| s.1 - s.0 > 0. && s.1 - s.0 <= tiny));
+        let holds = |list: &[(f64, f64)], x: f64| list.iter().any(|w| w.0 <= x && x <= w.1);
+        for &(a, b) in admitted {
+            let ends = live.iter().chain(slivers).flat_map(|&(a, b)| [a, b]);
+            for x in ends.flat_map(|x| [x, x.next_up(), x.next_down()]).chain([a, b, (a + b) / 2.]) {
+                if a <= x && x <= b {
+                    assert!(holds(&live, x) || holds(slivers, x), "{x} of {a} to {b}");
+                }
+            }
+        }
+    }
+
+    #[test]
+    fn the_claim_holds_after_every_candidate() {
+        for seed in 0..400 {
+            let mut rng = Rng::new(seed);
+            let rng = &mut rng;
+            let topo = path(rng);
+            let mut field = field(&topo, 1e7, Buffers::UNBOUNDED);
+            let mut seen = vec![vec![]; topo.edges.len()];
+            let mut admitted = vec![vec![]; topo.edges.len()];
+            let mut last = likely(rng);
+            for k in 0..60 {
+                let mix = (1. - k as f64 / 60., seed % 2 == 0);
+                let w = candidate(rng, &topo, mix, &mut seen, &mut last);
+                let e = w.edge as usize;
+                let narrow = w.b1 - w.b0 <= 1e-11 * topo.len[e];
+                if !narrow && !(w.src.lowest::<Patched>(w.b0, w.b1) > 1e7) {
+                    admitted[e].push((w.b0, w.b1));
+                }
+                field.add(w).expect("the buffers have no bound");
+                check(&field, &topo, e, &admitted[e]);
+            }
+        }
+    }
+}

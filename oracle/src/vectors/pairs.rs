@@ -98,3 +98,22 @@ pub fn hypot_pairs(seed: u64, count: u64) -> Result<(), String> {
     }
     out.flush().map_err(|e| e.to_string())
 }
+
+#[cfg(test)]
+mod tests {
+    use super::*;
+
+    /// Conversion of the exact root to a double rounds ties to even too.
+    #[test]
+    fn exact_roots_and_ties() {
+        let mut rng = Rng::new(3);
+        for _ in 0..100_000 {
+            let m = 1 + rng.below(94_906_265) as u64;
+            let n = 1 + rng.below(m as usize) as u64;
+            let (x, y, r) = (m * m - n * n, 2 * m * n, m * m + n * n);
+            if x as f64 as u64 == x && y as f64 as u64 == y {
+                assert_eq!(hypot(x as f64, y as f64), r as f64, "{x} {y}");
+            }
+        }
+    }
+}
