@@ -15,6 +15,19 @@ fn apart(rng: &mut Rng) -> (f64, f64) {
     (with_exponent(rng, low + distance), with_exponent(rng, low))
 }
 
+/// A root near the midpoint of two doubles: b^2 / 2a is near an odd number
+/// of halves of a's last place.
+fn near_tie(rng: &mut Rng) -> (f64, f64) {
+    let exponent = 600 + rng.below(900) as u64;
+    let a = with_exponent(rng, exponent);
+    let last = a.next_up() - a;
+    let size = 1 << rng.below(30);
+    let halves = (1 + 2 * rng.below(size)) as f64;
+    let b = (a * last).sqrt() * halves.sqrt();
+    let b = f64::from_bits(b.to_bits() + rng.below(9) as u64 - 4);
+    (a, b)
+}
+
 /// m^2 - n^2, 2 m n: the root m^2 + n^2 is exact, and of 54 bits a tie.
 fn triple(rng: &mut Rng) -> (f64, f64) {
     let m = (1 << 26) + rng.below(1 << 26) as u64;
@@ -59,7 +72,8 @@ const SPECIAL: [f64; 12] = [
 fn pair(rng: &mut Rng, class: u64) -> (f64, f64) {
     match class {
         0 => (f64::from_bits(rng.u64()), f64::from_bits(rng.u64())),
-        1..=3 => apart(rng),
+        1 | 2 => apart(rng),
+        3 => near_tie(rng),
         4 => triple(rng),
         5 => tie(rng),
         6 => {
