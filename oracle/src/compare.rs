@@ -5,7 +5,7 @@ use crate::exact::{Field, Refusal, judge_pseudo};
 use crate::generate::rng::Rng;
 use crate::job::{Job, Mesh};
 use crate::reading::{Published, Reading};
-use crate::slip::print_out;
+use crate::slip::{print_out, thousandths};
 use crate::upstream::{Questions, solve};
 use crate::vector::{axpy, sub};
 use std::ops::AddAssign;
@@ -118,6 +118,8 @@ pub struct Compared {
     /// Whether the numbers of windows made, and the print-outs, differ.
     pub made: bool,
     pub print_out: bool,
+    /// Vertices whose lines in the print-outs differ.
+    pub printed: u64,
     /// The largest difference of a vertex distance or a query.
     pub largest: f64,
     pub nan_keys: usize,
@@ -187,6 +189,7 @@ pub fn readings<A: Reading, B: Reading>(job: &Job, seed: u64) -> Readings {
         of: size(&b, &q),
         made: a.wins.len() != b.wins.len(),
         print_out: print_out(&mesh, &a) != print_out(&mesh, &b),
+        printed: unequal(&a.vertex, &b.vertex, |d| thousandths(*d)),
         largest: largest(&a.vertex, &b.vertex)
             .max(largest(&x.at, &y.at))
             .max(largest(&x.edge_at, &y.edge_at)),
@@ -205,6 +208,7 @@ pub struct Tally {
     pub unequal_fields: u64,
     pub made: u64,
     pub print_outs: u64,
+    pub printed: u64,
     /// Jobs with at least one unequal answer of the kind.
     pub jobs_with: Counts,
     pub unequal: Counts,
@@ -225,6 +229,7 @@ impl Tally {
         self.unequal_fields += u64::from(c.unequal.any());
         self.made += u64::from(c.made);
         self.print_outs += u64::from(c.print_out);
+        self.printed += c.printed;
         self.unequal += c.unequal;
         self.of += c.of;
         self.largest = self.largest.max(c.largest);
@@ -259,7 +264,7 @@ impl Tally {
         format!(
             "jobs {}, fields {}, refused alike {refused} {:?}, refused otherwise {}\n\
              fields with any unequal answer {}, unequal numbers of windows made {}, \
-             unequal step counts {}, unequal print-outs {}\n\
+             unequal step counts {}, unequal print-outs {}, unequal vertex lines in them {}\n\
              fields with unequal answers by kind: {:?}\n\
              unequal answers: {:?}\n\
              answers compared: {:?}\n\
@@ -272,6 +277,7 @@ impl Tally {
             self.made,
             self.jobs_with.steps,
             self.print_outs,
+            self.printed,
             self.jobs_with,
             self.unequal,
             self.of,

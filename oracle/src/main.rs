@@ -169,7 +169,7 @@ fn count_workshop() -> Result<(), String> {
         let pair = compare::readings::<Published, Patched>(&job, n);
         if let Readings::Fields(c) = &pair {
             println!(
-                "{shape:?} triangles {} pieces {} windows {} steps {}: unequal windows {} steps {} vertices {} queries {} print-out {} largest {:e}",
+                "{shape:?} triangles {} pieces {} windows {} steps {}: unequal windows {} steps {} vertices {} queries {} lines {} largest {:e}",
                 job.triangles.len() / 3,
                 job.piece_kinds.len(),
                 c.of.windows,
@@ -178,7 +178,7 @@ fn count_workshop() -> Result<(), String> {
                 c.unequal.steps,
                 c.unequal.vertices,
                 c.unequal.at + c.unequal.edge_at,
-                u8::from(c.print_out),
+                c.printed,
                 c.largest
             );
         } else {
