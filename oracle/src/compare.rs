@@ -15,12 +15,21 @@ use std::ops::AddAssign;
 pub fn questions(mesh: &Mesh, rng: &mut Rng, most: usize) -> Questions {
     let mut q = Questions::default();
     for e in 0..mesh.topo.edges.len().min(most) {
-        let e = if mesh.topo.edges.len() > most { rng.below(mesh.topo.edges.len()) } else { e };
+        let e = if mesh.topo.edges.len() > most {
+            rng.below(mesh.topo.edges.len())
+        } else {
+            e
+        };
         let l = mesh.topo.len[e];
-        q.edge_at.extend([0., l, l / 2., rng.unit() * l].map(|x| (e as u32, x)));
+        q.edge_at
+            .extend([0., l, l / 2., rng.unit() * l].map(|x| (e as u32, x)));
     }
     for f in 0..mesh.t.len().min(most) {
-        let f = if mesh.t.len() > most { rng.below(mesh.t.len()) } else { f };
+        let f = if mesh.t.len() > most {
+            rng.below(mesh.t.len())
+        } else {
+            f
+        };
         let [a, b, c] = mesh.t[f].map(|k| mesh.v[k as usize]);
         let on = axpy(a, rng.unit(), sub(b, a));
         let inside = axpy(on, rng.unit(), sub(c, on));
@@ -93,7 +102,11 @@ struct Asked {
 fn ask<R: Reading>(field: &Field<R>, q: &Questions) -> Asked {
     Asked {
         at: q.at.iter().map(|&(f, p)| field.at(f, p)).collect(),
-        edge_at: q.edge_at.iter().map(|&(e, x)| field.edge_at(e, x)).collect(),
+        edge_at: q
+            .edge_at
+            .iter()
+            .map(|&(e, x)| field.edge_at(e, x))
+            .collect(),
     }
 }
 
@@ -131,7 +144,14 @@ pub fn faithful(job: &Job, seed: u64) -> Result<Result<Compared, String>, Refusa
     let mesh = Mesh::new(job)?;
     let field = mesh.field::<Published>()?;
     let q = questions(&mesh, &mut Rng::new(seed), 200);
-    let solved = solve(&mesh.v, &mesh.t, &mesh.topo.pseudo, &mesh.pieces, job.limit, &q);
+    let solved = solve(
+        &mesh.v,
+        &mesh.t,
+        &mesh.topo.pseudo,
+        &mesh.pieces,
+        job.limit,
+        &q,
+    );
     let answers = match solved {
         Ok(answers) => answers,
         Err(text) => return Ok(Err(text)),

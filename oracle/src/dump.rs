@@ -7,7 +7,11 @@ use std::fmt::Write;
 
 /// The bits of a double; one NaN for all.
 pub fn bits(x: f64) -> u64 {
-    if x.is_nan() { 0x7ff8_0000_0000_0000 } else { x.to_bits() }
+    if x.is_nan() {
+        0x7ff8_0000_0000_0000
+    } else {
+        x.to_bits()
+    }
 }
 
 /// A finished field, of the copy or of the published file.
@@ -22,8 +26,11 @@ pub struct View<'a> {
 }
 
 pub fn view<'a, R: Reading>(field: &'a Field<R>) -> View<'a> {
-    let mut in_face: Vec<(u32, &[Piece])> =
-        field.in_face.iter().map(|(&f, list)| (f, &list[..])).collect();
+    let mut in_face: Vec<(u32, &[Piece])> = field
+        .in_face
+        .iter()
+        .map(|(&f, list)| (f, &list[..]))
+        .collect();
     in_face.sort_by_key(|x| x.0);
     View {
         wins: &field.wins,
@@ -42,7 +49,11 @@ impl State {
             on_edge: &self.on_edge,
             vertex: &self.vertex,
             emitted: &self.emitted,
-            in_face: self.in_face.iter().map(|(f, list)| (*f, &list[..])).collect(),
+            in_face: self
+                .in_face
+                .iter()
+                .map(|(f, list)| (*f, &list[..]))
+                .collect(),
             steps: self.steps,
         }
     }
@@ -77,14 +88,18 @@ pub fn win_bits(w: &Win) -> [u64; 11] {
 pub fn piece_bits(p: &Piece) -> Vec<u64> {
     match p {
         Piece::Point(f, a) => [u64::from(*f)].into_iter().chain(a.map(bits)).collect(),
-        Piece::Segment(f, a, b) => {
-            [u64::from(*f)].into_iter().chain(a.map(bits)).chain(b.map(bits)).collect()
-        }
+        Piece::Segment(f, a, b) => [u64::from(*f)]
+            .into_iter()
+            .chain(a.map(bits))
+            .chain(b.map(bits))
+            .collect(),
     }
 }
 
 fn hex(list: impl IntoIterator<Item = f64>) -> String {
-    list.into_iter().map(|x| format!(" {:016x}", bits(x))).collect()
+    list.into_iter()
+        .map(|x| format!(" {:016x}", bits(x)))
+        .collect()
 }
 
 /// One line for each edge, face, vertex, window and chain; doubles as bits.
@@ -97,7 +112,11 @@ pub fn text<R: Reading>(mesh: &Mesh, field: &Field<R>) -> String {
         let _ = writeln!(out, "edge {e} {a} {b} {f} {g}{frame}");
     }
     for (f, [a, b, c]) in topo.tri_edges.iter().enumerate() {
-        let _ = writeln!(out, "face {f} {a} {b} {c}{}", hex(topo.yhat[f].into_iter().flatten()));
+        let _ = writeln!(
+            out,
+            "face {f} {a} {b} {c}{}",
+            hex(topo.yhat[f].into_iter().flatten())
+        );
     }
     for (k, &d) in field.vertex.iter().enumerate() {
         let flag = u8::from(topo.pseudo[k]);
@@ -108,7 +127,11 @@ pub fn text<R: Reading>(mesh: &Mesh, field: &Field<R>) -> String {
         let ends = hex([w.b0, w.b1, w.low].into_iter().chain(s));
         let state = (u8::from(w.alive), u8::from(w.queued));
         let (e, into) = (w.edge, w.into as i32);
-        let _ = writeln!(out, "window {i} {e} {into} {} {} {kind}{ends}", state.0, state.1);
+        let _ = writeln!(
+            out,
+            "window {i} {e} {into} {} {} {kind}{ends}",
+            state.0, state.1
+        );
     }
     for (e, list) in field.on_edge.iter().enumerate() {
         let list: String = list.iter().map(|i| format!(" {i}")).collect();

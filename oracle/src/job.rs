@@ -35,7 +35,11 @@ fn in_range(x: f64) -> bool {
 }
 
 fn refuse_if(refused: bool, number: u32) -> Result<(), Refusal> {
-    if refused { Err(Refusal(number)) } else { Ok(()) }
+    if refused {
+        Err(Refusal(number))
+    } else {
+        Ok(())
+    }
 }
 
 /// The coordinates of a piece that its kind uses.
@@ -59,11 +63,17 @@ fn degenerate(v: &[Vec3], tri: [u32; 3]) -> bool {
 
 impl Job {
     pub fn vec3s(&self) -> Vec<Vec3> {
-        self.vertices.chunks_exact(3).map(|c| [c[0], c[1], c[2]]).collect()
+        self.vertices
+            .chunks_exact(3)
+            .map(|c| [c[0], c[1], c[2]])
+            .collect()
     }
 
     pub fn tris(&self) -> Vec<[u32; 3]> {
-        self.triangles.chunks_exact(3).map(|c| [c[0], c[1], c[2]]).collect()
+        self.triangles
+            .chunks_exact(3)
+            .map(|c| [c[0], c[1], c[2]])
+            .collect()
     }
 
     pub fn pieces(&self) -> Vec<Piece> {
@@ -102,8 +112,13 @@ impl Job {
         refuse_if(!self.vertices.iter().all(|&x| in_range(x)), 4)?;
         refuse_if(t.iter().any(|&tri| degenerate(&v, tri)), 5)?;
         refuse_if(self.piece_faces.iter().any(|&f| f as usize >= t.len()), 6)?;
-        let coords = self.piece_kinds.iter().zip(self.piece_coords.chunks_exact(6));
-        let far = coords.into_iter().any(|(&kind, c)| !used(kind, c).iter().all(|&x| in_range(x)));
+        let coords = self
+            .piece_kinds
+            .iter()
+            .zip(self.piece_coords.chunks_exact(6));
+        let far = coords
+            .into_iter()
+            .any(|(&kind, c)| !used(kind, c).iter().all(|&x| in_range(x)));
         refuse_if(far, 7)?;
         refuse_if(!(0. ..=MAX_LIMIT).contains(&self.limit), 8)
     }

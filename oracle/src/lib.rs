@@ -8,8 +8,8 @@ pub mod job;
 pub mod reading;
 pub mod slip;
 pub mod upstream;
-pub mod vectors;
 pub mod vector;
+pub mod vectors;
 
 /// Stands in for the module of the same name that upstream/exact.rs imports.
 pub mod stock {

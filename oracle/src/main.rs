@@ -1,5 +1,6 @@
 //! Commands of the oracle; README.md lists them.
 use oracle::compare::{self, Readings, Tally};
+use oracle::exact::Buffers;
 use oracle::generate::small;
 use oracle::generate::workshop::{self, Shape};
 use oracle::job::{Job, Mesh};
@@ -24,11 +25,12 @@ fn run(args: &[&str]) -> Result<(), String> {
         ["slip", "published"] => {
             print(slip::program::<Published>(&stdin()?, &Sizes::FIELDSLIP).as_bytes())
         }
-        ["dump", reading] => print(dump_slip(reading)?.as_bytes()),
+        ["dump", reading] => print(dump_slip(reading, &Sizes::UNBOUNDED)?.as_bytes()),
+        ["dump", reading, sizes @ ..] => print(dump_slip(reading, &bounded(sizes)?)?.as_bytes()),
         ["make-slip", "small", seed] => print(&slip::write(&small::job(number(seed)?))),
-        ["make-slip", shape, triangles, lines, limit, seed] => {
-            print(&slip::write(&workshop_job(shape, triangles, lines, limit, seed)?))
-        }
+        ["make-slip", shape, triangles, lines, limit, seed] => print(&slip::write(&workshop_job(
+            shape, triangles, lines, limit, seed,
+        )?)),
         ["faithful", first, count] => faithful(number(first)?, number(count)?),
         ["faithful-workshop"] => faithful_workshop(),
         ["count", first, count] => count_small(number(first)?, number(count)?),
@@ -54,12 +56,16 @@ fn number(text: &str) -> Result<u64, String> {
 
 fn stdin() -> Result<Vec<u8>, String> {
     let mut bytes = vec![];
-    std::io::stdin().read_to_end(&mut bytes).map_err(|e| e.to_string())?;
+    std::io::stdin()
+        .read_to_end(&mut bytes)
+        .map_err(|e| e.to_string())?;
     Ok(bytes)
 }
 
 fn print(bytes: &[u8]) -> Result<(), String> {
-    std::io::stdout().write_all(bytes).map_err(|e| e.to_string())
+    std::io::stdout()
+        .write_all(bytes)
+        .map_err(|e| e.to_string())
 }
 
 fn workshop_job(
@@ -75,9 +81,27 @@ fn workshop_job(
     Ok(workshop::job(shape, triangles, lines, limit, number(seed)?))
 }
 
-fn dump_slip(reading: &str) -> Result<String, String> {
+/// Windows, events, cuts, face entries and steps.
+fn bounded(counts: &[&str]) -> Result<Sizes, String> {
+    let counts: Result<Vec<u64>, String> = counts.iter().map(|n| number(n)).collect();
+    let &[windows, events, cuts, face_entries, max_steps] = &counts?[..] else {
+        return Err("dump takes a reading and none or five counts".into());
+    };
+    Ok(Sizes {
+        buffers: Buffers {
+            windows: windows as u32,
+            events: events as u32,
+            cuts: cuts as u32,
+            face_entries: face_entries as u32,
+        },
+        max_steps: max_steps as u32,
+        ..Sizes::UNBOUNDED
+    })
+}
+
+fn dump_slip(reading: &str, sizes: &Sizes) -> Result<String, String> {
     let refused = |r| slip::refused(r);
-    let job = match slip::read(&stdin()?, &Sizes::UNBOUNDED) {
+    let job = match slip::read(&stdin()?, sizes) {
         Ok(job) => job,
         Err(r) => return Ok(refused(r)),
     };
@@ -86,10 +110,12 @@ fn dump_slip(reading: &str) -> Result<String, String> {
         Err(r) => return Ok(refused(r)),
     };
     match reading {
-        "patched" => Ok(mesh.field::<Patched>().map_or_else(refused, |f| dump::text(&mesh, &f))),
-        "published" => {
-            Ok(mesh.field::<Published>().map_or_else(refused, |f| dump::text(&mesh, &f)))
-        }
+        "patched" => Ok(mesh
+            .field::<Patched>()
+            .map_or_else(refused, |f| dump::text(&mesh, &f))),
+        "published" => Ok(mesh
+            .field::<Published>()
+            .map_or_else(refused, |f| dump::text(&mesh, &f))),
         _ => Err("the reading is published or patched".into()),
     }
 }
@@ -140,7 +166,11 @@ fn count_small(first: u64, count: u64) -> Result<(), String> {
 }
 
 fn report(tallies: &[Tally; 3]) {
-    let names = ["published against patched", "hypot alone patched", "all but hypot patched"];
+    let names = [
+        "published against patched",
+        "hypot alone patched",
+        "all but hypot patched",
+    ];
     for (name, tally) in names.iter().zip(tallies) {
         println!("== {name}\n{}", tally.text());
     }
@@ -199,7 +229,11 @@ fn time(job: &Job) -> Result<(), String> {
     let mesh = Mesh::new(job).map_err(refused)?;
     let start = Instant::now();
     let field = mesh.field::<Published>().map_err(refused)?;
-    println!("published {:?} windows {}", start.elapsed(), field.wins.len());
+    println!(
+        "published {:?} windows {}",
+        start.elapsed(),
+        field.wins.len()
+    );
     drop(field);
     let start = Instant::now();
     let field = mesh.field::<Patched>().map_err(refused)?;

@@ -61,7 +61,11 @@ fn read_piece(bytes: &mut Bytes, job: &mut Job) -> Result<(), Refusal> {
     job.piece_kinds.push(kind);
     job.piece_faces.push(bytes.u32()?);
     for k in 0..6 {
-        let x = if kind == 0 && k >= 3 { 0. } else { bytes.f64()? };
+        let x = if kind == 0 && k >= 3 {
+            0.
+        } else {
+            bytes.f64()?
+        };
         job.piece_coords.push(x);
     }
     Ok(())
@@ -107,12 +111,20 @@ pub fn read(slip: &[u8], sizes: &Sizes) -> Result<Job, Refusal> {
 /// The slip of a job whose slices agree.
 pub fn write(job: &Job) -> Vec<u8> {
     let mut out = vec![];
-    let counts = [job.vertices.len() / 3, job.triangles.len() / 3, job.piece_kinds.len()];
+    let counts = [
+        job.vertices.len() / 3,
+        job.triangles.len() / 3,
+        job.piece_kinds.len(),
+    ];
     for n in counts {
         out.extend((n as u32).to_le_bytes());
     }
-    job.vertices.iter().for_each(|x| out.extend(x.to_le_bytes()));
-    job.triangles.iter().for_each(|k| out.extend(k.to_le_bytes()));
+    job.vertices
+        .iter()
+        .for_each(|x| out.extend(x.to_le_bytes()));
+    job.triangles
+        .iter()
+        .for_each(|k| out.extend(k.to_le_bytes()));
     out.extend(&job.flags);
     let coords = job.piece_coords.chunks_exact(6);
     for ((&kind, f), c) in job.piece_kinds.iter().zip(&job.piece_faces).zip(coords) {
@@ -143,7 +155,11 @@ pub fn thousandths(x: f64) -> String {
     // floor(1000 x + 1/2) over whole numbers; below 2^-100 only the sign
     // of 1000 x + 1/2 would matter, and it is plus.
     let shift = (-exponent).min(120) as u32;
-    let mantissa = if -exponent > 120 { 0 } else { i128::from(mantissa) * 1000 };
+    let mantissa = if -exponent > 120 {
+        0
+    } else {
+        i128::from(mantissa) * 1000
+    };
     let signed = if negative { -mantissa } else { mantissa };
     ((signed + (1 << (shift - 1))) >> shift).to_string()
 }

@@ -64,6 +64,8 @@ pub fn make(leaf: &str, seed: u64, count: u32) -> Result<Vec<u8>, String> {
     out.u32(count);
     for k in 0..count {
         match leaf {
+            "sqrt" => pairs::sqrt_record(&mut rng, &mut out),
+            "hypot" => pairs::hypot_record(&mut rng, &mut out),
             "roots" => leaves::roots(&mut rng, &mut out),
             "ties" => leaves::ties(&mut rng, &mut out),
             "edge" => leaves::edge(&mut rng, &mut out),

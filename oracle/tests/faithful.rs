@@ -26,5 +26,10 @@ fn workshop_jobs() {
             tally.compare(&compared.unwrap_or_else(|text| panic!("{shape:?}: {text}")));
         }
     }
-    assert_eq!((tally.fields, tally.unequal_fields), (12, 0), "{}", tally.text());
+    assert_eq!(
+        (tally.fields, tally.unequal_fields),
+        (12, 0),
+        "{}",
+        tally.text()
+    );
 }

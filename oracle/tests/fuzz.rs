@@ -8,7 +8,9 @@ use oracle::slip::{Sizes, program, write};
 use std::panic::catch_unwind;
 
 fn is_answer(text: &str) -> bool {
-    let refused = text.strip_prefix("refused ").and_then(|n| n.trim_end().parse::<u32>().ok());
+    let refused = text
+        .strip_prefix("refused ")
+        .and_then(|n| n.trim_end().parse::<u32>().ok());
     let known = |n: u32| (1..=17).contains(&n) && n != 9 && n != 16 || (30..=33).contains(&n);
     refused.map_or(text.starts_with("edges ") && text.ends_with("end\n"), known)
 }
@@ -52,11 +54,36 @@ fn scramble(rng: &mut Rng, job: &mut Job) {
         let n = rng.pick(&[0, 1, 2, 7, u32::MAX, any]);
         let count = job.vertices.len() + 1;
         match rng.below(8) {
-            0 => job.vertices.iter_mut().skip(rng.below(count)).take(1).for_each(|v| *v = x),
-            1 => job.vertices.iter_mut().skip(rng.below(count)).take(1).for_each(|v| *v = y),
-            2 => job.triangles.iter_mut().skip(rng.below(count)).take(1).for_each(|t| *t = n),
-            3 => job.piece_coords.iter_mut().skip(rng.below(count)).take(1).for_each(|v| *v = x),
-            4 => job.piece_coords.iter_mut().skip(rng.below(count)).take(1).for_each(|v| *v = y),
+            0 => job
+                .vertices
+                .iter_mut()
+                .skip(rng.below(count))
+                .take(1)
+                .for_each(|v| *v = x),
+            1 => job
+                .vertices
+                .iter_mut()
+                .skip(rng.below(count))
+                .take(1)
+                .for_each(|v| *v = y),
+            2 => job
+                .triangles
+                .iter_mut()
+                .skip(rng.below(count))
+                .take(1)
+                .for_each(|t| *t = n),
+            3 => job
+                .piece_coords
+                .iter_mut()
+                .skip(rng.below(count))
+                .take(1)
+                .for_each(|v| *v = x),
+            4 => job
+                .piece_coords
+                .iter_mut()
+                .skip(rng.below(count))
+                .take(1)
+                .for_each(|v| *v = y),
             5 => job.piece_faces.iter_mut().take(1).for_each(|f| *f = n),
             6 => job.limit = x,
             _ => job.vertices.truncate(rng.below(count)),
@@ -86,10 +113,15 @@ fn scrambled_jobs() {
             scramble(&mut rng, &mut job);
         }
         let answer = catch_unwind(|| run(&job));
-        let answer = answer.unwrap_or_else(|_| panic!("a panic on the job of seed {seed}: {job:?}"));
+        let answer =
+            answer.unwrap_or_else(|_| panic!("a panic on the job of seed {seed}: {job:?}"));
         met[answer.err().map_or(0, |r| r.0 as usize)] += 1;
     }
     for (number, &count) in met.iter().enumerate() {
-        assert_eq!(count > 0, number != 9 && number != 16, "refusal {number}: {count}");
+        assert_eq!(
+            count > 0,
+            number != 9 && number != 16,
+            "refusal {number}: {count}"
+        );
     }
 }

@@ -61,7 +61,11 @@ fn each_defect_and_each_pair() {
         for (b, second) in &DEFECTS[i + 1..] {
             for swapped in [false, true] {
                 let mut job = square();
-                let (x, y) = if swapped { (second, first) } else { (first, second) };
+                let (x, y) = if swapped {
+                    (second, first)
+                } else {
+                    (first, second)
+                };
                 x(&mut job);
                 y(&mut job);
                 assert_eq!(answer(&job), Err(Refusal(*a)), "{a} and {b}");

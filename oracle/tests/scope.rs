@@ -97,7 +97,9 @@ fn two_candidates_on_one_edge() {
     field.add(candidate(4.)).unwrap();
     let ends = |f: &Field<Patched>| -> Vec<(u32, f64, f64)> {
         let list = &f.on_edge[0];
-        list.iter().map(|&i| (i, f.wins[i as usize].b0, f.wins[i as usize].b1)).collect()
+        list.iter()
+            .map(|&i| (i, f.wins[i as usize].b0, f.wins[i as usize].b1))
+            .collect()
     };
     assert_eq!(ends(&field), [(0, 0., 2.), (1, 2., 4.)]);
     assert_eq!(field.slivers, Some(vec![vec![]]));

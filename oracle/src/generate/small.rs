@@ -15,7 +15,9 @@ fn lattice(rng: &mut Rng, n: usize, size: i64) -> Vec<Vec3> {
 }
 
 fn cloud(rng: &mut Rng, n: usize, size: f64) -> Vec<Vec3> {
-    (0..n).map(|_| [0; 3].map(|_| rng.between(-size, size))).collect()
+    (0..n)
+        .map(|_| [0; 3].map(|_| rng.between(-size, size)))
+        .collect()
 }
 
 /// Triangles over any vertices, each edge in at most two of them (mostly).
@@ -65,11 +67,24 @@ pub fn grid(nx: usize, ny: usize, place: impl FnMut(usize, usize) -> Vec3) -> So
 
 fn random_grid(rng: &mut Rng) -> Soup {
     let (nx, ny) = (1 + rng.below(4), 1 + rng.below(4));
-    let (step, bumps) = (rng.pick(&[1., 0.25, 7.3, 1000.]), rng.pick(&[0., 0., 1., 0.3]));
+    let (step, bumps) = (
+        rng.pick(&[1., 0.25, 7.3, 1000.]),
+        rng.pick(&[0., 0., 1., 0.3]),
+    );
     let jitter = rng.pick(&[0., 0., 0.3]);
     grid(nx, ny, |i, j| {
-        let mut off = |k: f64| if k == 0. { 0. } else { rng.between(-k, k) * step };
-        [i as f64 * step + off(jitter), j as f64 * step + off(jitter), off(bumps)]
+        let mut off = |k: f64| {
+            if k == 0. {
+                0.
+            } else {
+                rng.between(-k, k) * step
+            }
+        };
+        [
+            i as f64 * step + off(jitter),
+            j as f64 * step + off(jitter),
+            off(bumps),
+        ]
     })
 }
 
@@ -94,7 +109,9 @@ fn fan(rng: &mut Rng) -> Soup {
     }
     let closed = rng.below(4) > 0;
     let last = if closed { n } else { n - 1 };
-    let t = (0..last).map(|k| [0, 1 + k as u32, 1 + ((k + 1) % n) as u32]).collect();
+    let t = (0..last)
+        .map(|k| [0, 1 + k as u32, 1 + ((k + 1) % n) as u32])
+        .collect();
     (v, t)
 }
 
@@ -112,7 +129,11 @@ fn bowtie(rng: &mut Rng) -> Soup {
 }
 
 fn tetrahedron(rng: &mut Rng) -> Soup {
-    let v = if rng.one_in(2) { lattice(rng, 4, 2) } else { cloud(rng, 4, 5.) };
+    let v = if rng.one_in(2) {
+        lattice(rng, 4, 2)
+    } else {
+        cloud(rng, 4, 5.)
+    };
     (v, vec![[0, 1, 2], [0, 3, 1], [1, 3, 2], [2, 3, 0]])
 }
 
@@ -127,7 +148,10 @@ fn thin(rng: &mut Rng) -> Soup {
         v.extend([[x, 0., 0.], [x + rng.between(0., step), w, 0.]]);
     }
     for k in 0..n as u32 {
-        t.extend([[2 * k, 2 * k + 2, 2 * k + 1], [2 * k + 1, 2 * k + 2, 2 * k + 3]]);
+        t.extend([
+            [2 * k, 2 * k + 2, 2 * k + 1],
+            [2 * k + 1, 2 * k + 2, 2 * k + 3],
+        ]);
     }
     (v, t)
 }
@@ -187,7 +211,12 @@ fn mesh(rng: &mut Rng) -> Soup {
         }
         _ => {
             let (v, t) = random_grid(rng);
-            (v.into_iter().map(|p| p.map(|x| if x == 0. { -0. } else { x })).collect(), t)
+            (
+                v.into_iter()
+                    .map(|p| p.map(|x| if x == 0. { -0. } else { x }))
+                    .collect(),
+                t,
+            )
         }
     }
 }
@@ -196,7 +225,10 @@ fn mesh(rng: &mut Rng) -> Soup {
 fn place(rng: &mut Rng, tri: [Vec3; 3]) -> Vec3 {
     let k = rng.below(3);
     let (a, b, c) = (tri[k], tri[(k + 1) % 3], tri[(k + 2) % 3]);
-    let (s, r) = (rng.pick(&[0.5, 0.25, 0., 1., 0.3]), rng.pick(&[0.5, 0.25, 0.125, 0.7]));
+    let (s, r) = (
+        rng.pick(&[0.5, 0.25, 0., 1., 0.3]),
+        rng.pick(&[0.5, 0.25, 0.125, 0.7]),
+    );
     let on = axpy(a, s, sub(b, a));
     match rng.below(9) {
         0 => a,
@@ -238,12 +270,17 @@ fn pieces(rng: &mut Rng, v: &[Vec3], t: &[[u32; 3]], job: &mut Job) {
             }
         }
         let segment = rng.below(2) as u8;
-        let q = if segment == 1 && rng.one_in(8) { p } else { fresh(rng, f) };
+        let q = if segment == 1 && rng.one_in(8) {
+            p
+        } else {
+            fresh(rng, f)
+        };
         seen.extend([(f, p), (f, q)]);
         job.piece_kinds.push(segment);
         job.piece_faces.push(f as u32);
         job.piece_coords.extend(p);
-        job.piece_coords.extend(if segment == 1 { q } else { [0.; 3] });
+        job.piece_coords
+            .extend(if segment == 1 { q } else { [0.; 3] });
     }
 }
 
@@ -256,7 +293,8 @@ fn twin_segments(rng: &mut Rng, v: &[Vec3], t: &[[u32; 3]], job: &mut Job) {
         let (a, b) = (nudge(rng, p), nudge(rng, q));
         job.piece_kinds.push(1);
         job.piece_faces.push(f as u32);
-        job.piece_coords.extend(a.iter().chain(&b).map(|x| x.clamp(-1e6, 1e6)));
+        job.piece_coords
+            .extend(a.iter().chain(&b).map(|x| x.clamp(-1e6, 1e6)));
     }
 }
 
@@ -271,19 +309,35 @@ fn flags(rng: &mut Rng, v: &[Vec3], t: &[[u32; 3]]) -> Vec<u8> {
 
 fn buffers(rng: &mut Rng) -> Buffers {
     if rng.below(4) > 0 {
-        return Buffers { windows: 20_000, events: 20_000, cuts: 2_000, face_entries: 1_000 };
+        return Buffers {
+            windows: 20_000,
+            events: 20_000,
+            cuts: 2_000,
+            face_entries: 1_000,
+        };
     }
     let mut few = |large: u32| match rng.below(3) {
         0 => large,
         1 => rng.below(8) as u32,
         _ => rng.below(60) as u32,
     };
-    Buffers { windows: few(20_000), events: few(20_000), cuts: few(2_000), face_entries: few(1_000) }
+    Buffers {
+        windows: few(20_000),
+        events: few(20_000),
+        cuts: few(2_000),
+        face_entries: few(1_000),
+    }
 }
 
 /// One thing (or two) wrong with the job.
 pub fn defect(rng: &mut Rng, job: &mut Job) {
-    let bad = [f64::NAN, f64::INFINITY, -1_000_001., 1_000_000.0000000001, 1e300];
+    let bad = [
+        f64::NAN,
+        f64::INFINITY,
+        -1_000_001.,
+        1_000_000.0000000001,
+        1e300,
+    ];
     let n = job.vertices.len().max(1);
     match rng.below(14) {
         0 => job.flags.push(0),
@@ -294,7 +348,11 @@ pub fn defect(rng: &mut Rng, job: &mut Job) {
         5 => job.triangles.extend([0, 1, u32::MAX]),
         6 => job.triangles.extend([0, 0, 1]),
         7 => job.triangles.extend([9, 9, 1]),
-        8 => job.vertices.iter_mut().take(1).for_each(|x| *x = rng.pick(&bad)),
+        8 => job
+            .vertices
+            .iter_mut()
+            .take(1)
+            .for_each(|x| *x = rng.pick(&bad)),
         9 => {
             let copy: Vec<f64> = job.vertices.iter().copied().take(3).collect();
             job.vertices.extend(copy);
@@ -303,7 +361,11 @@ pub fn defect(rng: &mut Rng, job: &mut Job) {
             job.triangles.extend([0, 1, last]);
         }
         10 => job.piece_faces.iter_mut().for_each(|f| *f += 1_000),
-        11 => job.piece_coords.iter_mut().take(2).for_each(|x| *x = rng.pick(&bad)),
+        11 => job
+            .piece_coords
+            .iter_mut()
+            .take(2)
+            .for_each(|x| *x = rng.pick(&bad)),
         12 => job.limit = rng.pick(&[f64::NAN, -1e-300, 10_000_000.000000002, f64::INFINITY]),
         _ => {
             let first: Vec<u32> = job.triangles.iter().copied().take(3).collect();
@@ -316,7 +378,11 @@ pub fn defect(rng: &mut Rng, job: &mut Job) {
 pub fn job(seed: u64) -> Job {
     let mut rng = Rng::new(seed);
     let rng = &mut rng;
-    let (v, t) = if rng.one_in(200) { (vec![], vec![]) } else { mesh(rng) };
+    let (v, t) = if rng.one_in(200) {
+        (vec![], vec![])
+    } else {
+        mesh(rng)
+    };
     let mut job = Job {
         vertices: v.iter().flatten().copied().collect(),
         triangles: t.iter().flatten().copied().collect(),

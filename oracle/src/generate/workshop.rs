@@ -19,11 +19,19 @@ pub enum Shape {
 }
 
 impl Shape {
-    pub const ALL: [Shape; 6] =
-        [Shape::Terrain, Shape::Mould, Shape::Box, Shape::Sphere, Shape::Ruled, Shape::Noisy];
+    pub const ALL: [Shape; 6] = [
+        Shape::Terrain,
+        Shape::Mould,
+        Shape::Box,
+        Shape::Sphere,
+        Shape::Ruled,
+        Shape::Noisy,
+    ];
 
     pub fn parse(name: &str) -> Option<Shape> {
-        Shape::ALL.into_iter().find(|s| format!("{s:?}").eq_ignore_ascii_case(name))
+        Shape::ALL
+            .into_iter()
+            .find(|s| format!("{s:?}").eq_ignore_ascii_case(name))
     }
 }
 
@@ -78,7 +86,11 @@ fn cube(n: usize, place: impl Fn(Vec3) -> Vec3) -> (Vec<Vec3>, Vec<[u32; 3]>) {
 fn fillet(p: Vec3, half: Vec3, r: f64) -> Vec3 {
     let stretch = |x: f64, h: f64| {
         let a = x.abs();
-        let y = if a < 0.8 { a / 0.8 * (h - r) } else { h - r + (a - 0.8) / 0.2 * r };
+        let y = if a < 0.8 {
+            a / 0.8 * (h - r)
+        } else {
+            h - r + (a - 0.8) / 0.2 * r
+        };
         y.copysign(x)
     };
     let q = [0, 1, 2].map(|k| stretch(p[k], half[k]));
@@ -126,7 +138,11 @@ pub fn job(shape: Shape, triangles: usize, lines: usize, limit: f64, seed: u64) 
     let (v, t) = mesh(shape, triangles, rng);
     let pseudo = judge_pseudo(&v, &t);
     let topo = Topology::new(&v, &t, &pseudo).expect("the generated meshes are manifold");
-    let walker = Walker { v: &v, t: &t, topo: &topo };
+    let walker = Walker {
+        v: &v,
+        t: &t,
+        topo: &topo,
+    };
     let mut job = Job {
         vertices: v.iter().flatten().copied().collect(),
         triangles: t.iter().flatten().copied().collect(),

@@ -1,6 +1,6 @@
 //! Lists of candidate windows through `add`, with pops and touches between.
-use super::leaves::{likely, near, number, src};
 use super::Out;
+use super::leaves::{likely, near, number, src};
 use crate::exact::{Buffers, Field, NONE, Op, Refusal, Src, Topology, Win};
 use crate::generate::rng::Rng;
 use crate::job::{Job, Mesh};
@@ -22,25 +22,49 @@ fn path(rng: &mut Rng) -> Topology {
 /// so that later windows still win ground. The first six kinds can take a
 /// whole edge for good.
 fn source(rng: &mut Rng, l: f64, left: f64, wild: bool, last: &Src) -> Src {
-    let kind = if wild { rng.below(12) } else { 4 + rng.below(8) };
+    let kind = if wild {
+        rng.below(12)
+    } else {
+        4 + rng.below(8)
+    };
     match kind {
         0 => src(rng),
-        1 => Src::Point { x: number(rng), y: number(rng), s: number(rng) },
+        1 => Src::Point {
+            x: number(rng),
+            y: number(rng),
+            s: number(rng),
+        },
         2 | 3 => near(rng, last),
         4 => *last,
         5 if wild => likely(rng),
         5 | 6 => {
             let turn = rng.between(0., std::f64::consts::PI);
-            Src::Line { ux: turn.cos(), uy: turn.sin(), c: rng.between(1., 2.) * l * left }
+            Src::Line {
+                ux: turn.cos(),
+                uy: turn.sin(),
+                c: rng.between(1., 2.) * l * left,
+            }
         }
-        7 => Src::Line { ux: rng.pick(&[1., -1., 0.]), uy: 0., c: rng.between(1., 2.) * l * left },
+        7 => Src::Line {
+            ux: rng.pick(&[1., -1., 0.]),
+            uy: 0.,
+            c: rng.between(1., 2.) * l * left,
+        },
         8 => {
             let y = rng.pick(&[-0., 0., -l]);
-            Src::Point { x: rng.pick(&[0., l, l / 2.]), y, s: 2. * l * left }
+            Src::Point {
+                x: rng.pick(&[0., l, l / 2.]),
+                y,
+                s: 2. * l * left,
+            }
         }
         _ => {
             let s = rng.between(0.99, 1.01) * l * left;
-            Src::Point { x: rng.between(-0.2 * l, 1.2 * l), y: -rng.between(0., 0.1 * l), s }
+            Src::Point {
+                x: rng.between(-0.2 * l, 1.2 * l),
+                y: -rng.between(0., 0.1 * l),
+                s,
+            }
         }
     }
 }
@@ -49,11 +73,19 @@ fn source(rng: &mut Rng, l: f64, left: f64, wild: bool, last: &Src) -> Src {
 /// them and beside that, the edge's own ends, minus zero.
 fn end(rng: &mut Rng, l: f64, seen: &[f64]) -> f64 {
     let tiny = 1e-11 * l;
-    let old = if seen.is_empty() { l / 2. } else { rng.pick(seen) };
+    let old = if seen.is_empty() {
+        l / 2.
+    } else {
+        rng.pick(seen)
+    };
     let x = match rng.below(9) {
         0 => old,
         1 => old + rng.pick(&[tiny, -tiny, 2. * tiny, 0.5 * tiny]),
-        2 => rng.pick(&[(old + tiny).next_up(), (old + tiny).next_down(), old.next_up()]),
+        2 => rng.pick(&[
+            (old + tiny).next_up(),
+            (old + tiny).next_down(),
+            old.next_up(),
+        ]),
         3 => 0.,
         4 => rng.pick(&[-0., l, tiny, l - tiny]),
         5 => l * rng.below(9) as f64 / 8.,
@@ -74,11 +106,30 @@ fn candidate(
     *last = source(rng, l, left, wild, last);
     let (a, b) = (end(rng, l, &seen[e]), end(rng, l, &seen[e]));
     let whole = rng.one_in(6);
-    let (b0, b1) = if whole { (0., l) } else if b < a && !rng.one_in(20) { (b, a) } else { (a, b) };
+    let (b0, b1) = if whole {
+        (0., l)
+    } else if b < a && !rng.one_in(20) {
+        (b, a)
+    } else {
+        (a, b)
+    };
     seen[e].extend([b0, b1]);
-    let into = if rng.one_in(4) { NONE } else { rng.below(5) as u32 };
+    let into = if rng.one_in(4) {
+        NONE
+    } else {
+        rng.below(5) as u32
+    };
     let (edge, queued) = (e as u32, into != NONE);
-    Win { edge, into, b0, b1, src: *last, alive: true, queued, low: 0. }
+    Win {
+        edge,
+        into,
+        b0,
+        b1,
+        src: *last,
+        alive: true,
+        queued,
+        low: 0.,
+    }
 }
 
 fn buffers(rng: &mut Rng, length: usize) -> Buffers {
@@ -89,9 +140,19 @@ fn buffers(rng: &mut Rng, length: usize) -> Buffers {
         _ => enough,
     };
     if length > 100 {
-        return Buffers { windows: enough, events: enough, cuts: enough, face_entries: 0 };
+        return Buffers {
+            windows: enough,
+            events: enough,
+            cuts: enough,
+            face_entries: 0,
+        };
     }
-    Buffers { windows: few(), events: few(), cuts: few(), face_entries: 0 }
+    Buffers {
+        windows: few(),
+        events: few(),
+        cuts: few(),
+        face_entries: 0,
+    }
 }
 
 /// The chain of an edge: numbers and ends.
@@ -137,7 +198,11 @@ fn pop(out: &mut Out, field: &mut Field<Patched>) {
 fn touch(rng: &mut Rng, out: &mut Out, field: &mut Field<Patched>) -> Result<(), Refusal> {
     out.u8(2);
     let vx = rng.below(field.vertex.len()) as u32;
-    let d = if rng.one_in(4) { number(rng) } else { rng.between(0., 10.) };
+    let d = if rng.one_in(4) {
+        number(rng)
+    } else {
+        rng.between(0., 10.)
+    };
     out.u32(vx);
     out.f64(d);
     let answer = field.touch(vx, d);
@@ -150,7 +215,10 @@ fn touch(rng: &mut Rng, out: &mut Out, field: &mut Field<Patched>) -> Result<(),
 fn state(out: &mut Out, field: &mut Field<Patched>, topo: &Topology) {
     out.count(field.wins.len());
     for w in field.wins.clone() {
-        out.win(&Win { low: w.src.lowest::<Patched>(w.b0, w.b1), ..w });
+        out.win(&Win {
+            low: w.src.lowest::<Patched>(w.b0, w.b1),
+            ..w
+        });
     }
     for e in 0..topo.edges.len() {
         chain(out, field, e);
@@ -236,7 +304,12 @@ pub fn stream(job: &Job, out: &mut Out) -> Result<(), Refusal> {
     real.record = Some(vec![]);
     real.run(&mesh.pieces, job.max_steps.into())?;
     let ops = real.record.take().unwrap_or_default();
-    let capacity = Buffers { windows: u32::MAX, events: u32::MAX, cuts: u32::MAX, face_entries: 0 };
+    let capacity = Buffers {
+        windows: u32::MAX,
+        events: u32::MAX,
+        cuts: u32::MAX,
+        face_entries: 0,
+    };
     start(out, &mesh.topo, job.limit, capacity, false);
     let mut field = field(&mesh.topo, job.limit, capacity);
     out.count(ops.len());
@@ -275,7 +348,10 @@ mod tests {
         let holds = |list: &[(f64, f64)], x: f64| list.iter().any(|w| w.0 <= x && x <= w.1);
         for &(a, b) in admitted {
             let ends = live.iter().chain(slivers).flat_map(|&(a, b)| [a, b]);
-            for x in ends.flat_map(|x| [x, x.next_up(), x.next_down()]).chain([a, b, (a + b) / 2.]) {
+            for x in ends
+                .flat_map(|x| [x, x.next_up(), x.next_down()])
+                .chain([a, b, (a + b) / 2.])
+            {
                 if a <= x && x <= b {
                     assert!(holds(&live, x) || holds(slivers, x), "{x} of {a} to {b}");
                 }
@@ -298,7 +374,8 @@ mod tests {
                 let w = candidate(rng, &topo, mix, &mut seen, &mut last);
                 let e = w.edge as usize;
                 let narrow = w.b1 - w.b0 <= 1e-11 * topo.len[e];
-                if !narrow && !(w.src.lowest::<Patched>(w.b0, w.b1) > 1e7) {
+                let far = w.src.lowest::<Patched>(w.b0, w.b1) > 1e7;
+                if !narrow && !far {
                     admitted[e].push((w.b0, w.b1));
                 }
                 field.add(w).expect("the buffers have no bound");

@@ -9,7 +9,16 @@ use std::collections::BinaryHeap;
 fn key(rng: &mut Rng, last: f64) -> f64 {
     match rng.below(8) {
         0 | 1 => last,
-        2 => rng.pick(&[0., -0., f64::INFINITY, f64::NEG_INFINITY, f64::NAN, -1., 5e-324, -5e-324]),
+        2 => rng.pick(&[
+            0.,
+            -0.,
+            f64::INFINITY,
+            f64::NEG_INFINITY,
+            f64::NAN,
+            -1.,
+            5e-324,
+            -5e-324,
+        ]),
         3 => rng.below(4) as f64,
         4 => -rng.unit(),
         5 => f64::from_bits(rng.u64()),
@@ -30,8 +39,16 @@ pub fn run(rng: &mut Rng, out: &mut Out) {
         out.u8(if push { 0 } else { 1 });
         if push {
             last = key(rng, last);
-            let x = if last.is_nan() { f64::from_bits(0x7ff8 << 48) } else { last };
-            let id = if rng.one_in(3) { rng.below(4) as u32 } else { rng.below(1_000_000) as u32 };
+            let x = if last.is_nan() {
+                f64::from_bits(0x7ff8 << 48)
+            } else {
+                last
+            };
+            let id = if rng.one_in(3) {
+                rng.below(4) as u32
+            } else {
+                rng.below(1_000_000) as u32
+            };
             let vertex = rng.one_in(3);
             out.f64(x);
             out.u32(id);

@@ -52,11 +52,25 @@ pub fn modest(rng: &mut Rng) -> f64 {
 pub fn likely(rng: &mut Rng) -> Src {
     if rng.one_in(2) {
         let s = if rng.one_in(3) { 0. } else { modest(rng).abs() };
-        return Src::Point { x: modest(rng), y: -modest(rng).abs(), s };
+        return Src::Point {
+            x: modest(rng),
+            y: -modest(rng).abs(),
+            s,
+        };
     }
     let turn = rng.between(0., std::f64::consts::PI);
-    let (ux, uy) = rng.pick(&[(turn.cos(), turn.sin()), (turn.cos(), turn.sin()), (1., 0.), (0., 1.), (-1., 0.)]);
-    Src::Line { ux, uy, c: modest(rng) }
+    let (ux, uy) = rng.pick(&[
+        (turn.cos(), turn.sin()),
+        (turn.cos(), turn.sin()),
+        (1., 0.),
+        (0., 1.),
+        (-1., 0.),
+    ]);
+    Src::Line {
+        ux,
+        uy,
+        c: modest(rng),
+    }
 }
 
 pub fn src(rng: &mut Rng) -> Src {
@@ -64,7 +78,11 @@ pub fn src(rng: &mut Rng) -> Src {
         return likely(rng);
     }
     let [x, y, s] = [number(rng), number(rng), number(rng)];
-    if rng.one_in(2) { Src::Point { x, y, s } } else { Src::Line { ux: x, uy: y, c: s } }
+    if rng.one_in(2) {
+        Src::Point { x, y, s }
+    } else {
+        Src::Line { ux: x, uy: y, c: s }
+    }
 }
 
 /// The same source, or one that differs by a little in one number.
@@ -77,8 +95,16 @@ pub fn near(rng: &mut Rng, src: &Src) -> Src {
         _ => x,
     };
     match *src {
-        Src::Point { x, y, s } => Src::Point { x: by(x), y: by(y), s: by(s) },
-        Src::Line { ux, uy, c } => Src::Line { ux: by(ux), uy: by(uy), c: by(c) },
+        Src::Point { x, y, s } => Src::Point {
+            x: by(x),
+            y: by(y),
+            s: by(s),
+        },
+        Src::Line { ux, uy, c } => Src::Line {
+            ux: by(ux),
+            uy: by(uy),
+            c: by(c),
+        },
     }
 }
 
@@ -90,7 +116,11 @@ fn coefficients(rng: &mut Rng) -> [f64; 3] {
             let (s, t) = (modest(rng), rng.between(-1., 1.));
             let a = step(rng, 1e-13 * s.abs());
             let a = if rng.one_in(2) { -a } else { a };
-            if rng.one_in(2) { [a, s, s * t] } else { [a, s * t, s] }
+            if rng.one_in(2) {
+                [a, s, s * t]
+            } else {
+                [a, s * t, s]
+            }
         }
         // A discriminant of zero, and just beside it.
         1 | 2 => {
@@ -127,7 +157,11 @@ pub fn roots(rng: &mut Rng, out: &mut Out) {
 
 fn pair(rng: &mut Rng) -> (Src, Src) {
     let p = src(rng);
-    let q = if rng.one_in(3) { near(rng, &p) } else { src(rng) };
+    let q = if rng.one_in(3) {
+        near(rng, &p)
+    } else {
+        src(rng)
+    };
     (p, q)
 }
 
@@ -201,7 +235,16 @@ pub fn eval(rng: &mut Rng, out: &mut Out) {
     };
     let (a, b) = (end(rng), end(rng));
     let (b0, b1) = if b < a { (b, a) } else { (a, b) };
-    let w = Win { edge: 0, into: NONE, b0, b1, src: s, alive: true, queued: false, low: 0. };
+    let w = Win {
+        edge: 0,
+        into: NONE,
+        b0,
+        b1,
+        src: s,
+        alive: true,
+        queued: false,
+        low: 0.,
+    };
     out.f64s(&[b0, b1]);
     out.src(&s);
     out.f64s(&[x, y, w.eval::<Patched>(x, y)]);
@@ -211,15 +254,29 @@ pub fn eval(rng: &mut Rng, out: &mut Out) {
 fn long_edge(rng: &mut Rng) -> (Src, Src, f64) {
     let l = 3_464_101.;
     let h = rng.pick(&[0.01, 1., 1000., 1e6]);
-    let p = Src::Point { x: rng.between(0., l), y: -h, s: rng.between(0., 1e6) };
-    let Src::Point { x, y, s } = p else { return (p, p, l) };
+    let p = Src::Point {
+        x: rng.between(0., l),
+        y: -h,
+        s: rng.between(0., 1e6),
+    };
+    let Src::Point { x, y, s } = p else {
+        return (p, p, l);
+    };
     let by = 10f64.powi(-(rng.below(12) as i32));
     let q = match rng.below(3) {
         0 => Src::Point { x: x + by, y, s },
-        1 => Src::Point { x: x + by * rng.unit(), y: y - by * rng.unit(), s: s + by * rng.between(-1., 1.) },
+        1 => Src::Point {
+            x: x + by * rng.unit(),
+            y: y - by * rng.unit(),
+            s: s + by * rng.between(-1., 1.),
+        },
         _ => {
             let ux = rng.pick(&[1., -1., 1. - 1e-12, -1. + 1e-10]);
-            Src::Line { ux, uy: 1e-6, c: s - ux * x + by }
+            Src::Line {
+                ux,
+                uy: 1e-6,
+                c: s - ux * x + by,
+            }
         }
     };
     if rng.one_in(2) { (p, q, l) } else { (q, p, l) }

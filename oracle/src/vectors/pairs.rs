@@ -1,4 +1,5 @@
 //! Pairs with their correctly rounded hypot, for a check against MPFR.
+use super::Out;
 use crate::generate::rng::Rng;
 use crate::reading::hypot;
 use std::io::{BufWriter, Write};
@@ -64,7 +65,7 @@ const SPECIAL: [f64; 12] = [
     f64::MAX,
     f64::MIN_POSITIVE,
     5e-324,
-    2.2250738585072009e-308,
+    2.225073858507201e-308,
     1.2711610061536462e308,
     -1e308,
 ];
@@ -86,10 +87,43 @@ fn pair(rng: &mut Rng, class: u64) -> (f64, f64) {
         }
         8 => {
             let any = f64::from_bits(rng.u64());
-            if rng.one_in(2) { (any, rng.pick(&SPECIAL)) } else { (rng.pick(&SPECIAL), any) }
+            if rng.one_in(2) {
+                (any, rng.pick(&SPECIAL))
+            } else {
+                (rng.pick(&SPECIAL), any)
+            }
         }
         _ => (rng.pick(&SPECIAL), rng.pick(&SPECIAL)),
     }
+}
+
+pub fn hypot_record(rng: &mut Rng, out: &mut Out) {
+    let class = rng.below(10) as u64;
+    let (x, y) = pair(rng, class);
+    let (x, y) = if rng.one_in(2) { (x, y) } else { (y, -x) };
+    out.f64s(&[x, y, hypot(x, y)]);
+}
+
+/// The processor's root, which IEEE 754 has correctly rounded.
+pub fn sqrt_record(rng: &mut Rng, out: &mut Out) {
+    let x = match rng.below(6) {
+        0 => rng.pick(&SPECIAL),
+        1 => f64::from_bits(rng.u64()),
+        2 => f64::from_bits(rng.u64() >> (11 + rng.below(40))),
+        3 => {
+            // A square, and beside it.
+            let root = (rng.u64() >> 38) as f64;
+            let square = root * root * 4f64.powi(rng.below(900) as i32 - 450);
+            rng.pick(&[square, square.next_up(), square.next_down()])
+        }
+        4 => {
+            // Beside the square of a midpoint.
+            let root = with_exponent(rng, 900);
+            rng.pick(&[root * root, root * root.next_up()])
+        }
+        _ => rng.between(0., 1e7),
+    };
+    out.f64s(&[x, x.sqrt()]);
 }
 
 /// Records of a class byte, x, y and the answer, to standard output.

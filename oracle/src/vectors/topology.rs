@@ -25,7 +25,10 @@ fn write(job: &Job, out: &mut Out) {
 fn topology(topo: &Topology, out: &mut Out) {
     out.count(topo.edges.len());
     for e in 0..topo.edges.len() {
-        topo.edges[e].iter().chain(&topo.faces[e]).for_each(|&k| out.u32(k));
+        topo.edges[e]
+            .iter()
+            .chain(&topo.faces[e])
+            .for_each(|&k| out.u32(k));
         out.f64(topo.len[e]);
         out.f64s(&topo.xhat[e]);
     }
