@@ -327,6 +327,7 @@ pub fn stream(job: &Job, out: &mut Out) -> Result<(), Refusal> {
 #[cfg(test)]
 mod tests {
     use super::*;
+    use crate::generate::workshop::{self, Shape};
 
     /// The claim about a list, on one edge: order, widths, shared parts,
     /// the bound on slivers, and the cover at every end ever offered.
@@ -382,5 +383,26 @@ mod tests {
                 check(&field, &topo, e, &admitted[e]);
             }
         }
+    }
+
+    #[test]
+    fn a_stream_makes_the_windows_of_its_field() {
+        let job = workshop::job(Shape::Noisy, 400, 3, 1e7, 2);
+        let mesh = Mesh::new(&job).expect("a good job");
+        let mut real = mesh.empty::<Patched>();
+        real.record = Some(vec![]);
+        real.run(&mesh.pieces, 1_000_000).expect("a field");
+        let mut field = field(&mesh.topo, job.limit, Buffers::UNBOUNDED);
+        let mut out = Out::default();
+        for op in real.record.take().expect("the record") {
+            match op {
+                Op::Add(w) => add(&mut out, &mut field, w, false).expect("no bound"),
+                Op::Pop => pop(&mut out, &mut field),
+            }
+        }
+        assert!(field.queue.is_empty() && field.wins.len() > 1_000);
+        assert_eq!(field.on_edge, real.on_edge);
+        let plain = |w: &Win| Win { low: 0., ..*w };
+        assert!(field.wins.iter().map(plain).eq(real.wins.iter().map(plain)));
     }
 }
