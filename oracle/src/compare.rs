@@ -133,8 +133,10 @@ pub struct Compared {
     pub print_out: bool,
     /// Vertices whose lines in the print-outs differ.
     pub printed: u64,
-    /// The largest difference of a vertex distance or a query.
+    /// The largest difference of a vertex distance or a query, and that of
+    /// two that are both within the limit.
     pub largest: f64,
+    pub within: f64,
     pub nan_keys: usize,
 }
 
@@ -184,9 +186,12 @@ pub enum Readings {
     Fields(Box<Compared>),
 }
 
-fn largest<'a>(x: &'a [f64], y: &'a [f64]) -> f64 {
+/// The largest difference of two distances at most `limit`.
+fn largest(x: [&[f64]; 3], y: [&[f64]; 3], limit: f64) -> f64 {
+    let pairs = x.into_iter().flatten().zip(y.into_iter().flatten());
+    let within = pairs.filter(|(x, y)| **x <= limit && **y <= limit);
     let gap = |(x, y): (&f64, &f64)| if x == y { 0. } else { (x - y).abs() };
-    x.iter().zip(y).map(gap).fold(0., f64::max)
+    within.map(gap).fold(0., f64::max)
 }
 
 pub fn readings<A: Reading, B: Reading>(job: &Job, seed: u64) -> Readings {
@@ -204,15 +209,19 @@ pub fn readings<A: Reading, B: Reading>(job: &Job, seed: u64) -> Readings {
     let mut unequal_counts = unequal_views(&view(&a), &view(&b));
     unequal_counts.at = unequal(&x.at, &y.at, |d| bits(*d));
     unequal_counts.edge_at = unequal(&x.edge_at, &y.edge_at, |d| bits(*d));
+    let (all_a, all_b) = (
+        [&a.vertex[..], &x.at, &x.edge_at],
+        [&b.vertex[..], &y.at, &y.edge_at],
+    );
+    let gap = |limit: f64| largest(all_a, all_b, limit);
     Readings::Fields(Box::new(Compared {
         unequal: unequal_counts,
         of: size(&b, &q),
         made: a.wins.len() != b.wins.len(),
         print_out: print_out(&mesh, &a) != print_out(&mesh, &b),
         printed: unequal(&a.vertex, &b.vertex, |d| thousandths(*d)),
-        largest: largest(&a.vertex, &b.vertex)
-            .max(largest(&x.at, &y.at))
-            .max(largest(&x.edge_at, &y.edge_at)),
+        largest: gap(f64::INFINITY),
+        within: gap(job.limit),
         nan_keys: a.peaks.nan_keys + b.peaks.nan_keys,
     }))
 }
@@ -234,6 +243,7 @@ pub struct Tally {
     pub unequal: Counts,
     pub of: Counts,
     pub largest: f64,
+    pub within: f64,
     pub nan_keys: usize,
 }
 
@@ -253,6 +263,7 @@ impl Tally {
         self.unequal += c.unequal;
         self.of += c.of;
         self.largest = self.largest.max(c.largest);
+        self.within = self.within.max(c.within);
         self.nan_keys += c.nan_keys;
         let one = |n: u64| n.min(1);
         let u = c.unequal;
@@ -288,7 +299,7 @@ impl Tally {
              fields with unequal answers by kind: {:?}\n\
              unequal answers: {:?}\n\
              answers compared: {:?}\n\
-             largest difference of a distance {:e}, NaN keys {}",
+             largest difference of a distance {:e}, of distances within the limit {:e}, NaN keys {}",
             self.jobs,
             self.fields,
             self.refused,
@@ -302,6 +313,7 @@ impl Tally {
             self.unequal,
             self.of,
             self.largest,
+            self.within,
             self.nan_keys
         )
     }

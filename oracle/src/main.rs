@@ -1,6 +1,6 @@
 //! Commands of the oracle; README.md lists them.
 use oracle::compare::{self, Readings, Tally};
-use oracle::exact::Buffers;
+use oracle::exact::{Buffers, judge_pseudo};
 use oracle::generate::small;
 use oracle::generate::workshop::{self, Shape};
 use oracle::job::{Job, Mesh};
@@ -33,7 +33,8 @@ fn run(args: &[&str]) -> Result<(), String> {
         )?)),
         ["faithful", first, count] => faithful(number(first)?, number(count)?),
         ["faithful-workshop"] => faithful_workshop(),
-        ["count", first, count] => count_small(number(first)?, number(count)?),
+        ["count", first, count] => count_small(number(first)?, number(count)?, false),
+        ["count", first, count, "judged"] => count_small(number(first)?, number(count)?, true),
         ["count-workshop"] => count_workshop(),
         ["vectors", leaf, seed, count] => {
             print(&vectors::make(leaf, number(seed)?, number(count)? as u32)?)
@@ -153,10 +154,15 @@ fn faithful_workshop() -> Result<(), String> {
     Ok(())
 }
 
-fn count_small(first: u64, count: u64) -> Result<(), String> {
+/// Small jobs; `judged` puts the Rust's own flags in place of theirs.
+fn count_small(first: u64, count: u64, judged: bool) -> Result<(), String> {
     let mut tallies = [Tally::default(), Tally::default(), Tally::default()];
     for seed in first..first + count {
-        let job = small::job(seed);
+        let mut job = small::job(seed);
+        if judged && job.check().is_ok() {
+            let pseudo = judge_pseudo(&job.vec3s(), &job.tris());
+            job.flags = pseudo.into_iter().map(u8::from).collect();
+        }
         tallies[0].add(&compare::readings::<Published, Patched>(&job, seed));
         tallies[1].add(&compare::readings::<Published, OnlyHypot>(&job, seed));
         tallies[2].add(&compare::readings::<Published, AllButHypot>(&job, seed));
@@ -199,7 +205,7 @@ fn count_workshop() -> Result<(), String> {
         let pair = compare::readings::<Published, Patched>(&job, n);
         if let Readings::Fields(c) = &pair {
             println!(
-                "{shape:?} triangles {} pieces {} windows {} steps {}: unequal windows {} steps {} vertices {} queries {} lines {} largest {:e}",
+                "{shape:?} triangles {} pieces {} windows {} steps {}: unequal windows {} steps {} vertices {} queries {} lines {} largest {:e} within the limit {:e}",
                 job.triangles.len() / 3,
                 job.piece_kinds.len(),
                 c.of.windows,
@@ -209,7 +215,8 @@ fn count_workshop() -> Result<(), String> {
                 c.unequal.vertices,
                 c.unequal.at + c.unequal.edge_at,
                 c.printed,
-                c.largest
+                c.largest,
+                c.within
             );
         } else {
             println!("{shape:?} {triangles} {lines}: {pair:?}");

@@ -5,7 +5,7 @@
 use super::rng::Rng;
 use crate::exact::{Buffers, judge_pseudo};
 use crate::job::Job;
-use crate::vector::{Vec3, axpy, sub};
+use crate::vector::{Vec3, axpy, dot, norm, scale, sub};
 
 type Soup = (Vec<Vec3>, Vec<[u32; 3]>);
 
@@ -298,6 +298,33 @@ fn twin_segments(rng: &mut Rng, v: &[Vec3], t: &[[u32; 3]], job: &mut Job) {
     }
 }
 
+/// Short segments that nearly coincide, beside an edge near 3,460,000 mm,
+/// where a linear window's slope times the place exceeds 2^21 and its
+/// constant does not: the product's last place is twice the constant's and
+/// more than the tolerance of `better`, so that signs turn again and again.
+fn far_twins(rng: &mut Rng, v: &[Vec3], t: &[[u32; 3]], job: &mut Job) {
+    let f = rng.below(t.len());
+    let [o, along, across] = [0, 1, 2].map(|k| v[t[f][k] as usize]);
+    let (along, across) = (sub(along, o), sub(across, o));
+    let xhat = scale(along, 1. / norm(along));
+    let y = axpy(across, -dot(across, xhat), xhat);
+    let yhat = scale(y, 1. / norm(y));
+    let ux = rng.between(0.62, 0.95);
+    let uy = (1. - ux * ux).sqrt();
+    let (h, l) = (rng.between(0.05, 0.3), rng.between(0.1, 0.6));
+    let x = (2097152. + 0.5 * h * uy) / ux;
+    let p = axpy(axpy(o, x, xhat), h, yhat);
+    let q = axpy(axpy(p, uy * l, xhat), ux * l, yhat);
+    for _ in 0..2 + rng.below(4) {
+        job.piece_kinds.push(1);
+        job.piece_faces.push(f as u32);
+        for x in p.into_iter().chain(q) {
+            let x = rng.pick(&[x, x, x, x.next_up(), x.next_down()]);
+            job.piece_coords.push(x.clamp(-1e6, 1e6));
+        }
+    }
+}
+
 fn flags(rng: &mut Rng, v: &[Vec3], t: &[[u32; 3]]) -> Vec<u8> {
     match rng.below(5) {
         0 => vec![0; v.len()],
@@ -394,7 +421,10 @@ pub fn job(seed: u64) -> Job {
         max_steps: 30_000,
         buffers: buffers(rng),
     };
-    if rng.one_in(12) && !t.is_empty() {
+    let edge = |k: usize| sub(v[t[0][k] as usize], v[t[0][0] as usize]);
+    if !t.is_empty() && norm(edge(1)) > 3.4e6 && rng.one_in(2) {
+        far_twins(rng, &v, &t, &mut job);
+    } else if rng.one_in(12) && !t.is_empty() {
         twin_segments(rng, &v, &t, &mut job);
     } else {
         pieces(rng, &v, &t, &mut job);

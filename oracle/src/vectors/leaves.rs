@@ -282,8 +282,28 @@ fn long_edge(rng: &mut Rng) -> (Src, Src, f64) {
     if rng.one_in(2) { (p, q, l) } else { (q, p, l) }
 }
 
+/// Two lines whose constants stay below 2^21 where their products do not:
+/// the sign of their difference turns at many places.
+fn turning(rng: &mut Rng) -> (Src, Src, f64, f64) {
+    let (ux, h) = (rng.between(0.62, 0.95), rng.between(0.1, 0.9));
+    let x = 2097152. / ux;
+    let line = |ux: f64, c: f64| Src::Line {
+        ux,
+        uy: (1. - ux * ux).sqrt(),
+        c,
+    };
+    let vx = ux + rng.between(-1e-9, 1e-9);
+    let nudge = rng.below(5) as f64 - 2.;
+    let q = line(vx, h - vx * x + nudge * 2f64.powi(-32));
+    (line(ux, h - ux * x), q, x, x + rng.between(1e-4, 1e-1))
+}
+
+/// The most that `pts` or `out` may hold in a vector.
+const MOST: u32 = 2_000;
+
 pub fn better(rng: &mut Rng, out: &mut Out) {
     let (p, q, lo, hi) = match rng.below(4) {
+        0 if rng.one_in(3) => turning(rng),
         0 => {
             let (p, q, l) = long_edge(rng);
             (p, q, 0., l)
@@ -300,8 +320,8 @@ pub fn better(rng: &mut Rng, out: &mut Out) {
     };
     let run = |capacity: u32| Field::<Patched>::better(&p, &q, lo, hi, capacity);
     // The least capacity that suffices, and beside it.
-    let need = run(100_000).map_or(100_000, |(_, most)| most as u32);
-    let capacity = rng.pick(&[need, need, need + 1, need - 1, need.min(3), 0, 100_000]);
+    let need = run(MOST).map_or(MOST, |(_, most)| most as u32);
+    let capacity = rng.pick(&[need, need, need + 1, need - 1, need.min(3), 0, MOST]);
     out.src(&p);
     out.src(&q);
     out.f64s(&[lo, hi]);
