@@ -42,7 +42,10 @@ pub fn questions(mesh: &Mesh, rng: &mut Rng, most: usize) -> Questions {
 /// Counts of answers, or of unequal ones among them.
 #[derive(Clone, Copy, Debug, Default, PartialEq, Eq)]
 pub struct Counts {
+    /// Windows by number, dead ones too.
     pub windows: u64,
+    /// Live windows by edge and place in its list, whatever their numbers.
+    pub live: u64,
     pub chains: u64,
     pub vertices: u64,
     pub emitted: u64,
@@ -61,6 +64,7 @@ impl Counts {
 impl AddAssign for Counts {
     fn add_assign(&mut self, o: Counts) {
         self.windows += o.windows;
+        self.live += o.live;
         self.chains += o.chains;
         self.vertices += o.vertices;
         self.emitted += o.emitted;
@@ -76,6 +80,14 @@ fn unequal<T, K: PartialEq>(x: &[T], y: &[T], key: impl Fn(&T) -> K) -> u64 {
     (differ + x.len().abs_diff(y.len())) as u64
 }
 
+fn unequal_live(x: &View, y: &View, e: usize) -> u64 {
+    let of = |v: &View, i: u32| win_bits(&v.wins[i as usize]);
+    let (a, b) = (&x.on_edge[e], &y.on_edge[e]);
+    let pairs = a.iter().zip(b);
+    let differ = pairs.filter(|&(&i, &j)| of(x, i) != of(y, j)).count();
+    (differ + a.len().abs_diff(b.len())) as u64
+}
+
 /// Unequal windows by number, chains by edge, distances by vertex; steps
 /// counts 1 where the step counts differ.
 fn unequal_views(x: &View, y: &View) -> Counts {
@@ -84,6 +96,7 @@ fn unequal_views(x: &View, y: &View) -> Counts {
     };
     Counts {
         windows: unequal(x.wins, y.wins, win_bits),
+        live: (0..x.on_edge.len()).map(|e| unequal_live(x, y, e)).sum(),
         chains: unequal(x.on_edge, y.on_edge, Vec::clone),
         vertices: unequal(x.vertex, y.vertex, |d| bits(*d)),
         emitted: unequal(x.emitted, y.emitted, |d| bits(*d)),
@@ -113,6 +126,7 @@ fn ask<R: Reading>(field: &Field<R>, q: &Questions) -> Asked {
 fn size<R: Reading>(field: &Field<R>, q: &Questions) -> Counts {
     Counts {
         windows: field.wins.len() as u64,
+        live: field.on_edge.iter().map(|list| list.len() as u64).sum(),
         chains: field.on_edge.len() as u64,
         vertices: field.vertex.len() as u64,
         emitted: field.emitted.len() as u64,
@@ -269,6 +283,7 @@ impl Tally {
         let u = c.unequal;
         self.jobs_with += Counts {
             windows: one(u.windows),
+            live: one(u.live),
             chains: one(u.chains),
             vertices: one(u.vertices),
             emitted: one(u.emitted),

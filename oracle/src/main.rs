@@ -205,12 +205,13 @@ fn count_workshop() -> Result<(), String> {
         let pair = compare::readings::<Published, Patched>(&job, n);
         if let Readings::Fields(c) = &pair {
             println!(
-                "{shape:?} triangles {} pieces {} windows {} steps {}: unequal windows {} steps {} vertices {} queries {} lines {} largest {:e} within the limit {:e}",
+                "{shape:?} triangles {} pieces {} windows {} steps {}: unequal windows {} live {} steps {} vertices {} queries {} lines {} largest {:e} within the limit {:e}",
                 job.triangles.len() / 3,
                 job.piece_kinds.len(),
                 c.of.windows,
                 c.of.steps,
                 c.unequal.windows,
+                c.unequal.live,
                 c.unequal.steps,
                 c.unequal.vertices,
                 c.unequal.at + c.unequal.edge_at,
