@@ -1,7 +1,8 @@
 //! What the readings differ in.
+use oracle::generate::rng::Rng;
 use oracle::generate::small;
 use oracle::job::Mesh;
-use oracle::reading::{AllButHypot, Published};
+use oracle::reading::{AllButHypot, Patched, Published, Reading};
 
 /// min, max and powi alone change signs of zeros, and no number.
 #[test]
@@ -18,5 +19,18 @@ fn but_for_hypot_only_signs_of_zero_differ() {
             }
             (a, b) => assert_eq!(a.err(), b.err(), "seed {seed}"),
         }
+    }
+}
+
+#[test]
+fn powi_is_one_product_here() {
+    let mut rng = Rng::new(4);
+    for _ in 0..1_000_000 {
+        let x = f64::from_bits(rng.u64());
+        let (a, b) = (Published::square(x), Patched::square(x));
+        assert!(
+            a.to_bits() == b.to_bits() || a.is_nan() && b.is_nan(),
+            "{x:e}"
+        );
     }
 }
