@@ -7,7 +7,7 @@ use native.Mathlib.Nat.{le-trans, le-of-eq, lt-of-le-of-lt, lt-of-lt-of-le, mul-
 use lib.Dec.{T, ltb, leb, eqb, ltb→lt, leb→le, eqb→eq}
 use lib.IntN.{ℤ, pos, negsuc}
 use lib.Pow.{pow-pos, pow-add, pow-lt}
-use lib.Ieee.{Float, fin, Format, prec, low, emax, up, down, fits}
+use lib.Ieee.{fin, Format, prec, low, emax, up, down, fits}
 use lib.Ieee.Fits.{down-pos, up-pos, and-l, and-r}
 use Rattle.nat_laws.proofs.Power.{pow-back}
 

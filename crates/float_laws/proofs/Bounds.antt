@@ -2,7 +2,6 @@
 --     Small x          the magnitude of x is at most `big`; small-between (two small values), small-upto (from 0 to 10,000,000)
 --     small-lower, small-upper     x is from -big to big
 --     small-finite, small-add, small-sub      x, x + y and x - y are finite
-use mathlib.Core.Path.{subst}
 use lib.Dec.{T}
 use lib.Ieee.{Float, nan, inf, fin, binary64, ofBits, add, sub, neg, le, isNan}
 use lib.Ieee.Scale.{finite}

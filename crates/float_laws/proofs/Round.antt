@@ -1,9 +1,8 @@
 -- Rounding: it keeps the order of fractions of any sign, changes no value that the format holds, and overflows from 2 ^ (emax + 1) on. Assumes nothing.
 --     round-not (the sign goes through), round-signed (a ≤ b gives round a ≤ round b), round-zero, round-own (a value that fits), round-over
-use Prim.Native.Nat.{ℕ, zero, suc, _+_, _-_, _*_, _/_, _%_, _^_, _≤_, _<_, zero-le, compare}
+use Prim.Native.Nat.{ℕ, zero, suc, _+_, _-_, _*_, _/_, _%_, _^_, _≤_, _<_, compare}
 use mathlib.Core.Bool.{Bool, true, false, not, cond}
 use mathlib.Core.Path.{_≡_, refl, sym, ap, _∙_, subst}
-use native.Mathlib.Omega.{arith}
 use native.Mathlib.Nat.{le-trans, le-of-eq, lt-of-le-of-lt, lt-of-lt-of-le, mul-one, zero-mul, mul-comm, mul-right-comm, mul-lt-mul-of-pos-right, lt-of-mul-lt-mul-right}
 use lib.Dec.{T, ltb, lit<}
 use lib.IntN.{ℤ, pos}

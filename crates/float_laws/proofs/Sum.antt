@@ -5,7 +5,7 @@
 --     sign         sub-nonneg (a ≤ b gives 0 ≤ b - a), sub-nonpos, sub-pos (a < b gives 0 < b - a), sub-neg; the other way sub-pos-lt, sub-neg-lt
 --     shift        sub-below (x - t ≤ x for 0 ≤ t), add-above (x ≤ x + t)
 use Prim.Native.Nat.{ℕ, _+_, _-_, _*_, _^_, _≤_, _<_, zero-le}
-use mathlib.Core.Bool.{Bool, true, false, not, cond, Bool·beq, _&&_}
+use mathlib.Core.Bool.{Bool, true, false, not, cond}
 use mathlib.Core.Logic.{inl, inr}
 use mathlib.Core.Path.{_≡_, refl, sym, ap, _∙_, subst}
 use native.Mathlib.Omega.{arith}
@@ -13,10 +13,10 @@ use native.Mathlib.Nat as nat
 use native.Mathlib.Nat.{le-refl, mul-pos, mul-one, zero-mul, add-zero, mul-comm, mul-le-mul-right}
 use borrow.Author.Tests.{lt-ltb, le-ltb}
 use native.Mathlib.Decide.{decLe}
-use lib.Dec.{T, ltb, ltb→lt, nltb→le, lit<}
-use lib.IntN.{ℤ, pos}
+use lib.Dec.{T, ltb}
+use lib.IntN.{ℤ}
 use lib.Pow.{pow-pos}
-use lib.Ieee.{Float, nan, inf, fin, Format, binary32, binary64, low, up, down, round, sum, add, sub, neg, lt, le, eq, fits, isNan, ofBits}
+use lib.Ieee.{Float, nan, inf, fin, Format, binary32, binary64, low, up, down, round, sum, add, sub, neg, lt, le, eq, fits, ofBits}
 use lib.Ieee.Fits.{down-pos}
 use lib.Ieee.Scale.{finite}
 use Rattle.nat_laws.proofs.Ring.{ring}
@@ -25,8 +25,8 @@ use Rattle.float64.proofs.Scalar.{zero-is}
 use Rattle.float64.proofs.Values.{fits-in, ulps, ulps-lt, ulps-left, ulps-right, overflow}
 use Rattle.float_laws.proofs.Signed.{SLe, signed, signed-up, plus, minus, spread, gather}
 use Rattle.float_laws.proofs.Order as order
-use Rattle.float_laws.proofs.Order.{Number, finite-number, le-number-l, le-or-lt, lt-not-le, lt-le-trans, le-lt-trans, finite-between, neg-neg, neg-finite, neg-le, neg-lt, le-antisym, eq-le, eq-sym}
-use Rattle.float_laws.proofs.Rank.{rank, place, lt-rank, held-finite}
+use Rattle.float_laws.proofs.Order.{Number, finite-number, zero-finite, le-number-l, le-or-lt, lt-not-le, lt-le-trans, le-lt-trans, finite-between, neg-neg, neg-finite, neg-le, neg-lt, le-antisym, eq-le, eq-sym}
+use Rattle.float_laws.proofs.Rank.{rank, offset, lt-rank, held-finite}
 use Rattle.float_laws.proofs.Round.{round-not, round-zero, round-own, round-signed}
 
 -- ---- the sum ±a / c + ±b / c, as one signed fraction
@@ -54,6 +54,8 @@ total f true a false b c = elim (decLe b a) [
     go (no k) h = rw (lt-ltb b a (omega arith)) (omega arith)
 
 -- ---- x + y ≤ x' + y'
+-- Each float is a signed fraction, each signed fraction a difference of two natural ones, and so is each sum before rounding. The hypotheses, multiplied out to the
+-- common denominator, give the order of the two sums by linear arithmetic (`cross`), and rounding keeps it.
 -- x / p + y / q is P - N over p * q, and x' / p' + y' / q' is P' - N' over p' * q', each number being a difference as xp - xm
 cross : (xp xm x'p x'm yp ym y'p y'm p q p' q' P N P' N' : ℕ)
     → xp * p' + x'm * p ≤ x'p * p + xm * p' → yp * q' + y'm * q ≤ y'p * q + ym * q'
@@ -276,7 +278,7 @@ apart false true true a b mag A B D l p x y v h = let y : ⊥ = omega (arith, ap
 apart true false true a b mag A B D l p x y v h = let y : ⊥ = omega arith in absurd y
 apart true true true a b mag A B D l p x y v h = let y : ⊥ = omega (arith, ap (λ (z : ℕ). z * l) v, mul-le-mul-right D h) in absurd y
 
-strict : (M : ℕ) (s : Bool) (A : ℕ) (t : Bool) (B : ℕ) → A < M → B < M → place M t B < place M s A → plus t B + minus s A < plus s A + minus t B
+strict : (M : ℕ) (s : Bool) (A : ℕ) (t : Bool) (B : ℕ) → A < M → B < M → offset M t B < offset M s A → plus t B + minus s A < plus s A + minus t B
 strict M false A false B i j h = omega arith
 strict M false A true B i j h = omega arith
 strict M true A false B i j h = omega arith
@@ -344,10 +346,6 @@ above-zero P nan h f i = absurd h
 above-zero P (inf true) h f i = absurd h
 above-zero P (inf false) h f i = i
 above-zero P (fin s m e) h f i = f tt
-
-zero-finite : T (finite zero)
-unfolding ofBits
-zero-finite = tt
 
 pub sub-below : (f : Format) (x t : Float) → T (finite x) → T (fits f x) → T (le zero t) → T (le (sub f x t) x)
 sub-below f x t F p h = above-zero (λ (v : Float). T (le (sub f x v) x)) t h
