@@ -5,7 +5,7 @@
 --     totality    le-total, le-or-lt, not-le-lt, not-lt-le, lt-not-le; le-is (`le` is the negation of `lt` the other way, as an equation)
 --     equality    le-antisym, eq-refl, eq-sym, eq-trans, eq-same, eq-same-sign (equal doubles are the same, or both are zeros)
 --     between     finite-between (two finite values), eq-finite
---     sign        neg-neg, neg-finite, neg-number, neg-le, neg-lt, neg-eq
+--     sign        neg-neg, neg-finite, neg-number, neg-le, neg-lt, neg-eq, neg-zero-le
 use Prim.Native.Nat.{ℕ, _*_, _≤_}
 use mathlib.Core.Bool.{Bool, true, false, not, _||_, Bool·beq, and-false, and-not-self}
 use mathlib.Core.Logic.{_⊎_, inl, inr}
@@ -315,3 +315,7 @@ neg-lt x y h = elim (le-or-lt (neg x) (neg y) (neg-number x (lt-number-l x y h))
 
 pub neg-eq : (x y : Float) → T (eq x y) → T (eq (neg x) (neg y))
 neg-eq x y h = le-antisym (neg x) (neg y) (neg-le y x (eq-le y x (eq-sym x y h))) (neg-le x y (eq-le x y h))
+
+pub neg-zero-le : T (le (neg zero) zero)
+unfolding le neg ofBits
+neg-zero-le = tt

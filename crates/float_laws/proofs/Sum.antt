@@ -25,7 +25,7 @@ use Rattle.float64.proofs.Scalar.{zero-is}
 use Rattle.float64.proofs.Values.{fits-in, ulps, ulps-lt, ulps-left, ulps-right, overflow}
 use Rattle.float_laws.proofs.Signed.{SLe, signed, signed-up, plus, minus, spread, gather}
 use Rattle.float_laws.proofs.Order as order
-use Rattle.float_laws.proofs.Order.{Number, finite-number, zero-finite, le-number-l, le-or-lt, lt-not-le, lt-le-trans, le-lt-trans, finite-between, neg-neg, neg-finite, neg-le, neg-lt, le-antisym, eq-le, eq-sym}
+use Rattle.float_laws.proofs.Order.{Number, finite-number, zero-finite, le-number-l, le-or-lt, lt-not-le, lt-le-trans, le-lt-trans, finite-between, neg-neg, neg-finite, neg-le, neg-lt, neg-zero-le, le-antisym, eq-le, eq-sym}
 use Rattle.float_laws.proofs.Rank.{rank, offset, lt-rank, held-finite}
 use Rattle.float_laws.proofs.Round.{round-not, round-zero, round-own, round-signed}
 
@@ -314,14 +314,10 @@ sub-pos f a b F G g k h =
 pub sub-pos-lt : (f : Format) (a b : Float) → T (finite a) → T (finite b) → T (lt zero (sub f b a)) → T (lt a b)
 sub-pos-lt f a b F G h = elim (le-or-lt b a (finite-number b G) (finite-number a F)) [ inl k ↦ absurd (lt-not-le zero (sub f b a) h (sub-nonpos f a b F G k)) | inr k ↦ k ]
 
-zero-neg : T (le (neg zero) zero)
-unfolding le neg ofBits
-zero-neg = tt
-
 pub sub-neg : (f : Format) (a b : Float) → T (finite a) → T (finite b) → T (fits f a) → T (fits f b) → T (lt b a) → T (lt (sub f b a) zero)
 sub-neg f a b F G g k h =
     le-lt-trans (sub f b a) (neg (sub f a b)) zero (eq-le (sub f b a) (neg (sub f a b)) (sub-turn f a b F G))
-    (lt-le-trans (neg (sub f a b)) (neg zero) zero (neg-lt zero (sub f a b) (sub-pos f b a G F k g h)) zero-neg)
+    (lt-le-trans (neg (sub f a b)) (neg zero) zero (neg-lt zero (sub f a b) (sub-pos f b a G F k g h)) neg-zero-le)
 
 pub sub-neg-lt : (f : Format) (a b : Float) → T (finite a) → T (finite b) → T (lt (sub f b a) zero) → T (lt b a)
 sub-neg-lt f a b F G h = elim (le-or-lt a b (finite-number a F) (finite-number b G)) [ inl k ↦ absurd (lt-not-le (sub f b a) zero h (sub-nonneg f a b F G k)) | inr k ↦ k ]
@@ -357,5 +353,5 @@ add-above f x t F p h = above-zero (λ (v : Float). T (le x (add f x v))) t h
     (λ G.
     subst (λ (v : Float). T (le x v)) (sub-of-neg f x t)
     (order.le-trans x (sub f x zero) (sub f x (neg t)) (eq-le x (sub f x zero) (eq-sym (sub f x zero) x (sub-zero f x F p)))
-    (sub-mono f x x zero (neg t) F F zero-finite (neg-finite t G) (refl-finite x F) (order.le-trans (neg t) (neg zero) zero (neg-le zero t h) zero-neg))))
+    (sub-mono f x x zero (neg t) F F zero-finite (neg-finite t G) (refl-finite x F) (order.le-trans (neg t) (neg zero) zero (neg-le zero t h) neg-zero-le))))
     (add-inf f x F)
