@@ -1,6 +1,6 @@
 -- The order of floats, for all values, infinities and both zeros included: `le`, `lt` and `eq` as an order of the numbers, that is of all values but the NaN. Assumes nothing.
 --     tests       holds, fails (from the equations that a branch of code gives)
---     number      le-number-l, le-number-r, lt-number-l, lt-number-r, eq-number-l, eq-number-r (a comparison that holds has numbers on both sides), finite-number, zero-finite
+--     number      Number x (no NaN), le-number-l, le-number-r, lt-number-l, lt-number-r, eq-number-l, eq-number-r (a comparison that holds has numbers on both sides), finite-number, zero-finite
 --     order       le-refl, le-trans, lt-trans, lt-le-trans, le-lt-trans, lt-irrefl, lt-le, eq-le
 --     totality    le-total, le-or-lt, not-le-lt, not-lt-le, lt-not-le; le-is (`le` is the negation of `lt` the other way, as an equation)
 --     equality    le-antisym, eq-refl, eq-sym, eq-trans, eq-same, eq-same-sign (equal doubles are the same, or both are zeros)
