@@ -1,8 +1,7 @@
 -- Doubles of magnitude at most 2 ^ 1000: their sums and differences do not overflow. Assumes nothing.
---     Small x          the magnitude of x is at most `big`; small-between (two small values), small-upto (from 0 to 10,000,000)
+--     Small x          the magnitude of x is at most `big`; small-between (two small values), small-upto (from 0 to 10,000,000, `tenMillion`)
 --     small-lower, small-upper     x is from -big to big
 --     small-finite, small-add, small-sub      x, x + y and x - y are finite
-use mathlib.Core.Path.{subst}
 use lib.Dec.{T}
 use lib.Ieee.{Float, nan, inf, fin, binary64, ofBits, add, sub, neg, le, isNan}
 use lib.Ieee.Scale.{finite}

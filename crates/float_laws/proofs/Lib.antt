@@ -5,6 +5,7 @@ pub mod Rank
 pub mod Round
 pub mod Sum
 pub mod Product
+pub mod Roots
 pub mod MinMax
 pub mod Bounds
 pub mod Middle

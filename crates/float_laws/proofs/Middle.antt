@@ -5,19 +5,18 @@ use Prim.Native.Nat.{ℕ, suc, _+_, _*_, _^_, _≤_, _<_}
 use mathlib.Core.Bool.{Bool, true, false, not}
 use mathlib.Core.Path.{_≡_, refl, sym, ap, _∙_, subst}
 use native.Mathlib.Decide.{decLe}
-use native.Mathlib.Nat.{le-trans, le-of-eq, lt-of-le-of-lt, lt-of-lt-of-le, mul-pos, mul-one, mul-comm, mul-assoc, mul-left-comm, mul-right-comm, mul-le-mul-right, mul-lt-mul-of-pos-right, lt-of-mul-lt-mul-right, lt-of-not-le, pow-suc, eq-of-mul-eq-mul-right}
+use native.Mathlib.Nat.{le-trans, mul-pos, mul-assoc, mul-le-mul-right, lt-of-not-le, pow-suc, eq-of-mul-eq-mul-right}
 use native.Mathlib.Omega.{arith}
 use lib.Dec.{T, lit<}
-use lib.IntN.{ℤ, pos}
-use lib.Pow.{pow-pos, pow-add}
-use lib.Ieee.{Float, nan, inf, fin, Format, binary64, prec, low, emax, up, down, round, add, sub, neg, div, le, eq, fits}
+use lib.IntN.{ℤ}
+use lib.Ieee.{Float, nan, inf, fin, Format, binary64, low, emax, up, down, round, add, sub, neg, div, le, eq, fits}
 use lib.Ieee.Fits.{down-pos, add-fits, neg-fits}
 use lib.Ieee.Exact.{HasValue, round-exact}
 use lib.Ieee.Scale.{finite, round-same}
 use Rattle.nat_laws.proofs.Ring.{ring}
 use Rattle.float64.specs.Scalar.{two}
 use Rattle.float64.proofs.Scalar.{two-is}
-use Rattle.float64.proofs.Values.{FitsIn, fits-in, grid}
+use Rattle.float64.proofs.Values.{FitsIn, fits-in, grid, grid-lt}
 use Rattle.float_laws.proofs.Signed.{SLe, signed, signed-up}
 use Rattle.float_laws.proofs.Order as order
 use Rattle.float_laws.proofs.Order.{Number, finite-number, le-antisym, eq-finite, neg-neg, neg-finite, neg-le, eq-le, eq-sym, le-number-l}
@@ -66,27 +65,20 @@ unfolding add
 twice-is f true m e = refl
 twice-is f false m e = refl
 
-module _ (f : Format) (s : Bool) (m : ℕ) (e : ℤ) (H : FitsIn f m e) (room : m * up e * 2 < 2 ^ suc (emax f) * down e) where
-  doubled : (m u d L T j : ℕ) → m * u * L ≡ m * T * d → (m * u * d + m * u * d) * L ≡ m * (T * 2) * (d * d)
-  doubled m u d L T j h =
-      let k = ap (λ (z : ℕ). z * d) h in
-      simp ring (omega (arith, simp ring at k))
+doubled : (m u d L T : ℕ) → m * u * L ≡ m * T * d → (m * u * d + m * u * d) * L ≡ m * (T * 2) * (d * d)
+doubled m u d L T h =
+    let k = ap (λ (z : ℕ). z * d) h in
+    simp ring (omega (arith, simp ring at k))
 
-  in-range : (j : ℕ) → m * up e * 2 ^ low f ≡ m * 2 ^ j * down e → m * 2 ^ suc j < 2 ^ (low f + suc (emax f))
-  in-range j h =
-      lt-of-mul-lt-mul-right (down e)
-      (lt-of-le-of-lt (le-of-eq (ap (λ (x : ℕ). m * x * down e) (pow-suc 2 j) ∙ bring m (2 ^ j) (down e) ∙ ap (λ (x : ℕ). x * 2) (sym h) ∙ mul-right-comm (m * up e) (2 ^ low f) 2))
-      (lt-of-lt-of-le (mul-lt-mul-of-pos-right room (pow-pos (low f))) (le-of-eq (mul-right-comm (2 ^ suc (emax f)) (down e) (2 ^ low f) ∙ ap (λ (x : ℕ). x * down e) (mul-comm (2 ^ suc (emax f)) (2 ^ low f) ∙ sym (pow-add 2 (low f) (suc (emax f))))))))
-    where
-      bring : (m T d : ℕ) → m * (T * 2) * d ≡ m * T * d * 2
-      bring m T d = simp (mul-assoc, mul-comm, mul-left-comm)
-
+module _ (f : Format) (s : Bool) (m : ℕ) (e : ℤ) (H : FitsIn f m e) (small : m * up e * 2 < 2 ^ suc (emax f) * down e) where
   twice-value : HasValue (add f (fin s m e) (fin s m e)) s (m * up e * down e + m * up e * down e) (down e * down e)
   twice-value =
       let g = grid f m e (H .deep) in
+      let t : 2 ^ (g .j) * 2 ≡ 2 ^ suc (g .j) = sym (pow-suc 2 (g .j)) in
       rw (twice-is f s m e)
-      (round-exact f s (m * up e * down e + m * up e * down e) (down e * down e) m (suc (g .j)) (mul-pos (down-pos e) (down-pos e)) (H .few) (in-range (g .j) (g .is))
-      (doubled m (up e) (down e) (2 ^ low f) (2 ^ (g .j)) (g .j) (g .is) ∙ ap (λ (x : ℕ). m * x * (down e * down e)) (sym (pow-suc 2 (g .j)))))
+      (round-exact f s (m * up e * down e + m * up e * down e) (down e * down e) m (suc (g .j)) (mul-pos (down-pos e) (down-pos e)) (H .few)
+      (subst (λ (x : ℕ). x < 2 ^ (low f + suc (emax f))) (mul-assoc m (2 ^ (g .j)) 2 ∙ ap (λ (x : ℕ). m * x) t) (grid-lt f m e g 2 small))
+      (doubled m (up e) (down e) (2 ^ low f) (2 ^ (g .j)) (g .is) ∙ ap (λ (x : ℕ). m * x * (down e * down e)) t))
 
   half-of : (v : Float) → HasValue v s (m * up e * down e + m * up e * down e) (down e * down e) → div f v two ≡ round f s (m * up e) (down e)
   half-of nan h = absurd h
@@ -147,10 +139,10 @@ above f (fin s m e) v F p G q h = go (decLe (2 ^ suc (emax f) * down e) (m * up 
     go : Dec (2 ^ suc (emax f) * down e ≤ m * up e * 2) → T (le (fin s m e) (div f v two))
     go (yes r) = over f s m e v H r G q h
     go (no r) =
-        let room = lt-of-not-le r in
+        let small = lt-of-not-le r in
         let d = add f (fin s m e) (fin s m e) in
-        order.le-trans (fin s m e) (div f d two) (div f v two) (eq-le (fin s m e) (div f d two) (eq-sym (div f d two) (fin s m e) (half-twice f s m e H room)))
-        (half-mono f d v (twice-finite f s m e H room) G h)
+        order.le-trans (fin s m e) (div f d two) (div f v two) (eq-le (fin s m e) (div f d two) (eq-sym (div f d two) (fin s m e) (half-twice f s m e H small)))
+        (half-mono f d v (twice-finite f s m e H small) G h)
 
 pub middle-above : (f : Format) (a b : Float) → T (finite a) → T (finite b) → T (fits f a) → T (finite (add f a b)) → T (le a b) → T (le a (div f (add f a b) two))
 middle-above f a b F G p S h = above f a (add f a b) F p S (add-fits f a b) (add-mono f a a a b F F F G (order.le-refl a (finite-number a F)) h)

@@ -3,14 +3,13 @@
 --     max          max-ge-l, max-ge-r, max-least, max-left, max-right, max-keeps, max-mono, max-fits, rank-max
 --     clamp        clamp-lower, clamp-upper, clamp-inside, clamp-below, clamp-above, clamp-keeps, clamp-mono, clamp-fits
 --     abs          abs-nonneg, le-abs, neg-abs-le, abs-le, abs-either, abs-neg, abs-number, abs-finite; abs-fits is a law of float64
-use Prim.Native.Nat.{ℕ, _+_, _*_, min, max}
+use Prim.Native.Nat.{_*_, min, max}
 use mathlib.Core.Bool.{Bool, true, false, cond, not}
 use mathlib.Core.Logic.{_⊎_, inl, inr}
-use mathlib.Core.Path.{_≡_, refl, sym, ap, _∙_, subst}
+use mathlib.Core.Path.{_≡_, refl, sym, subst}
 use native.Mathlib.Omega.{arith}
 use native.Mathlib.Nat.{zero-mul}
 use lib.Dec.{T, T-not, not-T}
-use lib.IntN.{ℤ}
 use lib.Ieee.{Float, nan, inf, fin, Format, up, down, lt, le, neg, isNan, fits, ofBits}
 use lib.Ieee.Bits.{is-true, is-false}
 use lib.Ieee.Scale.{finite}

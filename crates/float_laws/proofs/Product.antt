@@ -14,7 +14,7 @@ use lib.Ieee.Scale.{finite}
 use Rattle.float64.specs.Scalar as scalar
 use Rattle.float_laws.proofs.Signed.{SLe, signed}
 use Rattle.float_laws.proofs.Order as order
-use Rattle.float_laws.proofs.Order.{finite-number}
+use Rattle.float_laws.proofs.Order.{finite-number, zero-finite}
 use Rattle.float_laws.proofs.Round.{round-signed}
 
 -- a magnitude with a minus sign is zero
@@ -86,10 +86,6 @@ mul-mono f (fin s m e) (fin s' m' e') (fin t n d) (fin t' n' d') F F' G G' i j h
   where
     cross : (s : Bool) (m : ℕ) (e : ℤ) (t : Bool) (n : ℕ) (d : ℤ) → Plain s (m * up e) → Plain t (n * up d) → T (le (fin s m e) (fin t n d)) → m * up e * down d ≤ n * up d * down e
     cross s m e t n d p q h = le-plain s t (m * up e * down d) (n * up d * down e) (plain-times s (m * up e) (down d) p) (plain-times t (n * up d) (down e) q) (compared s m e t n d h)
-
-zero-finite : T (finite scalar.zero)
-unfolding ofBits
-zero-finite = tt
 
 zero-squared : (f : Format) → T (le scalar.zero (mul f scalar.zero scalar.zero))
 unfolding le mul ofBits

@@ -25,32 +25,32 @@ pub held-finite : (f : Format) (x : Float) → T (finite x) → T (fits f x) →
 held-finite f x h k = (finite-number x h, k)
 
 -- the magnitudes in the format's smallest values, either side of the middle
-abbrev pub place : ℕ → Bool → ℕ → ℕ
-place B false a = B + a
-place B true a = B - a
+abbrev pub offset : ℕ → Bool → ℕ → ℕ
+offset B false a = B + a
+offset B true a = B - a
 
 unfoldable pub rank : Format → Float → ℕ
 rank f nan = 0
 rank f (inf true) = 0
 rank f (inf false) = overflow f + overflow f
-rank f (fin s m e) = place (overflow f) s (ulps f m e)
+rank f (fin s m e) = offset (overflow f) s (ulps f m e)
 
-place-to : (B : ℕ) (s : Bool) (a : ℕ) (t : Bool) (b : ℕ) → a < B → b < B → SLe s a t b → place B s a ≤ place B t b
-place-to B false a false b i j h = omega arith
-place-to B false a true b i j h = let x = h .0 in let y = h .1 in omega arith
-place-to B true a false b i j h = omega arith
-place-to B true a true b i j h = omega arith
+offset-to : (B : ℕ) (s : Bool) (a : ℕ) (t : Bool) (b : ℕ) → a < B → b < B → SLe s a t b → offset B s a ≤ offset B t b
+offset-to B false a false b i j h = omega arith
+offset-to B false a true b i j h = let x = h .0 in let y = h .1 in omega arith
+offset-to B true a false b i j h = omega arith
+offset-to B true a true b i j h = omega arith
 
-place-of : (B : ℕ) (s : Bool) (a : ℕ) (t : Bool) (b : ℕ) → a < B → b < B → place B s a ≤ place B t b → SLe s a t b
-place-of B false a false b i j h = omega arith
-place-of B false a true b i j h = (omega arith, omega arith)
-place-of B true a false b i j h = tt
-place-of B true a true b i j h = omega arith
+offset-of : (B : ℕ) (s : Bool) (a : ℕ) (t : Bool) (b : ℕ) → a < B → b < B → offset B s a ≤ offset B t b → SLe s a t b
+offset-of B false a false b i j h = omega arith
+offset-of B false a true b i j h = (omega arith, omega arith)
+offset-of B true a false b i j h = tt
+offset-of B true a true b i j h = omega arith
 
 -- strictly between the infinities'
-place-in : (B : ℕ) (s : Bool) (a : ℕ) → a < B → (0 < place B s a) × (place B s a < B + B)
-place-in B false a h = (omega arith, omega arith)
-place-in B true a h = (omega arith, omega arith)
+offset-in : (B : ℕ) (s : Bool) (a : ℕ) → a < B → (0 < offset B s a) × (offset B s a < B + B)
+offset-in B false a h = (omega arith, omega arith)
+offset-in B true a h = (omega arith, omega arith)
 
 module _ (f : Format) (s : Bool) (m : ℕ) (e : ℤ) (t : Bool) (n : ℕ) (d : ℤ) (H : FitsIn f m e) (K : FitsIn f n d) where
   to-ulps : SLe s (m * up e * down d) t (n * up d * down e) → SLe s (ulps f m e) t (ulps f n d)
@@ -65,7 +65,7 @@ module _ (f : Format) (s : Bool) (m : ℕ) (e : ℤ) (t : Bool) (n : ℕ) (d : �
 
 fin-in : (f : Format) (s : Bool) (m : ℕ) (e : ℤ) → T (fits f (fin s m e)) → (0 < rank f (fin s m e)) × (rank f (fin s m e) < overflow f + overflow f)
 unfolding rank
-fin-in f s m e p = place-in (overflow f) s (ulps f m e) (ulps-lt f m e (fits-in f s m e p))
+fin-in f s m e p = offset-in (overflow f) s (ulps f m e) (ulps-lt f m e (fits-in f s m e p))
 
 pub le-rank : (f : Format) (x y : Float) → Held f x → Held f y → T (le x y) → rank f x ≤ rank f y
 unfolding rank le isNan
@@ -84,7 +84,7 @@ le-rank f (fin s m e) (inf false) g k h = omega (arith, fin-in f s m e (g .1) .1
 le-rank f (fin s m e) (fin t n d) g k h =
     let H = fits-in f s m e (g .1) in
     let K = fits-in f t n d (k .1) in
-    place-to (overflow f) s (ulps f m e) t (ulps f n d) (ulps-lt f m e H) (ulps-lt f n d K) (to-ulps f s m e t n d H K (signed s (m * up e * down d) t (n * up d * down e) h))
+    offset-to (overflow f) s (ulps f m e) t (ulps f n d) (ulps-lt f m e H) (ulps-lt f n d K) (to-ulps f s m e t n d H K (signed s (m * up e * down d) t (n * up d * down e) h))
 
 pub rank-le : (f : Format) (x y : Float) → Held f x → Held f y → rank f x ≤ rank f y → T (le x y)
 unfolding rank le isNan
@@ -102,7 +102,7 @@ rank-le f (fin s m e) (inf false) g k h = tt
 rank-le f (fin s m e) (fin t n d) g k h =
     let H = fits-in f s m e (g .1) in
     let K = fits-in f t n d (k .1) in
-    unsigned s (m * up e * down d) t (n * up d * down e) (of-ulps f s m e t n d H K (place-of (overflow f) s (ulps f m e) t (ulps f n d) (ulps-lt f m e H) (ulps-lt f n d K) h))
+    unsigned s (m * up e * down d) t (n * up d * down e) (of-ulps f s m e t n d H K (offset-of (overflow f) s (ulps f m e) t (ulps f n d) (ulps-lt f m e H) (ulps-lt f n d K) h))
 
 pub lt-rank : (f : Format) (x y : Float) → Held f x → Held f y → T (lt x y) → rank f x < rank f y
 lt-rank f x y g k h = elim (decLe (rank f y) (rank f x)) [ yes i ↦ absurd (lt-not-le x y h (rank-le f y x k g i)) | no n ↦ omega arith ]

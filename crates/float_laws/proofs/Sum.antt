@@ -5,7 +5,7 @@
 --     sign         sub-nonneg (a ≤ b gives 0 ≤ b - a), sub-nonpos, sub-pos (a < b gives 0 < b - a), sub-neg; the other way sub-pos-lt, sub-neg-lt
 --     shift        sub-below (x - t ≤ x for 0 ≤ t), add-above (x ≤ x + t)
 use Prim.Native.Nat.{ℕ, _+_, _-_, _*_, _^_, _≤_, _<_, zero-le}
-use mathlib.Core.Bool.{Bool, true, false, not, cond, Bool·beq, _&&_}
+use mathlib.Core.Bool.{Bool, true, false, not, cond}
 use mathlib.Core.Logic.{inl, inr}
 use mathlib.Core.Path.{_≡_, refl, sym, ap, _∙_, subst}
 use native.Mathlib.Omega.{arith}
@@ -13,10 +13,10 @@ use native.Mathlib.Nat as nat
 use native.Mathlib.Nat.{le-refl, mul-pos, mul-one, zero-mul, add-zero, mul-comm, mul-le-mul-right}
 use borrow.Author.Tests.{lt-ltb, le-ltb}
 use native.Mathlib.Decide.{decLe}
-use lib.Dec.{T, ltb, ltb→lt, nltb→le, lit<}
-use lib.IntN.{ℤ, pos}
+use lib.Dec.{T, ltb}
+use lib.IntN.{ℤ}
 use lib.Pow.{pow-pos}
-use lib.Ieee.{Float, nan, inf, fin, Format, binary32, binary64, low, up, down, round, sum, add, sub, neg, lt, le, eq, fits, isNan, ofBits}
+use lib.Ieee.{Float, nan, inf, fin, Format, binary32, binary64, low, up, down, round, sum, add, sub, neg, lt, le, eq, fits, ofBits}
 use lib.Ieee.Fits.{down-pos}
 use lib.Ieee.Scale.{finite}
 use Rattle.nat_laws.proofs.Ring.{ring}
@@ -25,8 +25,8 @@ use Rattle.float64.proofs.Scalar.{zero-is}
 use Rattle.float64.proofs.Values.{fits-in, ulps, ulps-lt, ulps-left, ulps-right, overflow}
 use Rattle.float_laws.proofs.Signed.{SLe, signed, signed-up, plus, minus, spread, gather}
 use Rattle.float_laws.proofs.Order as order
-use Rattle.float_laws.proofs.Order.{Number, finite-number, le-number-l, le-or-lt, lt-not-le, lt-le-trans, le-lt-trans, finite-between, neg-neg, neg-finite, neg-le, neg-lt, le-antisym, eq-le, eq-sym}
-use Rattle.float_laws.proofs.Rank.{rank, place, lt-rank, held-finite}
+use Rattle.float_laws.proofs.Order.{Number, finite-number, zero-finite, le-number-l, le-or-lt, lt-not-le, lt-le-trans, le-lt-trans, finite-between, neg-neg, neg-finite, neg-le, neg-lt, neg-zero-le, le-antisym, eq-le, eq-sym}
+use Rattle.float_laws.proofs.Rank.{rank, offset, lt-rank, held-finite}
 use Rattle.float_laws.proofs.Round.{round-not, round-zero, round-own, round-signed}
 
 -- ---- the sum ±a / c + ±b / c, as one signed fraction
@@ -54,6 +54,8 @@ total f true a false b c = elim (decLe b a) [
     go (no k) h = rw (lt-ltb b a (omega arith)) (omega arith)
 
 -- ---- x + y ≤ x' + y'
+-- Each float is a signed fraction, each signed fraction a difference of two natural ones, and so is each sum before rounding. The hypotheses, multiplied out to the
+-- common denominator, give the order of the two sums by linear arithmetic (`cross`), and rounding keeps it.
 -- x / p + y / q is P - N over p * q, and x' / p' + y' / q' is P' - N' over p' * q', each number being a difference as xp - xm
 cross : (xp xm x'p x'm yp ym y'p y'm p q p' q' P N P' N' : ℕ)
     → xp * p' + x'm * p ≤ x'p * p + xm * p' → yp * q' + y'm * q ≤ y'p * q + ym * q'
@@ -276,7 +278,7 @@ apart false true true a b mag A B D l p x y v h = let y : ⊥ = omega (arith, ap
 apart true false true a b mag A B D l p x y v h = let y : ⊥ = omega arith in absurd y
 apart true true true a b mag A B D l p x y v h = let y : ⊥ = omega (arith, ap (λ (z : ℕ). z * l) v, mul-le-mul-right D h) in absurd y
 
-strict : (M : ℕ) (s : Bool) (A : ℕ) (t : Bool) (B : ℕ) → A < M → B < M → place M t B < place M s A → plus t B + minus s A < plus s A + minus t B
+strict : (M : ℕ) (s : Bool) (A : ℕ) (t : Bool) (B : ℕ) → A < M → B < M → offset M t B < offset M s A → plus t B + minus s A < plus s A + minus t B
 strict M false A false B i j h = omega arith
 strict M false A true B i j h = omega arith
 strict M true A false B i j h = omega arith
@@ -312,14 +314,10 @@ sub-pos f a b F G g k h =
 pub sub-pos-lt : (f : Format) (a b : Float) → T (finite a) → T (finite b) → T (lt zero (sub f b a)) → T (lt a b)
 sub-pos-lt f a b F G h = elim (le-or-lt b a (finite-number b G) (finite-number a F)) [ inl k ↦ absurd (lt-not-le zero (sub f b a) h (sub-nonpos f a b F G k)) | inr k ↦ k ]
 
-zero-neg : T (le (neg zero) zero)
-unfolding le neg ofBits
-zero-neg = tt
-
 pub sub-neg : (f : Format) (a b : Float) → T (finite a) → T (finite b) → T (fits f a) → T (fits f b) → T (lt b a) → T (lt (sub f b a) zero)
 sub-neg f a b F G g k h =
     le-lt-trans (sub f b a) (neg (sub f a b)) zero (eq-le (sub f b a) (neg (sub f a b)) (sub-turn f a b F G))
-    (lt-le-trans (neg (sub f a b)) (neg zero) zero (neg-lt zero (sub f a b) (sub-pos f b a G F k g h)) zero-neg)
+    (lt-le-trans (neg (sub f a b)) (neg zero) zero (neg-lt zero (sub f a b) (sub-pos f b a G F k g h)) neg-zero-le)
 
 pub sub-neg-lt : (f : Format) (a b : Float) → T (finite a) → T (finite b) → T (lt (sub f b a) zero) → T (lt b a)
 sub-neg-lt f a b F G h = elim (le-or-lt a b (finite-number a F) (finite-number b G)) [ inl k ↦ absurd (lt-not-le (sub f b a) zero h (sub-nonneg f a b F G k)) | inr k ↦ k ]
@@ -345,10 +343,6 @@ above-zero P (inf true) h f i = absurd h
 above-zero P (inf false) h f i = i
 above-zero P (fin s m e) h f i = f tt
 
-zero-finite : T (finite zero)
-unfolding ofBits
-zero-finite = tt
-
 pub sub-below : (f : Format) (x t : Float) → T (finite x) → T (fits f x) → T (le zero t) → T (le (sub f x t) x)
 sub-below f x t F p h = above-zero (λ (v : Float). T (le (sub f x v) x)) t h
     (λ G. order.le-trans (sub f x t) (sub f x zero) x (sub-mono f x x t zero F F G zero-finite (refl-finite x F) h) (eq-le (sub f x zero) x (sub-zero f x F p)))
@@ -359,5 +353,5 @@ add-above f x t F p h = above-zero (λ (v : Float). T (le x (add f x v))) t h
     (λ G.
     subst (λ (v : Float). T (le x v)) (sub-of-neg f x t)
     (order.le-trans x (sub f x zero) (sub f x (neg t)) (eq-le x (sub f x zero) (eq-sym (sub f x zero) x (sub-zero f x F p)))
-    (sub-mono f x x zero (neg t) F F zero-finite (neg-finite t G) (refl-finite x F) (order.le-trans (neg t) (neg zero) zero (neg-le zero t h) zero-neg))))
+    (sub-mono f x x zero (neg t) F F zero-finite (neg-finite t G) (refl-finite x F) (order.le-trans (neg t) (neg zero) zero (neg-le zero t h) neg-zero-le))))
     (add-inf f x F)

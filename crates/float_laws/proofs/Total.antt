@@ -4,7 +4,7 @@ use Prim.Native.Nat.{_≤_, _<_}
 use mathlib.Core.Bool.{Bool, not, _&&_, _||_}
 use mathlib.Core.Logic.{inl, inr}
 use mathlib.Core.Path.{sym, subst}
-use lib.Dec.{T, T-not, not-T, ltb, ltb→lt}
+use lib.Dec.{T, T-not, not-T, ltb→lt}
 use lib.Ieee.{Float, binary64, lt, le, eq, isNan, fits}
 use lib.Ieee.Fits.{and-l, and-r}
 use borrow.Author.Tests.{le-ltb}
