@@ -1,7 +1,7 @@
 -- What `fits` says of a finite value. Its magnitude is a whole number of the format's smallest values: `ulps`, by which two magnitudes compare. Assumes nothing.
 use Prim.Native.Nat.{ℕ, zero, suc, _+_, _-_, _*_, _/_, _%_, _^_, _≤_, _<_}
-use mathlib.Core.Bool.{Bool, _&&_}
-use mathlib.Core.Path.{_≡_, sym, ap, _∙_}
+use mathlib.Core.Bool.{Bool, false, _&&_}
+use mathlib.Core.Path.{_≡_, refl, sym, ap, _∙_}
 use native.Mathlib.Omega.{arith}
 use native.Mathlib.Nat.{le-trans, le-of-eq, lt-of-le-of-lt, lt-of-lt-of-le, mul-pos, mul-one, zero-mul, mul-comm, mul-assoc, mul-right-comm, mul-le-mul-right, mul-lt-mul-of-pos-right, lt-of-mul-lt-mul-right, le-of-mul-le-mul-right, mul-div-cancel, lt-suc-self}
 use lib.Dec.{T, ltb, leb, eqb, ltb→lt, leb→le, eqb→eq}
@@ -10,6 +10,7 @@ use lib.Pow.{pow-pos, pow-add, pow-lt}
 use lib.Ieee.{fin, Format, prec, low, emax, up, down, fits}
 use lib.Ieee.Fits.{down-pos, up-pos, and-l, and-r}
 use Rattle.nat_laws.proofs.Power.{pow-back}
+use Rattle.root_spec.specs.Nearest.{Holds}
 
 pub record FitsIn (f : Format) (m : ℕ) (e : ℤ) : Type 0 where
   pub few : m < 2 ^ prec f
@@ -71,7 +72,7 @@ ulps-is f m e h =
     let g = grid f m e (h .deep) in
     ap (λ (x : ℕ). x / down e * down e) (g .is) ∙ ap (λ (x : ℕ). x * down e) (mul-div-cancel (m * 2 ^ (g .j)) (down-pos e)) ∙ sym (g .is)
 
--- all magnitudes are below the overflow threshold
+-- 2 ^ (emax + 1) in those units: past every value
 unfoldable pub overflow : Format → ℕ
 overflow f = 2 ^ suc (emax f) * 2 ^ low f
 
@@ -96,3 +97,7 @@ module _ (f : Format) (m : ℕ) (e : ℤ) (n : ℕ) (d : ℤ) (H : FitsIn f m e)
 
   pub le-ulps : m * up e * down d ≤ n * up d * down e → ulps f m e ≤ ulps f n d
   le-ulps h = le-of-mul-le-mul-right (le-trans (le-of-eq (sym ulps-left)) (le-trans (mul-le-mul-right (2 ^ low f) h) (le-of-eq ulps-right))) (mul-pos (down-pos e) (down-pos d))
+
+-- each finite value that is not negative is a whole number of units
+pub in-units : (f : Format) (m : ℕ) (e : ℤ) → T (fits f (fin false m e)) → (Y : ℕ) × Holds f (fin false m e) Y
+in-units f m e t = let g = grid f m e (fits-in f false m e t .deep) in (m * 2 ^ (g .j), (t, (refl, g .is)))
