@@ -7,19 +7,22 @@
 // bytes or more is `too long`.
 use libc::STDIN_FILENO;
 use libc::STDOUT_FILENO;
-ghost use Prim.Native.Nat.{_+_, _≤_, _<_};
+ghost use mathlib.Core.Path.{_≡_};
+ghost use Prim.Native.Nat.{_≤_, _<_};
 ghost use lib.ListN.{length};
+ghost use lib.Ieee.{binary64, ofBits};
+ghost use Rattle.root_print.specs.Decimal.{doubleOf, thousandthsOf};
 
 // 2^53.
 const MOST: u64 = 0x20_0000_0000_0000;
 
-// Digits that were read, after those of a number, and the place past them. A number above MOST stays above it.
+// Digits that were read, after those of a number, and the index past them. A number above MOST stays above it.
 struct Run {
     n: u64,
     next: usize,
 }
 
-// The double that was read and the place past it.
+// The double that was read and the index past it.
 enum Number {
     Is(f64, usize),
     Bad,
@@ -56,7 +59,7 @@ fn digits(s: &[u8], from: usize, start: u64) -> Run
     Run { n, next: i }
 }
 
-// The place past the byte c, where that stands at i, or i.
+// The index past the byte c, where that stands at i, or i.
 fn skip(s: &[u8], i: usize, c: u8) -> usize {
     if i < s.len() {
         if s[i] == c {
@@ -80,7 +83,9 @@ fn scaled(n: u64, k: usize) -> u64 {
     n
 }
 
-fn double(n: u64, negative: bool) -> f64 {
+fn double(n: u64, negative: bool) -> f64
+    ensures { λ r. ⌜ r ≡ doubleOf n negative ⌝ }
+{
     let x = std::num::nearest_u64_to_f64(n) / 1000.0;
     if negative {
         return -x;
@@ -137,38 +142,44 @@ fn solve(s: &[u8]) -> Answer {
     Answer::Bad
 }
 
-// The thousandths of the double whose pattern is b, nearest, halves up, for one below 2^52.
-fn thousandths(b: u64) -> u64 {
-    let e = b / 0x10_0000_0000_0000;
-    if e < 1012 {
-        return 0;
-    }
-    if e > 1074 {
+// The thousandths of the double whose pattern is b, one below 2^52. Below 2^-11 it has none.
+fn thousandths(b: u64) -> u64
+    requires { ⌜ b < 0x4330_0000_0000_0000 ⌝ }
+    ensures { λ r. ⌜ r ≡ thousandthsOf (ofBits binary64 b) ⌝ }
+{
+    if b < 0x3f40_0000_0000_0000 {
         return 0;
     }
     let m = 1000 * (b % 0x10_0000_0000_0000 + 0x10_0000_0000_0000);
-    let k = 1075 - e;
-    ((m >> (k - 1)) + 1) / 2
+    let k = 1074 - b / 0x10_0000_0000_0000;
+    ((m >> k) + 1) / 2
 }
 
+fn print_thousandths(t: u64) {
+    io::print_decimal(STDOUT_FILENO, t / 1000);
+    let digits = [
+        b'.',
+        b'0' + (t / 100 % 10) as u8,
+        b'0' + (t / 10 % 10) as u8,
+        b'0' + (t % 10) as u8,
+    ];
+    io::write_all(STDOUT_FILENO, &digits);
+}
+
+// No line has an answer of 2^52 or more, whose thousandths would be left out.
 fn print_double(x: f64) {
     if x != x {
         io::write_all(STDOUT_FILENO, b"no root\n");
         return;
     }
     let b = f64::to_bits(x);
+    let a = b % 0x8000_0000_0000_0000;
     io::print_hex(STDOUT_FILENO, b, 16);
     io::write_all(STDOUT_FILENO, b" ");
-    let t = thousandths(b % 0x8000_0000_0000_0000);
-    io::print_decimal(STDOUT_FILENO, t / 1000);
-    io::write_all(STDOUT_FILENO, b".");
-    let digits = [
-        b'0' + (t / 100 % 10) as u8,
-        b'0' + (t / 10 % 10) as u8,
-        b'0' + (t % 10) as u8,
-        b'\n',
-    ];
-    io::write_all(STDOUT_FILENO, &digits);
+    if a < 0x4330_0000_0000_0000 {
+        print_thousandths(thousandths(a));
+    }
+    io::write_all(STDOUT_FILENO, b"\n");
 }
 
 fn print_answer(s: &[u8]) {
@@ -182,7 +193,7 @@ fn bad_line() {
     io::write_all(STDOUT_FILENO, b"bad line\n");
 }
 
-// The place of the first line end from i on, or the end.
+// The index of the first line end from i on, or the end.
 fn line_end(s: &[u8], from: usize) -> usize
     requires { ⌜ from ≤ length (now s) ⌝ }
     ensures { λ r. ⌜ (from ≤ r) × (r ≤ length (now (s .entry))) ⌝ }
