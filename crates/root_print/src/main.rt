@@ -8,10 +8,11 @@
 use libc::STDIN_FILENO;
 use libc::STDOUT_FILENO;
 ghost use mathlib.Core.Path.{_≡_};
-ghost use Prim.Native.Nat.{_≤_, _<_};
+ghost use Prim.Native.Nat.{_-_, _≤_, _<_};
 ghost use lib.ListN.{length};
 ghost use lib.Ieee.{binary64, ofBits};
 ghost use Rattle.root_print.specs.Decimal.{doubleOf, thousandthsOf};
+ghost use Rattle.root_print.specs.Lines.{pushOf, digitsOf, standsAt, skipOf, startOf, scaledOf, numberOf, answerOf};
 
 // 2^53.
 const MOST: u64 = 0x20_0000_0000_0000;
@@ -33,7 +34,9 @@ enum Answer {
     Bad,
 }
 
-fn push(n: u64, digit: u8) -> u64 {
+fn push(n: u64, digit: u8) -> u64
+    ensures { λ r. ⌜ r ≡ pushOf n digit ⌝ }
+{
     if n > MOST {
         return n;
     }
@@ -41,7 +44,7 @@ fn push(n: u64, digit: u8) -> u64 {
 }
 
 fn digits(s: &[u8], from: usize, start: u64) -> Run
-    ensures { λ r. ⌜ from ≤ r .next ⌝ }
+    ensures { λ r. ⌜ (r ≡ digitsOf (length (now (s .entry)) - from) (now (s .entry)) from start) × (from ≤ r .next) ⌝ }
 {
     let mut n = start;
     let mut i = from;
@@ -59,8 +62,20 @@ fn digits(s: &[u8], from: usize, start: u64) -> Run
     Run { n, next: i }
 }
 
+// Whether the byte c stands at i.
+fn stands(s: &[u8], i: usize, c: u8) -> bool
+    ensures { λ r. ⌜ r ≡ standsAt (now (s .entry)) i c ⌝ }
+{
+    if i < s.len() {
+        return s[i] == c;
+    }
+    false
+}
+
 // The index past the byte c, where that stands at i, or i.
-fn skip(s: &[u8], i: usize, c: u8) -> usize {
+fn skip(s: &[u8], i: usize, c: u8) -> usize
+    ensures { λ r. ⌜ (r ≡ skipOf (now (s .entry)) i c) × (i ≤ r) ⌝ }
+{
     if i < s.len() {
         if s[i] == c {
             return i + 1;
@@ -69,8 +84,21 @@ fn skip(s: &[u8], i: usize, c: u8) -> usize {
     i
 }
 
+// The index past a sign at i.
+fn start(s: &[u8], i: usize) -> usize
+    ensures { λ r. ⌜ r ≡ startOf (now (s .entry)) i ⌝ }
+{
+    let minus = skip(s, i, b'-');
+    if minus == i {
+        return skip(s, i, b'+');
+    }
+    minus
+}
+
 // The thousandths of a number whose digits, k of them after the point, are those of n.
-fn scaled(n: u64, k: usize) -> u64 {
+fn scaled(n: u64, k: usize) -> u64
+    ensures { λ r. ⌜ r ≡ scaledOf n k ⌝ }
+{
     if k == 0 {
         return push(push(push(n, 0), 0), 0);
     }
@@ -94,12 +122,10 @@ fn double(n: u64, negative: bool) -> f64
 }
 
 // The number that stands at i.
-fn read_number(s: &[u8], i: usize) -> Number {
-    let minus = skip(s, i, b'-');
-    let mut first = minus;
-    if minus == i {
-        first = skip(s, i, b'+');
-    }
+fn read_number(s: &[u8], i: usize) -> Number
+    ensures { λ r. ⌜ r ≡ numberOf (now (s .entry)) i ⌝ }
+{
+    let first = start(s, i);
     let whole = digits(s, first, 0);
     let end = whole.next;
     if end == first {
@@ -107,22 +133,25 @@ fn read_number(s: &[u8], i: usize) -> Number {
     }
     let point = skip(s, end, b'.');
     let part = digits(s, point, whole.n);
-    let places = part.next - point;
-    if point != end && places == 0 {
+    // the point counts too
+    let more = part.next - end;
+    if more == 1 {
         return Number::Bad;
     }
-    if places > 3 {
+    if more > 4 {
         return Number::Bad;
     }
-    let n = scaled(part.n, places);
+    let n = scaled(part.n, part.next - point);
     if n > MOST {
         return Number::Bad;
     }
-    Number::Is(double(n, minus != i), part.next)
+    Number::Is(double(n, stands(s, i, b'-')), part.next)
 }
 
 // What a line asks for.
-fn solve(s: &[u8]) -> Answer {
+fn solve(s: &[u8]) -> Answer
+    ensures { λ r. ⌜ r ≡ answerOf (now (s .entry)) ⌝ }
+{
     let Number::Is(x, end) = read_number(s, 0) else {
         return Answer::Bad;
     };
