@@ -22,12 +22,12 @@ pub byte-below : (s : List ℕ) (p q n m r : ℕ) → q ≡ p + 1 → m ≡ n + 
 unfolding littleEndian
 byte-below s p q n m r eq em h er = rw (em, add-one, drop-cons s p 0, er, eq, add-one) (omega arith)
 
--- a number with j bytes still to come has room for them: so has the number with the next byte, and then for one byte fewer
-pub room : (r j w : ℕ) → (r + 1) * 2 ^ (8 * j) ≤ w → r < w
-room r j w h = omega (arith, le-trans (le-mul-of-pos-right (r + 1) (pow-pos (8 * j))) h)
+-- a number that j more bytes keep within w: it is below w, and with one byte more it is one that j - 1 more bytes keep within w
+pub bounded : (r j w : ℕ) → (r + 1) * 2 ^ (8 * j) ≤ w → r < w
+bounded r j w h = omega (arith, le-trans (le-mul-of-pos-right (r + 1) (pow-pos (8 * j))) h)
 
-pub room-less : (r b i j w : ℕ) → b < 256 → j ≡ i + 1 → (r + 1) * 2 ^ (8 * j) ≤ w → (256 * r + b + 1) * 2 ^ (8 * i) ≤ w
-room-less r b i j w hb e h =
+pub bounded-step : (r b i j w : ℕ) → b < 256 → j ≡ i + 1 → (r + 1) * 2 ^ (8 * j) ≤ w → (256 * r + b + 1) * 2 ^ (8 * i) ≤ w
+bounded-step r b i j w hb e h =
     let t : (256 * (r + 1)) * 2 ^ (8 * i) ≡ (r + 1) * 2 ^ (8 * j) =
     ap (λ (x : ℕ). x * 2 ^ (8 * i)) (mul-comm 256 (r + 1)) ∙ mul-assoc (r + 1) 256 (2 ^ (8 * i)) ∙ ap (λ (x : ℕ). (r + 1) * x) (sym (pow-add 2 8 (8 * i)) ∙ ap (λ (x : ℕ). 2 ^ x) (omega arith)) in
     let le : 256 * r + b + 1 ≤ 256 * (r + 1) = omega arith in
