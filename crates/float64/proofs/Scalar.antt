@@ -1,0 +1,79 @@
+-- What the tests of the code say of its arguments, and the bits of a magnitude. Assumes nothing.
+use Prim.Native.Nat.{ℕ, _+_, _*_, _-_, _%_, _<_, _≤_}
+use mathlib.Core.Bool.{Bool, true, false, not, cond, true≢false}
+use mathlib.Core.Path.{_≡_, refl, sym, ap, subst, _∙_}
+use native.Mathlib.Omega.{arith}
+use native.Mathlib.Nat.{mod-eq-of-lt}
+use lib.Dec.{T, ltb}
+use lib.IntN.{ℤ, pos}
+use lib.Ieee.{Float, nan, inf, fin, binary64, low, toBits, ofBits, fits, isNan, ne, lt, neg, div}
+use lib.Ieee.Bits.{is-false}
+use lib.Ieee.Compare.{differs-from-itself}
+use Rattle.root_spec.proofs.Floats.{no-nan}
+use borrow.Author.Tests.{lt-ltb, le-ltb}
+use Rattle.float64.specs.Scalar.{one, negative, absOf, isFinite}
+use Rattle.float64.specs.TotalOrder.{half}
+use Rattle.float64.proofs.Bits.{pattern, mag, toBits-fin, pattern-small, fin-below, fits-either}
+
+-- `x != x` is the test for a NaN
+pub nan-of : (x : Float) → ne x x ≡ true → isNan x ≡ true
+unfolding isNan
+nan-of x h = ap isNan (differs-from-itself x (subst T (sym h) tt))
+
+pub number-of : (x : Float) → ne x x ≡ false → isNan x ≡ false
+number-of x h = is-false (isNan x) (no-nan x h)
+
+-- ---- the finite values lie between the infinities
+abbrev infinity : Float
+infinity = div binary64 (ofBits binary64 0x3ff0_0000_0000_0000) (ofBits binary64 0)
+
+infinity-is : infinity ≡ inf false
+unfolding div ofBits
+infinity-is = refl
+
+finite-test : (x : Float) → isFinite x ≡ cond (lt x (inf false)) (lt (neg (inf false)) x) false
+unfolding lt neg
+finite-test nan = refl
+finite-test (inf true) = refl
+finite-test (inf false) = refl
+finite-test (fin s m e) = refl
+
+pub finite-tests : (x : Float) → isFinite x ≡ cond (lt x infinity) (lt (neg infinity) x) false
+finite-tests x = subst (λ (i : Float). isFinite x ≡ cond (lt x i) (lt (neg i) x) false) (sym infinity-is) (finite-test x)
+
+-- ---- the sign's bit
+pub one-is : ofBits binary64 0x3ff0_0000_0000_0000 ≡ one
+unfolding ofBits
+one-is = refl
+
+pub sign-bit : (x : Float) → T (fits binary64 x) → isNan x ≡ false → ltb (toBits binary64 x) half ≡ not (negative x)
+unfolding negative isNan
+sign-bit nan p h = absurd (true≢false h)
+sign-bit (inf true) p h = unfold toBits in refl
+sign-bit (inf false) p h = unfold toBits in refl
+sign-bit (fin true m e) p h = le-ltb (toBits binary64 (fin true m e)) half (omega (arith, toBits-fin true m e))
+sign-bit (fin false m e) p h = lt-ltb (toBits binary64 (fin false m e)) half (omega (arith, toBits-fin false m e, pattern-small false m e p))
+
+-- without it the bits are those of the magnitude
+mod-half : (b p : ℕ) → p < half → b ≡ half + p → b % half ≡ p
+mod-half b p h e = omega arith
+
+pub abs-bits : (x : Float) → T (fits binary64 x) → isNan x ≡ false → toBits binary64 x % half ≡ toBits binary64 (absOf x)
+unfolding absOf isNan
+abs-bits nan p h = absurd (true≢false h)
+abs-bits (inf true) p h = unfold toBits in refl
+abs-bits (inf false) p h = unfold toBits in refl
+abs-bits (fin true m e) p h = mod-half (toBits binary64 (fin true m e)) (toBits binary64 (fin false m e)) (omega (arith, toBits-fin false m e, pattern-small true m e p)) (omega (arith, toBits-fin true m e, toBits-fin false m e))
+abs-bits (fin false m e) p h = mod-eq-of-lt (omega (arith, toBits-fin false m e, pattern-small false m e p))
+
+pub abs-fits : (x : Float) → T (fits binary64 x) → T (fits binary64 (absOf x))
+unfolding absOf
+abs-fits nan p = p
+abs-fits (inf s) p = unfold fits in tt
+abs-fits (fin s m e) p = fits-either s false m e p
+
+pub abs-low : (x : Float) → T (fits binary64 x) → isNan x ≡ false → toBits binary64 (absOf x) ≤ 0x7ff0_0000_0000_0000
+unfolding absOf isNan
+abs-low nan p h = absurd (true≢false h)
+abs-low (inf s) p h = unfold toBits in omega arith
+abs-low (fin s m e) p h = omega (arith, toBits-fin false m e, fin-below m e (fits-either s false m e p))

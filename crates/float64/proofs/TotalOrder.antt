@@ -1,0 +1,121 @@
+-- The order of total keys is IEEE's order, with minus zero before zero and a NaN last; and no two values share a key. Assumes nothing.
+use Prim.Native.Nat.{ℕ, _+_, _*_, _-_, _<_, _≤_}
+use mathlib.Core.Bool.{Bool, true, false, not, cond, _&&_, _||_, and-false, or-false}
+use mathlib.Core.Path.{_≡_, refl, sym, ap, subst, _∙_}
+use native.Mathlib.Omega.{arith}
+use native.Mathlib.Decide.{decLe}
+use lib.Dec.{T, ltb, eqb}
+use lib.IntN.{ℤ}
+use lib.Ieee.{Float, nan, inf, fin, binary64, low, up, down, toBits, ofBits, fits, isNan, lt, eq}
+use lib.Ieee.Bits.{ofBits-toBits, toBits-lt}
+use borrow.Author.Tests.{lt-ltb, le-ltb}
+use Rattle.float64.specs.Scalar.{negative}
+use Rattle.float64.specs.TotalOrder.{half, turned, totalKey, totalLess}
+use Rattle.float64.proofs.Bits.{pattern, mag, toBits-fin, pattern-small, fin-below, fits-either, cross}
+
+pub turned-low : (b : ℕ) → b < half → b + half ≡ turned b
+unfolding turned
+turned-low b h = rw (lt-ltb b half h) refl
+
+pub turned-high : (b : ℕ) → half ≤ b → 0xffff_ffff_ffff_ffff - b ≡ turned b
+unfolding turned
+turned-high b h = rw (le-ltb b half h) refl
+
+-- ---- keys of values
+key-plus : (m : ℕ) (e : ℤ) → T (fits binary64 (fin false m e)) → totalKey (fin false m e) ≡ half + pattern (mag (low binary64) m e)
+unfolding totalKey
+key-plus m e h =
+    let a : toBits binary64 (fin false m e) ≡ 0 + pattern (mag (low binary64) m e) = toBits-fin false m e in
+    let b : toBits binary64 (fin false m e) < half = omega (arith, a, pattern-small false m e h) in
+    omega (arith, a, turned-low (toBits binary64 (fin false m e)) b)
+
+key-minus : (m : ℕ) (e : ℤ) → T (fits binary64 (fin true m e)) → totalKey (fin true m e) + pattern (mag (low binary64) m e) + 1 ≡ half
+unfolding totalKey
+key-minus m e h =
+    let a : toBits binary64 (fin true m e) ≡ half + pattern (mag (low binary64) m e) = toBits-fin true m e in
+    let b : half ≤ toBits binary64 (fin true m e) = omega (arith, a) in
+    omega (arith, a, pattern-small true m e h, turned-high (toBits binary64 (fin true m e)) b)
+
+key-inf : totalKey (inf false) ≡ 0xfff0000000000000
+unfolding totalKey turned toBits
+key-inf = refl
+
+key-low : totalKey (inf true) ≡ 0x000fffffffffffff
+unfolding totalKey turned toBits
+key-low = refl
+
+pub key-none : totalKey nan ≡ 0xfff8000000000000
+unfolding totalKey turned toBits
+key-none = refl
+
+ltb-same : (a b c d : ℕ) → (a < b → c < d) → (b ≤ a → d ≤ c) → ltb a b ≡ ltb c d
+ltb-same a b c d f g = go (decLe b a) where
+  go : Dec (b ≤ a) → ltb a b ≡ ltb c d
+  go (yes x) = le-ltb a b x ∙ sym (le-ltb c d (g x))
+  go (no x) = lt-ltb a b (omega (arith, x)) ∙ sym (lt-ltb c d (f (omega (arith, x))))
+
+apart-or-zero : (a b : ℕ) → true ≡ (ltb 0 (a + b) || ((eqb a b && eqb a 0) && true))
+apart-or-zero a b = go (decLe (a + b) 0) where
+  go : Dec (a + b ≤ 0) → true ≡ (ltb 0 (a + b) || ((eqb a b && eqb a 0) && true))
+  go (yes x) = let p : a ≡ 0 = omega (arith, x) in let q : b ≡ 0 = omega (arith, x) in rw (p, q) refl
+  go (no x) = rw (lt-ltb 0 (a + b) (omega (arith, x))) refl
+
+-- the order of keys is IEEE's order, with minus zero before zero and a NaN last
+pub totalKey-less : (x y : Float) → T (fits binary64 x) → T (fits binary64 y) → ltb (totalKey x) (totalKey y) ≡ totalLess x y
+unfolding totalLess lt eq isNan negative
+totalKey-less nan nan p q = rw key-none refl
+totalKey-less nan (inf true) p q = rw (key-none, key-low) refl
+totalKey-less nan (inf false) p q = rw (key-none, key-inf) refl
+totalKey-less nan (fin true n d) p q = le-ltb (totalKey nan) (totalKey (fin true n d)) (omega (arith, key-none, key-minus n d q))
+totalKey-less nan (fin false n d) p q = le-ltb (totalKey nan) (totalKey (fin false n d)) (omega (arith, key-none, key-plus n d q, fin-below n d q))
+totalKey-less (inf true) nan p q = rw (key-none, key-low) refl
+totalKey-less (inf false) nan p q = rw (key-none, key-inf) refl
+totalKey-less (inf true) (inf true) p q = rw key-low refl
+totalKey-less (inf true) (inf false) p q = rw (key-low, key-inf) refl
+totalKey-less (inf false) (inf true) p q = rw (key-low, key-inf) refl
+totalKey-less (inf false) (inf false) p q = rw key-inf refl
+totalKey-less (inf true) (fin true n d) p q = lt-ltb (totalKey (inf true)) (totalKey (fin true n d)) (omega (arith, key-low, key-minus n d q, fin-below n d (fits-either true false n d q)))
+totalKey-less (inf true) (fin false n d) p q = lt-ltb (totalKey (inf true)) (totalKey (fin false n d)) (omega (arith, key-low, key-plus n d q))
+totalKey-less (inf false) (fin true n d) p q = le-ltb (totalKey (inf false)) (totalKey (fin true n d)) (omega (arith, key-inf, key-minus n d q))
+totalKey-less (inf false) (fin false n d) p q = le-ltb (totalKey (inf false)) (totalKey (fin false n d)) (omega (arith, key-inf, key-plus n d q, fin-below n d q))
+totalKey-less (fin true m e) nan p q = lt-ltb (totalKey (fin true m e)) (totalKey nan) (omega (arith, key-none, key-minus m e p))
+totalKey-less (fin false m e) nan p q = lt-ltb (totalKey (fin false m e)) (totalKey nan) (omega (arith, key-none, key-plus m e p, fin-below m e p))
+totalKey-less (fin true m e) (inf true) p q = le-ltb (totalKey (fin true m e)) (totalKey (inf true)) (omega (arith, key-low, key-minus m e p, fin-below m e (fits-either true false m e p)))
+totalKey-less (fin true m e) (inf false) p q = lt-ltb (totalKey (fin true m e)) (totalKey (inf false)) (omega (arith, key-inf, key-minus m e p))
+totalKey-less (fin false m e) (inf true) p q = le-ltb (totalKey (fin false m e)) (totalKey (inf true)) (omega (arith, key-low, key-plus m e p))
+totalKey-less (fin false m e) (inf false) p q = lt-ltb (totalKey (fin false m e)) (totalKey (inf false)) (omega (arith, key-inf, key-plus m e p, fin-below m e p))
+totalKey-less (fin false m e) (fin false n d) p q =
+    rw (and-false, or-false)
+    (ltb-same (totalKey (fin false m e)) (totalKey (fin false n d)) (pattern (mag (low binary64) m e)) (pattern (mag (low binary64) n d))
+    (λ h. omega (arith, h, key-plus m e p, key-plus n d q)) (λ h. omega (arith, h, key-plus m e p, key-plus n d q))
+    ∙ cross false m e n d p q)
+totalKey-less (fin true m e) (fin true n d) p q =
+    rw (and-false, or-false)
+    (ltb-same (totalKey (fin true m e)) (totalKey (fin true n d)) (pattern (mag (low binary64) n d)) (pattern (mag (low binary64) m e))
+    (λ h. omega (arith, h, key-minus m e p, key-minus n d q)) (λ h. omega (arith, h, key-minus m e p, key-minus n d q))
+    ∙ cross true n d m e q p)
+totalKey-less (fin true m e) (fin false n d) p q =
+    lt-ltb (totalKey (fin true m e)) (totalKey (fin false n d)) (omega (arith, key-minus m e p, key-plus n d q)) ∙ apart-or-zero (m * up e * down d) (n * up d * down e)
+totalKey-less (fin false m e) (fin true n d) p q =
+    rw and-false (le-ltb (totalKey (fin false m e)) (totalKey (fin true n d)) (omega (arith, key-plus m e p, key-minus n d q)))
+
+-- ---- a key is a number of 64 bits, and tells the value
+turned-lt : (b : ℕ) → b < 0x1_0000_0000_0000_0000 → turned b < 0x1_0000_0000_0000_0000
+turned-lt b h = elim (decLe half b) [ yes x ↦ omega (arith, turned-high b x) | no x ↦ omega (arith, turned-low b (omega arith)) ]
+
+turned-back : (b : ℕ) → b < 0x1_0000_0000_0000_0000 → cond (ltb (turned b) half) (0xffff_ffff_ffff_ffff - turned b) (turned b - half) ≡ b
+turned-back b h = elim (decLe half b) [
+  | yes x ↦ let e = turned-high b x in rw (lt-ltb (turned b) half (omega arith)) (omega arith)
+  | no x ↦ let e = turned-low b (omega arith) in rw (le-ltb (turned b) half (omega arith)) (omega arith)
+]
+
+pub totalKey-lt : (x : Float) → T (fits binary64 x) → totalKey x < 0x1_0000_0000_0000_0000
+unfolding totalKey
+totalKey-lt x p = turned-lt (toBits binary64 x) (toBits-lt binary64 x p)
+
+pub totalKey-injective : (x y : Float) → T (fits binary64 x) → T (fits binary64 y) → totalKey x ≡ totalKey y → x ≡ y
+unfolding totalKey
+totalKey-injective x y p q h =
+    let b : toBits binary64 x ≡ toBits binary64 y =
+    sym (turned-back (toBits binary64 x) (toBits-lt binary64 x p)) ∙ ap (λ (k : ℕ). cond (ltb k half) (0xffff_ffff_ffff_ffff - k) (k - half)) h ∙ turned-back (toBits binary64 y) (toBits-lt binary64 y q) in
+    sym (ofBits-toBits binary64 x p) ∙ ap (ofBits binary64) b ∙ ofBits-toBits binary64 y q
