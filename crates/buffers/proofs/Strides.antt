@@ -75,13 +75,13 @@ module _ {A : Type 0} (s : ℕ) where
   length-fill [] l i a = refl
   length-fill (v ∷ vs) l i a = length-fill vs (set l (s * i + a) v) i (suc a) ∙ simp length-set
 
-  fill-sets : (vs l : List A) (i a : ℕ) → a + length vs ≤ s → slot s (fill s l i a vs) i ≡ sets (slot s l i) a vs
+  pub fill-sets : (vs l : List A) (i a : ℕ) → a + length vs ≤ s → slot s (fill s l i a vs) i ≡ sets (slot s l i) a vs
   unfolding fill
   fill-sets [] l i a h = refl
   fill-sets (v ∷ vs) l i a h =
       fill-sets vs (set l (s * i + a) v) i (suc a) (omega arith) ∙ ap (λ p. sets p (suc a) vs) (slot-set-same s l i a v (omega arith))
 
-  length-slot : (l : List A) (i : ℕ) → s * i + s ≤ length l → length (slot s l i) ≡ s
+  pub length-slot : (l : List A) (i : ℕ) → s * i + s ≤ length l → length (slot s l i) ≡ s
   unfolding slot
   length-slot l i h = length-take-le s (drop (s * i) l) (simp length-drop (omega arith))
 
