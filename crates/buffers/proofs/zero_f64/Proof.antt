@@ -4,7 +4,6 @@ use Rattle.buffers.proofs.zero_f64.Statement.{statement}
 use Rattle.buffers.proofs.zero_f64.Tie as tie
 use Rattle.buffers.proofs.zero_f64.Reads as reads
 use Rattle.buffers.proofs.zero_f64.Lts as lts
-use Rattle.buffers.proofs.zero_f64_from.Reads as zero-f64-from-reads
 
 zero-f64-from-requires : tie.Need-zero-f64-from-requires
 zero-f64-from-requires c κs = search needs

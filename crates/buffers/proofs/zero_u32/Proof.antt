@@ -4,7 +4,6 @@ use Rattle.buffers.proofs.zero_u32.Statement.{statement}
 use Rattle.buffers.proofs.zero_u32.Tie as tie
 use Rattle.buffers.proofs.zero_u32.Reads as reads
 use Rattle.buffers.proofs.zero_u32.Lts as lts
-use Rattle.buffers.proofs.zero_u32_from.Reads as zero-u32-from-reads
 
 zero-u32-from-requires : tie.Need-zero-u32-from-requires
 zero-u32-from-requires c κs = search needs

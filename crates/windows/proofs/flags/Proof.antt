@@ -3,7 +3,6 @@ use native.Mathlib.Omega.{arith}
 use Rattle.windows.proofs.WindowList.{weight-le}
 use Rattle.windows.proofs.flags.Statement.{statement}
 use Rattle.windows.proofs.flags.Tie as tie
-use Rattle.windows.proofs.weight.Reads as weight-reads
 
 weight-requires : tie.Need-weight-requires
 weight-requires c κs = search needs

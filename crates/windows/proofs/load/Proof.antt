@@ -3,9 +3,6 @@ use mathlib.Core.Path.{ap, _∙_}
 use Rattle.windows.specs.Windows.{windowAt, hasFlag}
 use Rattle.windows.proofs.load.Statement.{statement}
 use Rattle.windows.proofs.load.Tie as tie
-use Rattle.buffers.proofs.read_f64.Reads as read-f64-reads
-use Rattle.buffers.proofs.read_u32.Reads as read-u32-reads
-use Rattle.windows.proofs.has_flag.Reads as has-flag-reads
 
 read-u32-requires : tie.Need-read-u32-requires
 read-u32-requires c κs = search needs

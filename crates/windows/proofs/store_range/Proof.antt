@@ -3,7 +3,6 @@ use Rattle.buffers.specs.Slots.{fill}
 use Rattle.windows.specs.Windows.{rangeWith}
 use Rattle.windows.proofs.store_range.Statement.{statement}
 use Rattle.windows.proofs.store_range.Tie as tie
-use Rattle.buffers.proofs.write_f64.Reads as write-f64-reads
 
 write-f64-requires : tie.Need-write-f64-requires
 write-f64-requires c κs = search needs

@@ -3,8 +3,6 @@ use Rattle.buffers.specs.Slots.{fill}
 use Rattle.windows.specs.Windows.{wordsWith}
 use Rattle.windows.proofs.store_words.Statement.{statement}
 use Rattle.windows.proofs.store_words.Tie as tie
-use Rattle.buffers.proofs.write_u32.Reads as write-u32-reads
-use Rattle.windows.proofs.flags.Reads as flags-reads
 
 flags-requires : tie.Need-flags-requires
 flags-requires c κs = search needs
