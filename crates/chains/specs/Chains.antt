@@ -79,6 +79,16 @@ unfoldable pub AllBelong : List ℕ → ℕ → List ℕ → Type 0
 AllBelong w e [] = Unit {0}
 AllBelong w e (i ∷ is) = Belongs w e i × AllBelong w e is
 
+-- `before` is none, or a window of edge e
+unfoldable pub Before : List ℕ → ℕ → ℕ → Type 0
+Before w e zero = Unit {0}
+Before w e (suc k) = Belongs w e k
+
+-- the link of the first window of a list
+unfoldable pub firstLink : List ℕ → ℕ
+firstLink [] = 0
+firstLink (i ∷ is) = suc i
+
 -- the chain of edge e is the list, and its windows are that edge's
 pub record OnEdge (b : Links) (e : ℕ) (is : List ℕ) : Type 0 where
   pub path : Path (b .words) (headOf (b .edges) e) is
