@@ -1,7 +1,7 @@
 -- What the operations on links do to chains. A chain is a path of links that ends; a link of a window that is not on it can
 -- change freely (`path-set`), and pointing the link after a front at another path exchanges the rest (`splice`). Since each window
 -- of a chain has that chain's edge, a window of edge e is on no other chain, so what is done to one chain leaves the others.
-use Prim.Native.Nat.{ℕ, zero, suc, _+_, _*_, _-_, _<_, _≤_}
+use Prim.Native.Nat.{ℕ, zero, suc, _+_, _*_, _≤_}
 use native.Mathlib.Omega.{arith}
 use native.Mathlib.Decide.{ℕ-discrete, decLe}
 use mathlib.Core.Bool.{Bool, true, false, cond}
@@ -10,7 +10,7 @@ use mathlib.Core.List.{List, [], _∷_, _++_, append-assoc}
 use mathlib.Core.Logic.{_≢_}
 use borrow.Author.Tests.{eq-eqb, ne-eqb}
 use lib.Dec.{eqb}
-use lib.ListN.{getD, set, length, length-set, length-append}
+use lib.ListN.{set, length, length-set, length-append}
 use lib.Seq.{getD-set-same, set-out}
 use Rattle.chains.proofs.Turns.{cleared-stop}
 use Rattle.buffers.proofs.Strides.{other-field, other-slot}

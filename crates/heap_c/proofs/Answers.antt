@@ -10,7 +10,7 @@ use Rattle.heap.specs.declared.Pushed.{Pushed}
 use Rattle.heap.specs.declared.Pushed.the-variants.{Full, Queued}
 use Rattle.heap.specs.declared.Popped.{Popped}
 use Rattle.heap.specs.declared.Popped.the-variants.{Empty, First}
-use Rattle.heap.specs.Queue.{Queue, at, put, HasSlots, popped, slots, pushing, popping}
+use Rattle.heap.specs.Queue.{Queue, at, put, popped, slots, popping}
 use Rattle.heap_c.specs.Exports.{pushAnswer, popAnswer}
 
 module _ {q : Queue} {a : Pushed × Queue} {r : Pushed} (e : (r, q) ≡ a) where

@@ -9,7 +9,7 @@ use mathlib.Core.Logic.{_≢_}
 use lib.ListN.{length, getD, set, length-append}
 use lib.Seq.{set-at, set-append-left}
 use lib.Ieee.{Float, nan}
-use Rattle.buffers.specs.Slots.{slot, fill}
+use Rattle.buffers.specs.Slots.{slot}
 use Rattle.buffers.proofs.Strides.{slot-at, slot-set-same, slot-set-other, length-slot, fill-sets, fill-same, fill-other}
 use Rattle.windows.specs.declared.WindowRecord.{WindowRecord}
 use Rattle.windows.specs.Windows.{flagsOf, hasFlag, windowAt, wordsWith, realsWith, rangeWith, trimmed, relinked, windows}

@@ -1,9 +1,9 @@
 use borrow.Author.Needs.{needs}
-use mathlib.Core.Path.{_≡_, refl, sym, ap, _∙_}
+use mathlib.Core.Path.{_≡_, refl, sym, _∙_}
 use Prim.Native.Nat.{_-_}
 use lib.ListN.{length, length-set}
 use native.Mathlib.Omega.{arith}
-use Rattle.buffers.specs.Zero.{zeroFrom, zero64}
+use Rattle.buffers.specs.Zero.{zeroFrom}
 use Rattle.buffers.proofs.Zeroing.{zero-more, zero-end}
 use Rattle.buffers.proofs.zero_u32_from.Statement.{statement}
 use Rattle.buffers.proofs.zero_u32_from.Tie as tie

@@ -1,8 +1,8 @@
 use Prim.Native.Nat.{_-_, _^_, _<_}
 use native.Mathlib.Omega.{arith}
-use mathlib.Core.Path.{_≡_, refl, sym, ap, _∙_}
-use lib.ListN.{length, set}
-use Rattle.chains.specs.Chains.{cleared, nextOf}
+use mathlib.Core.Path.{_≡_, refl, sym, _∙_}
+use lib.ListN.{length}
+use Rattle.chains.specs.Chains.{cleared}
 use Rattle.chains.proofs.Turns.{cleared-on, cleared-end, cleared-none, cleared-stop}
 use borrow.Author.Needs.{needs}
 use Rattle.chains.proofs.clear_run.Statement.{statement}
