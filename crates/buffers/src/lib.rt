@@ -16,6 +16,9 @@ pub struct FaceId(pub u32);
 
 pub struct WindowId(pub u32);
 
+// The number of no face: beyond a boundary edge, or where a window goes on into none.
+pub const NONE: u32 = 4294967295;
+
 pub fn read_u32(s: &[u32], stride: u32, slot: u32, field: u32) -> u32
     ensures { λ r. ⌜ r ≡ getD (now (s .entry)) (stride * slot + field) 0 ⌝ }
 {
