@@ -12,7 +12,7 @@ use lib.Ieee.{Float, nan}
 use Rattle.buffers.specs.Slots.{slot}
 use Rattle.buffers.proofs.Strides.{slot-at, slot-set-same, slot-set-other, length-slot, fill-sets, fill-same, fill-other}
 use Rattle.windows.specs.declared.WindowRecord.{WindowRecord}
-use Rattle.windows.specs.Windows.{flagsOf, hasFlag, windowAt, wordsWith, realsWith, rangeWith, trimmed, relinked, windows}
+use Rattle.windows.specs.Windows.{flagsOf, hasFlag, windowAt, wordsWith, realsWith, rangeWith, flagsWith, trimmed, reflagged, relinked, windows}
 
 pub weight-le : (b : Bool) (v : ℕ) → cond b v 0 ≤ v
 weight-le true v = omega arith
@@ -54,6 +54,28 @@ by-slots w f k =
       s1 = real 4 (omega arith) t;
       s2 = real 5 (omega arith) t;
     }
+
+-- one field of a window, where the whole is not wanted
+module _ (w : List ℕ) (f : List Float) (k : ℕ) where
+  pub edge-is : windowAt w f k .edge .0 ≡ getD w (4 * k + 0) 0
+  unfolding windowAt
+  edge-is = refl
+
+  pub link-is : windowAt w f k .link ≡ getD w (4 * k + 3) 0
+  unfolding windowAt
+  link-is = refl
+
+  pub b0-is : windowAt w f k .b0 ≡ getD f (6 * k + 0) nan
+  unfolding windowAt
+  b0-is = refl
+
+  pub b1-is : windowAt w f k .b1 ≡ getD f (6 * k + 1) nan
+  unfolding windowAt
+  b1-is = refl
+
+  pub low-is : windowAt w f k .low ≡ getD f (6 * k + 2) nan
+  unfolding windowAt
+  low-is = refl
 
 -- the flags are read as they were put together
 decoded : (line alive queued : Bool) → (hasFlag (flagsOf line alive queued) 1 ≡ line) × ((hasFlag (flagsOf line alive queued) 2 ≡ alive) × (hasFlag (flagsOf line alive queued) 4 ≡ queued))
@@ -119,6 +141,45 @@ module _ (w : List ℕ) (f : List Float) (k : ℕ) (b0 b1 low : Float) where
   unfolding rangeWith
   trim-other j ne =
       by-slots w (rangeWith f k b0 b1 low) j ∙ ap (decode (slot 4 w j)) (fill-other 6 (b0 ∷ b1 ∷ low ∷ []) f k j 0 ne (omega arith)) ∙ sym (by-slots w f j)
+
+-- a change of flags changes those flags alone
+decode-flags : (p : List ℕ) (f : List Float) (line alive queued : Bool) → 3 ≤ length p → decode (set p 2 (flagsOf line alive queued)) f ≡ reflagged (decode p f) line alive queued
+unfolding decode reflagged
+decode-flags [] f line alive queued h = absurd (omega arith)
+decode-flags (x ∷ []) f line alive queued h = absurd (omega arith)
+decode-flags (x ∷ y ∷ []) f line alive queued h = absurd (omega arith)
+decode-flags (x ∷ y ∷ z ∷ p) f line alive queued h =
+    let d = decoded line alive queued in
+    λ t. record {
+      edge = record { 0 = x };
+      into = record { 0 = y };
+      line = d .0 t;
+      alive = d .1 .0 t;
+      queued = d .1 .1 t;
+      link = getD p 0 0;
+      b0 = getD f 0 nan;
+      b1 = getD f 1 nan;
+      low = getD f 2 nan;
+      s0 = getD f 3 nan;
+      s1 = getD f 4 nan;
+      s2 = getD f 5 nan;
+    }
+
+module _ (w : List ℕ) (f : List Float) (k : ℕ) (line alive queued : Bool) where
+  pub flags-same : 4 * k + 4 ≤ length w → windowAt (flagsWith w k line alive queued) f k ≡ reflagged (windowAt w f k) line alive queued
+  unfolding flagsWith
+  flags-same p =
+      by-slots (flagsWith w k line alive queued) f k
+      ∙ ap (λ s. decode s (slot 6 f k)) (slot-set-same 4 w k 2 (flagsOf line alive queued) (omega arith))
+      ∙ decode-flags (slot 4 w k) (slot 6 f k) line alive queued (rw (length-slot 4 w k p) (omega arith))
+      ∙ ap (λ x. reflagged x line alive queued) (sym (by-slots w f k))
+
+  pub flags-other : (j : ℕ) → k ≢ j → windowAt (flagsWith w k line alive queued) f j ≡ windowAt w f j
+  unfolding flagsWith
+  flags-other j ne =
+      by-slots (flagsWith w k line alive queued) f j
+      ∙ ap (λ s. decode s (slot 6 f j)) (slot-set-other 4 w k j 2 (flagsOf line alive queued) ne (omega arith))
+      ∙ sym (by-slots w f j)
 
 -- a change of a link changes that link alone
 decode-link : (p : List ℕ) (f : List Float) (v : ℕ) → 4 ≤ length p → decode (set p 3 v) f ≡ relinked (decode p f) v

@@ -3,7 +3,7 @@ use Prim.Native.Nat.{ℕ, zero, suc, _+_, _*_, _/_, _%_}
 use mathlib.Core.Bool.{Bool, cond}
 use mathlib.Core.List.{List, [], _∷_, _++_}
 use lib.Dec.{eqb}
-use lib.ListN.{getD}
+use lib.ListN.{getD, set}
 use lib.Ieee.{Float, nan}
 use Rattle.buffers.specs.Slots.{fill}
 use Rattle.windows.specs.declared.WindowRecord.{WindowRecord}
@@ -44,7 +44,11 @@ realsWith f k x = fill 6 f k 0 (x .b0 ∷ x .b1 ∷ x .low ∷ x .s0 ∷ x .s1 �
 unfoldable pub rangeWith : List Float → ℕ → Float → Float → Float → List Float
 rangeWith f k b0 b1 low = fill 6 f k 0 (b0 ∷ b1 ∷ low ∷ [])
 
--- a window with its ends and least value changed; with its link changed
+-- the words with the flags of window k stored
+unfoldable pub flagsWith : List ℕ → ℕ → Bool → Bool → Bool → List ℕ
+flagsWith w k line alive queued = set w (4 * k + 2) (flagsOf line alive queued)
+
+-- a window with its ends and least value changed; with its flags; with its link
 unfoldable pub trimmed : WindowRecord → Float → Float → Float → WindowRecord
 trimmed x b0 b1 low = record {
   edge = x .edge;
@@ -56,6 +60,22 @@ trimmed x b0 b1 low = record {
   b0 = b0;
   b1 = b1;
   low = low;
+  s0 = x .s0;
+  s1 = x .s1;
+  s2 = x .s2;
+}
+
+unfoldable pub reflagged : WindowRecord → Bool → Bool → Bool → WindowRecord
+reflagged x line alive queued = record {
+  edge = x .edge;
+  into = x .into;
+  line = line;
+  alive = alive;
+  queued = queued;
+  link = x .link;
+  b0 = x .b0;
+  b1 = x .b1;
+  low = x .low;
   s0 = x .s0;
   s1 = x .s1;
   s2 = x .s2;

@@ -11,7 +11,7 @@ ghost use mathlib.Core.Path.{_≡_};
 ghost use mathlib.Core.Bool.{cond};
 ghost use Prim.Native.Nat.{ℕ, _+_, _*_, _/_, _%_, _<_};
 ghost use lib.Dec.{eqb};
-ghost use Rattle.windows.specs.Windows.{windowAt, wordsWith, realsWith, rangeWith, flagsOf, hasFlag};
+ghost use Rattle.windows.specs.Windows.{windowAt, wordsWith, realsWith, rangeWith, flagsWith, flagsOf, hasFlag};
 
 // A window as the buffer holds it, in plain numbers.
 pub struct WindowRecord {
@@ -119,4 +119,12 @@ pub fn store_range(reals: &mut [f64], id: WindowId, b0: f64, b1: f64, low: f64)
     write_f64(reals, 6, k, 0, b0);
     write_f64(reals, 6, k, 1, b1);
     write_f64(reals, 6, k, 2, low);
+}
+
+// A window's flags change, and nothing else.
+pub fn store_flags(words: &mut [u32], id: WindowId, line: bool, alive: bool, queued: bool)
+    ensures { λ r. ⌜ now (words .exit) ≡ flagsWith (now (words .entry)) (id .0) line alive queued ⌝ }
+{
+    let flags = flags(line, alive, queued);
+    write_u32(words, 4, id.0, 2, flags);
 }
