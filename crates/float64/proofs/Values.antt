@@ -7,7 +7,7 @@ use native.Mathlib.Nat.{le-trans, le-of-eq, lt-of-le-of-lt, lt-of-lt-of-le, mul-
 use lib.Dec.{T, ltb, leb, eqb, ltb→lt, leb→le, eqb→eq}
 use lib.IntN.{ℤ, pos, negsuc}
 use lib.Pow.{pow-pos, pow-add, pow-lt}
-use lib.Ieee.{Float, fin, Format, prec, low, emax, up, down, fits}
+use lib.Ieee.{fin, Format, prec, low, emax, up, down, fits}
 use lib.Ieee.Fits.{down-pos, up-pos, and-l, and-r}
 use Rattle.nat_laws.proofs.Power.{pow-back}
 
@@ -53,6 +53,14 @@ grid f m (negsuc k) h =
     rejoin : (a b : ℕ) → a ≤ b → b ≡ b - a + a
     rejoin a b h = omega arith
 
+-- it is below 2 ^ (emax + 1), and so is c times it, where that is so of the value
+pub grid-lt : (f : Format) (m : ℕ) (e : ℤ) (g : Grid f m e) (c : ℕ) → m * up e * c < 2 ^ suc (emax f) * down e → m * 2 ^ (g .j) * c < 2 ^ (low f + suc (emax f))
+grid-lt f m e g c h =
+    lt-of-mul-lt-mul-right (down e)
+    (lt-of-le-of-lt (le-of-eq (mul-right-comm (m * 2 ^ (g .j)) c (down e) ∙ ap (λ (x : ℕ). x * c) (sym (g .is)) ∙ mul-right-comm (m * up e) (2 ^ low f) c))
+    (lt-of-lt-of-le (mul-lt-mul-of-pos-right h (pow-pos (low f)))
+    (le-of-eq (mul-right-comm (2 ^ suc (emax f)) (down e) (2 ^ low f) ∙ ap (λ (x : ℕ). x * down e) (mul-comm (2 ^ suc (emax f)) (2 ^ low f) ∙ sym (pow-add 2 (low f) (suc (emax f))))))))
+
 -- how many of the smallest values
 unfoldable pub ulps : Format → ℕ → ℤ → ℕ
 ulps f m e = m * up e * 2 ^ low f / down e
@@ -64,8 +72,12 @@ ulps-is f m e h =
     ap (λ (x : ℕ). x / down e * down e) (g .is) ∙ ap (λ (x : ℕ). x * down e) (mul-div-cancel (m * 2 ^ (g .j)) (down-pos e)) ∙ sym (g .is)
 
 -- all magnitudes are below the overflow threshold
-pub overflow : Format → ℕ
+unfoldable pub overflow : Format → ℕ
 overflow f = 2 ^ suc (emax f) * 2 ^ low f
+
+pub overflow-pos : (f : Format) → 0 < overflow f
+unfolding overflow
+overflow-pos f = mul-pos (pow-pos (suc (emax f))) (pow-pos (low f))
 
 pub ulps-lt : (f : Format) (m : ℕ) (e : ℤ) → FitsIn f m e → ulps f m e < overflow f
 unfolding overflow

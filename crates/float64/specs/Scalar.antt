@@ -1,5 +1,5 @@
 -- The functions of Rust's f64 that the operators do not give. Definitions only.
-use mathlib.Core.Bool.{Bool, true, false, cond}
+use mathlib.Core.Bool.{Bool, false, cond}
 use lib.Ieee.{Float, nan, inf, fin, binary64, ofBits, lt, neg, isNan}
 use lib.Ieee.Scale.{finite}
 

@@ -85,7 +85,7 @@ pub fn clamp(x: f64, lo: f64, hi: f64) -> f64
     y
 }
 
-// The place of x in the total order, as a number.
+// The position of x in the total order, as a number.
 pub fn total_key(x: f64) -> u64
     ensures { λ r. ⌜ r ≡ totalKey x ⌝ }
 {
