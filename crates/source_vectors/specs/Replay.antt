@@ -20,7 +20,6 @@ unfoldable pub floatFrom : List ℕ → ℕ → Float
 floatFrom r i = floatAt (drop i r) 0
 
 unfoldable pub srcFrom : List ℕ → ℕ → Src
-unfolding floatFrom
 srcFrom r i =
     cond (eqb (getD r i 0) 0)
     (Point (floatFrom r (i + 1)) (floatFrom r (i + 9)) (floatFrom r (i + 17)))
@@ -53,14 +52,12 @@ unfoldable pub sameValue : Float → List ℕ → ℕ → Bool
 sameValue x r i = agrees x (wordAt (drop i r) 0)
 
 unfoldable pub sameRoots : RealRoots → List ℕ → ℕ → Bool
-unfolding sameValue
 sameRoots None r i = eqb (getD r i 0) 0
 sameRoots (One x) r i = eqb (getD r i 0) 1 && sameValue x r (i + 1)
 sameRoots (Two x y) r i = sameValue x r (i + 1) && (eqb (getD r i 0) 2 && sameValue y r (i + 9))
 
 -- whether the function answers as its record says
 unfoldable pub holdsFor : Leaf → List ℕ → Bool
-unfolding floatFrom srcFrom sameValue sameRoots
 holdsFor Roots r = sameRoots (rootsOf (floatFrom r 0) (floatFrom r 8) (floatFrom r 16)) r 24
 holdsFor Ties r = sameRoots (tiesOf (srcFrom r 0) (srcFrom r 25)) r 50
 holdsFor Edge r = sameValue (edgeOf (srcFrom r 0) (floatFrom r 25)) r 33
@@ -82,6 +79,5 @@ recordsIn f s = length s / size f
 
 -- how many of the first n records differ
 unfoldable pub differing : Leaf → List ℕ → ℕ → ℕ
-unfolding holdsFor recordAt
 differing f s zero = 0
 differing f s (suc n) = differing f s n + cond (holdsFor f (recordAt f s n)) 0 1
