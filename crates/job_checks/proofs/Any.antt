@@ -45,6 +45,11 @@ module _ (p : ℕ → Bool) where
   none-below zero e i l = absurd (not-suc-le-zero l)
   none-below (suc n) e i l = ⊎-elim (λ q. subst (λ (k : ℕ). p k ≡ false) (sym q) (or-right-none (anyBelow p n) (p n) e)) (λ l′. none-below n (or-left-none (anyBelow p n) (p n) e) i l′) (eq-or-lt-of-le (le-of-suc-le-suc l))
 
+first-false : (b : Bool) (bs : List Bool) (n : ℕ) → 0 < n → firstOf n (b ∷ bs) ≡ 0 → b ≡ false
+unfolding firstOf
+first-false false bs n l e = refl
+first-false true bs n l e = absurd (omega arith)
+
 -- A row of tests, the first of them first.
 module _ (b : Bool) (bs : List Bool) where
   pub one-holds : b ≡ true → anyOf (b ∷ bs) ≡ true
@@ -70,6 +75,14 @@ module _ (b : Bool) (bs : List Bool) where
   pub first-after : (n r : ℕ) → b ≡ false → firstOf (suc n) bs ≡ r → firstOf n (b ∷ bs) ≡ r
   unfolding firstOf
   first-after n r e f = rw (e, f)
+
+  -- None of the tests holds, where they are counted from one or more.
+  pub passed-here : (n : ℕ) → firstOf (suc n) (b ∷ bs) ≡ 0 → b ≡ false
+  passed-here n e = first-false b bs (suc n) (omega arith) e
+
+  pub passed-on : (n : ℕ) → firstOf (suc n) (b ∷ bs) ≡ 0 → firstOf (suc (suc n)) bs ≡ 0
+  unfolding firstOf
+  passed-on n e = rw (passed-here n e) at e
 
 pub none-of : anyOf [] ≡ false
 unfolding anyOf

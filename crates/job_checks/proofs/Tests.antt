@@ -3,7 +3,7 @@ use Prim.Native.Nat.{ℕ, _+_, _*_, _/_, _%_, _<_, _≤_}
 use mathlib.Core.Path.{_≡_, refl}
 use mathlib.Core.Bool.{Bool, true, false, not}
 use mathlib.Core.List.{List, [], _∷_}
-use borrow.Author.Tests.{lt-ltb, le-ltb, le-leb, lt-leb, leb-false}
+use borrow.Author.Tests.{lt-ltb, le-ltb, le-leb, lt-leb, leb-false, ltb-false}
 use lib.ListN.{length, getD}
 use lib.Ieee.{Float, nan}
 use Rattle.job_checks.specs.Refusals.{aboveOne, missing}
@@ -16,6 +16,10 @@ module _ (bytes : List ℕ) (i : ℕ) where
   pub not-above-one : getD bytes i 0 ≤ 1 → aboveOne bytes i ≡ false
   unfolding aboveOne
   not-above-one h = le-ltb 1 (getD bytes i 0) h
+
+  pub at-most-one : aboveOne bytes i ≡ false → getD bytes i 0 ≤ 1
+  unfolding aboveOne
+  at-most-one e = ltb-false 1 (getD bytes i 0) e
 
 module _ (count : ℕ) (numbers : List ℕ) (i : ℕ) where
   pub is-missing : count ≤ getD numbers i 0 → missing count numbers i ≡ true
