@@ -1,11 +1,11 @@
 -- What the tests of the code say of its arguments, and the bits of a magnitude. Assumes nothing.
-use Prim.Native.Nat.{ℕ, _+_, _*_, _-_, _%_, _<_, _≤_}
-use mathlib.Core.Bool.{Bool, true, false, not, cond, true≢false}
-use mathlib.Core.Path.{_≡_, refl, sym, ap, subst, _∙_}
+use Prim.Native.Nat.{ℕ, _+_, _%_, _<_, _≤_}
+use mathlib.Core.Bool.{true, false, not, cond, true≢false}
+use mathlib.Core.Path.{_≡_, refl, sym, ap, subst}
 use native.Mathlib.Omega.{arith}
 use native.Mathlib.Nat.{mod-eq-of-lt}
 use lib.Dec.{T, ltb}
-use lib.IntN.{ℤ, pos}
+use lib.IntN.{pos}
 use lib.Ieee.{Float, nan, inf, fin, Format, binary64, toBits, ofBits, fits, isNan, ne, lt, neg, div}
 use lib.Ieee.Bits.{is-false}
 use lib.Ieee.Fits.{inf-fits}
@@ -14,7 +14,7 @@ use Rattle.root_spec.proofs.Floats.{no-nan}
 use borrow.Author.Tests.{lt-ltb, le-ltb}
 use Rattle.float64.specs.Scalar.{zero, one, two, negative, absOf, isFinite}
 use Rattle.float64.specs.TotalOrder.{half}
-use Rattle.float64.proofs.Values.{fits-either}
+use Rattle.root_spec.proofs.Units.{fits-either}
 use Rattle.float64.proofs.Bits.{toBits-fin, pattern-small, fin-below}
 
 -- `x != x` is the test for a NaN

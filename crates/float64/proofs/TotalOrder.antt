@@ -1,17 +1,17 @@
 -- The order of total keys is IEEE's order, with minus zero before zero and a NaN last; and no two values share a key. Assumes nothing.
 use Prim.Native.Nat.{ℕ, _+_, _*_, _-_, _<_, _≤_}
-use mathlib.Core.Bool.{Bool, true, false, not, cond, _&&_, _||_, and-false, or-false}
-use mathlib.Core.Path.{_≡_, refl, sym, ap, subst, _∙_}
+use mathlib.Core.Bool.{true, false, cond, _&&_, _||_, and-false, or-false}
+use mathlib.Core.Path.{_≡_, refl, sym, ap, _∙_}
 use native.Mathlib.Omega.{arith}
 use native.Mathlib.Decide.{decLe}
 use lib.Dec.{T, ltb, eqb}
 use lib.IntN.{ℤ}
-use lib.Ieee.{Float, nan, inf, fin, binary64, low, up, down, toBits, ofBits, fits, isNan, lt, eq}
+use lib.Ieee.{Float, nan, inf, fin, binary64, up, down, toBits, ofBits, fits, isNan, lt, eq}
 use lib.Ieee.Bits.{ofBits-toBits, toBits-lt}
 use borrow.Author.Tests.{lt-ltb, le-ltb}
 use Rattle.float64.specs.Scalar.{negative}
 use Rattle.float64.specs.TotalOrder.{half, turned, totalKey, totalLess}
-use Rattle.float64.proofs.Values.{ulps, fits-either}
+use Rattle.root_spec.proofs.Units.{ulps, fits-either}
 use Rattle.float64.proofs.Bits.{pattern, toBits-fin, pattern-small, fin-below, cross}
 
 pub turned-low : (b : ℕ) → b < half → b + half ≡ turned b
@@ -37,15 +37,15 @@ key-minus m e h =
     let b : half ≤ toBits binary64 (fin true m e) = omega (arith, a) in
     omega (arith, a, pattern-small true m e h, turned-high (toBits binary64 (fin true m e)) b)
 
-key-inf : totalKey (inf false) ≡ 0xfff0000000000000
+key-inf : totalKey (inf false) ≡ 0xfff0_0000_0000_0000
 unfolding totalKey turned toBits
 key-inf = refl
 
-key-low : totalKey (inf true) ≡ 0x000fffffffffffff
+key-low : totalKey (inf true) ≡ 0x000f_ffff_ffff_ffff
 unfolding totalKey turned toBits
 key-low = refl
 
-pub key-none : totalKey nan ≡ 0xfff8000000000000
+pub key-none : totalKey nan ≡ 0xfff8_0000_0000_0000
 unfolding totalKey turned toBits
 key-none = refl
 
@@ -61,7 +61,7 @@ apart-or-zero a b = go (decLe (a + b) 0) where
   go (yes x) = let p : a ≡ 0 = omega (arith, x) in let q : b ≡ 0 = omega (arith, x) in rw (p, q) refl
   go (no x) = rw (lt-ltb 0 (a + b) (omega (arith, x))) refl
 
--- the order of keys is IEEE's order, with minus zero before zero and a NaN last
+-- By the kinds and the signs of the two. Keys of values of one sign compare as their patterns, and these as their magnitudes (`cross`); the keys of the others lie in separate ranges.
 pub totalKey-less : (x y : Float) → T (fits binary64 x) → T (fits binary64 y) → ltb (totalKey x) (totalKey y) ≡ totalLess x y
 unfolding totalLess lt eq isNan negative
 totalKey-less nan nan p q = rw key-none refl

@@ -1,3 +1,11 @@
 pub mod Signed
 pub mod Order
+pub mod Total
+pub mod Rank
 pub mod Round
+pub mod Sum
+pub mod Product
+pub mod Roots
+pub mod MinMax
+pub mod Bounds
+pub mod Middle

@@ -1,26 +1,34 @@
 -- The order of floats, for all values, infinities and both zeros included: `le`, `lt` and `eq` as an order of the numbers, that is of all values but the NaN. Assumes nothing.
---     number      le-number-l, le-number-r, lt-number-l, lt-number-r, eq-number-l, eq-number-r (a comparison that holds has numbers on both sides), finite-number
+--     tests       holds, fails (from the equations that a branch of code gives)
+--     number      Number x (no NaN), le-number-l, le-number-r, lt-number-l, lt-number-r, eq-number-l, eq-number-r (a comparison that holds has numbers on both sides), finite-number, zero-finite
 --     order       le-refl, le-trans, lt-trans, lt-le-trans, le-lt-trans, lt-irrefl, lt-le, eq-le
---     totality    le-total, le-or-lt, not-le-lt, not-lt-le, lt-not-le
+--     totality    le-total, le-or-lt, not-le-lt, not-lt-le, lt-not-le; le-is (`le` is the negation of `lt` the other way, as an equation)
 --     equality    le-antisym, eq-refl, eq-sym, eq-trans, eq-same, eq-same-sign (equal doubles are the same, or both are zeros)
---     between     finite-between (two finite values)
---     sign        neg-neg, neg-finite, neg-number, neg-le, neg-lt, neg-eq
+--     between     finite-between (two finite values), eq-finite
+--     sign        neg-neg, neg-finite, neg-number, neg-le, neg-lt, neg-eq, neg-zero-le
 use Prim.Native.Nat.{ℕ, _*_, _≤_}
-use mathlib.Core.Bool.{Bool, true, false, cond, not, _&&_, _||_, Bool·beq, and-false, and-not-self}
+use mathlib.Core.Bool.{Bool, true, false, not, _||_, Bool·beq, and-false, and-not-self}
 use mathlib.Core.Logic.{_⊎_, inl, inr}
 use mathlib.Core.Path.{_≡_, refl, sym, ap, _∙_, subst}
 use native.Mathlib.Omega.{arith}
 use native.Mathlib.Nat.{le-antisymm, zero-mul}
 use lib.Dec.{T, T-not, not-T, eqb, nltb→le}
-use lib.IntN.{ℤ, pos}
-use lib.Ieee.{Float, nan, inf, fin, Format, binary64, up, down, below, level, lt, le, eq, neg, isNan, fits, ofBits}
+use lib.IntN.{ℤ}
+use lib.Ieee.{Float, nan, inf, fin, binary64, up, down, lt, le, eq, neg, isNan, fits, ofBits}
 use lib.Ieee.Fits.{down-pos, and-i, eq→eqb}
-use lib.Ieee.Bits.{is-false}
+use lib.Ieee.Bits.{is-true, is-false}
 use lib.Ieee.Scale.{finite}
 use Rattle.float64.specs.Scalar.{zero, negative}
 use Rattle.float64.specs.TotalOrder.{totalKey, totalLess}
 use Rattle.float64.proofs.TotalOrder.{totalKey-less, totalKey-injective}
-use Rattle.float_laws.proofs.Signed.{SLe, signed, unsigned, signed-trans, signed-total, signed-flip, level-sym, level-zeros, below-no, below-yes, or-l, or-r, or-split, zero-of}
+use Rattle.float_laws.proofs.Signed.{signed, unsigned, signed-trans, signed-total, signed-flip, level-sym, level-zeros, below-no, below-yes, or-l, or-r, or-split, zero-of}
+
+-- ---- what the equations on tests say that a proof about code has
+pub holds : (b : Bool) → b ≡ true → T b
+holds b e = subst T (sym e) tt
+
+pub fails : (b : Bool) → b ≡ false → T (not b)
+fails b e = subst (λ (c : Bool). T (not c)) (sym e) tt
 
 -- any value but the NaN
 abbrev pub Number : Float → Type 0
@@ -31,6 +39,10 @@ unfolding isNan
 finite-number nan h = h
 finite-number (inf s) h = tt
 finite-number (fin s m e) h = tt
+
+pub zero-finite : T (finite zero)
+unfolding ofBits
+zero-finite = tt
 
 -- ---- a comparison that holds is one of numbers
 pub lt-number-l : (x y : Float) → T (lt x y) → Number x
@@ -170,6 +182,12 @@ le-or-lt x y a b = elim (either (lt y x)) [ inl h ↦ inr h | inr h ↦ inl (not
 pub not-le-lt : (x y : Float) → Number x → Number y → T (not (le x y)) → T (lt y x)
 not-le-lt x y a b h = elim (le-or-lt x y a b) [ inl k ↦ absurd (T-not (le x y) h k) | inr k ↦ k ]
 
+pub le-is : (x y : Float) → Number x → Number y → le x y ≡ not (lt y x)
+le-is x y a b = elim (le-or-lt x y a b) [
+  | inl h ↦ is-true (le x y) h ∙ sym (ap not (is-false (lt y x) (not-T (lt y x) (λ k. lt-not-le y x k h))))
+  | inr h ↦ is-false (le x y) (not-T (le x y) (λ k. lt-not-le y x h k)) ∙ sym (ap not (is-true (lt y x) h))
+]
+
 pub lt-irrefl : (x : Float) → T (lt x x) → ⊥
 lt-irrefl x h = lt-not-le x x h (le-refl x (lt-number-l x x h))
 
@@ -217,6 +235,9 @@ finite-between (fin s m e) (inf false) nan a c h k = absurd c
 finite-between (fin s m e) (inf false) (inf t) a c h k = absurd c
 finite-between (fin s m e) (inf false) (fin t n d) a c h k = absurd k
 finite-between (fin s m e) (fin u l g) z a c h k = tt
+
+pub eq-finite : (x y : Float) → T (eq x y) → T (finite x) → T (finite y)
+eq-finite x y h a = finite-between x y x a a (eq-le x y h) (eq-le y x (eq-sym x y h))
 
 -- ---- equal doubles are the same, but for the sign of a zero
 eq-key : (x y : Float) → T (fits binary64 x) → T (fits binary64 y) → T (eq x y) → negative x ≡ negative y → totalKey x ≤ totalKey y
@@ -294,3 +315,7 @@ neg-lt x y h = elim (le-or-lt (neg x) (neg y) (neg-number x (lt-number-l x y h))
 
 pub neg-eq : (x y : Float) → T (eq x y) → T (eq (neg x) (neg y))
 neg-eq x y h = le-antisym (neg x) (neg y) (neg-le y x (eq-le y x (eq-sym x y h))) (neg-le x y (eq-le x y h))
+
+pub neg-zero-le : T (le (neg zero) zero)
+unfolding le neg ofBits
+neg-zero-le = tt

@@ -1,21 +1,22 @@
--- Rounding: it keeps the order of fractions of any sign, changes no value that the format holds, and overflows from 2 ^ (emax + 1) on. Assumes nothing.
---     round-neg, round-signed (a ≤ b gives round a ≤ round b), round-zero, round-own (a value that fits), round-over
+-- Rounding: it keeps the order of fractions of any sign, gives a value that the format holds back as one that compares equal, and overflows at the latest from 2 ^ (emax + 1) on. Assumes nothing.
+--     round-not (the sign goes through), round-signed (a ≤ b gives round a ≤ round b), round-nonneg, units-nonneg, round-zero, round-own (a value that fits), round-over
 use Prim.Native.Nat.{ℕ, zero, suc, _+_, _-_, _*_, _/_, _%_, _^_, _≤_, _<_, zero-le, compare}
 use mathlib.Core.Bool.{Bool, true, false, not, cond}
 use mathlib.Core.Path.{_≡_, refl, sym, ap, _∙_, subst}
-use native.Mathlib.Omega.{arith}
-use native.Mathlib.Nat.{le-trans, le-of-eq, lt-of-le-of-lt, lt-of-lt-of-le, mul-one, zero-mul, mul-comm, mul-right-comm, mul-lt-mul-of-pos-right, lt-of-mul-lt-mul-right}
+use native.Mathlib.Nat.{le-trans, le-of-eq, mul-one, zero-mul}
 use lib.Dec.{T, ltb, lit<}
 use lib.IntN.{ℤ, pos}
-use lib.Pow.{pow-pos, pow-add}
-use lib.Ieee.{Float, nan, inf, fin, Format, binary32, binary64, size, prec, low, emax, up, down, odd, units, round, nearest, neg, le}
+use lib.Count.{trailingZeros}
+use lib.Ieee.{Float, nan, inf, fin, Format, minus, ofBits, binary32, binary64, size, prec, low, emax, up, down, odd, units, round, nearest, neg, le}
 use lib.Ieee.Fits.{down-pos, round-is}
 use lib.Ieee.Exact.{HasValue, round-exact}
 use lib.Ieee.Order.{round-mono}
 use lib.Ieee.Scale.{round-same}
-use Rattle.float64.proofs.Values.{FitsIn, grid}
+use Rattle.float64.specs.Scalar as scalar
+use Rattle.root_spec.proofs.Units.{FitsIn, grid, grid-lt}
 use Rattle.float_laws.proofs.Signed.{SLe, unsigned, signed-refl, zero-of}
-use Rattle.float_laws.proofs.Order.{neg-le}
+use Rattle.float_laws.proofs.Order as order
+use Rattle.float_laws.proofs.Order.{neg-le, neg-neg, neg-zero-le}
 
 -- ---- the sign goes through
 odd-neg : (d q k l : ℕ) → odd d true q k l ≡ neg (odd d false q k l)
@@ -31,11 +32,15 @@ units-neg f q k = go (ltb (q * 2 ^ k) (2 ^ (low f + suc (emax f))))
     go true = odd-neg (suc (prec f)) q k (low f)
     go false = refl
 
-pub round-neg : (f : Format) (a c : ℕ) → round f true a c ≡ neg (round f false a c)
+round-neg : (f : Format) (a c : ℕ) → round f true a c ≡ neg (round f false a c)
 round-neg f a c =
     let n = a * 2 ^ low f in
     let k = size (n / c) - prec f in
     round-is f true a c ∙ units-neg f (nearest (n / (c * 2 ^ k)) (compare (n % (c * 2 ^ k) * 2) (c * 2 ^ k))) k ∙ ap neg (sym (round-is f false a c))
+
+pub round-not : (f : Format) (s : Bool) (a c : ℕ) → round f (not s) a c ≡ neg (round f s a c)
+round-not f false a c = round-neg f a c
+round-not f true a c = sym (ap neg (round-neg f a c) ∙ neg-neg (round f false a c))
 
 -- ---- zero
 one-zero : (f : Format) (s : Bool) → round f s 0 1 ≡ fin s 0 (pos 0)
@@ -49,15 +54,8 @@ pub round-zero : (f : Format) (s : Bool) (c : ℕ) → 0 < c → round f s 0 c �
 round-zero f s c C = round-same f s 0 c 0 1 C (lit< tt) (zero-mul 1 ∙ sym (zero-mul c)) ∙ one-zero f s
 
 -- ---- a value that the format holds
-in-range : (f : Format) (m : ℕ) (e : ℤ) (h : FitsIn f m e) → m * 2 ^ (grid f m e (h .deep) .j) < 2 ^ (low f + suc (emax f))
-in-range f m e h =
-    let g = grid f m e (h .deep) in
-    lt-of-mul-lt-mul-right (down e)
-    (lt-of-le-of-lt (le-of-eq (sym (g .is)))
-    (lt-of-lt-of-le (mul-lt-mul-of-pos-right (h .under) (pow-pos (low f))) (le-of-eq (mul-right-comm (2 ^ suc (emax f)) (down e) (2 ^ low f) ∙ ap (λ (x : ℕ). x * down e) (mul-comm (2 ^ suc (emax f)) (2 ^ low f) ∙ sym (pow-add 2 (low f) (suc (emax f))))))))
-
 own-value : (f : Format) (s : Bool) (m : ℕ) (e : ℤ) → FitsIn f m e → HasValue (round f s (m * up e) (down e)) s (m * up e) (down e)
-own-value f s m e h = let g = grid f m e (h .deep) in round-exact f s (m * up e) (down e) m (g .j) (down-pos e) (h .few) (in-range f m e h) (g .is)
+own-value f s m e h = let g = grid f m e (h .deep) in round-exact f s (m * up e) (down e) m (g .j) (down-pos e) (h .few) (subst (λ (x : ℕ). x < 2 ^ (low f + suc (emax f))) (mul-one (m * 2 ^ (g .j))) (grid-lt f m e g 1 (subst (λ (x : ℕ). x < 2 ^ suc (emax f) * down e) (sym (mul-one (m * up e))) (h .under)))) (g .is)
 
 -- values with one sign and one magnitude
 same-value : (s : Bool) (m : ℕ) (e : ℤ) (v : Float) → HasValue v s (m * up e) (down e) → T (le (fin s m e) v) × T (le v (fin s m e))
@@ -74,45 +72,27 @@ pub round-own : (f : Format) (s : Bool) (m : ℕ) (e : ℤ) → FitsIn f m e →
 round-own f s m e h = same-value s m e (round f s (m * up e) (down e)) (own-value f s m e h)
 
 -- ---- the order
--- not below zero
-abbrev natural : Float → Bool
-natural nan = false
-natural (inf s) = not s
-natural (fin s m e) = not s
+odd-nonneg : (d q k l : ℕ) → T (le scalar.zero (odd d false q k l))
+unfolding odd le ofBits
+odd-nonneg d zero k l = tt
+odd-nonneg d (suc q) k l = let t = trailingZeros d (suc q) in unsigned false (0 * 1 * down (minus (k + t) l)) false (suc q / 2 ^ t * up (minus (k + t) l) * 1) (le-trans (le-of-eq (zero-mul (down (minus (k + t) l)))) zero-le)
 
-odd-natural : (d q k l : ℕ) → T (natural (odd d false q k l))
-unfolding odd
-odd-natural d zero k l = tt
-odd-natural d (suc q) k l = tt
-
-units-natural : (f : Format) (q k : ℕ) → T (natural (units f false q k))
-unfolding units
-units-natural f q k = go (ltb (q * 2 ^ k) (2 ^ (low f + suc (emax f))))
+pub units-nonneg : (f : Format) (q k : ℕ) → T (le scalar.zero (units f false q k))
+unfolding units le ofBits
+units-nonneg f q k = go (ltb (q * 2 ^ k) (2 ^ (low f + suc (emax f))))
   where
-    go : (b : Bool) → T (natural (cond b (odd (suc (prec f)) false q k (low f)) (inf false)))
-    go true = odd-natural (suc (prec f)) q k (low f)
+    go : (b : Bool) → T (le scalar.zero (cond b (odd (suc (prec f)) false q k (low f)) (inf false)))
+    go true = odd-nonneg (suc (prec f)) q k (low f)
     go false = tt
 
-round-natural : (f : Format) (a c : ℕ) → T (natural (round f false a c))
-round-natural f a c =
+pub round-nonneg : (f : Format) (a c : ℕ) → T (le scalar.zero (round f false a c))
+round-nonneg f a c =
     let n = a * 2 ^ low f in
     let k = size (n / c) - prec f in
-    subst (λ (v : Float). T (natural v)) (sym (round-is f false a c)) (units-natural f (nearest (n / (c * 2 ^ k)) (compare (n % (c * 2 ^ k) * 2) (c * 2 ^ k))) k)
+    subst (λ (v : Float). T (le scalar.zero v)) (sym (round-is f false a c)) (units-nonneg f (nearest (n / (c * 2 ^ k)) (compare (n % (c * 2 ^ k) * 2) (c * 2 ^ k))) k)
 
-across : (x y : Float) → T (natural x) → T (natural y) → T (le (neg x) y)
-unfolding le neg
-across nan y p q = absurd p
-across (inf true) y p q = absurd p
-across (inf false) nan p q = absurd q
-across (inf false) (inf true) p q = absurd q
-across (inf false) (inf false) p q = tt
-across (inf false) (fin t n d) p q = tt
-across (fin true m e) y p q = absurd p
-across (fin false m e) nan p q = absurd q
-across (fin false m e) (inf true) p q = absurd q
-across (fin false m e) (inf false) p q = tt
-across (fin false m e) (fin true n d) p q = absurd q
-across (fin false m e) (fin false n d) p q = unsigned true (m * up e * down d) false (n * up d * down e) tt
+across : (x y : Float) → T (le scalar.zero x) → T (le scalar.zero y) → T (le (neg x) y)
+across x y h k = order.le-trans (neg x) (neg scalar.zero) y (neg-le scalar.zero x h) (order.le-trans (neg scalar.zero) scalar.zero y neg-zero-le k)
 
 zeros : T (le (fin false 0 (pos 0)) (fin true 0 (pos 0)))
 unfolding le
@@ -124,7 +104,7 @@ round-signed f false true a b c d C D h =
     let x : a ≡ 0 = zero-of a d D (h .0) in
     let y : b ≡ 0 = zero-of b c C (h .1) in
     rw (x, y, round-zero f false c C, round-zero f true d D) zeros
-round-signed f true false a b c d C D h = rw (round-neg f a c) (across (round f false a c) (round f false b d) (round-natural f a c) (round-natural f b d))
+round-signed f true false a b c d C D h = rw (round-neg f a c) (across (round f false a c) (round f false b d) (round-nonneg f a c) (round-nonneg f b d))
 round-signed f true true a b c d C D h = rw (round-neg f a c, round-neg f b d) (neg-le (round f false b d) (round f false a c) (round-mono f b d a c D C h))
 
 -- ---- overflow

@@ -1,11 +1,12 @@
 -- The length and the altitude as the code computes them, step by step. Assumes nothing.
 use mathlib.Core.Path.{_≡_}
 use mathlib.Core.Bool.{true, false}
-use lib.Ieee.{Float, binary64, ofBits, le, neg}
-use lib.Ieee as Ieee
+use lib.Ieee.{Float, le, neg}
+use Rattle.float64.specs.Scalar.{one}
+use Rattle.float64.specs.Notation.{_⊘_}
 use Rattle.vec3.specs.declared.Vec3.{Vec3}
 use Rattle.vec3.specs.Vec.{scaleOf, axpyOf, subOf, dotOf, normOf}
-use Rattle.job_checks.specs.Edge.{one, lenOf, xhatOf, perpendicularOf, altitudeOf}
+use Rattle.job_checks.specs.Edge.{lenOf, xhatOf, perpendicularOf, altitudeOf}
 use Rattle.job_checks.specs.Refusals.{minLength, minAltitude, degenerate}
 
 module _ (o b third d : Vec3) (len : Float) (from : d ≡ subOf b o) (long : len ≡ normOf d) where
@@ -15,7 +16,7 @@ module _ (o b third d : Vec3) (len : Float) (from : d ≡ subOf b o) (long : len
 
 module _
     (o b third d xhat w p : Vec3) (len k n : Float)
-    (from : d ≡ subOf b o) (long : len ≡ normOf d) (unit : xhat ≡ scaleOf d (Ieee.div binary64 one len))
+    (from : d ≡ subOf b o) (long : len ≡ normOf d) (unit : xhat ≡ scaleOf d (one ⊘ len))
     (up : w ≡ subOf third o) (along : k ≡ dotOf w xhat) (across : p ≡ axpyOf w (neg k) xhat) (high : n ≡ normOf p)
     (fine : le minLength len ≡ true)
   where

@@ -4,8 +4,9 @@ use mathlib.Core.Bool.{cond}
 use mathlib.Core.List.{List}
 use lib.Dec.{ltb}
 use lib.ListN.{getD}
-use lib.Ieee.{Float, nan, binary64, ofBits, neg}
-use lib.Ieee as Ieee
+use lib.Ieee.{Float, nan, neg}
+use Rattle.float64.specs.Scalar.{one}
+use Rattle.float64.specs.Notation.{_⊘_}
 use Rattle.vec3.specs.declared.Vec3.{Vec3}
 use Rattle.vec3.specs.Vec.{scaleOf, axpyOf, subOf, dotOf, normOf}
 
@@ -20,17 +21,13 @@ lower a b = cond (ltb a b) a b
 abbrev pub higher : ℕ → ℕ → ℕ
 higher a b = cond (ltb a b) b a
 
--- 1.0
-abbrev pub one : Float
-one = ofBits binary64 0x3ff0_0000_0000_0000
-
 unfoldable pub lenOf : Vec3 → Vec3 → Float
 lenOf o b = normOf (subOf b o)
 
 -- the unit vector along the edge
 unfoldable pub xhatOf : Vec3 → Vec3 → Vec3
 unfolding lenOf
-xhatOf o b = scaleOf (subOf b o) (Ieee.div binary64 one (lenOf o b))
+xhatOf o b = scaleOf (subOf b o) (one ⊘ lenOf o b)
 
 -- from the edge to the third vertex, at a right angle
 unfoldable pub perpendicularOf : Vec3 → Vec3 → Vec3 → Vec3

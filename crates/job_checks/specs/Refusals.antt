@@ -6,6 +6,7 @@ use mathlib.Core.List.{List, [], _∷_}
 use lib.Dec.{ltb, leb, eqb}
 use lib.ListN.{length, getD}
 use lib.Ieee.{Float, nan, binary64, ofBits, le, neg}
+use Rattle.float64.specs.Scalar.{zero}
 use Rattle.vec3.specs.declared.Vec3.{Vec3}
 use Rattle.job_checks.specs.declared.BufferCounts.{BufferCounts}
 use Rattle.job_checks.specs.declared.Checked.{Checked}
@@ -48,10 +49,6 @@ minLength = ofBits binary64 0x3f50_624d_d2f1_a9fc
 -- 1e-6
 abbrev pub minAltitude : Float
 minAltitude = ofBits binary64 0x3eb0_c6f7_a0b5_ed8d
-
--- 0.0
-abbrev pub zero : Float
-zero = ofBits binary64 0
 
 -- 10,000,000.0
 abbrev pub maxLimit : Float

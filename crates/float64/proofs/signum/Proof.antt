@@ -1,6 +1,5 @@
 -- `float64::signum` meets its contract. Assumes nothing.
-use mathlib.Core.Path.{sym, ap, _∙_, subst}
-use mathlib.Core.Bool.{not}
+use mathlib.Core.Path.{sym, _∙_, subst}
 use lib.Dec.{T}
 use lib.Ieee.{binary64, fits}
 use borrow.Author.Tests.{not-true, not-false, lt-ltb, le-ltb}

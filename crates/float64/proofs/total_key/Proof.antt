@@ -2,7 +2,7 @@
 use mathlib.Core.Path.{subst, sym}
 use native.Mathlib.Omega.{arith}
 use lib.Dec.{T}
-use lib.Ieee.{binary64, fits}
+use lib.Ieee.{binary64}
 use lib.Ieee.Compare.{differs-from-itself}
 use lib.Ieee.Bits.{toBits-lt}
 use borrow.Author.Needs.{needs}

@@ -1,0 +1,20 @@
+-- `vectors::float_at` meets its contract. Assumes nothing.
+use borrow.Author.Needs.{needs}
+use mathlib.Core.Path.{ap, _∙_}
+use lib.Ieee.{binary64, ofBits}
+use Rattle.vectors.specs.Records.{floatAt}
+use Rattle.vectors.proofs.float_at.Statement.{statement}
+use Rattle.vectors.proofs.float_at.Tie as tie
+
+word-requires : tie.Need-word-requires
+word-requires c κs = search needs
+
+float-requires : tie.Need-float-requires
+float-requires c κs = search needs
+
+returns : tie.Need-returns
+unfolding floatAt
+returns c = c .float .ensures ∙ ap (ofBits binary64) (c .before .word .ensures)
+
+pub float-at-spec : {M : Type 1} → statement M
+float-at-spec = tie.close (tie.spec word-requires float-requires returns)

@@ -1,0 +1,5 @@
+//! Deterministic jobs from a seed.
+pub mod rng;
+pub mod small;
+pub mod walk;
+pub mod workshop;

@@ -1,0 +1,258 @@
+//! Commands of the oracle; README.md lists them.
+use oracle::compare::{self, Readings, Tally};
+use oracle::exact::{Buffers, judge_pseudo};
+use oracle::generate::small;
+use oracle::generate::workshop::{self, Shape};
+use oracle::job::{Job, Mesh};
+use oracle::reading::{AllButHypot, OnlyHypot, Patched, Published};
+use oracle::slip::{self, Sizes};
+use oracle::{dump, vectors};
+use std::io::{Read, Write};
+use std::time::Instant;
+
+fn main() {
+    let args: Vec<String> = std::env::args().skip(1).collect();
+    let args: Vec<&str> = args.iter().map(String::as_str).collect();
+    if let Err(text) = run(&args) {
+        eprintln!("{text}");
+        std::process::exit(2);
+    }
+}
+
+fn run(args: &[&str]) -> Result<(), String> {
+    match args {
+        ["slip"] => print(slip::program::<Patched>(&stdin()?, &Sizes::FIELDSLIP).as_bytes()),
+        ["slip", "published"] => {
+            print(slip::program::<Published>(&stdin()?, &Sizes::FIELDSLIP).as_bytes())
+        }
+        ["dump", reading] => print(dump_slip(reading, &Sizes::UNBOUNDED)?.as_bytes()),
+        ["dump", reading, sizes @ ..] => print(dump_slip(reading, &bounded(sizes)?)?.as_bytes()),
+        ["make-slip", "small", seed] => print(&slip::write(&small::job(number(seed)?))),
+        ["make-slip", shape, triangles, lines, limit, seed] => print(&slip::write(&workshop_job(
+            shape, triangles, lines, limit, seed,
+        )?)),
+        ["faithful", first, count] => faithful(number(first)?, number(count)?),
+        ["faithful-workshop"] => faithful_workshop(),
+        ["count", first, count] => count_small(number(first)?, number(count)?, false),
+        ["count", first, count, "judged"] => count_small(number(first)?, number(count)?, true),
+        ["count-workshop"] => count_workshop(),
+        ["vectors", leaf, seed, count] => {
+            print(&vectors::make(leaf, number(seed)?, number(count)? as u32)?)
+        }
+        ["stream", shape, triangles, lines, limit, seed] => {
+            let job = workshop_job(shape, triangles, lines, limit, seed)?;
+            print(&vectors::stream(&job).map_err(slip::refused)?)
+        }
+        ["pairs", seed, count] => vectors::hypot_pairs(number(seed)?, number(count)?),
+        ["time", shape, triangles, lines, limit] => {
+            time(&workshop_job(shape, triangles, lines, limit, "1")?)
+        }
+        _ => Err("oracle/README.md lists the commands".into()),
+    }
+}
+
+fn number(text: &str) -> Result<u64, String> {
+    text.parse().map_err(|_| format!("not a number: {text}"))
+}
+
+fn stdin() -> Result<Vec<u8>, String> {
+    let mut bytes = vec![];
+    std::io::stdin()
+        .read_to_end(&mut bytes)
+        .map_err(|e| e.to_string())?;
+    Ok(bytes)
+}
+
+fn print(bytes: &[u8]) -> Result<(), String> {
+    std::io::stdout()
+        .write_all(bytes)
+        .map_err(|e| e.to_string())
+}
+
+fn workshop_job(
+    shape: &str,
+    triangles: &str,
+    lines: &str,
+    limit: &str,
+    seed: &str,
+) -> Result<Job, String> {
+    let shape = Shape::parse(shape).ok_or("no such shape")?;
+    let limit: f64 = limit.parse().map_err(|_| "the limit is not a number")?;
+    let (triangles, lines) = (number(triangles)? as usize, number(lines)? as usize);
+    Ok(workshop::job(shape, triangles, lines, limit, number(seed)?))
+}
+
+/// Windows, events, cuts, face entries and steps.
+fn bounded(counts: &[&str]) -> Result<Sizes, String> {
+    let counts: Result<Vec<u64>, String> = counts.iter().map(|n| number(n)).collect();
+    let &[windows, events, cuts, face_entries, max_steps] = &counts?[..] else {
+        return Err("dump takes a reading and none or five counts".into());
+    };
+    Ok(Sizes {
+        buffers: Buffers {
+            windows: windows as u32,
+            events: events as u32,
+            cuts: cuts as u32,
+            face_entries: face_entries as u32,
+        },
+        max_steps: max_steps as u32,
+        ..Sizes::UNBOUNDED
+    })
+}
+
+fn dump_slip(reading: &str, sizes: &Sizes) -> Result<String, String> {
+    let refused = |r| slip::refused(r);
+    let job = match slip::read(&stdin()?, sizes) {
+        Ok(job) => job,
+        Err(r) => return Ok(refused(r)),
+    };
+    let mesh = match Mesh::new(&job) {
+        Ok(mesh) => mesh,
+        Err(r) => return Ok(refused(r)),
+    };
+    match reading {
+        "patched" => Ok(mesh
+            .field::<Patched>()
+            .map_or_else(refused, |f| dump::text(&mesh, &f))),
+        "published" => Ok(mesh
+            .field::<Published>()
+            .map_or_else(refused, |f| dump::text(&mesh, &f))),
+        _ => Err("the reading is published or patched".into()),
+    }
+}
+
+fn faithful(first: u64, count: u64) -> Result<(), String> {
+    let (mut tally, mut otherwise) = (Tally::default(), 0);
+    for seed in first..first + count {
+        match compare::faithful(&small::job(seed), seed) {
+            Err(r) => tally.refuse(r),
+            Ok(Ok(c)) => tally.compare(&c),
+            Ok(Err(text)) => {
+                otherwise += 1;
+                println!("seed {seed}: {text}");
+            }
+        }
+    }
+    println!("{}\ndifferent before any field {otherwise}", tally.text());
+    Ok(())
+}
+
+fn faithful_workshop() -> Result<(), String> {
+    let mut tally = Tally::default();
+    for (n, (shape, triangles, lines, limit)) in workshop_mix().into_iter().enumerate() {
+        if triangles > 10_000 {
+            continue;
+        }
+        let job = workshop::job(shape, triangles, lines, limit, n as u64);
+        match compare::faithful(&job, n as u64) {
+            Err(r) => tally.refuse(r),
+            Ok(Ok(c)) => tally.compare(&c),
+            Ok(Err(text)) => println!("{shape:?} {triangles} {lines}: {text}"),
+        }
+    }
+    println!("{}", tally.text());
+    Ok(())
+}
+
+/// Small jobs; `judged` puts the Rust's own flags in place of theirs.
+fn count_small(first: u64, count: u64, judged: bool) -> Result<(), String> {
+    let mut tallies = [Tally::default(), Tally::default(), Tally::default()];
+    for seed in first..first + count {
+        let mut job = small::job(seed);
+        if judged && job.check().is_ok() {
+            let pseudo = judge_pseudo(&job.vec3s(), &job.tris());
+            job.flags = pseudo.into_iter().map(u8::from).collect();
+        }
+        tallies[0].add(&compare::readings::<Published, Patched>(&job, seed));
+        tallies[1].add(&compare::readings::<Published, OnlyHypot>(&job, seed));
+        tallies[2].add(&compare::readings::<Published, AllButHypot>(&job, seed));
+    }
+    report(&tallies);
+    Ok(())
+}
+
+fn report(tallies: &[Tally; 3]) {
+    let names = [
+        "published against patched",
+        "hypot alone patched",
+        "all but hypot patched",
+    ];
+    for (name, tally) in names.iter().zip(tallies) {
+        println!("== {name}\n{}", tally.text());
+    }
+}
+
+/// Every shape, size and number of start lines. Long ruled triangles make
+/// windows out of proportion, so large ones get a limit.
+fn workshop_mix() -> Vec<(Shape, usize, usize, f64)> {
+    let mut mix = vec![];
+    for triangles in [2_000, 10_000, 30_000, 60_000] {
+        for shape in Shape::ALL {
+            for lines in [1, 10, 100, 300] {
+                let ruled = shape == Shape::Ruled && triangles > 2_000;
+                mix.push((shape, triangles, lines, if ruled { 60. } else { 1e7 }));
+            }
+        }
+    }
+    mix
+}
+
+fn count_workshop() -> Result<(), String> {
+    let mut tallies = [Tally::default(), Tally::default(), Tally::default()];
+    for (n, (shape, triangles, lines, limit)) in workshop_mix().into_iter().enumerate() {
+        let n = n as u64;
+        let job = workshop::job(shape, triangles, lines, limit, n);
+        let pair = compare::readings::<Published, Patched>(&job, n);
+        if let Readings::Fields(c) = &pair {
+            println!(
+                "{shape:?} triangles {} pieces {} windows {} steps {}: unequal windows {} live {} steps {} vertices {} queries {} lines {} largest {:e} within the limit {:e}",
+                job.triangles.len() / 3,
+                job.piece_kinds.len(),
+                c.of.windows,
+                c.of.steps,
+                c.unequal.windows,
+                c.unequal.live,
+                c.unequal.steps,
+                c.unequal.vertices,
+                c.unequal.at + c.unequal.edge_at,
+                c.printed,
+                c.largest,
+                c.within
+            );
+        } else {
+            println!("{shape:?} {triangles} {lines}: {pair:?}");
+        }
+        tallies[0].add(&pair);
+        if triangles <= 10_000 {
+            tallies[1].add(&compare::readings::<Published, OnlyHypot>(&job, n));
+            tallies[2].add(&compare::readings::<Published, AllButHypot>(&job, n));
+        }
+    }
+    report(&tallies);
+    Ok(())
+}
+
+fn time(job: &Job) -> Result<(), String> {
+    let refused = |r: oracle::exact::Refusal| format!("refused {}", r.0);
+    let mesh = Mesh::new(job).map_err(refused)?;
+    let start = Instant::now();
+    let field = mesh.field::<Published>().map_err(refused)?;
+    println!(
+        "published {:?} windows {}",
+        start.elapsed(),
+        field.wins.len()
+    );
+    drop(field);
+    let start = Instant::now();
+    let field = mesh.field::<Patched>().map_err(refused)?;
+    println!(
+        "patched {:?} triangles {} pieces {} windows {} steps {} {:?}",
+        start.elapsed(),
+        mesh.t.len(),
+        mesh.pieces.len(),
+        field.wins.len(),
+        field.steps,
+        field.peaks
+    );
+    Ok(())
+}

@@ -1,0 +1,6 @@
+mod faithful;
+mod fuzz;
+mod readings;
+mod refusals;
+mod scope;
+mod vectors;
