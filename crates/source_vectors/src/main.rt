@@ -150,6 +150,7 @@ fn eval_hold(r: &[u8]) -> bool
     requires { ⌜ 65 ≤ length (now r) ⌝ }
     ensures { λ b. ⌜ b ≡ holdsFor Eval (now (r .entry)) ⌝ }
 {
+    // `eval` does not look at the low value.
     let b0 = float_from(r, 0);
     let w = Win {
         b0,
@@ -207,6 +208,7 @@ fn replay(name: &[u8], f: Leaf) {
         os::fail(name);
         return;
     }
+    // The count, then the records: the buffer has room for 6,000 of the longest.
     let mut head = [0u8; 4];
     io::read_full(fd, &mut head);
     let mut buf = [0u8; 409600];
