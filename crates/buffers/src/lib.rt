@@ -1,7 +1,7 @@
 // Buffers that a caller lends: slices of u32 and f64 in slots of a fixed stride. A read past the end gives the default and a
 // write past the end changes nothing, so whatever numbers a buffer holds, nothing outside it is touched.
 ghost use mathlib.Core.Path.{_≡_};
-ghost use Prim.Native.Nat.{ℕ, _+_, _*_, _<_, min};
+ghost use Prim.Native.Nat.{_+_, _*_, _<_, min};
 ghost use lib.ListN.{set, getD, length, replicate};
 ghost use lib.Ieee.{nan};
 ghost use Rattle.buffers.specs.Slots.{slotsOf};

@@ -4,9 +4,9 @@ use buffers::WindowId;
 use buffers::read_u32;
 use buffers::write_u32;
 ghost use mathlib.Core.Path.{_≡_};
-ghost use Prim.Native.Nat.{ℕ, suc, _+_, _*_, _-_, _<_};
-ghost use lib.ListN.{length, set};
-ghost use Rattle.chains.specs.Chains.{links, chain, linkAt, withLink, inserted, cleared, removed, nextOf};
+ghost use Prim.Native.Nat.{_+_, _-_, _<_};
+ghost use lib.ListN.{length};
+ghost use Rattle.chains.specs.Chains.{links, chain, linkAt, withLink, inserted, cleared, removed};
 ghost use Rattle.chains.specs.Chains.{walk as Chains·walk};
 
 // How many windows there are from a link on, counted up to a limit.

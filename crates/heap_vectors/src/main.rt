@@ -5,8 +5,12 @@ use heap::Popped;
 use heap::Pushed;
 use heap::pop;
 use heap::push;
-ghost use Prim.Native.Nat.{_+_, _*_, _≤_, _<_};
+ghost use mathlib.Core.Path.{_≡_};
+ghost use mathlib.Core.Bool.{cond};
+ghost use Prim.Native.Nat.{_+_, _*_, _/_, _%_, _≤_, _<_};
 ghost use lib.ListN.{length};
+ghost use Rattle.heap.specs.Queue.{queue, pushing, popping};
+ghost use Rattle.heap_vectors.specs.Replay.{eventAt, sameEvent, afterPush, popDiffers, afterPop, afterRecord, afterRecords};
 
 // How many events the queue has, how many operations were replayed and how many differed.
 struct State {
@@ -16,13 +20,16 @@ struct State {
 }
 
 // A number's low 32 bits.
-fn low(x: u64) -> u32 {
+fn low(x: u64) -> u32
+    ensures { λ r. ⌜ r ≡ x % 4294967296 ⌝ }
+{
     (x % 0x1_0000_0000) as u32
 }
 
 // The event of record k of s.
 fn event(s: &[u8], k: usize) -> Event
     requires { ⌜ 32 * k + 32 ≤ length (now s) ⌝ }
+    ensures { λ r. ⌜ r ≡ eventAt (now (s .entry)) k ⌝ }
 {
     Event {
         key: vectors::float_at(s, 4 * k + 1),
@@ -31,39 +38,72 @@ fn event(s: &[u8], k: usize) -> Event
     }
 }
 
-// Whether two events are one, a NaN equal to a NaN.
-fn same(a: Event, b: Event) -> bool {
+fn same(a: Event, b: Event) -> bool
+    ensures { λ r. ⌜ r ≡ sameEvent a b ⌝ }
+{
     if vectors::pattern(a.key) != vectors::pattern(b.key) {
         return false;
     }
     if a.number != b.number {
         return false;
     }
-    a.kind == b.kind
+    if a.kind != b.kind {
+        return false;
+    }
+    true
 }
 
-// What an operation leaves, and whether it was answered otherwise than stored.
+fn one_if(b: bool) -> u64
+    ensures { λ r. ⌜ r ≡ cond b 1 0 ⌝ }
+{
+    if b {
+        return 1;
+    }
+    0
+}
+
+// What an operation leaves, and 1 where it was answered otherwise than stored.
 struct Outcome {
     n: u32,
-    wrong: bool,
+    differs: u64,
 }
 
-fn replay_push(keys: &mut [f64], words: &mut [u32], n: u32, e: Event, found: bool) -> Outcome {
+fn replay_push(keys: &mut [f64], words: &mut [u32], n: u32, e: Event, found: bool) -> Outcome
+    ensures { λ r. ⌜ (r .n, (r .differs, queue (now (keys .exit)) (now (words .exit)))) ≡ afterPush found n (pushing (queue (now (keys .entry)) (now (words .entry))) n e) ⌝ }
+{
     match push(keys, words, n, e) {
-        Pushed::Full => Outcome { n, wrong: found },
+        Pushed::Full => Outcome {
+            n,
+            differs: one_if(found),
+        },
         Pushed::Queued(m) => Outcome {
             n: m,
-            wrong: !found,
+            differs: one_if(!found),
         },
     }
 }
 
-fn replay_pop(keys: &mut [f64], words: &mut [u32], n: u32, e: Event, found: bool) -> Outcome {
+// 1 where the event x that a pop gave is not the stored answer.
+fn pop_differs(found: bool, x: Event, e: Event) -> u64
+    ensures { λ r. ⌜ r ≡ popDiffers found x e ⌝ }
+{
+    if found {
+        return one_if(!same(x, e));
+    }
+    1
+}
+
+fn replay_pop(keys: &mut [f64], words: &mut [u32], n: u32, e: Event, found: bool) -> Outcome
+    ensures { λ r. ⌜ (r .n, (r .differs, queue (now (keys .exit)) (now (words .exit)))) ≡ afterPop found e n (popping (queue (now (keys .entry)) (now (words .entry))) n) ⌝ }
+{
     match pop(keys, words, n) {
-        Popped::Empty => Outcome { n, wrong: found },
+        Popped::Empty => Outcome {
+            n,
+            differs: one_if(found),
+        },
         Popped::First(x, m) => Outcome {
             n: m,
-            wrong: !found || !same(x, e),
+            differs: pop_differs(found, x, e),
         },
     }
 }
@@ -71,6 +111,7 @@ fn replay_pop(keys: &mut [f64], words: &mut [u32], n: u32, e: Event, found: bool
 // Record k of s.
 fn replay_record(keys: &mut [f64], words: &mut [u32], n: u32, s: &[u8], k: usize) -> Outcome
     requires { ⌜ 32 * k + 32 ≤ length (now s) ⌝ }
+    ensures { λ r. ⌜ (r .n, (r .differs, queue (now (keys .exit)) (now (words .exit)))) ≡ afterRecord (now (s .entry)) k n (queue (now (keys .entry)) (now (words .entry))) ⌝ }
 {
     let what = vectors::word(s, 4 * k);
     let e = event(s, k);
@@ -80,19 +121,11 @@ fn replay_record(keys: &mut [f64], words: &mut [u32], n: u32, s: &[u8], k: usize
     replay_pop(keys, words, n, e, what == 2)
 }
 
-fn counted(wrong: bool) -> u64
-    ensures { λ r. ⌜ r ≤ 1 ⌝ }
-{
-    if wrong {
-        return 1;
-    }
-    0
-}
-
 // The records of a chunk, from a queue of n events on.
 fn replay_records(keys: &mut [f64], words: &mut [u32], n: u32, s: &[u8]) -> State
     requires { ⌜ length (now s) ≤ 32768 ⌝ }
-    ensures { λ r. ⌜ (r .cases ≤ 1024) × (r .differences ≤ 1024) ⌝ }
+    ensures { λ r. ⌜ (r .n, (r .differences, queue (now (keys .exit)) (now (words .exit)))) ≡ afterRecords (length (now (s .entry)) / 32) (now (s .entry)) 0 n 0 (queue (now (keys .entry)) (now (words .entry))) ⌝ }
+    ensures { λ r. ⌜ (r .cases ≡ length (now (s .entry)) / 32) × (r .differences ≤ r .cases) ⌝ }
 {
     let mut n = n;
     let mut differences: u64 = 0;
@@ -100,7 +133,7 @@ fn replay_records(keys: &mut [f64], words: &mut [u32], n: u32, s: &[u8]) -> Stat
     while k < s.len() / 32 {
         let r = replay_record(keys, words, n, s, k);
         n = r.n;
-        differences += counted(r.wrong);
+        differences += r.differs;
         k += 1;
     }
     State {

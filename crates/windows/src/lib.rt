@@ -9,8 +9,7 @@ use buffers::write_f64;
 use buffers::write_u32;
 ghost use mathlib.Core.Path.{_≡_};
 ghost use mathlib.Core.Bool.{cond};
-ghost use Prim.Native.Nat.{ℕ, _+_, _*_, _/_, _%_, _<_};
-ghost use lib.Dec.{eqb};
+ghost use Prim.Native.Nat.{_+_, _/_, _%_, _<_};
 ghost use Rattle.windows.specs.Windows.{windowAt, wordsWith, realsWith, rangeWith, flagsWith, flagsOf, hasFlag};
 
 // A window as the buffer holds it, in plain numbers.
