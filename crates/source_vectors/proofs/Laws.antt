@@ -33,13 +33,3 @@ whole-record z k n l h w = omega (arith, mul-suc z k, mul-le-mul-left z h)
 pub part-is : (f : Leaf) (s : List ℕ) (k z : ℕ) → z ≡ size f → take (z * k + z - z * k) (drop (z * k) s) ≡ recordAt f s k
 unfolding recordAt
 part-is f s k z e = rw (e, add-sub-cancel-left)
-
--- one record more, that holds or differs
-module _ (f : Leaf) (s : List ℕ) (k n : ℕ) (e : n ≡ differing f s k) where
-  pub same-count : holdsFor f (recordAt f s k) ≡ true → n ≡ differing f s (k + 1)
-  unfolding differing
-  same-count h = rw (add-one k, h, add-zero) e
-
-  pub one-more : holdsFor f (recordAt f s k) ≡ false → n + 1 ≡ differing f s (k + 1)
-  unfolding differing
-  one-more h = rw (add-one k, h) (ap (λ (x : ℕ). x + 1) e)

@@ -1,11 +1,11 @@
 -- What the records of stored cases say. A record is packed: floats of 8 bytes, sources of 25 (a kind, 0 for a point, and three floats). Definitions only.
 use mathlib.Core.List.{List}
 use mathlib.Core.Bool.{Bool, cond, _&&_}
-use Prim.Native.Nat.{ℕ, zero, suc, _+_, _*_, _/_}
+use Prim.Native.Nat.{ℕ, _+_, _*_, _/_}
 use lib.ListN.{length, take, drop, getD}
 use lib.Dec.{eqb}
 use lib.Ieee.{Float}
-use Rattle.vectors.specs.Records.{wordAt, floatAt, agrees}
+use Rattle.vectors.specs.Records.{wordAt, floatAt, agrees, failing}
 use Rattle.source.specs.Quadratic.{rootsOf}
 use Rattle.source.specs.Distance.{edgeOf, freeOf, footOf, lowestOf, tiesOf, evalOf}
 use Rattle.source.specs.declared.RealRoots.{RealRoots}
@@ -78,6 +78,5 @@ unfoldable pub recordsIn : Leaf → List ℕ → ℕ
 recordsIn f s = length s / size f
 
 -- how many of the first n records differ
-unfoldable pub differing : Leaf → List ℕ → ℕ → ℕ
-differing f s zero = 0
-differing f s (suc n) = differing f s n + cond (holdsFor f (recordAt f s n)) 0 1
+abbrev pub differing : Leaf → List ℕ → ℕ → ℕ
+differing f s n = failing (λ k. holdsFor f (recordAt f s k)) n

@@ -1,9 +1,9 @@
 -- Laws of stored numbers and of the comparison with a stored pattern. Assumes nothing.
 use mathlib.Core.Path.{_≡_, refl, sym, ap, subst, _∙_}
-use mathlib.Core.Bool.{true, false, true≢false}
+use mathlib.Core.Bool.{Bool, true, false, true≢false}
 use mathlib.Core.List.{List}
 use Prim.Native.Nat.{ℕ, _+_, _*_, _%_, _^_, _≤_, _<_}
-use native.Mathlib.Nat.{le-mul-of-pos-right, mul-le-mul-right, le-trans, mul-assoc, mul-comm}
+use native.Mathlib.Nat.{add-zero, le-mul-of-pos-right, mul-le-mul-right, le-trans, mul-assoc, mul-comm}
 use native.Mathlib.Numerals.{add-one}
 use native.Mathlib.Omega.{arith}
 use lib.Dec.{T}
@@ -14,7 +14,7 @@ use lib.Ieee.{Float, nan, inf, fin, binary64, fits, ofBits, toBits, isNan, ne}
 use lib.Ieee.Compare.{differs-from-itself}
 use lib.Ieee.Bits.{ofBits-toBits, ofBits-fits, nanBits-is, nanBits-above}
 use borrow.Author.Tests.{eqb-true, eqb-false, lt-ltb}
-use Rattle.vectors.specs.Records.{littleEndian, agrees}
+use Rattle.vectors.specs.Records.{littleEndian, agrees, failing}
 
 -- one byte more, below the others
 pub byte-below : (s : List ℕ) (p q n m r : ℕ) → q ≡ p + 1 → m ≡ n + 1 → p < length s → r ≡ littleEndian (take n (drop q s))
@@ -59,3 +59,13 @@ module _ (x : Float) (b : ℕ) (h : T (fits binary64 x)) where
   pub agrees-not : agrees x b ≡ false → x ≡ ofBits binary64 b → ⊥
   unfolding agrees
   agrees-not e q = eqb-false _ _ e (ap (toBits binary64) q)
+
+-- ---- one case more, that holds or fails
+module _ (holds : ℕ → Bool) (k n : ℕ) (e : n ≡ failing holds k) where
+  pub same-count : holds k ≡ true → n ≡ failing holds (k + 1)
+  unfolding failing
+  same-count h = rw (add-one k, h, add-zero) e
+
+  pub one-more : holds k ≡ false → n + 1 ≡ failing holds (k + 1)
+  unfolding failing
+  one-more h = rw (add-one k, h) (ap (λ (x : ℕ). x + 1) e)

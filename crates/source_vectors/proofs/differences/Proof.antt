@@ -7,7 +7,9 @@ use lib.ListN.{length, length-take, length-drop}
 use borrow.Author.Needs.{needs}
 use borrow.Author.Tests.{not-true, not-false}
 use Rattle.source_vectors.specs.Replay.{holdsFor, recordAt, recordsIn, differing}
-use Rattle.source_vectors.proofs.Laws.{whole-record, part-is, same-count, one-more}
+use Rattle.vectors.specs.Records.{failing}
+use Rattle.vectors.proofs.Laws.{same-count, one-more}
+use Rattle.source_vectors.proofs.Laws.{whole-record, part-is}
 use Rattle.source_vectors.proofs.differences.Statement.{statement}
 use Rattle.source_vectors.proofs.differences.Tie as tie
 
@@ -33,7 +35,7 @@ size-requires : tie.Need-size-requires Inv-loop μ-loop
 size-requires c κs = search needs
 
 loop-holds : tie.Need-loop-holds Inv-loop μ-loop
-unfolding differing
+unfolding failing
 loop-holds c = (omega arith, omega arith, refl)
 
 mul-i : tie.Need-mul-i Inv-loop μ-loop
@@ -68,8 +70,8 @@ loop-again c =
     let t = c .before .before .before .before in
     let h = answered (c .before) in
     ⊎-elim
-    (λ w. (omega arith, omega arith, w .1 ∙ one-more _ _ _ _ (t .loop .inv .2) (sym h ∙ not-true _ (w .0 .taken))))
-    (λ w. (omega arith, omega arith, w .1 ∙ same-count _ _ _ _ (t .loop .inv .2) (sym h ∙ not-false _ (w .0 .left))))
+    (λ w. (omega arith, omega arith, w .1 ∙ one-more _ _ _ (t .loop .inv .2) (sym h ∙ not-true _ (w .0 .taken))))
+    (λ w. (omega arith, omega arith, w .1 ∙ same-count _ _ _ (t .loop .inv .2) (sym h ∙ not-false _ (w .0 .left))))
     (c .if1 .came)
 
 returns : tie.Need-returns Inv-loop μ-loop
