@@ -1,2 +1,5 @@
+pub mod Checked
 pub mod Edges
+pub mod Faces
 pub mod Find
+pub mod Triangles

@@ -27,6 +27,10 @@ between a b = record { low = lower a b; high = higher a b }
 abbrev pub sameEdge : Edge → Edge → Bool
 sameEdge x y = eqb (x .low) (y .low) && eqb (x .high) (y .high)
 
+-- vertex k is neither end of an edge
+unfoldable pub offEnds : ℕ → Edge → Bool
+offEnds k e = not (eqb k (e .low)) && not (eqb k (e .high))
+
 -- the place of e in a list, or the list's length
 unfoldable pub find : Edge → List Edge → ℕ
 find e [] = 0
@@ -83,15 +87,12 @@ module _ (triangles : List ℕ) where
   unfoldable pub local : ℕ → ℕ → ℕ
   local f e = cond (eqb (triEdge (3 * f)) e) 0 (cond (eqb (triEdge (3 * f + 1)) e) 1 2)
 
-  -- vertex k is not on edge e
-  unfoldable pub offEdge : ℕ → ℕ → Bool
-  offEdge k e = not (eqb k (getD edges e noEdge .low)) && not (eqb k (getD edges e noEdge .high))
-
   -- the vertex of face f that is not on edge e
   unfoldable pub third : ℕ → ℕ → ℕ
   third e f =
-      cond (offEdge (getD triangles (3 * f) 0) e) (getD triangles (3 * f) 0)
-      (cond (offEdge (getD triangles (3 * f + 1) 0) e) (getD triangles (3 * f + 1) 0)
+      let ends : Edge = getD edges e noEdge in
+      cond (offEnds (getD triangles (3 * f) 0) ends) (getD triangles (3 * f) 0)
+      (cond (offEnds (getD triangles (3 * f + 1) 0) ends) (getD triangles (3 * f + 1) 0)
       (getD triangles (3 * f + 2) 0))
 
   -- the faces round vertex k among the first n sides, in rising order

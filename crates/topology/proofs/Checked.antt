@@ -1,0 +1,63 @@
+-- The mesh of a job that passed the checks: the other laws' premises, and the ends of its edges. Assumes nothing.
+use Prim.Native.Nat.{ℕ, zero, suc, _+_, _*_, _/_, _%_, _<_, _≤_}
+use mathlib.Core.Path.{_≡_, refl, sym, ap, subst, _∙_}
+use mathlib.Core.List.{List}
+use mathlib.Core.Logic.{⊎-elim, _⊎_, inl, inr}
+use native.Mathlib.Omega.{arith}
+use native.Mathlib.Nat.{le-of-suc-le-suc, not-suc-le-zero}
+use lib.ListN.{length, getD}
+use Rattle.job_checks.specs.declared.BufferCounts.{BufferCounts}
+use Rattle.job_checks.specs.Job.{Job, vertexCount, triangleCount}
+use Rattle.job_checks.specs.Sound.{Distinct, Sound}
+use Rattle.topology.specs.Edges.{Edge, noEdge, between, corner, sideEdge, edges, triEdge}
+use Rattle.topology.proofs.Edges.{FromSide, edge-is-side}
+use Rattle.topology.proofs.Triangles.{ends, ends-rise, three-edges}
+
+-- both ends of an edge are below what its two vertices are below
+ends-below : (a b m : ℕ) → a < m → b < m → between a b .high < m
+ends-below a b m p q = ⊎-elim (λ w. omega arith) (λ w. omega arith) (ends a b)
+
+-- a number below three
+three-ways : (k : ℕ) → k < 3 → (k ≡ 0) ⊎ ((k ≡ 1) ⊎ (k ≡ 2))
+three-ways zero l = inl refl
+three-ways (suc zero) l = inr (inl refl)
+three-ways (suc (suc zero)) l = inr (inr refl)
+three-ways (suc (suc (suc k))) l = absurd (not-suc-le-zero (le-of-suc-le-suc (le-of-suc-le-suc (le-of-suc-le-suc l))))
+
+module _ (triangles : List ℕ) (h : ℕ) where
+  corner-at : (k i : ℕ) → 3 * (h / 3) + (h % 3 + k) % 3 ≡ i → corner triangles h k ≡ getD triangles i 0
+  unfolding corner
+  corner-at k i q = ap (λ (x : ℕ). getD triangles x 0) q
+
+  -- a side of a triangle with three different vertices joins two of them
+  corners-differ : Distinct (getD triangles (3 * (h / 3)) 0) (getD triangles (3 * (h / 3) + 1) 0) (getD triangles (3 * (h / 3) + 2) 0) → corner triangles h 0 ≡ corner triangles h 1 → ⊥
+  corners-differ d q =
+      ⊎-elim (λ z. d .first-second (sym (corner-at 0 (3 * (h / 3)) (omega arith)) ∙ (q ∙ corner-at 1 (3 * (h / 3) + 1) (omega arith))))
+      (⊎-elim (λ z. d .second-third (sym (corner-at 0 (3 * (h / 3) + 1) (omega arith)) ∙ (q ∙ corner-at 1 (3 * (h / 3) + 2) (omega arith))))
+      (λ z. d .third-first (sym (corner-at 0 (3 * (h / 3) + 2) (omega arith)) ∙ (q ∙ corner-at 1 (3 * (h / 3)) (omega arith)))))
+      (three-ways (h % 3) (omega arith))
+
+module _ (j : Job) (b : BufferCounts) (s : Sound j b) where
+  -- a triangle's three numbers lie in the list
+  pub inside : (f : ℕ) → f < triangleCount j → 3 * f + 2 < length (j .triangles)
+  inside f l = omega (arith, s .whole .whole-triangles)
+
+  pub corner-there : (h k : ℕ) → h < length (j .triangles) → corner (j .triangles) h k < vertexCount j
+  corner-there h k l = rw (corner-at (j .triangles) h k (3 * (h / 3) + (h % 3 + k) % 3) refl) (s .mesh .vertex-there (3 * (h / 3) + (h % 3 + k) % 3) (omega (arith, s .whole .whole-triangles)))
+
+  side-rises : (h : ℕ) → h < length (j .triangles) → (sideEdge (j .triangles) h .low < sideEdge (j .triangles) h .high) × (sideEdge (j .triangles) h .high < vertexCount j)
+  unfolding sideEdge
+  side-rises h l = (
+    ends-rise (corner (j .triangles) h 0) (corner (j .triangles) h 1) (corners-differ (j .triangles) h (s .mesh .distinct (h / 3) (omega (arith, s .whole .whole-triangles)))),
+    ends-below (corner (j .triangles) h 0) (corner (j .triangles) h 1) (vertexCount j) (corner-there h 0 l) (corner-there h 1 l),
+  )
+
+  -- an edge joins two vertices that are there, the lower one first
+  pub edge-ends : (e : ℕ) → e < length (edges (j .triangles)) → (getD (edges (j .triangles)) e noEdge .low < getD (edges (j .triangles)) e noEdge .high) × (getD (edges (j .triangles)) e noEdge .high < vertexCount j)
+  edge-ends e l =
+      let r : FromSide (j .triangles) (length (j .triangles)) (getD (edges (j .triangles)) e noEdge) = edge-is-side (j .triangles) e l in
+      rw (r .1 .1) (side-rises (r .0) (r .1 .0))
+
+  -- a face has three different edges
+  pub face-edges : (f : ℕ) → f < triangleCount j → Distinct (triEdge (j .triangles) (3 * f)) (triEdge (j .triangles) (3 * f + 1)) (triEdge (j .triangles) (3 * f + 2))
+  face-edges f l = three-edges (j .triangles) f (inside f l) (s .mesh .distinct f l)
