@@ -7,7 +7,7 @@ use Prim.Native.Nat.{ℕ, zero, suc, _-_}
 use native.Mathlib.Omega.{arith}
 use mathlib.Core.Path.{_≡_, refl}
 use mathlib.Core.Logic.{_≢_}
-use mathlib.Core.Bool.{Bool, true, false, _&&_, _||_}
+use mathlib.Core.Bool.{Bool, true, false, not, _&&_, _||_}
 use lib.Dec.{T}
 use lib.Ieee.{Float, binary64, lt, fits}
 use lib.Ieee.Fits.{div-fits, and-l, and-r}
@@ -19,10 +19,13 @@ use Rattle.better.specs.declared.Cut.{Cut}
 use Rattle.better.specs.declared.Cut.the-variants.{Nowhere, At}
 use Rattle.better.specs.Cutting.{signOf, sameOf, changeOf, halveOf, strictly, cutOf}
 
--- what holds of both ways holds of the one that is taken
-pub either : {A : Type 0} (P : A → Type 0) (b : Bool) {x y : A} → P x → P y → P (if b then x else y)
-either P true f g = f
-either P false f g = g
+-- what holds either way of a test
+pub branch : {A : Type 0} (P : A → Type 0) (b : Bool) {x y : A} → (T b → P x) → (T (not b) → P y) → P (if b then x else y)
+branch P true f g = f tt
+branch P false f g = g tt
+
+abbrev pub Double : Float → Type 0
+Double x = T (fits binary64 x)
 
 module _ (p q : Src) where
   pub halve-end : (a b : Float) (sa : Compared) (n : ℕ) → n ≡ 0 → (a ⊕ b) ⊘ two ≡ halveOf p q a b sa n
@@ -39,12 +42,12 @@ module _ (p q : Src) where
   halve-left a b sa zero h t = absurd (h refl)
   halve-left a b sa (suc n) h t = let e : suc n - 1 ≡ n = omega arith in rw (t, e)
 
-  pub halve-double : (a b : Float) (sa : Compared) (n : ℕ) → T (fits binary64 (halveOf p q a b sa n))
+  pub halve-double : (a b : Float) (sa : Compared) (n : ℕ) → Double (halveOf p q a b sa n)
   unfolding halveOf
   halve-double a b sa zero = div-fits binary64 (a ⊕ b) two
   halve-double a b sa (suc n) =
       let c = (a ⊕ b) ⊘ two in
-      either (λ (x : Float). T (fits binary64 x)) (sameOf (signOf p q c) sa) (halve-double c b sa n) (halve-double a c sa n)
+      branch Double (sameOf (signOf p q c) sa) (λ t. halve-double c b sa n) (λ t. halve-double a c sa n)
 
   module _ (x0 x1 : Float) where
     pub cut-first : lt x0 x1 ≡ true → changeOf (signOf p q x0) (signOf p q ((x0 ⊕ x1) ⊘ two)) ≡ true → strictly x0 x1 (halveOf p q x0 ((x0 ⊕ x1) ⊘ two) (signOf p q x0) 60) ≡ cutOf p q x0 x1
@@ -67,14 +70,10 @@ module _ (p q : Src) where
 -- a cut, if there is one, is a double that lies strictly between x0 and x1
 abbrev pub Between : Float → Float → Cut → Type 0
 Between x0 x1 Nowhere = Unit {0}
-Between x0 x1 (At c) = T (lt x0 c) × T (lt c x1) × T (fits binary64 c)
+Between x0 x1 (At c) = T (lt x0 c) × T (lt c x1) × Double c
 
-strictly-between : (x0 x1 c : Float) → T (fits binary64 c) → Between x0 x1 (strictly x0 x1 c)
-strictly-between x0 x1 c f = go (lt x0 c && lt c x1) (λ t. t)
-  where
-    go : (b : Bool) → (T b → T (lt x0 c && lt c x1)) → Between x0 x1 (if b then At c else Nowhere)
-    go true t = (and-l (lt x0 c) (lt c x1) (t tt), and-r (lt x0 c) (lt c x1) (t tt), f)
-    go false t = tt
+strictly-between : (x0 x1 c : Float) → Double c → Between x0 x1 (strictly x0 x1 c)
+strictly-between x0 x1 c f = branch (Between x0 x1) (lt x0 c && lt c x1) (λ t. (and-l (lt x0 c) (lt c x1) t, and-r (lt x0 c) (lt c x1) t, f)) (λ t. tt)
 
 pub cut-between : (p q : Src) (x0 x1 : Float) → Between x0 x1 (cutOf p q x0 x1)
 unfolding cutOf
@@ -85,4 +84,4 @@ cut-between p q x0 x1 =
     let a = if changeOf s0 sm then x0 else m in
     let b = if changeOf s0 sm then m else x1 in
     let sa = signOf p q a in
-    either (Between x0 x1) (lt x0 x1 && (changeOf s0 sm || changeOf sm (signOf p q x1))) (strictly-between x0 x1 (halveOf p q a b sa 60) (halve-double p q a b sa 60)) tt
+    branch (Between x0 x1) (lt x0 x1 && (changeOf s0 sm || changeOf sm (signOf p q x1))) (λ t. strictly-between x0 x1 (halveOf p q a b sa 60) (halve-double p q a b sa 60)) (λ t. tt)

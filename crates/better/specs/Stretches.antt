@@ -1,5 +1,5 @@
 -- Where one source is shorter than another: the Rust's `better`. Definitions only.
-use mathlib.Core.Bool.{Bool, cond}
+use mathlib.Core.Bool.{Bool, false}
 use mathlib.Core.List.{List, [], _∷_}
 use lib.Ieee.{Float, le, eq}
 use Rattle.float64.specs.Scalar.{two}
@@ -23,16 +23,17 @@ joined [] x0 x1 = interval x0 x1 ∷ []
 joined (g ∷ []) x0 x1 = if eq (g .to) x0 then interval (g .from) x1 ∷ [] else g ∷ interval x0 x1 ∷ []
 joined (g ∷ h ∷ out) x0 x1 = g ∷ joined (h ∷ out) x0 x1
 
--- the body of the loop over neighbours: whether [x0, x1] is a stretch is asked at its middle
-unfoldable pub stretch : Src → Src → Float → Float → List Interval → List Interval
-stretch p q x0 x1 out =
-    if le x1 x0 then out else
+-- whether p is shorter from x0 to x1: it is asked at the middle, and not of an empty stretch
+unfoldable pub shorterBetween : Src → Src → Float → Float → Bool
+shorterBetween p q x0 x1 =
+    if le x1 x0 then false else
     let m = (x0 ⊕ x1) ⊘ two in
-    if shorter (edgeOf p m) (edgeOf q m) then joined out x0 x1 else out
+    shorter (edgeOf p m) (edgeOf q m)
 
+-- the loop over neighbours x0 and x1
 unfoldable pub stretches : Src → Src → Float → List Float → List Interval → List Interval
 stretches p q x0 [] out = out
-stretches p q x0 (x1 ∷ xs) out = stretches p q x1 xs (stretch p q x0 x1 out)
+stretches p q x0 (x1 ∷ xs) out = stretches p q x1 xs (if shorterBetween p q x0 x1 then joined out x0 x1 else out)
 
 -- `out` of `pts`
 unfoldable pub outOf : Src → Src → List Float → List Interval
