@@ -1,0 +1,4 @@
+pub mod Cutting
+pub mod Ties
+pub mod Points
+pub mod Stretches

@@ -1,0 +1,4 @@
+pub mod Cutting
+pub mod Points
+pub mod Stretches
+pub mod Claim
