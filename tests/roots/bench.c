@@ -1,7 +1,8 @@
 /* Times the proved square root and hypotenuse beside the processor's square root instruction, C's sqrt and C's hypot, in
    nanoseconds a call. Prints two tables in Markdown: calls that do not wait for each other, and calls each of which waits
    for the one before. A class has 2^19 arguments, since a branch predictor learns a shorter sequence by heart. The
-   contenders take turns, and of ROUNDS turns the fastest counts. */
+   contenders take turns, ROUNDS of them; the arguments are timed in blocks, by processor time, and of each block the
+   fastest turn counts, so that other work on the machine disturbs little. */
 #include "cases.h"
 #include "roots.h"
 #include <emmintrin.h>
@@ -10,14 +11,14 @@
 
 #define N (1 << 19)
 #define ROUNDS 7
-#define PASSES 2
+#define BLOCKS 16
 
 static double s[N], x[N], y[N];
 static volatile double sink, nothing = 0;
 
 static double now(void) {
     struct timespec t;
-    clock_gettime(CLOCK_MONOTONIC, &t);
+    clock_gettime(CLOCK_THREAD_CPUTIME_ID, &t);
     return (double)t.tv_sec * 1e9 + (double)t.tv_nsec;
 }
 
@@ -32,18 +33,18 @@ static double after(double v, double r, __m128d zero) {
 }
 
 #define FREE(name, prepare, call) \
-    static void name(void) { \
+    static void name(int from, int end) { \
         uint64_t all = 0; \
         prepare; \
-        for (int p = 0; p < PASSES; p++) for (int i = 0; i < N; i++) all ^= bits_of(call); \
+        for (int i = from; i < end; i++) all ^= bits_of(call); \
         sink = (double)all; \
     }
 #define CHAIN(name, prepare, call) \
-    static void name(void) { \
+    static void name(int from, int end) { \
         double r = 0; \
         __m128d zero = _mm_set_sd(nothing); \
         prepare; \
-        for (int p = 0; p < PASSES; p++) for (int i = 0; i < N; i++) r = call; \
+        for (int i = from; i < end; i++) r = call; \
         sink = r; \
     }
 
@@ -59,7 +60,7 @@ CHAIN(chain_hypot, , sirmolaat_hypot(after(x[i], r, zero), y[i]))
 CHAIN(chain_c_hypot, double (*f)(double, double) = c_hypot, f(after(x[i], r, zero), y[i]))
 
 #define CONTENDERS 5
-static void (*const contenders[2][CONTENDERS])(void) = {
+static void (*const contenders[2][CONTENDERS])(int, int) = {
     {free_sqrt, free_instruction, free_c_sqrt, free_hypot, free_c_hypot},
     {chain_sqrt, chain_instruction, chain_c_sqrt, chain_hypot, chain_c_hypot},
 };
@@ -95,25 +96,39 @@ static void fill(size_t class) {
     }
 }
 
+/* one turn of a contender, whose fastest time of each block is kept */
+static void turn(void (*contender)(int, int), double *best, int first) {
+    for (int b = 0; b < BLOCKS; b++) {
+        double t = now();
+        contender(N / BLOCKS * b, N / BLOCKS * (b + 1));
+        t = now() - t;
+        if (first || t < best[b]) best[b] = t;
+    }
+}
+
+static double mean(const double *best) {
+    double sum = 0;
+    for (int b = 0; b < BLOCKS; b++) sum += best[b];
+    return sum / N;
+}
+
 int main(void) {
-    static double best[2][CLASSES][CONTENDERS];
+    static double times[2][CLASSES][CONTENDERS];
     for (size_t k = 0; k < CLASSES; k++) {
+        double best[2][CONTENDERS][BLOCKS];
         fill(k);
         for (int round = 0; round < ROUNDS; round++)
             for (int table = 0; table < 2; table++)
-                for (int c = 0; c < CONTENDERS; c++) {
-                    double t = now();
-                    contenders[table][c]();
-                    t = (now() - t) / ((double)N * PASSES);
-                    if (!round || t < best[table][k][c]) best[table][k][c] = t;
-                }
+                for (int c = 0; c < CONTENDERS; c++) turn(contenders[table][c], best[table][c], round == 0);
+        for (int table = 0; table < 2; table++)
+            for (int c = 0; c < CONTENDERS; c++) times[table][k][c] = mean(best[table][c]);
     }
     for (int table = 0; table < 2; table++) {
         printf("\n%s\n\n", table ? "Each call waits for the one before, ns a call:" : "Calls that do not wait for each other, ns a call:");
         printf("| arguments | sqrt | instruction | C's sqrt | sqrt / C's | hypot | C's hypot | hypot / C's |\n");
         printf("|---|---:|---:|---:|---:|---:|---:|---:|\n");
         for (size_t k = 0; k < CLASSES; k++) {
-            double *b = best[table][k];
+            const double *b = times[table][k];
             printf("| %s | %.1f | %.1f | %.1f | %.2f | %.1f | %.1f | %.2f |\n", classes[k], b[0], b[1], b[2], b[0] / b[2], b[3], b[4], b[3] / b[4]);
         }
     }

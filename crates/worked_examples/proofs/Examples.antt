@@ -2,8 +2,11 @@
 use mathlib.Core.Path.{_≡_, refl}
 use mathlib.Core.List.{List, [], _∷_, map, List·Memᴰ, List·Memᴰ·head, List·Memᴰ·tail, List·Memᴰ·not-nil}
 use lib.Count.{trailingZeros}
-use lib.Ieee.{size, span, climb, units, odd}
+use lib.Ieee.{size, span, climb, units, odd, round, ofInt, neg, sum, add, sub, mul, div, lt, eq, le, ne, isNan, ofBits, ofFields}
 use Rattle.root_spec.specs.Root.{isqrtIn, isqrt, rootOf, sqrtOf, hypotOf}
+use Rattle.float64.specs.Scalar.{negative, minOf, maxOf, absOf, signumOf}
+use Rattle.source.specs.Quadratic.{rootsOf}
+use Rattle.source.specs.Distance.{edgeOf, lowestOf, tiesOfPoints, tiesOfPointLine, tiesOf}
 use Rattle.worked_examples.specs.Examples.{Example, examples}
 
 abbrev AsExpected : List Example → Type 0
@@ -11,7 +14,7 @@ AsExpected es = map (λ (e : Example). e .answer) es ≡ map (λ (e : Example). 
 
 -- the one computation, over the whole list
 as-expected : AsExpected examples
-unfolding examples sqrtOf hypotOf rootOf isqrt isqrtIn size span climb units odd trailingZeros
+unfolding examples sqrtOf hypotOf rootOf isqrt isqrtIn size span climb units odd trailingZeros round ofInt neg sum add sub mul div lt eq le ne isNan ofBits ofFields negative minOf maxOf absOf signumOf rootsOf edgeOf lowestOf tiesOfPoints tiesOfPointLine tiesOf
 as-expected = refl
 
 among : (es : List Example) → AsExpected es → (e : Example) → List·Memᴰ e es → e .answer ≡ e .expected

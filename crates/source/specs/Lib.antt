@@ -1,0 +1,2 @@
+pub mod Quadratic
+pub mod Distance
