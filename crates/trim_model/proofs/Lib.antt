@@ -1,0 +1,4 @@
+pub mod Ranks
+pub mod Count
+pub mod Intervals
+pub mod Windows
