@@ -2,3 +2,4 @@ pub mod Ranks
 pub mod Count
 pub mod Intervals
 pub mod Windows
+pub mod Run

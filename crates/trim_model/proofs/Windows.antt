@@ -150,14 +150,19 @@ pub record Ends (u : Window) : Type 0 where
   pub point0 : Point (u .b0)
   pub point1 : Point (u .b1)
 
-module _ (t : Float) where
-  -- a window between points, wider than t, that starts at m or above and ends at M or below
-  pub record Fine (m M : ℕ) (u : Window) : Type 0 where
-    pub point0 : Point (u .b0)
-    pub point1 : Point (u .b1)
-    pub wide : T (lt t (width (u .b0) (u .b1)))
-    pub low : m ≤ rank (u .b0)
-    pub high : rank (u .b1) ≤ M
+-- points a and b that are wider than t apart, a at m or above and b at M or below
+pub record Fine (t : Float) (m M : ℕ) (a b : Float) : Type 0 where
+  pub point0 : Point a
+  pub point1 : Point b
+  pub wide : T (lt t (width a b))
+  pub low : m ≤ rank a
+  pub high : rank b ≤ M
+
+abbrev pub FineInterval : Float → ℕ → ℕ → Interval → Type 0
+FineInterval t m M k = Fine t m M (k .from) (k .to)
+
+abbrev pub FineWindow : Float → ℕ → ℕ → Window → Type 0
+FineWindow t m M u = Fine t m M (u .b0) (u .b1)
 
 -- ---- sorting
 insert-all : (P : Window → Type 0) (u : Window) (l : List Window) → P u → All P l → All P (insert u l)

@@ -48,6 +48,13 @@ abbrev pub behind : Float → Window → List Window → List Window
 behind tiny w list = dropWhile (startsBefore (w .b1 ⊕ tiny)) (onward tiny w list)
 
 -- ---- the loop over the run
+-- (lo, hi): what an existing window u shares with the new one
+abbrev pub sharedLo : Window → Window → Float
+sharedLo w u = maxOf (u .b0) (w .b0)
+
+abbrev pub sharedHi : Window → Window → Float
+sharedHi w u = minOf (u .b1) (w .b1)
+
 abbrev pub start : Window → ℕ → Walk
 start w made = record { survivors = []; keep = interval (w .b0) (w .b1) ∷ []; made = made; slivers = [] }
 
@@ -75,8 +82,8 @@ module _ (better : Better) where
   unfoldable pub visit : Float → Window → Window → Walk → Walk
   unfolding meet
   visit tiny w u s =
-      let lo = maxOf (u .b0) (w .b0) in
-      let hi = minOf (u .b1) (w .b1) in
+      let lo = sharedLo w u in
+      let hi = sharedHi w u in
       if le (width lo hi) tiny then untouched u s else meet tiny u lo hi (better (w .src) (u .src) lo hi) s
 
   unfoldable pub visits : Float → Window → List Window → Walk → Walk
@@ -99,8 +106,8 @@ module _ (better : Better) where
   -- ---- 01's bound on the slivers of one addition: 1, plus 3 for each live window met, plus 3 for each stretch that `better` named
   unfoldable pub metBound : Float → Window → Window → ℕ
   metBound tiny w u =
-      let lo = maxOf (u .b0) (w .b0) in
-      let hi = minOf (u .b1) (w .b1) in
+      let lo = sharedLo w u in
+      let hi = sharedHi w u in
       if le (width lo hi) tiny then 0 else 3 + 3 * length (better (w .src) (u .src) lo hi)
 
   unfoldable pub metBounds : Float → Window → List Window → ℕ
