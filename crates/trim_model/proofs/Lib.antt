@@ -3,3 +3,4 @@ pub mod Count
 pub mod Intervals
 pub mod Windows
 pub mod Run
+pub mod Order

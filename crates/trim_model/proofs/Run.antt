@@ -20,7 +20,7 @@ use Rattle.trim_model.specs.Claim.{All, Point}
 use Rattle.trim_model.proofs.Ranks.{rank, max-point, max-rank, min-point, min-rank, Nonneg, wide-pos, wide-no, wide-mono, slim, by-cases}
 use Rattle.trim_model.proofs.Count.{has, has-one, view, holds, misses}
 use Rattle.trim_model.proofs.Intervals.{Rise, Gaps, rise-le, rise-start, count, count-append, count-if, rise-count, next-rise, next-count, next-none, pieces-count}
-use Rattle.trim_model.proofs.Windows.{all-append, wcount, wcount-append, split-count, Ends, FineInterval, FineWindow}
+use Rattle.trim_model.proofs.Windows.{all-append, wcount, wcount-append, split-count, Wide, FineInterval, FineWindow}
 
 pub rise-end : (p : ℕ) (l : List Interval) (q q' : ℕ) → q ≤ q' → Rise p l q → Rise p l q'
 rise-end p [] q q' i h = le-trans h i
@@ -42,7 +42,7 @@ pub record Shared (w u : Window) : Type 0 where
   pub rank-lo : rank (sharedLo w u) ≡ max (rank (u .b0)) (rank (w .b0))
   pub rank-hi : rank (sharedHi w u) ≡ min (rank (u .b1)) (rank (w .b1))
 
-pub shared : {w : Window} → Ends w → {t : Float} {m M : ℕ} (u : Window) → FineWindow t m M u → Shared w u
+pub shared : {t : Float} {w : Window} → Wide t w → {m M : ℕ} (u : Window) → FineWindow t m M u → Shared w u
 shared W u f = record { point-lo = max-point (f .point0) (W .point0); point-hi = min-point (f .point1) (W .point1); rank-lo = max-rank (f .point0) (W .point0); rank-hi = min-rank (f .point1) (W .point1) }
 
 -- stretches inside [lo, hi] lie inside u
@@ -98,7 +98,7 @@ module _ {t : Float} (t0 : Nonneg t) where
   split-fine m M u n [] h = tt
   split-fine m M u n (p ∷ ps) h = (h .0, fresh-fine m M (u .src) n ps (h .1))
 
-  module _ {better : Better} (B : Stretches better) {w : Window} (W : Ends w) (m M : ℕ) where
+  module _ {better : Better} (B : Stretches better) {w : Window} (W : Wide t w) (m M : ℕ) where
     meet-walk : (u : Window) → FineWindow t m M u → (gs : List Interval) → Rise (rank (sharedLo w u)) gs (rank (sharedHi w u)) → (s : Walk) → WalkOk t w m M s → WalkOk t w m M (meet t u (sharedLo w u) (sharedHi w u) gs s)
     unfolding meet
     meet-walk u f [] R s k =

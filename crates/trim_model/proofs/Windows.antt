@@ -145,10 +145,11 @@ ordered-from (u ∷ us) h = (zero-le, go u us h)
         le-suc' : (n : ℕ) → n ≤ suc n
         le-suc' n = omega arith
 
--- a window between points
-pub record Ends (u : Window) : Type 0 where
+-- a window between points, wider than t
+pub record Wide (t : Float) (u : Window) : Type 0 where
   pub point0 : Point (u .b0)
   pub point1 : Point (u .b1)
+  pub wide : T (lt t (width (u .b0) (u .b1)))
 
 -- points a and b that are wider than t apart, a at m or above and b at M or below
 pub record Fine (t : Float) (m M : ℕ) (a b : Float) : Type 0 where
@@ -190,21 +191,21 @@ sorted-from p (u ∷ us) G h = insert-from p u (sorted us) (G .0) (sorted-all (�
 
 module _ {t : Float} (t0 : Nonneg t) where
   -- ---- the sides of the run
-  not-all : (w0 : Float) → Point w0 → (u : Window) (us : List Window) → Point (u .b1) → All Ends us → Steps u us → T (not (all (endsAfter (sub binary64 w0 t)) (u ∷ us))) → rank (u .b1) ≤ rank w0
+  not-all : (w0 : Float) → Point w0 → (u : Window) (us : List Window) → Point (u .b1) → All (Wide t) us → Steps u us → T (not (all (endsAfter (sub binary64 w0 t)) (u ∷ us))) → rank (u .b1) ≤ rank w0
   unfolding all
   not-all w0 g u [] gu G o = by-cases (λ (c : Bool). T (not (c && true)) → rank (u .b1) ≤ rank w0) (lt (sub binary64 w0 t) (u .b1)) (λ y h. absurd h) (λ n i. run-left t0 g gu n)
   not-all w0 g u (v ∷ vs) gu G o = by-cases (λ (c : Bool). T (not (c && all (endsAfter (sub binary64 w0 t)) (v ∷ vs))) → rank (u .b1) ≤ rank w0) (lt (sub binary64 w0 t) (u .b1))
       (λ y h. let r = not-all w0 g v vs (G .0 .point1) (G .1) (o .2) h in let k = o .1 in omega arith)
       (λ n i. run-left t0 g gu n)
 
-  pub before-low : (w0 : Float) → Point w0 → (l : List Window) → All Ends l → Ordered l → All (λ (u : Window). rank (u .b1) ≤ rank w0) (dropWhileEnd (endsAfter (sub binary64 w0 t)) l)
+  pub before-low : (w0 : Float) → Point w0 → (l : List Window) → All (Wide t) l → Ordered l → All (λ (u : Window). rank (u .b1) ≤ rank w0) (dropWhileEnd (endsAfter (sub binary64 w0 t)) l)
   unfolding dropWhileEnd
   before-low w0 g [] G o = tt
   before-low w0 g (u ∷ us) G o = by-cases (λ (c : Bool). All (λ (u : Window). rank (u .b1) ≤ rank w0) (cond c [] (u ∷ dropWhileEnd (endsAfter (sub binary64 w0 t)) us))) (all (endsAfter (sub binary64 w0 t)) (u ∷ us))
       (λ y. tt)
       (λ n. (not-all w0 g u us (G .0 .point1) (G .1) o n, before-low w0 g us (G .1) (ordered-right (u ∷ []) us o)))
 
-  pub behind-high : (w1 : Float) → Point w1 → (l : List Window) → All Ends l → Ordered l → All (λ (u : Window). rank w1 ≤ rank (u .b0)) (dropWhile (startsBefore (add binary64 w1 t)) l)
+  pub behind-high : (w1 : Float) → Point w1 → (l : List Window) → All (Wide t) l → Ordered l → All (λ (u : Window). rank w1 ≤ rank (u .b0)) (dropWhile (startsBefore (add binary64 w1 t)) l)
   unfolding dropWhile
   behind-high w1 g [] G o = tt
   behind-high w1 g (u ∷ us) G o = by-cases (λ (c : Bool). All (λ (u : Window). rank w1 ≤ rank (u .b0)) (cond c (dropWhile (startsBefore (add binary64 w1 t)) us) (u ∷ us))) (lt (u .b0) (add binary64 w1 t))
