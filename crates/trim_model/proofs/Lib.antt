@@ -4,3 +4,5 @@ pub mod Intervals
 pub mod Windows
 pub mod Run
 pub mod Order
+pub mod Slivers
+pub mod Bound

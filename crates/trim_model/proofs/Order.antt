@@ -85,14 +85,14 @@ module _ {t : Float} (t0 : Nonneg t) where
     w01 : rank (w .b0) < rank (w .b1)
     w01 = wide-pos t0 (W .point0) (W .point1) (W .wide)
 
-    pub start-walk : (m M : ℕ) → WalkOk t w m M (start w made)
-    start-walk m M = record { rise = (record { point0 = W .point0; point1 = W .point1; above = le-refl (rank (w .b0)); rises = w01 }, le-refl (rank (w .b1))); fine = tt }
+    pub start-ok : (m M : ℕ) → WalkOk t w m M (start w made)
+    start-ok m M = record { rise = (record { point0 = W .point0; point1 = W .point1; above = le-refl (rank (w .b0)); rises = w01 }, le-refl (rank (w .b1))); fine = tt }
 
-    pub end-walk : (m M : ℕ) (rn : List Window) → All (FineWindow t m M) rn → WalkOk t w m M (walked rn)
-    end-walk m M rn f = visits-walk t0 B W m M rn f (start w made) (start-walk m M)
+    pub walked-ok : (m M : ℕ) (rn : List Window) → All (FineWindow t m M) rn → WalkOk t w m M (walked rn)
+    walked-ok m M rn f = visits-walk t0 B W m M rn f (start w made) (start-ok m M)
 
     pub news-fine : (m M : ℕ) (rn : List Window) → All (FineWindow t m M) rn → All (FineWindow t (rank (w .b0)) (rank (w .b1))) (news rn)
-    news-fine m M rn f = fresh-fine t0 (rank (w .b0)) (rank (w .b1)) (w .src) (walked rn .made) (wideOf t (walked rn .keep)) (wide-fine t0 (rank (w .b0)) (rank (w .b1)) (rank (w .b0)) (walked rn .keep) (rank (w .b1)) (le-refl (rank (w .b0))) (le-refl (rank (w .b1))) (end-walk m M rn f .rise))
+    news-fine m M rn f = fresh-fine t0 (rank (w .b0)) (rank (w .b1)) (w .src) (walked rn .made) (wideOf t (walked rn .keep)) (wide-fine t0 (rank (w .b0)) (rank (w .b1)) (rank (w .b0)) (walked rn .keep) (rank (w .b1)) (le-refl (rank (w .b0))) (le-refl (rank (w .b1))) (walked-ok m M rn f .rise))
 
     record Ended (rn : List Window) (X Y : ℕ) : Type 0 where
       olds : wcount X Y (walked rn .survivors) ≤ wcount X Y rn
@@ -106,8 +106,8 @@ module _ {t : Float} (t0 : Nonneg t) where
         let X = rank x in
         let Y = rank y in
         let xy = wide-pos t0 gx gy wide in
-        let k = end-walk m M rn f in
-        let v = visits-counts t0 B W m M x y gx gy wide rn f (start w made) (start-walk m M) (omega arith) (omega (arith, has-one X Y (rank (w .b0)) (rank (w .b1)))) in
+        let k = walked-ok m M rn f in
+        let v = visits-counts t0 B W m M x y gx gy wide rn f (start w made) (start-ok m M) (omega arith) (omega (arith, has-one X Y (rank (w .b0)) (rank (w .b1)))) in
         let a = wcount-append X Y (walked rn .survivors) (news rn) in
         let b = fresh-count X Y (w .src) (walked rn .made) (wideOf t (walked rn .keep)) in
         let c = wide-count t0 X Y (walked rn .keep) in
@@ -188,7 +188,7 @@ module _ {t : Float} (t0 : Nonneg t) where
       mid-wide : All (Wide t) (mid rn)
       mid-wide =
           let f = fine-rn (top rn) (all-top rn (top rn) (le-refl (top rn))) in
-          all-append (Wide t) (walked rn .survivors) (news rn) (all-map (wide-of (low rn) (top rn)) (walked rn .survivors) (end-walk (low rn) (top rn) rn f .fine)) (all-map (wide-of (rank (w .b0)) (rank (w .b1))) (news rn) (news-fine (low rn) (top rn) rn f))
+          all-append (Wide t) (walked rn .survivors) (news rn) (all-map (wide-of (low rn) (top rn)) (walked rn .survivors) (walked-ok (low rn) (top rn) rn f .fine)) (all-map (wide-of (rank (w .b0)) (rank (w .b1))) (news rn) (news-fine (low rn) (top rn) rn f))
 
       left-wide : All (Wide t) left
       left-wide = all-append (Wide t) pre (sorted (mid rn) ++ suf) s-pre (all-append (Wide t) (sorted (mid rn)) suf (sorted-all (Wide t) (mid rn) mid-wide) s-suf)
@@ -197,7 +197,7 @@ module _ {t : Float} (t0 : Nonneg t) where
       mid-low =
           let f = fine-rn (top rn) (all-top rn (top rn) (le-refl (top rn))) in
           let i = low-w rn in
-          all-append (λ (u : Window). low rn ≤ rank (u .b0)) (walked rn .survivors) (news rn) (all-map (λ x k. k .low) (walked rn .survivors) (end-walk (low rn) (top rn) rn f .fine)) (all-map (λ x k. let j = k .low in omega arith) (news rn) (news-fine (low rn) (top rn) rn f))
+          all-append (λ (u : Window). low rn ≤ rank (u .b0)) (walked rn .survivors) (news rn) (all-map (λ x k. k .low) (walked rn .survivors) (walked-ok (low rn) (top rn) rn f .fine)) (all-map (λ x k. let j = k .low in omega arith) (news rn) (news-fine (low rn) (top rn) rn f))
 
       sorted-mid : From (low rn) (sorted (mid rn))
       sorted-mid = sorted-from (low rn) (mid rn) (all-map (λ x k. k .point0) (mid rn) mid-wide) mid-low
@@ -227,7 +227,7 @@ module _ {t : Float} (t0 : Nonneg t) where
                 let y : ⊥ = omega (arith, has-yes (rank (q .b0)) (rank (q .b1)) {a = rank (v .b0)} {b = rank (v .b1)} i (g .high)) in
                 absurd y
           ])
-          (walked rn .survivors) (end-walk m (rank (v .b1)) rn f .fine) (each-holds (walked rn .survivors) (walked rn .survivors) (λ X Y. le-refl (wcount X Y (walked rn .survivors)))))
+          (walked rn .survivors) (walked-ok m (rank (v .b1)) rn f .fine) (each-holds (walked rn .survivors) (walked rn .survivors) (λ X Y. le-refl (wcount X Y (walked rn .survivors)))))
           (all-map (λ q k. let p = wide-pos t0 (k .point0) (k .point1) (k .wide) in let j = k .high in let i = highs .0 in omega arith) (news rn) (news-fine m (rank (v .b1)) rn f))
 
     left-from : (pre rn suf : List Window) (tidy : Tidy t (pre ++ (rn ++ suf))) (lows : All (λ (u : Window). rank (u .b1) ≤ rank (w .b0)) pre) (highs : All (λ (u : Window). rank (w .b1) ≤ rank (u .b0)) suf) → From 0 (pre ++ (sorted (mid rn) ++ suf))
@@ -273,3 +273,10 @@ module _ {t : Float} (t0 : Nonneg t) where
     pub add-tidy : (l : List Window) → Tidy t l → Tidy t (addTo better t w l made .live)
     unfolding addTo
     add-tidy l h = left-tidy (before t w l) (run t w l) (behind t w l) (subst (Tidy t) (parted l) h) (lows-of l h) (highs-of l h)
+
+    -- the run's windows, for the walk
+    pub run-fine : (l : List Window) → Tidy t l → All (FineWindow t 0 (top (run t w l))) (run t w l)
+    run-fine l h =
+        let rn = run t w l in
+        let s = all-left (Wide t) rn (behind t w l) (all-right (Wide t) (before t w l) (rn ++ behind t w l) (subst (All (Wide t)) (parted l) (h .wides))) in
+        fine-of 0 (top rn) rn s (all-map (λ u k. zero-le) rn s) (all-top rn (top rn) (le-refl (top rn)))
