@@ -6,3 +6,4 @@ pub mod Run
 pub mod Order
 pub mod Slivers
 pub mod Bound
+pub mod Cover
