@@ -14,12 +14,13 @@ use Rattle.source.specs.declared.Src.{Src}
 use Rattle.float64.specs.Scalar as scalar
 use Rattle.trim_model.specs.Intervals.{Interval, interval, width, pushIf, sliver, cuts, nextOf, next, pieces, pieceSlivers, wideOf, keepSlivers}
 use Rattle.trim_model.specs.Windows.{Window, fresh, split, insert, sorted}
-use Rattle.trim_model.specs.Add.{Better, Walk, untouched, meet, visit, visits, sharedLo, sharedHi}
+use Rattle.trim_model.specs.Add.{Better, Walk, before, run, behind, start, untouched, meet, visit, visits, addTo, sharedLo, sharedHi}
 use Rattle.trim_model.specs.Claim.{All, Any, Point}
 use Rattle.trim_model.proofs.Ranks.{rank, max-point, max-rank, min-point, min-rank, width-pos, lt-no, le-no, Nonneg, slim-no, by-cases, and-both}
 use Rattle.trim_model.proofs.Intervals.{Rise, Gaps, rise-le}
 use Rattle.trim_model.proofs.Windows.{Wide, FineWindow}
 use Rattle.trim_model.proofs.Run.{Spaced, Stretches, shared, inside, WalkOk, met, visit-walk}
+use Rattle.trim_model.proofs.Order.{Tidy, top, start-ok, walked-ok, parted, run-fine}
 
 module _ {A : Type 0} where
   pub any-left : (P : A → Type 0) (l m : List A) → Any P l → Any P (l ++ m)
@@ -374,3 +375,43 @@ module _ {t : Float} (t0 : Nonneg t) (X : ℕ) where
     visits-cov [] f s k c (inr a) = absurd a
     visits-cov (u ∷ us) f s k c (inl a) = visits-cov us (f .1) (visit better t w u s) (visit-walk t0 B W m M u (f .0) s k) (λ i. visit-cov u (f .0) s k (c i)) (inl (visit-cov u (f .0) s k a))
     visits-cov (u ∷ us) f s k c (inr a) = visits-cov us (f .1) (visit better t w u s) (visit-walk t0 B W m M u (f .0) s k) (λ i. visit-cov u (f .0) s k (c i)) (either (λ i. inl (visit-own u (f .0) s k c i)) inr a)
+
+-- a point of the new window, or of a live one, lies in a live window or in a sliver after the addition
+module _ {t : Float} (t0 : Nonneg t) {better : Better} (B : Stretches better) {w : Window} (W : Wide t w) (made X : ℕ) (l : List Window) (h : Tidy t l) where
+  abbrev pre : List Window
+  pre = before t w l
+
+  abbrev rn : List Window
+  rn = run t w l
+
+  abbrev suf : List Window
+  suf = behind t w l
+
+  abbrev s : Walk
+  s = visits better t w rn (start w made)
+
+  abbrev news : List Window
+  news = fresh (w .src) (s .made) (wideOf t (s .keep))
+
+  abbrev After : Type 0
+  After = Any (HoldsWindow X) (pre ++ (sorted (s .survivors ++ news) ++ suf)) ⊎ Any (Holds X) (s .slivers ++ keepSlivers t (s .keep))
+
+  middle : Any (HoldsWindow X) (s .survivors ++ news) → Any (HoldsWindow X) (pre ++ (sorted (s .survivors ++ news) ++ suf))
+  middle i = any-right (HoldsWindow X) pre (sorted (s .survivors ++ news) ++ suf) (any-left (HoldsWindow X) (sorted (s .survivors ++ news)) suf (sorted-any X (s .survivors ++ news) i))
+
+  ended : Covered t0 X B W 0 (top rn) s → After
+  ended (in-live i) = inl (middle (any-left (HoldsWindow X) (s .survivors) news i))
+  ended (in-sliver i) = inr (any-left (Holds X) (s .slivers) (keepSlivers t (s .keep)) i)
+  ended (in-keep i) = either (λ r. inl (middle (any-right (HoldsWindow X) (s .survivors) news (fresh-any X (w .src) (s .made) (wideOf t (s .keep)) r)))) (λ r. inr (any-right (Holds X) (s .slivers) (keepSlivers t (s .keep)) r))
+      (kept-cover t0 X (rank (w .b0)) (s .keep) (rank (w .b1)) (walked-ok t0 B W made 0 (top rn) rn (run-fine t0 B W made l h) .rise) i)
+
+  in-run : Covered t0 X B W 0 (top rn) (start w made) ⊎ Any (HoldsWindow X) rn → After
+  in-run i = ended (visits-cov t0 X B W 0 (top rn) rn (run-fine t0 B W made l h) (start w made) (start-ok t0 B W made 0 (top rn)) (λ j. in-keep (inl j)) i)
+
+  outside : Any (HoldsWindow X) pre ⊎ Any (HoldsWindow X) (rn ++ suf) → After
+  outside (inl i) = inl (any-left (HoldsWindow X) pre (sorted (s .survivors ++ news) ++ suf) i)
+  outside (inr i) = either (λ j. in-run (inr j)) (λ j. inl (any-right (HoldsWindow X) pre (sorted (s .survivors ++ news) ++ suf) (any-right (HoldsWindow X) (sorted (s .survivors ++ news)) suf j))) (any-split (HoldsWindow X) rn suf i)
+
+  pub add-cover : HoldsWindow X w ⊎ Any (HoldsWindow X) l → Any (HoldsWindow X) (addTo better t w l made .live) ⊎ Any (Holds X) (addTo better t w l made .slivers)
+  unfolding addTo
+  add-cover a = either (λ i. in-run (inl (in-keep (inl i)))) (λ i. outside (any-split (HoldsWindow X) pre (rn ++ suf) (subst (Any (HoldsWindow X)) (parted t0 B W made l) i))) a

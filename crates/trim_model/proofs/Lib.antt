@@ -7,3 +7,4 @@ pub mod Order
 pub mod Slivers
 pub mod Bound
 pub mod Cover
+pub mod Model
