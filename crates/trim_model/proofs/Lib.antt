@@ -8,3 +8,4 @@ pub mod Slivers
 pub mod Bound
 pub mod Cover
 pub mod Model
+pub mod Demand3

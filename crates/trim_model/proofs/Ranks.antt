@@ -62,7 +62,7 @@ module _ {x y : Float} (g : Point x) (k : Point y) where
   unfolding rank
   min-rank = rank-min binary64 x y (held g) (held k)
 
-  width-number : Number (width x y)
+  pub width-number : Number (width x y)
   width-number = sub-number binary64 y x (k .number) (g .number)
 
   pub width-pos : rank x < rank y → T (lt zero (width x y))
@@ -130,7 +130,6 @@ tiny-nonneg len g h = record { nonneg = mul-nonneg binary64 (ofBits binary64 0x3
 pub by-cases : (P : Bool → Type 0) (b : Bool) → (T b → P true) → (T (not b) → P false) → P b
 by-cases P true f g = f tt
 by-cases P false f g = g tt
-
 
 pub and-first : (a b : Bool) → T (a && b) → T a
 and-first true b h = tt
