@@ -1,4 +1,4 @@
--- How many parts hold [X, Y], by ranks. Assumes nothing.
+-- Whether an interval holds [X, Y], as 1 or 0, by ranks: to be added up over a list. Assumes nothing.
 use Prim.Native.Nat.{ℕ, _+_, _-_, _≤_, _<_}
 use mathlib.Core.Path.{_≡_}
 use native.Mathlib.Decide.{decLe}

@@ -1,6 +1,11 @@
--- Every point of the new window and of the old ones lies in a live window or in a sliver. Assumes nothing.
+-- Every point of the new window and of the live ones lies in a live window or in a sliver after the addition. Assumes nothing.
+--
+-- The loop over the run keeps: each point of the new window lies in a survivor, in `keep` or in a sliver. A point of `keep` that one turn gives up lies in the part shared with u. There it
+-- is ground that u keeps, or a sliver of u (`pieces-cover`), or it lies in a stretch: then the cut with that stretch keeps it (`cuts-cover`), unless the cut is the single point at an end
+-- of the stretch; but there the stretch borders on ground of u, which holds its ends too (`edge-right`, `edge-left`: this is where the stretches must be apart). A point that u gives up
+-- lies in a stretch, so in the new window, where the invariant holds it already (`meet-own`).
 use Prim.Native.Nat.{ℕ, zero, suc, _≤_, _<_}
-use mathlib.Core.Bool.{Bool, true, false, not, cond, _&&_}
+use mathlib.Core.Bool.{Bool, not, cond, _&&_}
 use mathlib.Core.List.{List, [], _∷_, _++_}
 use mathlib.Core.Logic.{_⊎_, inl, inr}
 use mathlib.Core.Path.{_≡_, sym, subst}
@@ -17,33 +22,11 @@ use Rattle.trim_model.specs.Windows.{Window, fresh, split, insert, sorte
 use Rattle.trim_model.specs.Add.{Better, Walk, before, run, behind, start, untouched, meet, visit, visits, addTo, sharedLo, sharedHi}
 use Rattle.trim_model.specs.Claim.{All, Any, Point}
 use Rattle.trim_model.proofs.Ranks.{rank, max-point, max-rank, min-point, min-rank, width-pos, lt-no, le-no, Nonneg, slim-no, by-cases, and-both}
+use Rattle.trim_model.proofs.Lists.{any-left, any-right, any-split, any-if, either}
 use Rattle.trim_model.proofs.Intervals.{Rise, Gaps, rise-le}
 use Rattle.trim_model.proofs.Windows.{Wide, FineWindow}
 use Rattle.trim_model.proofs.Run.{Spaced, Stretches, shared, inside, WalkOk, met, visit-walk}
 use Rattle.trim_model.proofs.Order.{Tidy, top, start-ok, walked-ok, parted, run-fine}
-
-module _ {A : Type 0} where
-  pub any-left : (P : A → Type 0) (l m : List A) → Any P l → Any P (l ++ m)
-  any-left P [] m h = absurd h
-  any-left P (x ∷ xs) m (inl h) = inl h
-  any-left P (x ∷ xs) m (inr h) = inr (any-left P xs m h)
-
-  pub any-right : (P : A → Type 0) (l m : List A) → Any P m → Any P (l ++ m)
-  any-right P [] m h = h
-  any-right P (x ∷ xs) m h = inr (any-right P xs m h)
-
-  pub any-split : (P : A → Type 0) (l m : List A) → Any P (l ++ m) → Any P l ⊎ Any P m
-  any-split P [] m h = inr h
-  any-split P (x ∷ xs) m (inl h) = inl (inl h)
-  any-split P (x ∷ xs) m (inr h) = elim (any-split P xs m h) [ inl k ↦ inl (inr k) | inr k ↦ inr k ]
-
-  any-if : (P : A → Type 0) (b : Bool) (x : A) → T b → P x → Any P (pushIf b x)
-  any-if P true x h k = inl k
-  any-if P false x h k = absurd h
-
-pub either : {A B C : Type 0} → (A → C) → (B → C) → A ⊎ B → C
-either f g (inl a) = f a
-either f g (inr b) = g b
 
 module _ (X : ℕ) where
   -- the point of rank X lies in an interval, in a window, ends included
@@ -81,7 +64,7 @@ module _ (X : ℕ) where
   sorted-any (u ∷ us) h = either (insert-here u (sorted us)) (λ k. insert-there u (sorted us) (sorted-any us k)) h
 
 module _ {t : Float} (t0 : Nonneg t) (X : ℕ) where
-  -- a interval that is no wider than t is a sliver
+  -- an interval no wider than t is a sliver
   dropped : (a b : Float) → Point a → Point b → rank a < rank b → T (le (width a b) t) → rank a ≤ X → X ≤ rank b → Any (Holds X) (sliver t a b)
   unfolding sliver
   dropped a b ga gb z l i j = any-if (Holds X) (lt scalar.zero (width a b) && le (width a b) t) (interval a b) (and-both (lt scalar.zero (width a b)) (le (width a b) t) (width-pos ga gb z) l) (i, j)
@@ -117,7 +100,7 @@ module _ {t : Float} (t0 : Nonneg t) (X : ℕ) where
 
   -- the next start of the walk is the end of the stretch
   record Next (at : Float) (g : Interval) (gs : List Interval) (q : ℕ) : Type 0 where
-    good : Point (maxOf at (g .to))
+    point : Point (maxOf at (g .to))
     is : rank (maxOf at (g .to)) ≡ rank (g .to)
     rise : Rise (rank (maxOf at (g .to))) gs q
 
@@ -126,7 +109,7 @@ module _ {t : Float} (t0 : Nonneg t) (X : ℕ) where
       let s = h .0 in
       let e = max-rank ga (s .point1) in
       let f : rank (maxOf at (g .to)) ≡ rank (g .to) = omega arith in
-      record { good = max-point ga (s .point1); is = f; rise = subst (λ (n : ℕ). Rise n gs q) (sym f) (h .1) }
+      record { point = max-point ga (s .point1); is = f; rise = subst (λ (n : ℕ). Rise n gs q) (sym f) (h .1) }
 
   -- a point of [at, b1] is left, or lies in a stretch
   pieces-cover : (at b1 : Float) → Point at → Point b1 → (g : Interval) (gs : List Interval) → Rise (rank at) (g ∷ gs) (rank b1) → rank at ≤ X → X ≤ rank b1 → Left at b1 (g ∷ gs) ⊎ Any (Holds X) (g ∷ gs)
@@ -139,7 +122,7 @@ module _ {t : Float} (t0 : Nonneg t) (X : ℕ) where
           | yes l ↦ inr (inl (l, k))
           | no f ↦ inl (left-here at b1 g [] ga (s .point0) (omega arith) i (omega arith))
         ]
-        | no f ↦ inl (left-there at b1 g [] (left-end (maxOf at (g .to)) b1 (n .good) gb (omega arith) (omega arith) j))
+        | no f ↦ inl (left-there at b1 g [] (left-end (maxOf at (g .to)) b1 (n .point) gb (omega arith) (omega arith) j))
       ]
   pieces-cover at b1 ga gb g (g' ∷ gs) h i j =
       let s = h .0 in
@@ -150,7 +133,7 @@ module _ {t : Float} (t0 : Nonneg t) (X : ℕ) where
           | yes l ↦ inr (inl (l, k))
           | no f ↦ inl (left-here at b1 g (g' ∷ gs) ga (s .point0) (omega arith) i (omega arith))
         ]
-        | no f ↦ either (λ r. inl (left-there at b1 g (g' ∷ gs) r)) (λ r. inr (inr r)) (pieces-cover (maxOf at (g .to)) b1 (n .good) gb g' gs (n .rise) (omega arith) j)
+        | no f ↦ either (λ r. inl (left-there at b1 g (g' ∷ gs) r)) (λ r. inr (inr r)) (pieces-cover (maxOf at (g .to)) b1 (n .point) gb g' gs (n .rise) (omega arith) j)
       ]
 
   -- the end of a stretch, and its start, border on ground
@@ -159,30 +142,30 @@ module _ {t : Float} (t0 : Nonneg t) (X : ℕ) where
   edge-right at b1 ga gb (g ∷ []) h sp (inl a) z =
       let n = onto at ga g [] (rank b1) h in
       let e = n .is in
-      left-there at b1 g [] (left-end (maxOf at (g .to)) b1 (n .good) gb (omega arith) (omega arith) (omega arith))
+      left-there at b1 g [] (left-end (maxOf at (g .to)) b1 (n .point) gb (omega arith) (omega arith) (omega arith))
   edge-right at b1 ga gb (g ∷ []) h sp (inr a) z = absurd a
   edge-right at b1 ga gb (g ∷ g' ∷ gs) h sp (inl a) z =
       let n = onto at ga g (g' ∷ gs) (rank b1) h in
       let e = n .is in
       let k = sp .0 in
-      left-there at b1 g (g' ∷ gs) (left-here (maxOf at (g .to)) b1 g' gs (n .good) (h .1 .0 .point0) (omega arith) (omega arith) (omega arith))
+      left-there at b1 g (g' ∷ gs) (left-here (maxOf at (g .to)) b1 g' gs (n .point) (h .1 .0 .point0) (omega arith) (omega arith) (omega arith))
   edge-right at b1 ga gb (g ∷ g' ∷ gs) h sp (inr a) z =
       let n = onto at ga g (g' ∷ gs) (rank b1) h in
-      left-there at b1 g (g' ∷ gs) (edge-right (maxOf at (g .to)) b1 (n .good) gb (g' ∷ gs) (n .rise) (sp .1) a z)
+      left-there at b1 g (g' ∷ gs) (edge-right (maxOf at (g .to)) b1 (n .point) gb (g' ∷ gs) (n .rise) (sp .1) a z)
 
   edge-left-gaps : (at b1 : Float) → Point at → Point b1 → (gs : List Interval) → Rise (rank at) gs (rank b1) → Gaps (rank at) gs → Any (λ (g : Interval). rank (g .from) ≡ X) gs → Left at b1 gs
   edge-left-gaps at b1 ga gb [] h sp a = absurd a
   edge-left-gaps at b1 ga gb (g ∷ gs) h sp (inl a) = let k = sp .0 in left-here at b1 g gs ga (h .0 .point0) k (omega arith) (omega arith)
   edge-left-gaps at b1 ga gb (g ∷ gs) h sp (inr a) =
       let n = onto at ga g gs (rank b1) h in
-      left-there at b1 g gs (edge-left-gaps (maxOf at (g .to)) b1 (n .good) gb gs (n .rise) (subst (λ (x : ℕ). Gaps x gs) (sym (n .is)) (sp .1)) a)
+      left-there at b1 g gs (edge-left-gaps (maxOf at (g .to)) b1 (n .point) gb gs (n .rise) (subst (λ (x : ℕ). Gaps x gs) (sym (n .is)) (sp .1)) a)
 
   edge-left : (at b1 : Float) → Point at → Point b1 → (gs : List Interval) → Rise (rank at) gs (rank b1) → Spaced gs → Any (λ (g : Interval). rank (g .from) ≡ X) gs → rank at < X → Left at b1 gs
   edge-left at b1 ga gb [] h sp a z = absurd a
   edge-left at b1 ga gb (g ∷ gs) h sp (inl a) z = left-here at b1 g gs ga (h .0 .point0) (omega arith) (omega arith) (omega arith)
   edge-left at b1 ga gb (g ∷ gs) h sp (inr a) z =
       let n = onto at ga g gs (rank b1) h in
-      left-there at b1 g gs (edge-left-gaps (maxOf at (g .to)) b1 (n .good) gb gs (n .rise) (subst (λ (x : ℕ). Gaps x gs) (sym (n .is)) sp) a)
+      left-there at b1 g gs (edge-left-gaps (maxOf at (g .to)) b1 (n .point) gb gs (n .rise) (subst (λ (x : ℕ). Gaps x gs) (sym (n .is)) sp) a)
 
   -- ---- what is cut of the new window
   data Cut (o0 o1 : Float) (gs : List Interval) : Type 0 where

@@ -12,14 +12,14 @@ use Rattle.trim_model.specs.Intervals.{Interval, width, tinyOf}
 use Rattle.trim_model.specs.Windows.{Window}
 use Rattle.trim_model.specs.Add.{Better}
 use Rattle.trim_model.specs.Model.{EdgeState, empty, steps, stepsBound}
-use Rattle.trim_model.specs.Claim.{All, Any, Pairs, Point, Stretch, Separates, Trimmed, Demand3}
+use Rattle.trim_model.specs.Claim.{All, Pairs, Point, Stretch, Separates, Trimmed, Demand3}
 use Rattle.trim_model.proofs.Ranks.{rank, le-yes, rank-le, lt-yes, rank-lt, max-point, max-rank, min-point, min-rank, width-number}
 use Rattle.trim_model.proofs.Count.{has, has-yes}
+use Rattle.trim_model.proofs.Lists.{all-map, all-map2, any-of, either}
 use Rattle.trim_model.proofs.Intervals.{Rise, Gaps, count}
-use Rattle.trim_model.proofs.Windows.{all-map, all-map2, wcount, Steps, Ordered, steps-all, Wide}
+use Rattle.trim_model.proofs.Windows.{wcount, counted, Steps, Ordered, steps-all, Wide}
 use Rattle.trim_model.proofs.Run.{Spaced, Stretches}
 use Rattle.trim_model.proofs.Order.{Lone}
-use Rattle.trim_model.proofs.Cover.{either}
 use Rattle.trim_model.proofs.Model.{EdgeOk, model-ok}
 
 -- ---- `better`, by ranks
@@ -58,12 +58,6 @@ module _ (t : Float) where
   order-of [] s o = tt
   order-of (u ∷ us) s o = (all-map2 (λ v k c. (rank-lt (s .0 .point0) (k .point0) (c .0), rank-lt (s .0 .point1) (k .point1) (c .1))) us (s .1) (steps-all u us o), order-of us (s .1) (tail-ordered u us o))
 
-  -- a window of a list is counted in it
-  counted : (l S : List Window) → ((X Y : ℕ) → wcount X Y l ≤ wcount X Y S) → All (λ (v : Window). (X Y : ℕ) → has X Y (rank (v .b0)) (rank (v .b1)) ≤ wcount X Y S) l
-  unfolding wcount
-  counted [] S f = tt
-  counted (u ∷ us) S f = (λ X Y. omega (arith, f X Y), counted us S (λ X Y. omega (arith, f X Y)))
-
   -- both windows hold what they share: if it were wider than t, it would be held twice
   shares-of : (l : List Window) → All (Wide t) l → Lone t l → Pairs (λ (u v : Window). T (le (width (maxOf (u .b0) (v .b0)) (minOf (u .b1) (v .b1))) t)) l
   unfolding wcount
@@ -86,12 +80,6 @@ module _ (t : Float) where
             | inl i ↦ i
             | inr i ↦ let z : ⊥ = omega (arith, a x y gx gy i, c (rank x) (rank y), has-yes (rank x) (rank y) u0 u1, has-yes (rank x) (rank y) v0 v1) in absurd z
           ]
-
--- by an element's own property
-any-of : {A : Type 0} {P Q R : A → Type 0} → ((x : A) → P x → Q x → R x) → (l : List A) → All P l → Any Q l → Any R l
-any-of f [] a h = h
-any-of f (x ∷ xs) a (inl h) = inl (f x (a .0) h)
-any-of f (x ∷ xs) a (inr h) = inr (any-of f xs (a .1) h)
 
 trimmed : (t : Float) (n : ℕ) (s : EdgeState) → EdgeOk t n s → Trimmed t n s
 trimmed t n s k =

@@ -112,7 +112,7 @@ next-rise lo hi gl gh p q gs R a (k ∷ ks) b h =
     (rise-append (rank (k .from)) (nextOf lo hi gs k) (rank (k .to)) (next lo hi gs ks) b (next-of-rise lo hi gl gh p q gs R k (s .point0) (s .point1) (s .rises)) (next-rise lo hi gl gh p q gs R (rank (k .to)) ks b (h .1)))
 
 module _ (X Y : ℕ) (XY : X < Y) where
-  -- a interval that is cut is held no more often
+  -- [X, Y] is held no more often than before
   pub next-count : (lo hi : Float) → Point lo → Point hi → (p q : ℕ) (gs : List Interval) → Rise p gs q → (a : ℕ) (ks : List Interval) (b : ℕ) → Rise a ks b → count X Y (next lo hi gs ks) ≤ count X Y ks
   unfolding next count
   next-count lo hi gl gh p q gs R a [] b h = omega arith

@@ -1,4 +1,5 @@
 pub mod Ranks
+pub mod Lists
 pub mod Count
 pub mod Intervals
 pub mod Windows

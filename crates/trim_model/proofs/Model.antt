@@ -16,12 +16,13 @@ use Rattle.trim_model.specs.Add.{Better, Added, addTo, addBound}
 use Rattle.trim_model.specs.Model.{Candidate, EdgeState, Model, empty, asWindow, admits, updated, admit, step, steps, stepBound, stepsBound}
 use Rattle.trim_model.specs.Claim.{All, Any, Point, Proper}
 use Rattle.trim_model.proofs.Ranks.{Nonneg, wide-no, tiny-nonneg, by-cases}
-use Rattle.trim_model.proofs.Windows.{all-append, wcount, Wide}
+use Rattle.trim_model.proofs.Lists.{all-append, any-left, any-right, any-split, either}
+use Rattle.trim_model.proofs.Windows.{wcount, Wide}
 use Rattle.trim_model.proofs.Run.{Stretches}
 use Rattle.trim_model.proofs.Order.{Tidy, add-tidy}
 use Rattle.trim_model.proofs.Slivers.{Sliver, add-slivers}
 use Rattle.trim_model.proofs.Bound.{add-few}
-use Rattle.trim_model.proofs.Cover.{any-left, any-right, any-split, either, Holds, HoldsWindow, add-cover}
+use Rattle.trim_model.proofs.Cover.{Holds, HoldsWindow, add-cover}
 
 -- between points
 abbrev pub Between : Interval → Type 0

@@ -17,8 +17,9 @@ use Rattle.trim_model.specs.Add.{Better, Walk, startsBefore, endsAfter, 
 use Rattle.trim_model.specs.Claim.{All, Point}
 use Rattle.trim_model.proofs.Ranks.{rank, Nonneg, wide-pos}
 use Rattle.trim_model.proofs.Count.{has, has-yes, has-one, view, holds, misses}
+use Rattle.trim_model.proofs.Lists.{all-map, all-map2, all-append, all-left, all-right, take-drop, drop-take-end}
 use Rattle.trim_model.proofs.Intervals.{count, rise-count}
-use Rattle.trim_model.proofs.Windows.{all-map, all-map2, all-append, all-left, all-right, take-drop, drop-take-end, wcount, wcount-append, fresh-count, sorted-count, wcount-low, wcount-high, Ordered, steps-all, ordered-left, ordered-right, ordered-cross, From, from-append, from-nil, ordered-from, Wide, FineWindow, sorted-all, sorted-from, before-low, behind-high}
+use Rattle.trim_model.proofs.Windows.{wcount, wcount-append, fresh-count, sorted-count, wcount-low, wcount-high, counted, Ordered, steps-all, ordered-left, ordered-right, ordered-cross, From, from-append, from-nil, ordered-from, Wide, FineWindow, sorted-all, sorted-from, before-low, behind-high}
 use Rattle.trim_model.proofs.Run.{Stretches, WalkOk, wide-fine, wide-count, fresh-fine, visits-walk, visits-counts}
 
 -- each [x, y] wider than t is held by one window of l at most
@@ -31,10 +32,8 @@ pub record Tidy (t : Float) (l : List Window) : Type 0 where
   pub lone : Lone t l
 
 -- each window of l holds itself
-pub each-holds : (l S : List Window) → ((X Y : ℕ) → wcount X Y l ≤ wcount X Y S) → All (λ (q : Window). 1 ≤ wcount (rank (q .b0)) (rank (q .b1)) S) l
-unfolding wcount
-each-holds [] S f = tt
-each-holds (u ∷ us) S f = (omega (arith, f (rank (u .b0)) (rank (u .b1)), has-yes (rank (u .b0)) (rank (u .b1)) (le-refl (rank (u .b0))) (le-refl (rank (u .b1)))), each-holds us S (λ X Y. omega (arith, f X Y)))
+pub each-holds : (l : List Window) → All (λ (q : Window). 1 ≤ wcount (rank (q .b0)) (rank (q .b1)) l) l
+each-holds l = all-map (λ q c. omega (arith, c (rank (q .b0)) (rank (q .b1)), has-yes (rank (q .b0)) (rank (q .b1)) (le-refl (rank (q .b0))) (le-refl (rank (q .b1))))) l (counted l l (λ X Y. le-refl (wcount X Y l)))
 
 -- the highest end
 unfoldable pub top : List Window → ℕ
@@ -227,7 +226,7 @@ module _ {t : Float} (t0 : Nonneg t) where
                 let y : ⊥ = omega (arith, has-yes (rank (q .b0)) (rank (q .b1)) {a = rank (v .b0)} {b = rank (v .b1)} i (g .high)) in
                 absurd y
           ])
-          (walked rn .survivors) (walked-ok m (rank (v .b1)) rn f .fine) (each-holds (walked rn .survivors) (walked rn .survivors) (λ X Y. le-refl (wcount X Y (walked rn .survivors)))))
+          (walked rn .survivors) (walked-ok m (rank (v .b1)) rn f .fine) (each-holds (walked rn .survivors)))
           (all-map (λ q k. let p = wide-pos t0 (k .point0) (k .point1) (k .wide) in let j = k .high in let i = highs .0 in omega arith) (news rn) (news-fine m (rank (v .b1)) rn f))
 
     left-from : (pre rn suf : List Window) (tidy : Tidy t (pre ++ (rn ++ suf))) (lows : All (λ (u : Window). rank (u .b1) ≤ rank (w .b0)) pre) (highs : All (λ (u : Window). rank (w .b1) ≤ rank (u .b0)) suf) → From 0 (pre ++ (sorted (mid rn) ++ suf))

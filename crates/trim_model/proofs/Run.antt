@@ -19,8 +19,9 @@ use Rattle.trim_model.specs.Add.{Better, Walk, untouched, meet, visit, v
 use Rattle.trim_model.specs.Claim.{All, Point}
 use Rattle.trim_model.proofs.Ranks.{rank, max-point, max-rank, min-point, min-rank, Nonneg, wide-pos, wide-no, wide-mono, slim, by-cases}
 use Rattle.trim_model.proofs.Count.{has, has-one, view, holds, misses}
+use Rattle.trim_model.proofs.Lists.{all-append}
 use Rattle.trim_model.proofs.Intervals.{Rise, Gaps, rise-le, rise-start, count, count-append, count-if, rise-count, next-rise, next-count, next-none, pieces-count}
-use Rattle.trim_model.proofs.Windows.{all-append, wcount, wcount-append, split-count, Wide, FineInterval, FineWindow}
+use Rattle.trim_model.proofs.Windows.{wcount, wcount-append, split-count, Wide, FineInterval, FineWindow}
 
 pub rise-end : (p : ℕ) (l : List Interval) (q q' : ℕ) → q ≤ q' → Rise p l q → Rise p l q'
 rise-end p [] q q' i h = le-trans h i
@@ -149,7 +150,7 @@ module _ {t : Float} (t0 : Nonneg t) where
       xy : X < Y
       xy = wide-pos t0 gx gy wide
 
-      -- P of u's pieces, G stretches, K of the parts kept
+      -- P of u's pieces, G stretches, K of `keep`
       apart-of : (u : Window) → Shared w u → (P G K : ℕ) → P + G ≤ has X Y (rank (u .b0)) (rank (u .b1)) → K ≤ has X Y (rank (w .b0)) (rank (w .b1)) → (rank (sharedLo w u) ≤ X → Y ≤ rank (sharedHi w u) → G ≡ 0 → K ≡ 0) → P + K ≤ 1
       apart-of u h P G K p k z = elim (view X Y (rank (u .b0)) (rank (u .b1))) [
         | misses f e ↦ omega (arith, has-one X Y (rank (w .b0)) (rank (w .b1)))

@@ -11,8 +11,9 @@ use Rattle.trim_model.specs.Windows.{Window}
 use Rattle.trim_model.specs.Add.{Better, Walk, run, start, untouched, meet, visit, visits, addTo, sharedLo, sharedHi}
 use Rattle.trim_model.specs.Claim.{All, Point}
 use Rattle.trim_model.proofs.Ranks.{rank, max-point, Nonneg, by-cases, and-first, and-second}
+use Rattle.trim_model.proofs.Lists.{all-append}
 use Rattle.trim_model.proofs.Intervals.{Rise}
-use Rattle.trim_model.proofs.Windows.{all-append, Wide, FineWindow}
+use Rattle.trim_model.proofs.Windows.{Wide, FineWindow}
 use Rattle.trim_model.proofs.Run.{Stretches, shared, met}
 use Rattle.trim_model.proofs.Order.{Tidy, top, walked-ok, run-fine}
 

@@ -1,8 +1,8 @@
--- Lists of windows: counted, ordered, sorted, parted into the run and its sides. Assumes nothing.
+-- Lists of windows: how many hold [X, Y], their order, sorting, and what stands before and behind the run, by ranks. Assumes nothing.
 use Prim.Native.Nat.{ℕ, suc, _+_, _≤_, _<_, zero-le}
 use mathlib.Core.Bool.{Bool, true, not, cond, _&&_}
 use mathlib.Core.List.{List, [], _∷_, _++_}
-use mathlib.Core.Path.{_≡_, refl, ap}
+use mathlib.Core.Path.{_≡_, refl}
 use native.Mathlib.Nat.{le-trans}
 use native.Mathlib.Omega.{arith}
 use lib.Dec.{T}
@@ -10,44 +10,13 @@ use lib.Ieee.{Float, binary64, add, sub, lt}
 use Rattle.float64.specs.TotalOrder.{totalLess}
 use Rattle.source.specs.declared.Src.{Src}
 use Rattle.trim_model.specs.Intervals.{Interval, width}
-use Rattle.trim_model.specs.Windows.{Window, fresh, split, insert, sorted, takeWhile, dropWhile, all, takeWhileEnd, dropWhileEnd}
+use Rattle.trim_model.specs.Windows.{Window, fresh, split, insert, sorted, dropWhile, all, dropWhileEnd}
 use Rattle.trim_model.specs.Add.{startsBefore, endsAfter}
 use Rattle.trim_model.specs.Claim.{All, Point}
 use Rattle.trim_model.proofs.Ranks.{rank, total-yes, total-no, Nonneg, run-left, run-right, by-cases}
 use Rattle.trim_model.proofs.Count.{has, has-left, has-right}
+use Rattle.trim_model.proofs.Lists.{all-map, all-right}
 use Rattle.trim_model.proofs.Intervals.{count}
-
--- ---- lists
-module _ {A : Type 0} where
-  pub all-map : {P Q : A → Type 0} → ((x : A) → P x → Q x) → (l : List A) → All P l → All Q l
-  all-map f [] h = tt
-  all-map f (x ∷ xs) h = (f x (h .0), all-map f xs (h .1))
-
-  pub all-map2 : {P Q R : A → Type 0} → ((x : A) → P x → Q x → R x) → (l : List A) → All P l → All Q l → All R l
-  all-map2 f [] h k = tt
-  all-map2 f (x ∷ xs) h k = (f x (h .0) (k .0), all-map2 f xs (h .1) (k .1))
-
-  pub all-append : (P : A → Type 0) (l m : List A) → All P l → All P m → All P (l ++ m)
-  all-append P [] m h k = k
-  all-append P (x ∷ xs) m h k = (h .0, all-append P xs m (h .1) k)
-
-  pub all-left : (P : A → Type 0) (l m : List A) → All P (l ++ m) → All P l
-  all-left P [] m h = tt
-  all-left P (x ∷ xs) m h = (h .0, all-left P xs m (h .1))
-
-  pub all-right : (P : A → Type 0) (l m : List A) → All P (l ++ m) → All P m
-  all-right P [] m h = h
-  all-right P (x ∷ xs) m h = all-right P xs m (h .1)
-
-  pub take-drop : (p : A → Bool) (l : List A) → takeWhile p l ++ dropWhile p l ≡ l
-  unfolding takeWhile dropWhile
-  take-drop p [] = refl
-  take-drop p (u ∷ us) = by-cases (λ (c : Bool). cond c (u ∷ takeWhile p us) [] ++ cond c (dropWhile p us) (u ∷ us) ≡ u ∷ us) (p u) (λ y. ap (λ (l : List A). u ∷ l) (take-drop p us)) (λ n. refl)
-
-  pub drop-take-end : (p : A → Bool) (l : List A) → dropWhileEnd p l ++ takeWhileEnd p l ≡ l
-  unfolding dropWhileEnd takeWhileEnd
-  drop-take-end p [] = refl
-  drop-take-end p (u ∷ us) = by-cases (λ (c : Bool). cond c [] (u ∷ dropWhileEnd p us) ++ cond c (u ∷ us) (takeWhileEnd p us) ≡ u ∷ us) (all p (u ∷ us)) (λ y. refl) (λ n. ap (λ (l : List A). u ∷ l) (drop-take-end p us))
 
 -- how many hold [X, Y]
 unfoldable pub wcount : ℕ → ℕ → List Window → ℕ
@@ -88,6 +57,12 @@ pub wcount-high : (X Y m : ℕ) (l : List Window) → X < m → All (λ (u : Win
 unfolding wcount
 wcount-high X Y m [] z h = refl
 wcount-high X Y m (u ∷ us) z h = let i = h .0 in let k : X < rank (u .b0) = omega arith in omega (arith, has-left X Y (rank (u .b0)) (rank (u .b1)) k, wcount-high X Y m us z (h .1))
+
+-- a window of a list is counted in it
+pub counted : (l S : List Window) → ((X Y : ℕ) → wcount X Y l ≤ wcount X Y S) → All (λ (v : Window). (X Y : ℕ) → has X Y (rank (v .b0)) (rank (v .b1)) ≤ wcount X Y S) l
+unfolding wcount
+counted [] S f = tt
+counted (u ∷ us) S f = (λ X Y. omega (arith, f X Y), counted us S (λ X Y. omega (arith, f X Y)))
 
 -- ---- orders
 abbrev pub Steps : Window → List Window → Type 0
