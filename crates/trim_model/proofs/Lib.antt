@@ -10,3 +10,4 @@ pub mod Bound
 pub mod Cover
 pub mod Model
 pub mod Demand3
+pub mod Worked
