@@ -19,9 +19,9 @@ use Rattle.trim_model.specs.Add.{Better, Walk, before, run, behind, star
 use Rattle.trim_model.specs.Claim.{All, Point}
 use Rattle.trim_model.proofs.Ranks.{rank, lt-yes, max-point, max-rank, min-point, min-rank, le-no, Nonneg, by-cases}
 use Rattle.trim_model.proofs.Intervals.{Rise}
-use Rattle.trim_model.proofs.Windows.{Wide, FineWindow}
+use Rattle.trim_model.proofs.Windows.{parted, Wide, FineWindow}
 use Rattle.trim_model.proofs.Run.{Stretches, shared, WalkOk, met, visit-walk}
-use Rattle.trim_model.proofs.Order.{Tidy, top, start-ok, parted, run-fine}
+use Rattle.trim_model.proofs.Order.{Tidy, top, start-ok, run-fine}
 
 -- 1 where p < q, and 0 elsewhere
 more : ℕ → ℕ → ℕ
@@ -224,7 +224,7 @@ add-few {t} t0 {better} B {w} W made l h =
       visits-few t0 B W 0 (top rn) rn (run-fine t0 B W made l h) 1 (start w made) (start-ok t0 B W made 0 (top rn)) (le-refl 1),
       length-append (s .slivers) (keepSlivers t (s .keep)),
       keep-slivers-bound t (s .keep),
-      ap (λ (x : List Window). metBounds better t w x) (parted t0 B W made l),
+      ap (λ (x : List Window). metBounds better t w x) (parted t w l),
       met-append better t w (before t w l) (rn ++ behind t w l),
       met-append better t w rn (behind t w l),
     )

@@ -24,9 +24,9 @@ use Rattle.trim_model.specs.Claim.{All, Any, Point}
 use Rattle.trim_model.proofs.Ranks.{rank, max-point, max-rank, min-point, min-rank, width-pos, lt-no, le-no, Nonneg, slim-no, by-cases, and-both}
 use Rattle.trim_model.proofs.Lists.{any-left, any-right, any-split, any-if, either}
 use Rattle.trim_model.proofs.Intervals.{Rise, Gaps, rise-le}
-use Rattle.trim_model.proofs.Windows.{Wide, FineWindow}
+use Rattle.trim_model.proofs.Windows.{parted, Wide, FineWindow}
 use Rattle.trim_model.proofs.Run.{Spaced, Stretches, shared, inside, WalkOk, met, visit-walk}
-use Rattle.trim_model.proofs.Order.{Tidy, top, start-ok, walked-ok, parted, run-fine}
+use Rattle.trim_model.proofs.Order.{Tidy, top, start-ok, walked-ok, run-fine}
 
 module _ (X : ℕ) where
   -- the point of rank X lies in an interval, in a window, ends included
@@ -397,4 +397,4 @@ module _ {t : Float} (t0 : Nonneg t) {better : Better} (B : Stretches better) {w
 
   pub add-cover : HoldsWindow X w ⊎ Any (HoldsWindow X) l → Any (HoldsWindow X) (addTo better t w l made .live) ⊎ Any (Holds X) (addTo better t w l made .slivers)
   unfolding addTo
-  add-cover a = either (λ i. in-run (inl (in-keep (inl i)))) (λ i. outside (any-split (HoldsWindow X) pre (rn ++ suf) (subst (Any (HoldsWindow X)) (parted t0 B W made l) i))) a
+  add-cover a = either (λ i. in-run (inl (in-keep (inl i)))) (λ i. outside (any-split (HoldsWindow X) pre (rn ++ suf) (subst (Any (HoldsWindow X)) (parted t w l) i))) a

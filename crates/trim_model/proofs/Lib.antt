@@ -11,3 +11,4 @@ pub mod Cover
 pub mod Model
 pub mod Demand3
 pub mod Worked
+pub mod Numbers

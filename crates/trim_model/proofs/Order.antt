@@ -4,22 +4,22 @@
 -- So it is enough that starts do not fall, which sorting gives inside the run, and that the run holds every window that shares more than t with the new one: the windows before it end
 -- at or below the new one's start, those behind it start at or above its end, because ends and starts rise (`lows-of`, `highs-of`).
 use Prim.Native.Nat.{ℕ, _+_, _≤_, _<_, min, max, zero-le}
-use mathlib.Core.List.{List, [], _∷_, _++_, append-assoc}
+use mathlib.Core.List.{List, [], _∷_, _++_}
 use mathlib.Core.Path.{_≡_, sym, ap, _∙_, subst}
 use native.Mathlib.Decide.{decLe}
 use native.Mathlib.Nat.{le-refl}
 use native.Mathlib.Omega.{arith}
 use lib.Dec.{T}
-use lib.Ieee.{Float, binary64, add, sub, lt}
+use lib.Ieee.{Float, binary64, add, lt}
 use Rattle.trim_model.specs.Intervals.{width, wideOf}
-use Rattle.trim_model.specs.Windows.{Window, fresh, sorted, takeWhile, dropWhile, takeWhileEnd}
-use Rattle.trim_model.specs.Add.{Better, Walk, startsBefore, endsAfter, before, onward, run, behind, start, visits, addTo}
+use Rattle.trim_model.specs.Windows.{Window, fresh, sorted, takeWhile, dropWhile}
+use Rattle.trim_model.specs.Add.{Better, Walk, startsBefore, before, onward, run, behind, start, visits, addTo}
 use Rattle.trim_model.specs.Claim.{All, Point}
 use Rattle.trim_model.proofs.Ranks.{rank, Nonneg, wide-pos}
 use Rattle.trim_model.proofs.Count.{has, has-yes, has-one, view, holds, misses}
-use Rattle.trim_model.proofs.Lists.{all-map, all-map2, all-append, all-left, all-right, take-drop, drop-take-end}
+use Rattle.trim_model.proofs.Lists.{all-map, all-map2, all-append, all-left, all-right, take-drop}
 use Rattle.trim_model.proofs.Intervals.{count, rise-count}
-use Rattle.trim_model.proofs.Windows.{wcount, wcount-append, fresh-count, sorted-count, wcount-low, wcount-high, counted, Ordered, steps-all, ordered-left, ordered-right, ordered-cross, From, from-append, from-nil, ordered-from, Wide, FineWindow, sorted-all, sorted-from, before-low, behind-high}
+use Rattle.trim_model.proofs.Windows.{wcount, wcount-append, fresh-count, sorted-count, wcount-low, wcount-high, counted, parted, Ordered, steps-all, ordered-left, ordered-right, ordered-cross, From, from-append, from-nil, ordered-from, Wide, FineWindow, sorted-all, sorted-from, before-low, behind-high}
 use Rattle.trim_model.proofs.Run.{Stretches, WalkOk, wide-fine, wide-count, fresh-fine, visits-walk, visits-counts}
 
 -- each [x, y] wider than t is held by one window of l at most
@@ -247,14 +247,7 @@ module _ {t : Float} (t0 : Nonneg t) where
         let a = left-lone pre rn suf tidy lows highs in
         record { wides = s; ordered = order-of 0 (pre ++ (sorted (mid rn) ++ suf)) (left-from pre rn suf tidy lows highs) s a; lone = a }
 
-    -- ---- the list as `add` parts it
-    pub parted : (l : List Window) → l ≡ before t w l ++ (run t w l ++ behind t w l)
-    parted l =
-        sym (take-drop (startsBefore (w .b0)) l)
-        ∙ ap (λ (m : List Window). m ++ dropWhile (startsBefore (w .b0)) l) (sym (drop-take-end (endsAfter (sub binary64 (w .b0) t)) (takeWhile (startsBefore (w .b0)) l)))
-        ∙ append-assoc (before t w l) (takeWhileEnd (endsAfter (sub binary64 (w .b0) t)) (takeWhile (startsBefore (w .b0)) l)) (dropWhile (startsBefore (w .b0)) l)
-        ∙ ap (λ (m : List Window). before t w l ++ m) (sym (take-drop (startsBefore (add binary64 (w .b1) t)) (onward t w l)))
-
+    -- ---- the sides of the run
     pub lows-of : (l : List Window) → Tidy t l → All (λ (u : Window). rank (u .b1) ≤ rank (w .b0)) (before t w l)
     lows-of l h =
         let e = take-drop (startsBefore (w .b0)) l in
@@ -264,18 +257,18 @@ module _ {t : Float} (t0 : Nonneg t) where
 
     pub highs-of : (l : List Window) → Tidy t l → All (λ (u : Window). rank (w .b1) ≤ rank (u .b0)) (behind t w l)
     highs-of l h =
-        let e = parted l ∙ ap (λ (m : List Window). before t w l ++ m) (take-drop (startsBefore (add binary64 (w .b1) t)) (onward t w l)) in
+        let e = parted t w l ∙ ap (λ (m : List Window). before t w l ++ m) (take-drop (startsBefore (add binary64 (w .b1) t)) (onward t w l)) in
         let o = subst (Ordered) e (h .ordered) in
         let s = subst (All (Wide t)) e (h .wides) in
         behind-high t0 (w .b1) (W .point1) (onward t w l) (all-right (Wide t) (before t w l) (onward t w l) s) (ordered-right (before t w l) (onward t w l) o)
 
     pub add-tidy : (l : List Window) → Tidy t l → Tidy t (addTo better t w l made .live)
     unfolding addTo
-    add-tidy l h = left-tidy (before t w l) (run t w l) (behind t w l) (subst (Tidy t) (parted l) h) (lows-of l h) (highs-of l h)
+    add-tidy l h = left-tidy (before t w l) (run t w l) (behind t w l) (subst (Tidy t) (parted t w l) h) (lows-of l h) (highs-of l h)
 
     -- the run's windows, for the walk
     pub run-fine : (l : List Window) → Tidy t l → All (FineWindow t 0 (top (run t w l))) (run t w l)
     run-fine l h =
         let rn = run t w l in
-        let s = all-left (Wide t) rn (behind t w l) (all-right (Wide t) (before t w l) (rn ++ behind t w l) (subst (All (Wide t)) (parted l) (h .wides))) in
+        let s = all-left (Wide t) rn (behind t w l) (all-right (Wide t) (before t w l) (rn ++ behind t w l) (subst (All (Wide t)) (parted t w l) (h .wides))) in
         fine-of 0 (top rn) rn s (all-map (λ u k. zero-le) rn s) (all-top rn (top rn) (le-refl (top rn)))

@@ -1,8 +1,8 @@
 -- Lists of windows: how many hold [X, Y], their order, sorting, and what stands before and behind the run, by ranks. Assumes nothing.
 use Prim.Native.Nat.{ℕ, suc, _+_, _≤_, _<_, zero-le}
 use mathlib.Core.Bool.{Bool, true, not, cond, _&&_}
-use mathlib.Core.List.{List, [], _∷_, _++_}
-use mathlib.Core.Path.{_≡_, refl}
+use mathlib.Core.List.{List, [], _∷_, _++_, append-assoc}
+use mathlib.Core.Path.{_≡_, refl, sym, ap, _∙_}
 use native.Mathlib.Nat.{le-trans}
 use native.Mathlib.Omega.{arith}
 use lib.Dec.{T}
@@ -10,12 +10,12 @@ use lib.Ieee.{Float, binary64, add, sub, lt}
 use Rattle.float64.specs.TotalOrder.{totalLess}
 use Rattle.source.specs.declared.Src.{Src}
 use Rattle.trim_model.specs.Intervals.{Interval, width}
-use Rattle.trim_model.specs.Windows.{Window, fresh, split, insert, sorted, dropWhile, all, dropWhileEnd}
-use Rattle.trim_model.specs.Add.{startsBefore, endsAfter}
+use Rattle.trim_model.specs.Windows.{Window, fresh, split, insert, sorted, takeWhile, dropWhile, all, takeWhileEnd, dropWhileEnd}
+use Rattle.trim_model.specs.Add.{startsBefore, endsAfter, before, onward, run, behind}
 use Rattle.trim_model.specs.Claim.{All, Point}
 use Rattle.trim_model.proofs.Ranks.{rank, total-yes, total-no, Nonneg, run-left, run-right, by-cases}
 use Rattle.trim_model.proofs.Count.{has, has-left, has-right}
-use Rattle.trim_model.proofs.Lists.{all-map, all-right}
+use Rattle.trim_model.proofs.Lists.{all-map, all-right, take-drop, drop-take-end}
 use Rattle.trim_model.proofs.Intervals.{count}
 
 -- how many hold [X, Y]
@@ -63,6 +63,14 @@ pub counted : (l S : List Window) → ((X Y : ℕ) → wcount X Y l ≤ wcount X
 unfolding wcount
 counted [] S f = tt
 counted (u ∷ us) S f = (λ X Y. omega (arith, f X Y), counted us S (λ X Y. omega (arith, f X Y)))
+
+-- ---- the list, as `add` parts it
+pub parted : (t : Float) (w : Window) (l : List Window) → l ≡ before t w l ++ (run t w l ++ behind t w l)
+parted t w l =
+    sym (take-drop (startsBefore (w .b0)) l)
+    ∙ ap (λ (m : List Window). m ++ dropWhile (startsBefore (w .b0)) l) (sym (drop-take-end (endsAfter (sub binary64 (w .b0) t)) (takeWhile (startsBefore (w .b0)) l)))
+    ∙ append-assoc (before t w l) (takeWhileEnd (endsAfter (sub binary64 (w .b0) t)) (takeWhile (startsBefore (w .b0)) l)) (dropWhile (startsBefore (w .b0)) l)
+    ∙ ap (λ (m : List Window). before t w l ++ m) (sym (take-drop (startsBefore (add binary64 (w .b1) t)) (onward t w l)))
 
 -- ---- orders
 abbrev pub Steps : Window → List Window → Type 0

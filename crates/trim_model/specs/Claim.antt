@@ -1,7 +1,8 @@
 -- Demand 3 about the reference model, and what it asks of `better`. Definitions only.
-use Prim.Native.Nat.{ℕ, _≤_}
+use Prim.Native.Nat.{ℕ, _≤_, _<_}
 use mathlib.Core.List.{List, [], _∷_}
 use mathlib.Core.Logic.{_⊎_}
+use mathlib.Core.Path.{_≡_}
 use lib.Dec.{T}
 use lib.ListN.{length}
 use lib.Ieee.{Float, binary64, lt, le, fits}
@@ -11,7 +12,7 @@ use Rattle.source.specs.declared.Src.{Src}
 use Rattle.trim_model.specs.Intervals.{Interval, width, tinyOf}
 use Rattle.trim_model.specs.Windows.{Window}
 use Rattle.trim_model.specs.Add.{Better}
-use Rattle.trim_model.specs.Model.{Candidate, EdgeState, empty, steps, stepsBound}
+use Rattle.trim_model.specs.Model.{Candidate, EdgeState, Model, empty, steps, stepsBound}
 
 module _ {A : Type 0} where
   -- each element of a list, some element, and each two, the earlier first
@@ -68,6 +69,7 @@ pub record Trimmed (tiny : Float) (bound : ℕ) (s : EdgeState) : Type 0 where
   -- "The book names the slivers, on each edge at most as many as 01's bound"
   pub count : length (s .slivers) ≤ bound
 
+-- ---- the whole
 -- "each of a window to some edge", "a window's ends numbers from 0 to its edge's length": of this only that all three are finite doubles, and the length above zero
 pub record Proper (len : ℕ → Float) (c : Candidate) : Type 0 where
   pub start : Point (c .b0)
@@ -81,3 +83,11 @@ abbrev pub Demand3 : Better → Float → (ℕ → Float) → Type 0
 Demand3 better limit len =
     (cs : List Candidate) → All (Proper len) cs → (e : ℕ)
     → Trimmed (tinyOf (len e)) (stepsBound better limit len e cs empty) (steps better limit len cs empty .edge e)
+
+-- ---- the numbers of live windows, for any list at all
+pub record Numbered (m : Model) : Type 0 where
+  -- they were given out
+  pub below : (e : ℕ) → All (λ (u : Window). u .num < m .made) (m .edge e .live)
+  -- no two live windows of an edge, or of two edges, have one number
+  pub differ : (e : ℕ) → Pairs (λ (u v : Window). (u .num ≡ v .num) → ⊥) (m .edge e .live)
+  pub apart : (e f : ℕ) → ((e ≡ f) → ⊥) → All (λ (u : Window). All (λ (v : Window). (u .num ≡ v .num) → ⊥) (m .edge f .live)) (m .edge e .live)
