@@ -12,3 +12,6 @@ pub mod Model
 pub mod Demand3
 pub mod Worked
 pub mod Numbers
+pub mod Forward
+pub mod Insertion
+pub mod InPlace
