@@ -11,7 +11,9 @@ pub mod Cover
 pub mod Model
 pub mod Demand3
 pub mod Worked
+pub mod Steps
 pub mod Numbers
+pub mod Low
 pub mod Forward
 pub mod Insertion
 pub mod InPlace

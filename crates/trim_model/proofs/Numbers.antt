@@ -8,7 +8,7 @@ use mathlib.Core.Path.{_≡_, refl, sym, ap, _∙_, subst}
 use native.Mathlib.Decide.{decLe, ℕ-discrete}
 use native.Mathlib.Nat.{le-refl}
 use native.Mathlib.Omega.{arith}
-use lib.Dec.{T, eqb, eqb→eq}
+use lib.Dec.{eqb}
 use lib.ListN.{length}
 use lib.Ieee.{Float, le}
 use Rattle.float64.specs.TotalOrder.{totalLess}
@@ -16,12 +16,13 @@ use Rattle.source.specs.declared.Src.{Src}
 use Rattle.trim_model.specs.Intervals.{Interval, width, tinyOf, pieces, wideOf}
 use Rattle.trim_model.specs.Windows.{Window, fresh, split, insert, sorted}
 use Rattle.trim_model.specs.Add.{Better, Walk, before, run, behind, start, untouched, meet, visit, visits, addTo, sharedLo, sharedHi}
-use Rattle.trim_model.specs.Model.{Candidate, Model, empty, asWindow, admits, updated, admit, step, steps}
+use Rattle.trim_model.specs.Model.{Candidate, EdgeState, Model, empty, asWindow, admits, updated, admit, step, steps}
 use Rattle.trim_model.specs.Claim.{All, Pairs, Numbered}
 use Rattle.trim_model.proofs.Ranks.{by-cases}
 use Rattle.trim_model.proofs.Count.{has, has-yes, has-left, has-right, has-one, has-two}
 use Rattle.trim_model.proofs.Lists.{all-map}
 use Rattle.trim_model.proofs.Windows.{parted}
+use Rattle.trim_model.proofs.Steps.{admit-other}
 
 -- 1 where a ≤ n < b
 abbrev range : ℕ → ℕ → ℕ → ℕ
@@ -171,7 +172,7 @@ module _ (better : Better) (limit : Float) (len : ℕ → Float) where
             by-cases (λ (b : Bool). times n ((cond b (updated c s a) (m .edge e)) .live) ≤ times n (m .edge e .live) + range n (m .made) (a .made)) (eqb e (c .edge))
             (λ y. subst (λ (i : ℕ). times n (a .live) ≤ times n (m .edge i .live) + range n (m .made) (a .made)) (sym x) (add-times better t (asWindow c) n (s .live) (m .made)))
             (λ y. omega arith);
-        there = λ e n x. by-cases (λ (b : Bool). (T b → e ≡ c .edge) → times n ((cond b (updated c s a) (m .edge e)) .live) ≡ times n (m .edge e .live)) (eqb e (c .edge)) (λ y f. absurd (x (f tt))) (λ y f. refl) (eqb→eq e (c .edge));
+        there = λ e n x. ap (λ (k : EdgeState). times n (k .live)) (admit-other better limit len c m e x);
       }
 
   steps-counted : (cs : List Candidate) (m : Model) → Counted m → Counted (steps better limit len cs m)

@@ -17,7 +17,7 @@ use Rattle.trim_model.specs.Windows.{Window, window, fresh, split, inser
 use Rattle.trim_model.specs.Add.{Better, meet, visit, visits, addTo, metBound, metBounds}
 use Rattle.trim_model.specs.Model.{Candidate, EdgeState, Model, empty, admit, step, steps, stepBound, stepsBound}
 use Rattle.trim_model.specs.Claim as claim
-use Rattle.trim_model.specs.Claim.{All, Pairs, Stretch, Separates}
+use Rattle.trim_model.specs.Claim.{All, Pairs, Stretch, SeparateStretches}
 
 -- a level source: the same distance all along the edge
 level : Float → Src
@@ -30,9 +30,9 @@ constant (Line ux uy c) = c
 lower : Better
 lower p q lo hi = pushIf (lt (constant p) (constant q)) (interval lo hi)
 
-lower-separates : Separates lower
+lower-is-separate : SeparateStretches lower
 unfolding lower
-lower-separates = record {
+lower-is-separate = record {
   within = λ p q lo hi gl gh h. within (lt (constant p) (constant q)) lo hi gl gh h;
   apart = λ p q lo hi gl gh h. apart (lt (constant p) (constant q)) lo hi;
 }
