@@ -2,8 +2,8 @@
 --
 -- An existing window with n stretches drops n + 1 slivers of its own at most. `keep` grows by n + 2 at most: along `keep` from left to right, each entry beyond one for one uses up a
 -- stretch that ends ahead, or lo, or hi, and none of them twice (`potential`). In the end each entry of `keep` is one sliver at most. So a window met adds 2 n + 3 at most.
-use Prim.Native.Nat.{ℕ, zero, _+_, _-_, _*_, _≤_, _<_, min}
-use mathlib.Core.Bool.{Bool, true, false, cond, _&&_}
+use Prim.Native.Nat.{ℕ, _+_, _-_, _*_, _≤_, _<_, min}
+use mathlib.Core.Bool.{Bool, true, false, cond}
 use mathlib.Core.List.{List, [], _∷_, _++_}
 use mathlib.Core.Path.{_≡_, ap}
 use native.Mathlib.Decide.{decLe}
@@ -12,8 +12,7 @@ use native.Mathlib.Omega.{arith}
 use lib.ListN.{length, length-append}
 use lib.Ieee.{Float, lt, le}
 use Rattle.float64.specs.Scalar.{minOf, maxOf}
-use Rattle.float64.specs.Scalar as scalar
-use Rattle.trim_model.specs.Intervals.{Interval, interval, width, pushIf, sliver, cuts, nextOf, next, pieceSlivers, keepSlivers}
+use Rattle.trim_model.specs.Intervals.{Interval, interval, width, pushIf, isSliver, sliver, cuts, nextOf, next, pieceSlivers, keepSlivers}
 use Rattle.trim_model.specs.Windows.{Window}
 use Rattle.trim_model.specs.Add.{Better, Walk, before, run, behind, start, untouched, meet, visit, visits, addTo, metBound, metBounds, addBound, sharedLo, sharedHi}
 use Rattle.trim_model.specs.Claim.{All, Point}
@@ -160,7 +159,7 @@ module _ (lo hi : Float) (gl : Point lo) (gh : Point hi) (p q : ℕ) (gs : List 
 module _ (t : Float) where
   sliver-one : (a b : Float) → length (sliver t a b) ≤ 1
   unfolding sliver
-  sliver-one a b = if-one (lt scalar.zero (width a b) && le (width a b) t) (interval a b)
+  sliver-one a b = if-one (isSliver t a b) (interval a b)
 
   piece-slivers-bound : (at b1 : Float) (gs : List Interval) → length (pieceSlivers t at b1 gs) ≤ length gs + 1
   unfolding pieceSlivers

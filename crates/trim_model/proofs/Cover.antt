@@ -5,7 +5,7 @@
 -- of the stretch; but there the stretch borders on ground of u, which holds its ends too (`edge-right`, `edge-left`: this is where the stretches must be apart). A point that u gives up
 -- lies in a stretch, so in the new window, where the invariant holds it already (`meet-own`).
 use Prim.Native.Nat.{ℕ, zero, suc, _≤_, _<_}
-use mathlib.Core.Bool.{Bool, not, cond, _&&_}
+use mathlib.Core.Bool.{Bool, not, cond}
 use mathlib.Core.List.{List, [], _∷_, _++_}
 use mathlib.Core.Logic.{_⊎_, inl, inr}
 use mathlib.Core.Path.{_≡_, sym, subst}
@@ -17,7 +17,7 @@ use Rattle.float64.specs.Scalar.{minOf, maxOf}
 use Rattle.float64.specs.TotalOrder.{totalLess}
 use Rattle.source.specs.declared.Src.{Src}
 use Rattle.float64.specs.Scalar as scalar
-use Rattle.trim_model.specs.Intervals.{Interval, interval, width, pushIf, sliver, cuts, nextOf, next, pieces, pieceSlivers, wideOf, keepSlivers}
+use Rattle.trim_model.specs.Intervals.{Interval, interval, width, pushIf, isSliver, sliver, cuts, nextOf, next, pieces, pieceSlivers, wideOf, keepSlivers}
 use Rattle.trim_model.specs.Windows.{Window, fresh, split, insert, sorted}
 use Rattle.trim_model.specs.Add.{Better, Walk, before, run, behind, start, untouched, meet, visit, visits, addTo, sharedLo, sharedHi}
 use Rattle.trim_model.specs.Claim.{All, Any, Point}
@@ -67,7 +67,7 @@ module _ {t : Float} (t0 : Nonneg t) (X : ℕ) where
   -- an interval no wider than t is a sliver
   dropped : (a b : Float) → Point a → Point b → rank a < rank b → T (le (width a b) t) → rank a ≤ X → X ≤ rank b → Any (Holds X) (sliver t a b)
   unfolding sliver
-  dropped a b ga gb z l i j = any-if (Holds X) (lt scalar.zero (width a b) && le (width a b) t) (interval a b) (and-both (lt scalar.zero (width a b)) (le (width a b) t) (width-pos ga gb z) l) (i, j)
+  dropped a b ga gb z l i j = any-if (Holds X) (isSliver t a b) (interval a b) (and-both (lt scalar.zero (width a b)) (le (width a b) t) (width-pos ga gb z) l) (i, j)
 
   -- ground between a and b is a piece or a sliver
   ground : (a b : Float) → Point a → Point b → rank a < rank b → rank a ≤ X → X ≤ rank b → Any (Holds X) (pushIf (lt t (width a b)) (interval a b)) ⊎ Any (Holds X) (sliver t a b)

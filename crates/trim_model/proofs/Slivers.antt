@@ -1,12 +1,12 @@
 -- What an addition drops are slivers: between points, wider than zero, and at most t. Assumes nothing.
 use Prim.Native.Nat.{ℕ, zero}
-use mathlib.Core.Bool.{Bool, cond, _&&_}
+use mathlib.Core.Bool.{Bool, cond}
 use mathlib.Core.List.{List, [], _∷_}
 use lib.Dec.{T}
 use lib.Ieee.{Float, lt, le}
 use Rattle.float64.specs.Scalar.{maxOf}
 use Rattle.float64.specs.Scalar as scalar
-use Rattle.trim_model.specs.Intervals.{Interval, interval, width, pushIf, sliver, pieceSlivers, keepSlivers}
+use Rattle.trim_model.specs.Intervals.{Interval, interval, width, pushIf, isSliver, sliver, pieceSlivers, keepSlivers}
 use Rattle.trim_model.specs.Windows.{Window}
 use Rattle.trim_model.specs.Add.{Better, Walk, run, start, untouched, meet, visit, visits, addTo, sharedLo, sharedHi}
 use Rattle.trim_model.specs.Claim.{All, Point}
@@ -29,7 +29,7 @@ module _ (t : Float) where
   sliver-is a b ga gb =
       let p = lt scalar.zero (width a b) in
       let q = le (width a b) t in
-      by-cases (λ (c : Bool). (T c → T (p && q)) → All (Sliver t) (pushIf c (interval a b))) (p && q) (λ y k. (record { point0 = ga; point1 = gb; positive = and-first p q (k tt); narrow = and-second p q (k tt) }, tt)) (λ n k. tt) (λ k. k)
+      by-cases (λ (c : Bool). (T c → T (isSliver t a b)) → All (Sliver t) (pushIf c (interval a b))) (isSliver t a b) (λ y k. (record { point0 = ga; point1 = gb; positive = and-first p q (k tt); narrow = and-second p q (k tt) }, tt)) (λ n k. tt) (λ k. k)
 
   piece-slivers-are : (at b1 : Float) → Point at → Point b1 → (p : ℕ) (gs : List Interval) (q : ℕ) → Rise p gs q → All (Sliver t) (pieceSlivers t at b1 gs)
   unfolding pieceSlivers

@@ -25,9 +25,13 @@ tinyOf len = ofBits binary64 0x3da5_fd7f_e179_6495 ⊗ len
 abbrev pub pushIf : {A : Type 0} → Bool → A → List A
 pushIf b x = if b then x ∷ [] else []
 
--- 01's sliver, where [a, b] is cut off and dropped: wider than zero, and at most tiny
+-- 01's sliver: wider than zero, and at most tiny
+abbrev pub isSliver : Float → Float → Float → Bool
+isSliver tiny a b = lt zero (width a b) && le (width a b) tiny
+
+-- noted where [a, b] is cut off and dropped
 unfoldable pub sliver : Float → Float → Float → List Interval
-sliver tiny a b = pushIf (lt zero (width a b) && le (width a b) tiny) (interval a b)
+sliver tiny a b = pushIf (isSliver tiny a b) (interval a b)
 
 -- ---- `next`: the new window keeps only `better` within [lo, hi]
 -- `better` within [o0, o1]
