@@ -13,6 +13,7 @@ use native.Mathlib.Decide.{decLe}
 use native.Mathlib.Omega.{arith}
 use lib.Dec.{T}
 use lib.Ieee.{Float, lt, le}
+use lib.Ieee.Fits.{and-i}
 use Rattle.float64.specs.Scalar.{minOf, maxOf}
 use Rattle.float64.specs.TotalOrder.{totalLess}
 use Rattle.source.specs.declared.Src.{Src}
@@ -21,7 +22,7 @@ use Rattle.trim_model.specs.Intervals.{Interval, interval, width, pushIf
 use Rattle.trim_model.specs.Windows.{Window, fresh, split, insert, sorted}
 use Rattle.trim_model.specs.Add.{Better, Walk, before, run, behind, start, untouched, meet, visit, visits, addTo, sharedLo, sharedHi}
 use Rattle.trim_model.specs.Claim.{All, Any, Point}
-use Rattle.trim_model.proofs.Ranks.{rank, max-point, max-rank, min-point, min-rank, width-pos, lt-no, le-no, Nonneg, slim-no, by-cases, and-both}
+use Rattle.trim_model.proofs.Ranks.{rank, max-point, max-rank, min-point, min-rank, width-pos, lt-no, le-no, Nonneg, slim-no, by-cases}
 use Rattle.trim_model.proofs.Lists.{any-left, any-right, any-split, any-if, either}
 use Rattle.trim_model.proofs.Intervals.{Rise, Gaps, rise-le}
 use Rattle.trim_model.proofs.Windows.{parted, Wide, FineWindow}
@@ -67,7 +68,7 @@ module _ {t : Float} (t0 : Nonneg t) (X : ℕ) where
   -- an interval no wider than t is a sliver
   dropped : (a b : Float) → Point a → Point b → rank a < rank b → T (le (width a b) t) → rank a ≤ X → X ≤ rank b → Any (Holds X) (sliver t a b)
   unfolding sliver
-  dropped a b ga gb z l i j = any-if (Holds X) (isSliver t a b) (interval a b) (and-both (lt scalar.zero (width a b)) (le (width a b) t) (width-pos ga gb z) l) (i, j)
+  dropped a b ga gb z l i j = any-if (Holds X) (isSliver t a b) (interval a b) (and-i (lt scalar.zero (width a b)) (le (width a b) t) (width-pos ga gb z) l) (i, j)
 
   -- ground between a and b is a piece or a sliver
   ground : (a b : Float) → Point a → Point b → rank a < rank b → rank a ≤ X → X ≤ rank b → Any (Holds X) (pushIf (lt t (width a b)) (interval a b)) ⊎ Any (Holds X) (sliver t a b)

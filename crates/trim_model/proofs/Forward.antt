@@ -5,6 +5,7 @@ use mathlib.Core.List.{List, [], _∷_, _++_}
 use mathlib.Core.Path.{_≡_, refl, ap, _∙_}
 use lib.Dec.{T}
 use lib.Ieee.{Float, binary64, sub}
+use lib.Ieee.Bits.{is-true}
 use Rattle.float_laws.proofs.Order.{lt-trans}
 use Rattle.trim_model.specs.Windows.{Window, takeWhile, dropWhile, all, takeWhileEnd, dropWhileEnd}
 use Rattle.trim_model.specs.Add.{startsBefore, endsAfter, before, onward}
@@ -17,10 +18,6 @@ use Rattle.trim_model.proofs.Order.{Tidy}
 -- a walk forward passes u
 abbrev pub passes : Float → Window → Window → Bool
 passes t w u = startsBefore (w .b0) u && not (endsAfter (sub binary64 (w .b0) t) u)
-
-is-true : (b : Bool) → T b → b ≡ true
-is-true true h = refl
-is-true false h = absurd h
 
 module _ (t : Float) (w : Window) where
   abbrev q : Window → Bool

@@ -4,7 +4,7 @@
 --     width        wide-mono, wide-pos, wide-no, slim-no, slim, width-pos; run-left, run-right (the ends of the run); tiny-nonneg
 use Prim.Native.Nat.{ℕ, _≤_, _<_, min, max}
 use mathlib.Core.Path.{_≡_, refl}
-use mathlib.Core.Bool.{Bool, true, false, not, _&&_}
+use mathlib.Core.Bool.{Bool, true, false, not}
 use native.Mathlib.Decide.{decLe}
 use native.Mathlib.Omega.{arith}
 use lib.Dec.{T}
@@ -130,15 +130,3 @@ tiny-nonneg len g h = record { nonneg = mul-nonneg binary64 (ofBits binary64 0x3
 pub by-cases : (P : Bool → Type 0) (b : Bool) → (T b → P true) → (T (not b) → P false) → P b
 by-cases P true f g = f tt
 by-cases P false f g = g tt
-
-pub and-first : (a b : Bool) → T (a && b) → T a
-and-first true b h = tt
-and-first false b h = h
-
-pub and-second : (a b : Bool) → T (a && b) → T b
-and-second true b h = h
-and-second false b h = absurd h
-
-pub and-both : (a b : Bool) → T a → T b → T (a && b)
-and-both true b h k = k
-and-both false b h k = h

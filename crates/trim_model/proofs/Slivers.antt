@@ -4,13 +4,14 @@ use mathlib.Core.Bool.{Bool, cond}
 use mathlib.Core.List.{List, [], _∷_}
 use lib.Dec.{T}
 use lib.Ieee.{Float, lt, le}
+use lib.Ieee.Fits.{and-l, and-r}
 use Rattle.float64.specs.Scalar.{maxOf}
 use Rattle.float64.specs.Scalar as scalar
 use Rattle.trim_model.specs.Intervals.{Interval, interval, width, pushIf, isSliver, sliver, pieceSlivers, keepSlivers}
 use Rattle.trim_model.specs.Windows.{Window}
 use Rattle.trim_model.specs.Add.{Better, Walk, run, start, untouched, meet, visit, visits, addTo, sharedLo, sharedHi}
 use Rattle.trim_model.specs.Claim.{All, Point}
-use Rattle.trim_model.proofs.Ranks.{rank, max-point, Nonneg, by-cases, and-first, and-second}
+use Rattle.trim_model.proofs.Ranks.{rank, max-point, Nonneg, by-cases}
 use Rattle.trim_model.proofs.Lists.{all-append}
 use Rattle.trim_model.proofs.Intervals.{Rise}
 use Rattle.trim_model.proofs.Windows.{Wide, FineWindow}
@@ -29,7 +30,7 @@ module _ (t : Float) where
   sliver-is a b ga gb =
       let p = lt scalar.zero (width a b) in
       let q = le (width a b) t in
-      by-cases (λ (c : Bool). (T c → T (isSliver t a b)) → All (Sliver t) (pushIf c (interval a b))) (isSliver t a b) (λ y k. (record { point0 = ga; point1 = gb; positive = and-first p q (k tt); narrow = and-second p q (k tt) }, tt)) (λ n k. tt) (λ k. k)
+      by-cases (λ (c : Bool). (T c → T (isSliver t a b)) → All (Sliver t) (pushIf c (interval a b))) (isSliver t a b) (λ y k. (record { point0 = ga; point1 = gb; positive = and-l p q (k tt); narrow = and-r p q (k tt) }, tt)) (λ n k. tt) (λ k. k)
 
   piece-slivers-are : (at b1 : Float) → Point at → Point b1 → (p : ℕ) (gs : List Interval) (q : ℕ) → Rise p gs q → All (Sliver t) (pieceSlivers t at b1 gs)
   unfolding pieceSlivers

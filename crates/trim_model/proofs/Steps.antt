@@ -1,11 +1,12 @@
 -- The model's steps: a candidate that is not admitted changes nothing, an admitted one leaves the other edges, and a list is taken in two parts. Assumes nothing.
 use Prim.Native.Nat.{ℕ, _+_}
-use mathlib.Core.Bool.{Bool, true, false, not, cond}
+use mathlib.Core.Bool.{Bool, not, cond}
 use mathlib.Core.List.{List, [], _∷_, _++_}
 use mathlib.Core.Path.{_≡_, refl, ap}
 use native.Mathlib.Omega.{arith}
 use lib.Dec.{T, eqb, eqb→eq}
 use lib.Ieee.{Float}
+use lib.Ieee.Bits.{is-true, is-false}
 use Rattle.trim_model.specs.Intervals.{tinyOf}
 use Rattle.trim_model.specs.Add.{Better, addTo}
 use Rattle.trim_model.specs.Model.{Candidate, Model, asWindow, admits, updated, admit, step, steps, stepsBound}
@@ -15,18 +16,10 @@ module _ (better : Better) (limit : Float) (len : ℕ → Float) where
   pub step-not : (c : Candidate) (m : Model) → T (not (admits limit len c)) → step better limit len c m ≡ m
   unfolding step
   step-not c m h = ap (λ (b : Bool). cond b (admit better limit len c m) m) (is-false (admits limit len c) h)
-    where
-      is-false : (b : Bool) → T (not b) → b ≡ false
-      is-false true h = absurd h
-      is-false false h = refl
 
   pub step-admitted : (c : Candidate) (m : Model) → T (admits limit len c) → step better limit len c m ≡ admit better limit len c m
   unfolding step
   step-admitted c m h = ap (λ (b : Bool). cond b (admit better limit len c m) m) (is-true (admits limit len c) h)
-    where
-      is-true : (b : Bool) → T b → b ≡ true
-      is-true true h = refl
-      is-true false h = absurd h
 
   pub admit-other : (c : Candidate) (m : Model) (e : ℕ) → ((e ≡ c .edge) → ⊥) → admit better limit len c m .edge e ≡ m .edge e
   unfolding admit
