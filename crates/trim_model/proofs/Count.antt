@@ -1,4 +1,4 @@
--- Whether an interval holds [X, Y], as 1 or 0, by ranks: to be added up over a list. Assumes nothing.
+-- Whether an interval holding [X, Y], as 1 or 0, by ranks: to be added up over a list. Assumes nothing.
 use Prim.Native.Nat.{ℕ, _+_, _-_, _≤_, _<_}
 use mathlib.Core.Path.{_≡_}
 use native.Mathlib.Decide.{decLe}
@@ -37,11 +37,11 @@ module _ (X Y : ℕ) where
   ]
 
   pub data View (a b : ℕ) : Type 0 where
-    holds : a ≤ X → Y ≤ b → has X Y a b ≡ 1 → View a b
-    misses : (a ≤ X → Y ≤ b → ⊥) → has X Y a b ≡ 0 → View a b
+    holding : a ≤ X → Y ≤ b → has X Y a b ≡ 1 → View a b
+    missing : (a ≤ X → Y ≤ b → ⊥) → has X Y a b ≡ 0 → View a b
 
   pub view : (a b : ℕ) → View a b
   view a b = elim (decLe a X) [
-    | yes h ↦ elim (decLe Y b) [ yes k ↦ holds h k (has-yes h k) | no f ↦ misses (λ i j. f j) (has-right a b (omega arith)) ]
-    | no f ↦ misses (λ i j. f i) (has-left a b (omega arith))
+    | yes h ↦ elim (decLe Y b) [ yes k ↦ holding h k (has-yes h k) | no f ↦ missing (λ i j. f j) (has-right a b (omega arith)) ]
+    | no f ↦ missing (λ i j. f i) (has-left a b (omega arith))
   ]

@@ -21,51 +21,41 @@ use Rattle.trim_model.proofs.Ranks.{rank, max-point, max-rank, Nonneg, 
 use Rattle.trim_model.proofs.Count.{has-yes}
 use Rattle.trim_model.proofs.Lists.{all-map, all-map2, all-append, all-left, all-right}
 use Rattle.trim_model.proofs.Intervals.{Rise}
-use Rattle.trim_model.proofs.Windows.{wcount, wcount-append, parted, Steps, Ordered, ordered-left, ordered-right, From, from-append, Wide, FineWindow}
+use Rattle.trim_model.proofs.Windows.{split-all, wcount, wcount-append, parted, Steps, Ordered, ordered-left, ordered-right, From, from-append, Wide, FineWindow}
 use Rattle.trim_model.proofs.Run.{Stretches, shared, inside, WalkOk, pieces-fine, met, visit-walk, visit-counts}
 use Rattle.trim_model.proofs.Order.{Tidy, each-holds, top, start-ok, news-fine, lows-of, highs-of, add-tidy, run-fine}
 use Rattle.trim_model.proofs.Insertion.{insertAll, Start, Differ, sorted-back, sorted-differ, ordered-differ, pairs-left, sorted-self, sorted-is, insert-all-mid}
 
 -- intervals whose starts do not fall, from p on
-abbrev FromP : ℕ → List Interval → Type 0
-FromP p [] = Unit {0}
-FromP p (k ∷ ks) = (p ≤ rank (k .from)) × FromP (rank (k .from)) ks
+abbrev StartsFrom : ℕ → List Interval → Type 0
+StartsFrom p [] = Unit {0}
+StartsFrom p (k ∷ ks) = (p ≤ rank (k .from)) × StartsFrom (rank (k .from)) ks
 
-fromP-start : (p p' : ℕ) (l : List Interval) → p' ≤ p → FromP p l → FromP p' l
-fromP-start p p' [] i h = tt
-fromP-start p p' (k ∷ ks) i h = (le-trans i (h .0), h .1)
+starts-from : (p p' : ℕ) (l : List Interval) → p' ≤ p → StartsFrom p l → StartsFrom p' l
+starts-from p p' [] i h = tt
+starts-from p p' (k ∷ ks) i h = (le-trans i (h .0), h .1)
 
-pieces-from : (t at b1 : Float) → Point at → Point b1 → (gs : List Interval) → Rise (rank at) gs (rank b1) → FromP (rank at) (pieces t at b1 gs)
+pieces-from : (t at b1 : Float) → Point at → Point b1 → (gs : List Interval) → Rise (rank at) gs (rank b1) → StartsFrom (rank at) (pieces t at b1 gs)
 unfolding pieces
-pieces-from t at b1 ga gb [] h = by-cases (λ (c : Bool). FromP (rank at) (cond c (interval at b1 ∷ []) [])) (lt t (width at b1)) (λ y. (le-refl (rank at), tt)) (λ n. tt)
+pieces-from t at b1 ga gb [] h = by-cases (λ (c : Bool). StartsFrom (rank at) (cond c (interval at b1 ∷ []) [])) (lt t (width at b1)) (λ y. (le-refl (rank at), tt)) (λ n. tt)
 pieces-from t at b1 ga gb (g ∷ gs) h =
     let s = h .0 in
     let e = max-rank ga (s .point1) in
     let f : rank (maxOf at (g .to)) ≡ rank (g .to) = omega arith in
     let r = pieces-from t (maxOf at (g .to)) b1 (max-point ga (s .point1)) gb gs (subst (λ (n : ℕ). Rise n gs (rank b1)) (sym f) (h .1)) in
-    let r' = fromP-start (rank (maxOf at (g .to))) (rank at) (pieces t (maxOf at (g .to)) b1 gs) (omega arith) r in
-    by-cases (λ (c : Bool). FromP (rank at) (cond c (interval at (g .from) ∷ []) [] ++ pieces t (maxOf at (g .to)) b1 gs)) (lt t (width at (g .from))) (λ y. (le-refl (rank at), r')) (λ n. r')
+    let r' = starts-from (rank (maxOf at (g .to))) (rank at) (pieces t (maxOf at (g .to)) b1 gs) (omega arith) r in
+    by-cases (λ (c : Bool). StartsFrom (rank at) (cond c (interval at (g .from) ∷ []) [] ++ pieces t (maxOf at (g .to)) b1 gs)) (lt t (width at (g .from))) (λ y. (le-refl (rank at), r')) (λ n. r')
 
 -- ---- the survivors' starts rise
-fresh-from : (p : ℕ) (s : Src) (n : ℕ) (ps : List Interval) → FromP p ps → From p (fresh s n ps)
+fresh-from : (p : ℕ) (s : Src) (n : ℕ) (ps : List Interval) → StartsFrom p ps → From p (fresh s n ps)
 unfolding fresh
 fresh-from p s n [] h = tt
 fresh-from p s n (k ∷ ks) h = (h .0, fresh-from (rank (k .from)) s (suc n) ks (h .1))
 
-split-from : (p : ℕ) (u : Window) (n : ℕ) (ps : List Interval) → FromP p ps → From p (split u n ps)
+split-from : (p : ℕ) (u : Window) (n : ℕ) (ps : List Interval) → StartsFrom p ps → From p (split u n ps)
 unfolding split
 split-from p u n [] h = tt
 split-from p u n (k ∷ ks) h = (h .0, fresh-from (rank (k .from)) (u .src) n ks (h .1))
-
-fresh-ends : (M : ℕ) (s : Src) (n : ℕ) (ps : List Interval) → All (λ (k : Interval). rank (k .to) ≤ M) ps → All (λ (q : Window). rank (q .b1) ≤ M) (fresh s n ps)
-unfolding fresh
-fresh-ends M s n [] h = tt
-fresh-ends M s n (k ∷ ks) h = (h .0, fresh-ends M s (suc n) ks (h .1))
-
-split-ends : (M : ℕ) (u : Window) (n : ℕ) (ps : List Interval) → All (λ (k : Interval). rank (k .to) ≤ M) ps → All (λ (q : Window). rank (q .b1) ≤ M) (split u n ps)
-unfolding split
-split-ends M u n [] h = tt
-split-ends M u n (k ∷ ks) h = (h .0, fresh-ends M (u .src) n ks (h .1))
 
 module _ {t : Float} (t0 : Nonneg t) where
   module _ {better : Better} (B : Stretches better) {w : Window} (W : Wide t w) (m M : ℕ) where
@@ -86,7 +76,7 @@ module _ {t : Float} (t0 : Nonneg t) where
           more = split u (s .made) ps;
           is = refl;
           from = split-from (rank (u .b0)) u (s .made) ps (pieces-from t (u .b0) (u .b1) (f .point0) (f .point1) (g ∷ gs) I);
-          ends = split-ends (rank (u .b1)) u (s .made) ps (all-map (λ k e. e .high) ps (pieces-fine t0 (rank (u .b0)) (rank (u .b1)) (u .b0) (u .b1) (f .point0) (f .point1) (le-refl (rank (u .b0))) (le-refl (rank (u .b1))) (g ∷ gs) I));
+          ends = split-all (λ a b. rank b ≤ rank (u .b1)) u (s .made) ps (all-map (λ k e. e .high) ps (pieces-fine t0 (rank (u .b0)) (rank (u .b1)) (u .b0) (u .b1) (f .point0) (f .point1) (le-refl (rank (u .b0))) (le-refl (rank (u .b1))) (g ∷ gs) I));
         }
 
     visit-shape : (u : Window) → FineWindow t m M u → (s : Walk) → Shape u s (visit better t w u s)

@@ -10,7 +10,7 @@ use Rattle.float64.specs.Scalar.{minOf, maxOf}
 use Rattle.trim_model.specs.Intervals.{Interval, interval, width, pushIf, cuts, nextOf, next, pieces}
 use Rattle.trim_model.specs.Claim.{Point}
 use Rattle.trim_model.proofs.Ranks.{rank, le-yes, lt-yes, max-point, max-rank, min-point, min-rank, le-no, by-cases}
-use Rattle.trim_model.proofs.Count.{has, has-in, has-two, view, holds, misses}
+use Rattle.trim_model.proofs.Count.{has, has-in, has-two, view, holding, missing}
 
 -- an interval between points, which does not start below p
 pub record Sound (p : ℕ) (k : Interval) : Type 0 where
@@ -168,13 +168,13 @@ module _ (X Y : ℕ) (XY : X < Y) where
       ))
     where
       first : has X Y (rank (k .from)) (rank (maxOf (k .from) lo)) ≡ 0
-      first = elim (view X Y (rank (k .from)) (rank (maxOf (k .from) lo))) [ holds a b c ↦ let e = max-rank g0 gl in omega arith | misses f e ↦ e ]
+      first = elim (view X Y (rank (k .from)) (rank (maxOf (k .from) lo))) [ holding a b c ↦ let e = max-rank g0 gl in omega arith | missing f e ↦ e ]
 
       last : has X Y (rank (minOf (k .to) hi)) (rank (k .to)) ≡ 0
-      last = elim (view X Y (rank (minOf (k .to) hi)) (rank (k .to))) [ holds a b c ↦ let e = min-rank g1 gh in omega arith | misses f e ↦ e ]
+      last = elim (view X Y (rank (minOf (k .to) hi)) (rank (k .to))) [ holding a b c ↦ let e = min-rank g1 gh in omega arith | missing f e ↦ e ]
 
       whole : rank (minOf (k .to) hi) ≤ rank (maxOf (k .from) lo) → count X Y (k ∷ []) ≤ count X Y gs
-      whole z = elim (view X Y (rank (k .from)) (rank (k .to))) [ holds a b c ↦ let e = min-rank g1 gh in let d = max-rank g0 gl in omega arith | misses f e ↦ omega arith ]
+      whole z = elim (view X Y (rank (k .from)) (rank (k .to))) [ holding a b c ↦ let e = min-rank g1 gh in let d = max-rank g0 gl in omega arith | missing f e ↦ omega arith ]
 
   pub next-none : (lo hi : Float) → Point lo → Point hi → rank lo ≤ X → Y ≤ rank hi → (p q : ℕ) (gs : List Interval) → Rise p gs q → count X Y gs ≡ 0 → (a : ℕ) (ks : List Interval) (b : ℕ) → Rise a ks b → count X Y (next lo hi gs ks) ≡ 0
   unfolding next count

@@ -16,11 +16,11 @@ use Rattle.trim_model.specs.Windows.{Window, fresh, sorted, takeWhile, d
 use Rattle.trim_model.specs.Add.{Better, Walk, startsBefore, before, onward, run, behind, start, visits, addTo}
 use Rattle.trim_model.specs.Claim.{All, Point}
 use Rattle.trim_model.proofs.Ranks.{rank, Nonneg, wide-pos}
-use Rattle.trim_model.proofs.Count.{has, has-yes, has-one, view, holds, misses}
+use Rattle.trim_model.proofs.Count.{has, has-yes, has-one, view, holding, missing}
 use Rattle.trim_model.proofs.Lists.{all-map, all-map2, all-append, all-left, all-right, take-drop}
 use Rattle.trim_model.proofs.Intervals.{count, rise-count}
-use Rattle.trim_model.proofs.Windows.{wcount, wcount-append, fresh-count, sorted-count, wcount-low, wcount-high, counted, parted, Ordered, steps-all, ordered-left, ordered-right, ordered-cross, From, from-append, from-nil, ordered-from, Wide, FineWindow, sorted-all, sorted-from, before-low, behind-high}
-use Rattle.trim_model.proofs.Run.{Stretches, WalkOk, wide-fine, wide-count, fresh-fine, visits-walk, visits-counts}
+use Rattle.trim_model.proofs.Windows.{fresh-all, wcount, wcount-append, fresh-count, sorted-count, wcount-low, wcount-high, counted, parted, Ordered, steps-all, ordered-left, ordered-right, ordered-cross, From, from-append, from-nil, ordered-from, Wide, Fine, FineWindow, sorted-all, sorted-from, before-low, behind-high}
+use Rattle.trim_model.proofs.Run.{Stretches, WalkOk, wide-fine, wide-count, visits-walk, visits-counts}
 
 -- each [x, y] wider than t is held by one window of l at most
 abbrev pub Lone : Float → List Window → Type 0
@@ -91,7 +91,7 @@ module _ {t : Float} (t0 : Nonneg t) where
     walked-ok m M rn f = visits-walk t0 B W m M rn f (start w made) (start-ok m M)
 
     pub news-fine : (m M : ℕ) (rn : List Window) → All (FineWindow t m M) rn → All (FineWindow t (rank (w .b0)) (rank (w .b1))) (news rn)
-    news-fine m M rn f = fresh-fine t0 (rank (w .b0)) (rank (w .b1)) (w .src) (walked rn .made) (wideOf t (walked rn .keep)) (wide-fine t0 (rank (w .b0)) (rank (w .b1)) (rank (w .b0)) (walked rn .keep) (rank (w .b1)) (le-refl (rank (w .b0))) (le-refl (rank (w .b1))) (walked-ok m M rn f .rise))
+    news-fine m M rn f = fresh-all (Fine t (rank (w .b0)) (rank (w .b1))) (w .src) (walked rn .made) (wideOf t (walked rn .keep)) (wide-fine t0 (rank (w .b0)) (rank (w .b1)) (rank (w .b0)) (walked rn .keep) (rank (w .b1)) (le-refl (rank (w .b0))) (le-refl (rank (w .b1))) (walked-ok m M rn f .rise))
 
     record Ended (rn : List Window) (X Y : ℕ) : Type 0 where
       olds : wcount X Y (walked rn .survivors) ≤ wcount X Y rn
@@ -177,8 +177,8 @@ module _ {t : Float} (t0 : Nonneg t) where
           let e3 = e .news-in in
           let e4 = e .is in
           elim (view X Y (rank (w .b0)) (rank (w .b1))) [
-            | misses f q ↦ omega arith
-            | holds a b q ↦
+            | missing f q ↦ omega arith
+            | holding a b q ↦
                 let i : rank (w .b0) < Y = omega arith in
                 let j : X < rank (w .b1) = omega arith in
                 omega (arith, wcount-low X Y (rank (w .b0)) pre i lows, wcount-high X Y (rank (w .b1)) suf j highs)

@@ -14,14 +14,14 @@ use lib.Ieee.{Float, lt, le}
 use Rattle.float64.specs.Scalar.{maxOf}
 use Rattle.source.specs.declared.Src.{Src}
 use Rattle.trim_model.specs.Intervals.{Interval, interval, width, pushIf, next, pieces, wideOf}
-use Rattle.trim_model.specs.Windows.{Window, fresh, split, all}
+use Rattle.trim_model.specs.Windows.{Window, split, all}
 use Rattle.trim_model.specs.Add.{Better, Walk, untouched, meet, visit, visits, sharedLo, sharedHi}
 use Rattle.trim_model.specs.Claim.{All, Point}
 use Rattle.trim_model.proofs.Ranks.{rank, max-point, max-rank, min-point, min-rank, Nonneg, wide-pos, wide-no, wide-mono, slim, by-cases}
-use Rattle.trim_model.proofs.Count.{has, has-one, view, holds, misses}
+use Rattle.trim_model.proofs.Count.{has, has-one, view, holding, missing}
 use Rattle.trim_model.proofs.Lists.{all-append}
 use Rattle.trim_model.proofs.Intervals.{Rise, Gaps, rise-le, rise-start, count, count-append, count-if, rise-count, next-rise, next-count, next-none, pieces-count}
-use Rattle.trim_model.proofs.Windows.{wcount, wcount-append, split-count, Wide, FineInterval, FineWindow}
+use Rattle.trim_model.proofs.Windows.{split-all, wcount, wcount-append, split-count, Wide, Fine, FineInterval, FineWindow}
 
 pub rise-end : (p : ℕ) (l : List Interval) (q q' : ℕ) → q ≤ q' → Rise p l q → Rise p l q'
 rise-end p [] q q' i h = le-trans h i
@@ -89,16 +89,6 @@ module _ {t : Float} (t0 : Nonneg t) where
   wide-count X Y [] = omega arith
   wide-count X Y (k ∷ ks) = omega (arith, count-append X Y (pushIf (not (le (width (k .from) (k .to)) t)) k) (wideOf t ks), count-if X Y (not (le (width (k .from) (k .to)) t)) k, wide-count X Y ks)
 
-  pub fresh-fine : (m M : ℕ) (s : Src) (n : ℕ) (ps : List Interval) → All (FineInterval t m M) ps → All (FineWindow t m M) (fresh s n ps)
-  unfolding fresh
-  fresh-fine m M s n [] h = tt
-  fresh-fine m M s n (p ∷ ps) h = (h .0, fresh-fine m M s (suc n) ps (h .1))
-
-  pub split-fine : (m M : ℕ) (u : Window) (n : ℕ) (ps : List Interval) → All (FineInterval t m M) ps → All (FineWindow t m M) (split u n ps)
-  unfolding split
-  split-fine m M u n [] h = tt
-  split-fine m M u n (p ∷ ps) h = (h .0, fresh-fine m M (u .src) n ps (h .1))
-
   module _ {better : Better} (B : Stretches better) {w : Window} (W : Wide t w) (m M : ℕ) where
     meet-walk : (u : Window) → FineWindow t m M u → (gs : List Interval) → Rise (rank (sharedLo w u)) gs (rank (sharedHi w u)) → (s : Walk) → WalkOk t w m M s → WalkOk t w m M (meet t u (sharedLo w u) (sharedHi w u) gs s)
     unfolding meet
@@ -113,7 +103,7 @@ module _ {t : Float} (t0 : Nonneg t) where
         record {
           rise = next-rise (sharedLo w u) (sharedHi w u) (h .point-lo) (h .point-hi) (rank (sharedLo w u)) (rank (sharedHi w u)) (g ∷ gs) R (rank (w .b0)) (s .keep) (rank (w .b1)) (k .rise);
           fine = all-append (FineWindow t m M) (s .survivors) (split u (s .made) (pieces t (u .b0) (u .b1) (g ∷ gs))) (k .fine)
-              (split-fine m M u (s .made) (pieces t (u .b0) (u .b1) (g ∷ gs)) (pieces-fine m M (u .b0) (u .b1) (f .point0) (f .point1) (f .low) (f .high) (g ∷ gs) (inside h (g ∷ gs) R)));
+              (split-all (Fine t m M) u (s .made) (pieces t (u .b0) (u .b1) (g ∷ gs)) (pieces-fine m M (u .b0) (u .b1) (f .point0) (f .point1) (f .low) (f .high) (g ∷ gs) (inside h (g ∷ gs) R)));
         }
 
     pub met : (u : Window) (f : FineWindow t m M u) → T (not (le (width (sharedLo w u) (sharedHi w u)) t)) → rank (sharedLo w u) < rank (sharedHi w u)
@@ -153,10 +143,10 @@ module _ {t : Float} (t0 : Nonneg t) where
       -- P of u's pieces, G stretches, K of `keep`
       apart-of : (u : Window) → Shared w u → (P G K : ℕ) → P + G ≤ has X Y (rank (u .b0)) (rank (u .b1)) → K ≤ has X Y (rank (w .b0)) (rank (w .b1)) → (rank (sharedLo w u) ≤ X → Y ≤ rank (sharedHi w u) → G ≡ 0 → K ≡ 0) → P + K ≤ 1
       apart-of u h P G K p k z = elim (view X Y (rank (u .b0)) (rank (u .b1))) [
-        | misses f e ↦ omega (arith, has-one X Y (rank (w .b0)) (rank (w .b1)))
-        | holds a b c ↦ elim (view X Y (rank (w .b0)) (rank (w .b1))) [
-          | misses f e ↦ omega arith
-          | holds d e f ↦
+        | missing f e ↦ omega (arith, has-one X Y (rank (w .b0)) (rank (w .b1)))
+        | holding a b c ↦ elim (view X Y (rank (w .b0)) (rank (w .b1))) [
+          | missing f e ↦ omega arith
+          | holding d e f ↦
               let i = h .rank-lo in
               let j = h .rank-hi in
               let none : G ≡ 0 → K ≡ 0 = z (omega arith) (omega arith) in

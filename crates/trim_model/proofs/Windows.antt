@@ -18,6 +18,17 @@ use Rattle.trim_model.proofs.Count.{has, has-left, has-right}
 use Rattle.trim_model.proofs.Lists.{all-map, all-right, take-drop, drop-take-end}
 use Rattle.trim_model.proofs.Intervals.{count}
 
+-- what holds of the ends of intervals holds of the windows made of them
+pub fresh-all : (P : Float → Float → Type 0) (s : Src) (n : ℕ) (ps : List Interval) → All (λ (k : Interval). P (k .from) (k .to)) ps → All (λ (u : Window). P (u .b0) (u .b1)) (fresh s n ps)
+unfolding fresh
+fresh-all P s n [] h = tt
+fresh-all P s n (p ∷ ps) h = (h .0, fresh-all P s (suc n) ps (h .1))
+
+pub split-all : (P : Float → Float → Type 0) (u : Window) (n : ℕ) (ps : List Interval) → All (λ (k : Interval). P (k .from) (k .to)) ps → All (λ (v : Window). P (v .b0) (v .b1)) (split u n ps)
+unfolding split
+split-all P u n [] h = tt
+split-all P u n (p ∷ ps) h = (h .0, fresh-all P (u .src) n ps (h .1))
+
 -- how many hold [X, Y]
 unfoldable pub wcount : ℕ → ℕ → List Window → ℕ
 wcount X Y [] = 0
