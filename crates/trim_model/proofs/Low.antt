@@ -1,0 +1,80 @@
+-- Each live window's lowest value is that of its source over its ends, after every list of candidates. Assumes nothing.
+use Prim.Native.Nat.{ℕ, suc}
+use mathlib.Core.Bool.{Bool, cond}
+use mathlib.Core.List.{List, [], _∷_, _++_}
+use mathlib.Core.Path.{_≡_, refl, subst}
+use lib.Dec.{eqb}
+use lib.Ieee.{Float, le}
+use Rattle.source.specs.declared.Src.{Src}
+use Rattle.source.specs.Distance.{lowestOf}
+use Rattle.trim_model.specs.Intervals.{Interval, width, tinyOf, pieces, wideOf}
+use Rattle.trim_model.specs.Windows.{Window, fresh, split, sorted}
+use Rattle.trim_model.specs.Add.{Better, Walk, before, run, behind, start, untouched, meet, visit, visits, addTo, sharedLo, sharedHi}
+use Rattle.trim_model.specs.Model.{Candidate, Model, empty, asWindow, admits, updated, admit, step, steps}
+use Rattle.trim_model.specs.Claim.{All}
+use Rattle.trim_model.proofs.Ranks.{by-cases}
+use Rattle.trim_model.proofs.Lists.{all-append, all-left, all-right}
+use Rattle.trim_model.proofs.Windows.{parted, sorted-all}
+use Rattle.trim_model.proofs.Order.{news}
+
+abbrev pub LowRight : Window → Type 0
+LowRight u = u .low ≡ lowestOf (u .src) (u .b0) (u .b1)
+
+fresh-low : (s : Src) (n : ℕ) (ps : List Interval) → All LowRight (fresh s n ps)
+unfolding fresh
+fresh-low s n [] = tt
+fresh-low s n (p ∷ ps) = (refl, fresh-low s (suc n) ps)
+
+split-low : (u : Window) (n : ℕ) (ps : List Interval) → All LowRight (split u n ps)
+unfolding split
+split-low u n [] = tt
+split-low u n (p ∷ ps) = (refl, fresh-low (u .src) n ps)
+
+module _ (better : Better) (t : Float) (w : Window) where
+  meet-low : (u : Window) → LowRight u → (lo hi : Float) (gs : List Interval) (s : Walk) → All LowRight (s .survivors) → All LowRight (meet t u lo hi gs s .survivors)
+  unfolding meet
+  meet-low u k lo hi [] s h = all-append LowRight (s .survivors) (u ∷ []) h (k, tt)
+  meet-low u k lo hi (g ∷ gs) s h = all-append LowRight (s .survivors) (split u (s .made) (pieces t (u .b0) (u .b1) (g ∷ gs))) h (split-low u (s .made) (pieces t (u .b0) (u .b1) (g ∷ gs)))
+
+  visits-low : (us : List Window) → All LowRight us → (s : Walk) → All LowRight (s .survivors) → All LowRight (visits better t w us s .survivors)
+  unfolding visits visit
+  visits-low [] k s h = h
+  visits-low (u ∷ us) k s h =
+      let lo = sharedLo w u in
+      let hi = sharedHi w u in
+      visits-low us (k .1) (visit better t w u s)
+      (by-cases (λ (c : Bool). All LowRight ((cond c (untouched u s) (meet t u lo hi (better (w .src) (u .src) lo hi) s)) .survivors)) (le (width lo hi) t)
+      (λ y. all-append LowRight (s .survivors) (u ∷ []) h (k .0, tt))
+      (λ n. meet-low u (k .0) lo hi (better (w .src) (u .src) lo hi) s h))
+
+  pub add-low : (l : List Window) (made : ℕ) → All LowRight l → All LowRight (addTo better t w l made .live)
+  unfolding addTo
+  add-low l made h =
+      let s = visits better t w (run t w l) (start w made) in
+      let news = fresh (w .src) (s .made) (wideOf t (s .keep)) in
+      let k = subst (All LowRight) (parted t w l) h in
+      let r = all-right LowRight (before t w l) (run t w l ++ behind t w l) k in
+      all-append LowRight (before t w l) (sorted (s .survivors ++ news) ++ behind t w l) (all-left LowRight (before t w l) (run t w l ++ behind t w l) k)
+      (all-append LowRight (sorted (s .survivors ++ news)) (behind t w l)
+      (sorted-all LowRight (s .survivors ++ news) (all-append LowRight (s .survivors) news (visits-low (run t w l) (all-left LowRight (run t w l) (behind t w l) r) (start w made) tt) (fresh-low (w .src) (s .made) (wideOf t (s .keep)))))
+      (all-right LowRight (run t w l) (behind t w l) r))
+
+module _ (better : Better) (limit : Float) (len : ℕ → Float) where
+  abbrev Lows : Model → Type 0
+  Lows m = (e : ℕ) → All LowRight (m .edge e .live)
+
+  admit-low : (c : Candidate) (m : Model) → Lows m → Lows (admit better limit len c m)
+  unfolding admit
+  admit-low c m h e =
+      let t = tinyOf (len (c .edge)) in
+      let s = m .edge (c .edge) in
+      let a = addTo better t (asWindow c) (s .live) (m .made) in
+      by-cases (λ (b : Bool). All LowRight ((cond b (updated c s a) (m .edge e)) .live)) (eqb e (c .edge)) (λ y. add-low better t (asWindow c) (s .live) (m .made) (h (c .edge))) (λ y. h e)
+
+  steps-low : (cs : List Candidate) (m : Model) → Lows m → Lows (steps better limit len cs m)
+  unfolding steps step
+  steps-low [] m h e = h e
+  steps-low (c ∷ cs) m h e = steps-low cs (step better limit len c m) (by-cases (λ (b : Bool). Lows (cond b (admit better limit len c m) m)) (admits limit len c) (λ y. admit-low c m h) (λ y. h)) e
+
+  pub low-right : (cs : List Candidate) → Lows (steps better limit len cs empty)
+  low-right cs e = steps-low cs empty (λ (i : ℕ). tt) e

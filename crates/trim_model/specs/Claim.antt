@@ -1,0 +1,93 @@
+-- Demand 3 about the reference model, and what it asks of `better`. Definitions only.
+use Prim.Native.Nat.{ℕ, _≤_, _<_}
+use mathlib.Core.List.{List, [], _∷_}
+use mathlib.Core.Logic.{_⊎_}
+use mathlib.Core.Path.{_≡_}
+use lib.Dec.{T}
+use lib.ListN.{length}
+use lib.Ieee.{Float, binary64, lt, le, fits}
+use lib.Ieee.Scale.{finite}
+use Rattle.float64.specs.Scalar.{zero, minOf, maxOf}
+use Rattle.source.specs.declared.Src.{Src}
+use Rattle.trim_model.specs.Intervals.{Interval, width, tinyOf}
+use Rattle.trim_model.specs.Windows.{Window}
+use Rattle.trim_model.specs.Add.{Better}
+use Rattle.trim_model.specs.Model.{Candidate, EdgeState, Model, empty, steps, stepsBound}
+
+module _ {A : Type 0} where
+  -- each element of a list, some element, and each two, the earlier first
+  abbrev pub All : (A → Type 0) → List A → Type 0
+  All P [] = Unit {0}
+  All P (x ∷ xs) = P x × All P xs
+
+  abbrev pub Any : (A → Type 0) → List A → Type 0
+  Any P [] = ⊥
+  Any P (x ∷ xs) = P x ⊎ Any P xs
+
+  abbrev pub Pairs : (A → A → Type 0) → List A → Type 0
+  Pairs R [] = Unit {0}
+  Pairs R (x ∷ xs) = All (R x) xs × Pairs R xs
+
+-- a point of an edge: a finite double
+pub record Point (x : Float) : Type 0 where
+  pub number : T (finite x)
+  pub double : T (fits binary64 x)
+
+-- x lies in an interval, in a window, the ends included
+abbrev pub In : Float → Interval → Type 0
+In x k = T (le (k .from) x) × T (le x (k .to))
+
+abbrev pub InWindow : Float → Window → Type 0
+InWindow x u = T (le (u .b0) x) × T (le x (u .b1))
+
+-- ---- what is asked of `better`
+-- a stretch of [lo, hi]
+pub record Stretch (lo hi : Float) (g : Interval) : Type 0 where
+  pub point0 : Point (g .from)
+  pub point1 : Point (g .to)
+  pub above : T (le lo (g .from))
+  pub rises : T (lt (g .from) (g .to))
+  pub below : T (le (g .to) hi)
+
+-- it names stretches of [lo, hi], in rising order, with ground between each two
+pub record SeparateStretches (better : Better) : Type 0 where
+  pub within : (p q : Src) (lo hi : Float) → Point lo → Point hi → T (lt lo hi) → All (Stretch lo hi) (better p q lo hi)
+  pub apart : (p q : Src) (lo hi : Float) → Point lo → Point hi → T (lt lo hi) → Pairs (λ (g h : Interval). T (lt (g .to) (h .from))) (better p q lo hi)
+
+-- ---- demand 3 for an edge whose tiny is given, sentence by sentence. Widths are computed differences, as 01 reads them.
+pub record Trimmed (tiny : Float) (bound : ℕ) (s : EdgeState) : Type 0 where
+  -- "they stand in rising order of start and of end"
+  pub order : Pairs (λ (u v : Window). T (lt (u .b0) (v .b0)) × T (lt (u .b1) (v .b1))) (s .live)
+  -- "each is wider than a hundred-thousand-millionth of the edge"
+  pub widths : All (λ (u : Window). T (lt tiny (width (u .b0) (u .b1)))) (s .live)
+  -- "and no two share more"
+  pub shares : Pairs (λ (u v : Window). T (le (width (maxOf (u .b0) (v .b0)) (minOf (u .b1) (v .b1))) tiny)) (s .live)
+  -- "every point of every window admitted to that edge lies in a live one there, or in a sliver .., which an offer to that edge dropped"
+  pub cover : (x : Float) → Point x → Any (In x) (s .admitted) → Any (InWindow x) (s .live) ⊎ Any (In x) (s .slivers)
+  -- ".. no wider than that": each sliver is wider than zero, and at most tiny
+  pub narrow : All (λ (k : Interval). T (lt zero (width (k .from) (k .to))) × T (le (width (k .from) (k .to)) tiny)) (s .slivers)
+  -- "The book names the slivers, on each edge at most as many as 01's bound"
+  pub count : length (s .slivers) ≤ bound
+
+-- ---- the whole
+-- "each of a window to some edge", "a window's ends numbers from 0 to its edge's length": of this only that all three are finite doubles, and the length above zero
+pub record Proper (len : ℕ → Float) (c : Candidate) : Type 0 where
+  pub start : Point (c .b0)
+  pub end : Point (c .b1)
+  pub length : Point (len (c .edge))
+  pub positive : T (lt zero (len (c .edge)))
+
+-- "For every list of offers .., in any order and number, those not admitted among them, all edges empty and no window made at first ..: after the list, on every edge".
+-- "the live windows are exactly those of 01's book" is said of the program, by the contract that names `steps`.
+abbrev pub Demand3 : Better → Float → (ℕ → Float) → Type 0
+Demand3 better limit len =
+    (cs : List Candidate) → All (Proper len) cs → (e : ℕ)
+    → Trimmed (tinyOf (len e)) (stepsBound better limit len e cs empty) (steps better limit len cs empty .edge e)
+
+-- ---- the numbers of live windows, for any list at all
+pub record Numbered (m : Model) : Type 0 where
+  -- they were given out
+  pub below : (e : ℕ) → All (λ (u : Window). u .num < m .made) (m .edge e .live)
+  -- no two live windows of an edge, or of two edges, have one number
+  pub differ : (e : ℕ) → Pairs (λ (u v : Window). (u .num ≡ v .num) → ⊥) (m .edge e .live)
+  pub apart : (e f : ℕ) → ((e ≡ f) → ⊥) → All (λ (u : Window). All (λ (v : Window). (u .num ≡ v .num) → ⊥) (m .edge f .live)) (m .edge e .live)

@@ -1,0 +1,5 @@
+pub mod Intervals
+pub mod Windows
+pub mod Add
+pub mod Model
+pub mod Claim
