@@ -10,49 +10,73 @@ use lib.ListN.{length, getD, set, length-append}
 use lib.Seq.{set-at, set-append-left}
 use lib.Ieee.{Float, nan}
 use Rattle.buffers.specs.Slots.{slot}
-use Rattle.buffers.proofs.Strides.{slot-at, slot-set-same, slot-set-other, length-slot, fill-sets, fill-same, fill-other}
+use Rattle.buffers.proofs.Strides.{in-slots, slot-at, slot-set-same, slot-set-other, length-slot, fill-sets, fill-same, fill-other}
 use Rattle.windows.specs.declared.WindowRecord.{WindowRecord}
-use Rattle.windows.specs.Windows.{flagsOf, hasFlag, windowAt, wordsWith, realsWith, rangeWith, flagsWith, trimmed, reflagged, relinked, windows}
+use Rattle.source.specs.declared.Src.{Src}
+use Rattle.source.specs.declared.Src.the-variants.{Point, Line}
+use Rattle.source.specs.declared.Win.{Win}
+use Rattle.windows.specs.Windows.{capacityOf, isLine, realsOf, srcOf, flagsOf, hasFlag, winAt, windowAt, wordsWith, realsWith, rangeWith, flagsWith, trimmedWin, trimmed, reflagged, relinked, windows}
 
 pub weight-le : (b : Bool) (v : ℕ) → cond b v 0 ≤ v
 weight-le true v = omega arith
 weight-le false v = omega arith
 
+-- a window that is counted has its slot in both slices
+pub counted : (k m n : ℕ) → k < capacityOf m n → (4 * k + 4 ≤ m) × (6 * k + 6 ≤ n)
+counted k m n h = (in-slots m 4 k (omega arith), in-slots n 6 k (omega arith))
+
+-- a source is read as it was stored
+source-same : (s : Src) → srcOf (isLine s) (getD (realsOf s) 0 nan) (getD (realsOf s) 1 nan) (getD (realsOf s) 2 nan) ≡ s
+unfolding isLine realsOf
+source-same (Point x y s) = refl
+source-same (Line ux uy c) = refl
+
+length-realsOf : (s : Src) → length (realsOf s) ≡ 3
+unfolding realsOf
+length-realsOf (Point x y s) = refl
+length-realsOf (Line ux uy c) = refl
+
 -- ---- a window is what its two slots say
+unfoldable decodeWin : Bool → List Float → Win
+decodeWin line f = record {
+  b0 = getD f 0 nan;
+  b1 = getD f 1 nan;
+  low = getD f 2 nan;
+  src = srcOf line (getD f 3 nan) (getD f 4 nan) (getD f 5 nan);
+}
+
 unfoldable decode : List ℕ → List Float → WindowRecord
 decode w f = record {
   edge = record { 0 = getD w 0 0 };
   into = record { 0 = getD w 1 0 };
-  line = hasFlag (getD w 2 0) 1;
   alive = hasFlag (getD w 2 0) 2;
   queued = hasFlag (getD w 2 0) 4;
   link = getD w 3 0;
-  b0 = getD f 0 nan;
-  b1 = getD f 1 nan;
-  low = getD f 2 nan;
-  s0 = getD f 3 nan;
-  s1 = getD f 4 nan;
-  s2 = getD f 5 nan;
+  win = decodeWin (hasFlag (getD w 2 0) 1) f;
 }
+
+win-by-slot : (line : Bool) (f : List Float) (k : ℕ) → winAt line f k ≡ decodeWin line (slot 6 f k)
+unfolding winAt decodeWin
+win-by-slot line f k =
+    let real : (a : ℕ) → a < 6 → getD f (6 * k + a) nan ≡ getD (slot 6 f k) a nan = λ a h. sym (slot-at 6 f k a nan h) in
+    λ t. record {
+      b0 = real 0 (omega arith) t;
+      b1 = real 1 (omega arith) t;
+      low = real 2 (omega arith) t;
+      src = srcOf line (real 3 (omega arith) t) (real 4 (omega arith) t) (real 5 (omega arith) t);
+    }
 
 by-slots : (w : List ℕ) (f : List Float) (k : ℕ) → windowAt w f k ≡ decode (slot 4 w k) (slot 6 f k)
 unfolding windowAt decode
 by-slots w f k =
     let word : (a : ℕ) → a < 4 → getD w (4 * k + a) 0 ≡ getD (slot 4 w k) a 0 = λ a h. sym (slot-at 4 w k a 0 h) in
-    let real : (a : ℕ) → a < 6 → getD f (6 * k + a) nan ≡ getD (slot 6 f k) a nan = λ a h. sym (slot-at 6 f k a nan h) in
     λ t. record {
       edge = record { 0 = word 0 (omega arith) t };
       into = record { 0 = word 1 (omega arith) t };
-      line = hasFlag (word 2 (omega arith) t) 1;
       alive = hasFlag (word 2 (omega arith) t) 2;
       queued = hasFlag (word 2 (omega arith) t) 4;
       link = word 3 (omega arith) t;
-      b0 = real 0 (omega arith) t;
-      b1 = real 1 (omega arith) t;
-      low = real 2 (omega arith) t;
-      s0 = real 3 (omega arith) t;
-      s1 = real 4 (omega arith) t;
-      s2 = real 5 (omega arith) t;
+      win = win-by-slot (hasFlag (word 2 (omega arith) t) 1) f k t;
     }
 
 -- one field of a window, where the whole is not wanted
@@ -65,16 +89,16 @@ module _ (w : List ℕ) (f : List Float) (k : ℕ) where
   unfolding windowAt
   link-is = refl
 
-  pub b0-is : windowAt w f k .b0 ≡ getD f (6 * k + 0) nan
-  unfolding windowAt
+  pub b0-is : windowAt w f k .win .b0 ≡ getD f (6 * k + 0) nan
+  unfolding windowAt winAt
   b0-is = refl
 
-  pub b1-is : windowAt w f k .b1 ≡ getD f (6 * k + 1) nan
-  unfolding windowAt
+  pub b1-is : windowAt w f k .win .b1 ≡ getD f (6 * k + 1) nan
+  unfolding windowAt winAt
   b1-is = refl
 
-  pub low-is : windowAt w f k .low ≡ getD f (6 * k + 2) nan
-  unfolding windowAt
+  pub low-is : windowAt w f k .win .low ≡ getD f (6 * k + 2) nan
+  unfolding windowAt winAt
   low-is = refl
 
 -- the flags are read as they were put together
@@ -90,39 +114,36 @@ decoded true true true = (refl, (refl, refl))
 
 -- ---- a load after a store
 module _ (w : List ℕ) (f : List Float) (k : ℕ) (x : WindowRecord) where
-  pub load-same : 4 * k + 4 ≤ length w → 6 * k + 6 ≤ length f → windowAt (wordsWith w k x) (realsWith f k x) k ≡ x
-  unfolding wordsWith realsWith decode
+  pub load-same : 4 * k + 4 ≤ length w → 6 * k + 6 ≤ length f → windowAt (wordsWith w k x) (realsWith f k (x .win)) k ≡ x
+  unfolding wordsWith realsWith decode decodeWin
   load-same p q =
-      let d = decoded (x .line) (x .alive) (x .queued) in
-      by-slots (wordsWith w k x) (realsWith f k x) k
-      ∙ ap (λ s. decode s (slot 6 (realsWith f k x) k)) (fill-same 4 w k _ refl p)
-      ∙ ap (decode (x .edge .0 ∷ x .into .0 ∷ flagsOf (x .line) (x .alive) (x .queued) ∷ x .link ∷ [])) (fill-same 6 f k _ refl q)
+      let d = decoded (isLine (x .win .src)) (x .alive) (x .queued) in
+      let r = realsOf (x .win .src) in
+      let line = ap (λ b. srcOf b (getD r 0 nan) (getD r 1 nan) (getD r 2 nan)) (d .0) ∙ source-same (x .win .src) in
+      by-slots (wordsWith w k x) (realsWith f k (x .win)) k
+      ∙ ap (λ s. decode s (slot 6 (realsWith f k (x .win)) k)) (fill-same 4 w k _ refl p)
+      ∙ ap (decode (x .edge .0 ∷ x .into .0 ∷ flagsOf (isLine (x .win .src)) (x .alive) (x .queued) ∷ x .link ∷ []))
+      (fill-same 6 f k _ (ap (λ n. suc (suc (suc n))) (length-realsOf (x .win .src))) q)
       ∙ (λ t. record {
         edge = x .edge;
         into = x .into;
-        line = d .0 t;
         alive = d .1 .0 t;
         queued = d .1 .1 t;
         link = x .link;
-        b0 = x .b0;
-        b1 = x .b1;
-        low = x .low;
-        s0 = x .s0;
-        s1 = x .s1;
-        s2 = x .s2;
+        win = record { b0 = x .win .b0; b1 = x .win .b1; low = x .win .low; src = line t };
       })
 
-  pub load-other : (j : ℕ) → k ≢ j → windowAt (wordsWith w k x) (realsWith f k x) j ≡ windowAt w f j
+  pub load-other : (j : ℕ) → k ≢ j → windowAt (wordsWith w k x) (realsWith f k (x .win)) j ≡ windowAt w f j
   unfolding wordsWith realsWith
   load-other j ne =
-      by-slots (wordsWith w k x) (realsWith f k x) j
-      ∙ ap (λ s. decode s (slot 6 (realsWith f k x) j)) (fill-other 4 _ w k j 0 ne (omega arith))
-      ∙ ap (decode (slot 4 w j)) (fill-other 6 _ f k j 0 ne (omega arith))
+      by-slots (wordsWith w k x) (realsWith f k (x .win)) j
+      ∙ ap (λ s. decode s (slot 6 (realsWith f k (x .win)) j)) (fill-other 4 _ w k j 0 ne (omega arith))
+      ∙ ap (decode (slot 4 w j)) (fill-other 6 _ f k j 0 ne (rw (length-realsOf (x .win .src)) (omega arith)))
       ∙ sym (by-slots w f j)
 
 -- a trim changes the ends and the least value of its window alone
 decode-trim : (w : List ℕ) (p : List Float) (b0 b1 low : Float) → 3 ≤ length p → decode w (set (set (set p 0 b0) 1 b1) 2 low) ≡ trimmed (decode w p) b0 b1 low
-unfolding decode trimmed
+unfolding decode decodeWin trimmed trimmedWin
 decode-trim w [] b0 b1 low h = absurd (omega arith)
 decode-trim w (x ∷ []) b0 b1 low h = absurd (omega arith)
 decode-trim w (x ∷ y ∷ []) b0 b1 low h = absurd (omega arith)
@@ -143,42 +164,38 @@ module _ (w : List ℕ) (f : List Float) (k : ℕ) (b0 b1 low : Float) where
       by-slots w (rangeWith f k b0 b1 low) j ∙ ap (decode (slot 4 w j)) (fill-other 6 (b0 ∷ b1 ∷ low ∷ []) f k j 0 ne (omega arith)) ∙ sym (by-slots w f j)
 
 -- a change of flags changes those flags alone
-decode-flags : (p : List ℕ) (f : List Float) (line alive queued : Bool) → 3 ≤ length p → decode (set p 2 (flagsOf line alive queued)) f ≡ reflagged (decode p f) line alive queued
+decode-flags : (p : List ℕ) (f : List Float) (alive queued : Bool) → 3 ≤ length p → decode (set p 2 (flagsOf (hasFlag (getD p 2 0) 1) alive queued)) f ≡ reflagged (decode p f) alive queued
 unfolding decode reflagged
-decode-flags [] f line alive queued h = absurd (omega arith)
-decode-flags (x ∷ []) f line alive queued h = absurd (omega arith)
-decode-flags (x ∷ y ∷ []) f line alive queued h = absurd (omega arith)
-decode-flags (x ∷ y ∷ z ∷ p) f line alive queued h =
-    let d = decoded line alive queued in
+decode-flags [] f alive queued h = absurd (omega arith)
+decode-flags (x ∷ []) f alive queued h = absurd (omega arith)
+decode-flags (x ∷ y ∷ []) f alive queued h = absurd (omega arith)
+decode-flags (x ∷ y ∷ z ∷ p) f alive queued h =
+    let d = decoded (hasFlag z 1) alive queued in
     λ t. record {
       edge = record { 0 = x };
       into = record { 0 = y };
-      line = d .0 t;
       alive = d .1 .0 t;
       queued = d .1 .1 t;
       link = getD p 0 0;
-      b0 = getD f 0 nan;
-      b1 = getD f 1 nan;
-      low = getD f 2 nan;
-      s0 = getD f 3 nan;
-      s1 = getD f 4 nan;
-      s2 = getD f 5 nan;
+      win = decodeWin (d .0 t) f;
     }
 
-module _ (w : List ℕ) (f : List Float) (k : ℕ) (line alive queued : Bool) where
-  pub flags-same : 4 * k + 4 ≤ length w → windowAt (flagsWith w k line alive queued) f k ≡ reflagged (windowAt w f k) line alive queued
+module _ (w : List ℕ) (f : List Float) (k : ℕ) (alive queued : Bool) where
+  pub flags-same : 4 * k + 4 ≤ length w → windowAt (flagsWith w k alive queued) f k ≡ reflagged (windowAt w f k) alive queued
   unfolding flagsWith
   flags-same p =
-      by-slots (flagsWith w k line alive queued) f k
+      let line = hasFlag (getD w (4 * k + 2) 0) 1 in
+      by-slots (flagsWith w k alive queued) f k
       ∙ ap (λ s. decode s (slot 6 f k)) (slot-set-same 4 w k 2 (flagsOf line alive queued) (omega arith))
-      ∙ decode-flags (slot 4 w k) (slot 6 f k) line alive queued (rw (length-slot 4 w k p) (omega arith))
-      ∙ ap (λ x. reflagged x line alive queued) (sym (by-slots w f k))
+      ∙ ap (λ z. decode (set (slot 4 w k) 2 (flagsOf (hasFlag z 1) alive queued)) (slot 6 f k)) (sym (slot-at 4 w k 2 0 (omega arith)))
+      ∙ decode-flags (slot 4 w k) (slot 6 f k) alive queued (rw (length-slot 4 w k p) (omega arith))
+      ∙ ap (λ x. reflagged x alive queued) (sym (by-slots w f k))
 
-  pub flags-other : (j : ℕ) → k ≢ j → windowAt (flagsWith w k line alive queued) f j ≡ windowAt w f j
+  pub flags-other : (j : ℕ) → k ≢ j → windowAt (flagsWith w k alive queued) f j ≡ windowAt w f j
   unfolding flagsWith
   flags-other j ne =
-      by-slots (flagsWith w k line alive queued) f j
-      ∙ ap (λ s. decode s (slot 6 f j)) (slot-set-other 4 w k j 2 (flagsOf line alive queued) ne (omega arith))
+      by-slots (flagsWith w k alive queued) f j
+      ∙ ap (λ s. decode s (slot 6 f j)) (slot-set-other 4 w k j 2 (flagsOf (hasFlag (getD w (4 * k + 2) 0) 1) alive queued) ne (omega arith))
       ∙ sym (by-slots w f j)
 
 -- a change of a link changes that link alone
@@ -218,11 +235,11 @@ windows-same (suc n) w w′ f f′ h =
 
 -- a window stored past the first n is appended
 pub windows-push : (n : ℕ) (w : List ℕ) (f : List Float) (x : WindowRecord) → 4 * n + 4 ≤ length w → 6 * n + 6 ≤ length f
-    → windows (suc n) (wordsWith w n x) (realsWith f n x) ≡ windows n w f ++ (x ∷ [])
+    → windows (suc n) (wordsWith w n x) (realsWith f n (x .win)) ≡ windows n w f ++ (x ∷ [])
 unfolding windows
 windows-push n w f x p q =
-    ap (λ l. l ++ (windowAt (wordsWith w n x) (realsWith f n x) n ∷ []))
-    (windows-same n w (wordsWith w n x) f (realsWith f n x) (λ j h. load-other w f n x j (omega arith)))
+    ap (λ l. l ++ (windowAt (wordsWith w n x) (realsWith f n (x .win)) n ∷ []))
+    (windows-same n w (wordsWith w n x) f (realsWith f n (x .win)) (λ j h. load-other w f n x j (omega arith)))
     ∙ ap (λ y. windows n w f ++ (y ∷ [])) (load-same w f n x p q)
 
 -- a change of window k alone is a change of element k alone

@@ -3,6 +3,12 @@ use borrow.Author.Needs.{needs}
 use Rattle.windows.proofs.store_flags.Statement.{statement}
 use Rattle.windows.proofs.store_flags.Tie as tie
 
+read-u32-requires : tie.Need-read-u32-requires
+read-u32-requires c κs = search needs
+
+has-flag-requires : tie.Need-has-flag-requires
+has-flag-requires c κs = search needs
+
 flags-requires : tie.Need-flags-requires
 flags-requires c κs = search needs
 
@@ -17,4 +23,12 @@ unfolding flagsWith
 returns c = cc
 
 pub store-flags-spec : {M : Type 1} → statement M
-store-flags-spec = tie.close (tie.spec flags-requires write-u32-requires same-length returns)
+store-flags-spec =
+    tie.close
+    (tie.spec
+    read-u32-requires
+    has-flag-requires
+    flags-requires
+    write-u32-requires
+    same-length
+    returns)

@@ -1,6 +1,6 @@
-use borrow.Author.Needs.{needs}
 use Rattle.buffers.specs.Slots.{fill}
 use Rattle.windows.specs.Windows.{realsWith}
+use borrow.Author.Needs.{needs}
 use Rattle.windows.proofs.store_reals.Statement.{statement}
 use Rattle.windows.proofs.store_reals.Tie as tie
 
@@ -13,14 +13,8 @@ write-f64-requires-2 c κs = search needs
 write-f64-requires-3 : tie.Need-write-f64-requires-3
 write-f64-requires-3 c κs = search needs
 
-write-f64-requires-4 : tie.Need-write-f64-requires-4
-write-f64-requires-4 c κs = search needs
-
-write-f64-requires-5 : tie.Need-write-f64-requires-5
-write-f64-requires-5 c κs = search needs
-
-write-f64-requires-6 : tie.Need-write-f64-requires-6
-write-f64-requires-6 c κs = search needs
+store-src-requires : tie.Need-store-src-requires
+store-src-requires c κs = search needs
 
 same-length : tie.Need-same-length
 same-length c = search needs
@@ -36,8 +30,6 @@ store-reals-spec =
     write-f64-requires
     write-f64-requires-2
     write-f64-requires-3
-    write-f64-requires-4
-    write-f64-requires-5
-    write-f64-requires-6
+    store-src-requires
     same-length
     returns)

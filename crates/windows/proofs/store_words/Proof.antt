@@ -1,8 +1,11 @@
-use borrow.Author.Needs.{needs}
 use Rattle.buffers.specs.Slots.{fill}
 use Rattle.windows.specs.Windows.{wordsWith}
+use borrow.Author.Needs.{needs}
 use Rattle.windows.proofs.store_words.Statement.{statement}
 use Rattle.windows.proofs.store_words.Tie as tie
+
+is-line-requires : tie.Need-is-line-requires
+is-line-requires c κs = search needs
 
 flags-requires : tie.Need-flags-requires
 flags-requires c κs = search needs
@@ -30,6 +33,7 @@ pub store-words-spec : {M : Type 1} → statement M
 store-words-spec =
     tie.close
     (tie.spec
+    is-line-requires
     flags-requires
     write-u32-requires
     write-u32-requires-2

@@ -1,0 +1,11 @@
+use Rattle.windows.proofs.source_of.Statement.{statement}
+use Rattle.windows.proofs.source_of.Tie as tie
+
+returns : tie.Need-returns
+returns c = rw (c .if1 .taken)
+
+returns-2 : tie.Need-returns-2
+returns-2 c = rw (c .if1 .left)
+
+pub source-of-spec : {M : Type 1} → statement M
+source-of-spec = tie.close (tie.spec returns returns-2)
