@@ -12,4 +12,5 @@ ${CC:-cc} $flags -o "$out/bench" tests/roots/bench.c target/staticlib/libroots_c
 echo "- processor: $(lscpu | sed -n 's/^Model name: *//p')"
 echo "- C library: $(getconf GNU_LIBC_VERSION)"
 echo "- driver: $(${CC:-cc} --version | head -n 1), $flags"
+echo "- other work as the run began: a load of $(cut -d ' ' -f 1 /proc/loadavg) on $(nproc) processors"
 "$out/bench"

@@ -17,7 +17,7 @@ static double float_of(uint64_t b) { double x; memcpy(&x, &b, 8); return x; }
 #define HIDDEN 0x0010000000000000u
 #define DIGITS 0x000fffffffffffffu
 
-/* splitmix64 */
+/* splitmix64. Each draw stands in a statement of its own, so that every compiler draws in the same order. */
 static uint64_t state;
 
 static void seed(uint64_t s) { state = s * 0x9e3779b97f4a7c15u; }
@@ -32,8 +32,11 @@ static uint64_t draw(void) {
 /* a number from a to b */
 static int64_t between(int64_t a, int64_t b) { return a + (int64_t)(draw() % (uint64_t)(b - a + 1)); }
 
-/* a number of at most n bits, each length as likely as another; at least 1 */
-static uint64_t of_any_length(int n) { return draw() >> (64 - between(1, n)) | 1; }
+/* an odd number of at most n bits, each length as likely as another */
+static uint64_t of_any_length(int n) {
+    int64_t length = between(1, n);
+    return draw() >> (64 - length) | 1;
+}
 
 /* a mantissa, sometimes at an end of its range, with the exponent field e */
 static uint64_t with_exponent(int64_t e) {
@@ -140,7 +143,7 @@ static void tie(uint64_t i, uint64_t *p, uint64_t *q) {
             *p = a * a - b * b, *q = 2 * a * b, c = a * a + b * b;
         } else {
             const uint64_t *s = small[draw() % 7];
-            uint64_t k = (draw() >> 11) % ((uint64_t)1 << 54) / s[2] * 2 + 1;
+            uint64_t k = (draw() >> 11) / s[2] * 2 + 1;
             *p = s[0] * k, *q = s[1] * k, c = s[2] * k;
         }
         if (c >> 53 == 1 && !(*p >> 53)) return;
@@ -190,8 +193,10 @@ static struct pair hypot_subnormal(uint64_t i) {
 /* results next to where rounding overflows, (2^54 - 1) * 2^970, and far above it; one triple lies exactly there */
 static struct pair hypot_overflow(uint64_t i) {
     if (i == 0) return make_pair(ldexp(6081690782099583.0, 970), ldexp(16956756496728720.0, 970));
-    if (i % 8 == 1) return turned((struct pair){LARGEST - draw() % 4, with_exponent(between(1, 2046))});
-    if (i % 8 == 2) return turned((struct pair){with_exponent(2046), with_exponent(2046)});
+    if (i % 8 < 3) {
+        uint64_t a = LARGEST - draw() % 4, b = with_exponent(between(1, 2046)), c = with_exponent(2046);
+        return turned((struct pair){i % 8 == 1 ? a : c, i % 8 == 2 ? a : b});
+    }
     long double t = 0x1p54L - 1;
     double x = (double)(draw() >> 11) * 2;
     double y = (double)sqrtl((t - x) * (t + x));
@@ -213,7 +218,8 @@ static struct pair hypot_powers(uint64_t i) {
 /* every distance of the exponents from 0 to 60 in turn */
 static struct pair hypot_distance(uint64_t i) {
     int64_t d = (int64_t)(i % 61), e = between(d, 2046);
-    return turned((struct pair){with_exponent(e), with_exponent(e - d)});
+    uint64_t x = with_exponent(e), y = with_exponent(e - d);
+    return turned((struct pair){x, y});
 }
 
 static struct pair hypot_ones(uint64_t i) {

@@ -16,7 +16,7 @@ use lib.Ieee.Bits.{ofBits-toBits, toBits-lt, nanBits-above, nanBits-is}
 use lib.Ieee.Nearest.{div-mono}
 use borrow.Author.Tests.{lt-ltb, le-ltb, ltb-false}
 use Rattle.float64.specs.TotalOrder.{half}
-use Rattle.float64.proofs.Values.{FitsIn, fits-in, fits-either, ulps, ulps-le, le-ulps}
+use Rattle.root_spec.proofs.Units.{FitsIn, fits-in, fits-either, ulps, ulps-le, le-ulps}
 
 -- the pattern of a magnitude of n ulps: how many digits are dropped, above the 53 that are kept, whose leading one adds to it
 unfoldable pub pattern : ℕ → ℕ

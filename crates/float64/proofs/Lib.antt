@@ -1,4 +1,3 @@
-pub mod Values
 pub mod Bits
 pub mod Scalar
 pub mod TotalOrder

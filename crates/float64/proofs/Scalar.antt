@@ -14,7 +14,7 @@ use Rattle.root_spec.proofs.Floats.{no-nan}
 use borrow.Author.Tests.{lt-ltb, le-ltb}
 use Rattle.float64.specs.Scalar.{zero, one, two, negative, absOf, isFinite}
 use Rattle.float64.specs.TotalOrder.{half}
-use Rattle.float64.proofs.Values.{fits-either}
+use Rattle.root_spec.proofs.Units.{fits-either}
 use Rattle.float64.proofs.Bits.{toBits-fin, pattern-small, fin-below}
 
 -- `x != x` is the test for a NaN

@@ -11,7 +11,7 @@ use lib.Ieee.Bits.{ofBits-toBits, toBits-lt}
 use borrow.Author.Tests.{lt-ltb, le-ltb}
 use Rattle.float64.specs.Scalar.{negative}
 use Rattle.float64.specs.TotalOrder.{half, turned, totalKey, totalLess}
-use Rattle.float64.proofs.Values.{ulps, fits-either}
+use Rattle.root_spec.proofs.Units.{ulps, fits-either}
 use Rattle.float64.proofs.Bits.{pattern, toBits-fin, pattern-small, fin-below, cross}
 
 pub turned-low : (b : ℕ) → b < half → b + half ≡ turned b

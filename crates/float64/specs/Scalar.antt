@@ -3,7 +3,7 @@ use mathlib.Core.Bool.{Bool, false, cond}
 use lib.Ieee.{Float, nan, inf, fin, binary64, ofBits, lt, neg, isNan}
 use lib.Ieee.Scale.{finite}
 
--- 0.0, 1.0 and 2.0, as the code writes them
+-- 0.0, 1.0 and 2.0, as code writes them
 abbrev pub zero : Float
 zero = ofBits binary64 0
 
@@ -36,7 +36,8 @@ unfoldable pub signumOf : Float → Float
 unfolding negative
 signumOf x = cond (isNan x) x (cond (negative x) (neg one) one)
 
--- x brought up to lo, then down to hi; a NaN stays. Rust panics where lo <= hi does not hold: here the last step wins.
+-- x brought up to lo, then down to hi; a NaN stays. Rust panics where lo <= hi does not hold. Here an lo above hi gives hi,
+-- and the test of a bound that is a NaN is false.
 unfoldable pub clampOf : Float → Float → Float → Float
 clampOf x lo hi = let y = cond (lt x lo) lo x in cond (lt hi y) hi y
 

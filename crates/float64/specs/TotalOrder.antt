@@ -1,5 +1,5 @@
--- Rust's total_cmp on f64: by bits, as one natural number, and in the words of IEEE 754. `totalKey-less` in proofs/ says that the two agree. Definitions only.
--- The logic has one NaN, with no sign: it stands above plus infinity.
+-- Rust's total_cmp on f64, with every NaN read as one whose sign is clear: by bits, as one natural number, and in the words of IEEE 754.
+-- `totalKey-less` in proofs/ says that the two agree. The language has one NaN, with no sign: it stands above plus infinity. Definitions only.
 use Prim.Native.Nat.{ℕ, _+_, _-_}
 use mathlib.Core.Bool.{Bool, not, cond, _&&_, _||_}
 use lib.Dec.{ltb}

@@ -99,7 +99,7 @@ pub fn total_key(x: f64) -> u64
     0xffff_ffff_ffff_ffff - b
 }
 
-// Whether total_cmp finds x less than y.
+// Whether total_cmp finds x less than y, with every NaN read as one above plus infinity.
 pub fn total_less(x: f64, y: f64) -> bool
     ensures { λ r. ⌜ r ≡ totalLess x y ⌝ }
 {

@@ -16,7 +16,7 @@ use lib.Ieee.Scale.{finite, round-same}
 use Rattle.nat_laws.proofs.Ring.{ring}
 use Rattle.float64.specs.Scalar.{two}
 use Rattle.float64.proofs.Scalar.{two-is}
-use Rattle.float64.proofs.Values.{FitsIn, fits-in, grid, grid-lt}
+use Rattle.root_spec.proofs.Units.{FitsIn, fits-in, grid, grid-lt}
 use Rattle.float_laws.proofs.Signed.{SLe, signed, signed-up}
 use Rattle.float_laws.proofs.Order as order
 use Rattle.float_laws.proofs.Order.{Number, finite-number, le-antisym, eq-finite, neg-neg, neg-finite, neg-le, eq-le, eq-sym, le-number-l}

@@ -14,7 +14,7 @@ use lib.Pow.{pow-pos}
 use lib.Ieee.{Float, nan, inf, fin, Format, low, up, down, lt, le, eq, isNan, fits}
 use lib.Ieee.Fits.{down-pos}
 use lib.Ieee.Scale.{finite}
-use Rattle.float64.proofs.Values.{FitsIn, fits-in, ulps, ulps-lt, ulps-left, ulps-right, overflow, overflow-pos}
+use Rattle.root_spec.proofs.Units.{FitsIn, fits-in, ulps, ulps-lt, ulps-left, ulps-right, overflow, overflow-pos}
 use Rattle.float_laws.proofs.Signed.{SLe, signed, unsigned, signed-up, signed-down}
 use Rattle.float_laws.proofs.Order.{Number, finite-number, le-antisym, eq-le, eq-sym, le-or-lt, lt-not-le}
 

@@ -1,4 +1,4 @@
--- Rounding: it keeps the order of fractions of any sign, changes no value that the format holds, and overflows from 2 ^ (emax + 1) on. Assumes nothing.
+-- Rounding: it keeps the order of fractions of any sign, gives a value that the format holds back as one that compares equal, and overflows at the latest from 2 ^ (emax + 1) on. Assumes nothing.
 --     round-not (the sign goes through), round-signed (a ≤ b gives round a ≤ round b), round-nonneg, units-nonneg, round-zero, round-own (a value that fits), round-over
 use Prim.Native.Nat.{ℕ, zero, suc, _+_, _-_, _*_, _/_, _%_, _^_, _≤_, _<_, zero-le, compare}
 use mathlib.Core.Bool.{Bool, true, false, not, cond}
@@ -13,7 +13,7 @@ use lib.Ieee.Exact.{HasValue, round-exact}
 use lib.Ieee.Order.{round-mono}
 use lib.Ieee.Scale.{round-same}
 use Rattle.float64.specs.Scalar as scalar
-use Rattle.float64.proofs.Values.{FitsIn, grid, grid-lt}
+use Rattle.root_spec.proofs.Units.{FitsIn, grid, grid-lt}
 use Rattle.float_laws.proofs.Signed.{SLe, unsigned, signed-refl, zero-of}
 use Rattle.float_laws.proofs.Order as order
 use Rattle.float_laws.proofs.Order.{neg-le, neg-neg, neg-zero-le}

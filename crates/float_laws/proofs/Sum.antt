@@ -1,7 +1,7 @@
 -- Sums and differences of finite floats, as computed. No bound is asked: a result may overflow to an infinity, and is never a NaN. Assumes nothing.
 --     numbers      add-number, sub-number (no NaN), add-finite, sub-finite (between two sums that are finite)
 --     monotone     add-mono, sub-mono
---     exact        add-comm, sub-of-neg (x - (-y) is x + y), sub-self (x - x is 0), sub-zero (x - 0 is x), sub-turn (y - x is -(x - y))
+--     exact        add-comm, sub-of-neg (x - (-y) is x + y), sub-self (x - x is 0); compares equal: sub-zero (x - 0 with x), sub-turn (y - x with -(x - y))
 --     sign         sub-nonneg (a ≤ b gives 0 ≤ b - a), sub-nonpos, sub-pos (a < b gives 0 < b - a), sub-neg; the other way sub-pos-lt, sub-neg-lt
 --     shift        sub-below (x - t ≤ x for 0 ≤ t), add-above (x ≤ x + t)
 use Prim.Native.Nat.{ℕ, _+_, _-_, _*_, _^_, _≤_, _<_, zero-le}
@@ -22,7 +22,7 @@ use lib.Ieee.Scale.{finite}
 use Rattle.nat_laws.proofs.Ring.{ring}
 use Rattle.float64.specs.Scalar.{zero}
 use Rattle.float64.proofs.Scalar.{zero-is}
-use Rattle.float64.proofs.Values.{fits-in, ulps, ulps-lt, ulps-left, ulps-right, overflow}
+use Rattle.root_spec.proofs.Units.{fits-in, ulps, ulps-lt, ulps-left, ulps-right, overflow}
 use Rattle.float_laws.proofs.Signed.{SLe, signed, signed-up, plus, minus, spread, gather}
 use Rattle.float_laws.proofs.Order as order
 use Rattle.float_laws.proofs.Order.{Number, finite-number, zero-finite, le-number-l, le-or-lt, lt-not-le, lt-le-trans, le-lt-trans, finite-between, neg-neg, neg-finite, neg-le, neg-lt, neg-zero-le, le-antisym, eq-le, eq-sym}
@@ -220,7 +220,7 @@ sub-zero f (fin s m e) h k =
     let r = round-own f s m e (fits-in f s m e k) in
     subst (λ (v : Float). T (eq v (fin s m e))) (sym (sub-zero-is f s m e)) (le-antisym (round f s (m * up e) (down e)) (fin s m e) (r .1) (r .0))
 
--- y - x and x - y differ in their signs alone
+-- y - x and -(x - y) compare equal: they differ at most in the sign of a zero
 turned-value : (s t u v : Bool) (a b k l : ℕ)
     → plus u k + (minus s a + minus (not t) b) ≡ minus u k + (plus s a + plus (not t) b) → plus v l + (minus t b + minus (not s) a) ≡ minus v l + (plus t b + plus (not s) a)
     → (plus v l + plus u k ≡ minus v l + minus u k)

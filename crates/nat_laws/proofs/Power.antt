@@ -1,6 +1,6 @@
 -- Powers of two and of four, squares, and how many digits a number has. Assumes nothing.
 use mathlib.Core.Path.{_≡_, refl, sym, ap, _∙_, subst}
-use Prim.Native.Nat.{ℕ, zero, suc, _+_, _*_, _^_, _≤_, _<_}
+use Prim.Native.Nat.{ℕ, zero, suc, _*_, _^_, _≤_, _<_}
 use native.Mathlib.Nat.{lt-irrefl, lt-of-not-le, lt-of-lt-of-le, lt-of-le-of-lt, le-antisymm, mul-le-mul, mul-pos, mul-mul-mul-comm, pow-suc}
 use native.Mathlib.Decide.{decLe}
 use lib.Pow.{pow-pos, pow-mono}

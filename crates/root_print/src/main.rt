@@ -7,19 +7,23 @@
 // bytes or more is `too long`.
 use libc::STDIN_FILENO;
 use libc::STDOUT_FILENO;
-ghost use Prim.Native.Nat.{_+_, _≤_, _<_};
+ghost use mathlib.Core.Path.{_≡_};
+ghost use Prim.Native.Nat.{_-_, _≤_, _<_};
 ghost use lib.ListN.{length};
+ghost use lib.Ieee.{binary64, ofBits};
+ghost use Rattle.root_print.specs.Decimal.{doubleOf, thousandthsOf};
+ghost use Rattle.root_print.specs.Lines.{pushOf, digitsOf, standsAt, skipOf, startOf, scaledOf, numberOf, answerOf};
 
 // 2^53.
 const MOST: u64 = 0x20_0000_0000_0000;
 
-// Digits that were read, after those of a number, and the place past them. A number above MOST stays above it.
+// Digits that were read, after those of a number, and the index past them. A number above MOST stays above it.
 struct Run {
     n: u64,
     next: usize,
 }
 
-// The double that was read and the place past it.
+// The double that was read and the index past it.
 enum Number {
     Is(f64, usize),
     Bad,
@@ -30,7 +34,9 @@ enum Answer {
     Bad,
 }
 
-fn push(n: u64, digit: u8) -> u64 {
+fn push(n: u64, digit: u8) -> u64
+    ensures { λ r. ⌜ r ≡ pushOf n digit ⌝ }
+{
     if n > MOST {
         return n;
     }
@@ -38,7 +44,7 @@ fn push(n: u64, digit: u8) -> u64 {
 }
 
 fn digits(s: &[u8], from: usize, start: u64) -> Run
-    ensures { λ r. ⌜ from ≤ r .next ⌝ }
+    ensures { λ r. ⌜ (r ≡ digitsOf (length (now (s .entry)) - from) (now (s .entry)) from start) × (from ≤ r .next) ⌝ }
 {
     let mut n = start;
     let mut i = from;
@@ -56,8 +62,20 @@ fn digits(s: &[u8], from: usize, start: u64) -> Run
     Run { n, next: i }
 }
 
-// The place past the byte c, where that stands at i, or i.
-fn skip(s: &[u8], i: usize, c: u8) -> usize {
+// Whether the byte c stands at i.
+fn stands(s: &[u8], i: usize, c: u8) -> bool
+    ensures { λ r. ⌜ r ≡ standsAt (now (s .entry)) i c ⌝ }
+{
+    if i < s.len() {
+        return s[i] == c;
+    }
+    false
+}
+
+// The index past the byte c, where that stands at i, or i.
+fn skip(s: &[u8], i: usize, c: u8) -> usize
+    ensures { λ r. ⌜ (r ≡ skipOf (now (s .entry)) i c) × (i ≤ r) ⌝ }
+{
     if i < s.len() {
         if s[i] == c {
             return i + 1;
@@ -66,8 +84,21 @@ fn skip(s: &[u8], i: usize, c: u8) -> usize {
     i
 }
 
+// The index past a sign at i.
+fn start(s: &[u8], i: usize) -> usize
+    ensures { λ r. ⌜ r ≡ startOf (now (s .entry)) i ⌝ }
+{
+    let minus = skip(s, i, b'-');
+    if minus == i {
+        return skip(s, i, b'+');
+    }
+    minus
+}
+
 // The thousandths of a number whose digits, k of them after the point, are those of n.
-fn scaled(n: u64, k: usize) -> u64 {
+fn scaled(n: u64, k: usize) -> u64
+    ensures { λ r. ⌜ r ≡ scaledOf n k ⌝ }
+{
     if k == 0 {
         return push(push(push(n, 0), 0), 0);
     }
@@ -80,7 +111,9 @@ fn scaled(n: u64, k: usize) -> u64 {
     n
 }
 
-fn double(n: u64, negative: bool) -> f64 {
+fn double(n: u64, negative: bool) -> f64
+    ensures { λ r. ⌜ r ≡ doubleOf n negative ⌝ }
+{
     let x = std::num::nearest_u64_to_f64(n) / 1000.0;
     if negative {
         return -x;
@@ -89,12 +122,10 @@ fn double(n: u64, negative: bool) -> f64 {
 }
 
 // The number that stands at i.
-fn read_number(s: &[u8], i: usize) -> Number {
-    let minus = skip(s, i, b'-');
-    let mut first = minus;
-    if minus == i {
-        first = skip(s, i, b'+');
-    }
+fn read_number(s: &[u8], i: usize) -> Number
+    ensures { λ r. ⌜ r ≡ numberOf (now (s .entry)) i ⌝ }
+{
+    let first = start(s, i);
     let whole = digits(s, first, 0);
     let end = whole.next;
     if end == first {
@@ -102,22 +133,25 @@ fn read_number(s: &[u8], i: usize) -> Number {
     }
     let point = skip(s, end, b'.');
     let part = digits(s, point, whole.n);
-    let places = part.next - point;
-    if point != end && places == 0 {
+    // the point counts too
+    let more = part.next - end;
+    if more == 1 {
         return Number::Bad;
     }
-    if places > 3 {
+    if more > 4 {
         return Number::Bad;
     }
-    let n = scaled(part.n, places);
+    let n = scaled(part.n, part.next - point);
     if n > MOST {
         return Number::Bad;
     }
-    Number::Is(double(n, minus != i), part.next)
+    Number::Is(double(n, stands(s, i, b'-')), part.next)
 }
 
 // What a line asks for.
-fn solve(s: &[u8]) -> Answer {
+fn solve(s: &[u8]) -> Answer
+    ensures { λ r. ⌜ r ≡ answerOf (now (s .entry)) ⌝ }
+{
     let Number::Is(x, end) = read_number(s, 0) else {
         return Answer::Bad;
     };
@@ -137,38 +171,44 @@ fn solve(s: &[u8]) -> Answer {
     Answer::Bad
 }
 
-// The thousandths of the double whose pattern is b, nearest, halves up, for one below 2^52.
-fn thousandths(b: u64) -> u64 {
-    let e = b / 0x10_0000_0000_0000;
-    if e < 1012 {
-        return 0;
-    }
-    if e > 1074 {
+// The thousandths of the double whose pattern is b, one below 2^52. Below 2^-11 it has none.
+fn thousandths(b: u64) -> u64
+    requires { ⌜ b < 0x4330_0000_0000_0000 ⌝ }
+    ensures { λ r. ⌜ r ≡ thousandthsOf (ofBits binary64 b) ⌝ }
+{
+    if b < 0x3f40_0000_0000_0000 {
         return 0;
     }
     let m = 1000 * (b % 0x10_0000_0000_0000 + 0x10_0000_0000_0000);
-    let k = 1075 - e;
-    ((m >> (k - 1)) + 1) / 2
+    let k = 1074 - b / 0x10_0000_0000_0000;
+    ((m >> k) + 1) / 2
 }
 
+fn print_thousandths(t: u64) {
+    io::print_decimal(STDOUT_FILENO, t / 1000);
+    let digits = [
+        b'.',
+        b'0' + (t / 100 % 10) as u8,
+        b'0' + (t / 10 % 10) as u8,
+        b'0' + (t % 10) as u8,
+    ];
+    io::write_all(STDOUT_FILENO, &digits);
+}
+
+// No line has an answer of 2^52 or more, whose thousandths would be left out.
 fn print_double(x: f64) {
     if x != x {
         io::write_all(STDOUT_FILENO, b"no root\n");
         return;
     }
     let b = f64::to_bits(x);
+    let a = b % 0x8000_0000_0000_0000;
     io::print_hex(STDOUT_FILENO, b, 16);
     io::write_all(STDOUT_FILENO, b" ");
-    let t = thousandths(b % 0x8000_0000_0000_0000);
-    io::print_decimal(STDOUT_FILENO, t / 1000);
-    io::write_all(STDOUT_FILENO, b".");
-    let digits = [
-        b'0' + (t / 100 % 10) as u8,
-        b'0' + (t / 10 % 10) as u8,
-        b'0' + (t % 10) as u8,
-        b'\n',
-    ];
-    io::write_all(STDOUT_FILENO, &digits);
+    if a < 0x4330_0000_0000_0000 {
+        print_thousandths(thousandths(a));
+    }
+    io::write_all(STDOUT_FILENO, b"\n");
 }
 
 fn print_answer(s: &[u8]) {
@@ -182,7 +222,7 @@ fn bad_line() {
     io::write_all(STDOUT_FILENO, b"bad line\n");
 }
 
-// The place of the first line end from i on, or the end.
+// The index of the first line end from i on, or the end.
 fn line_end(s: &[u8], from: usize) -> usize
     requires { ⌜ from ≤ length (now s) ⌝ }
     ensures { λ r. ⌜ (from ≤ r) × (r ≤ length (now (s .entry))) ⌝ }

@@ -3,7 +3,7 @@ use mathlib.Core.Path.{_≡_, refl, sym, ap, _∙_, subst}
 use mathlib.Core.Bool.{Bool, true, false, cond, true≢false}
 use mathlib.Core.Logic.{inl, inr}
 use Prim.Native.Nat.{ℕ, zero, suc, _+_, _*_, _%_, _^_, _≤_, _<_}
-use native.Mathlib.Nat.{le-of-mul-le-mul-right, mul-right-comm, mul-mul-mul-comm, pow-suc, eq-of-mul-eq-mul-right, zero-mul, add-comm, le-trans, le-of-eq, le-of-lt, le-antisymm, lt-of-lt-of-le, lt-of-le-of-lt, lt-irrefl, lt-of-not-le, eq-or-lt-of-le, add-mul, mul-pos, mul-le-mul-left, mul-le-mul-right, mul-lt-mul-of-pos-right, mul-assoc}
+use native.Mathlib.Nat.{le-of-mul-le-mul-right, mul-right-comm, mul-mul-mul-comm, pow-suc, eq-of-mul-eq-mul-right, zero-mul, add-comm, le-trans, le-of-eq, le-of-lt, le-antisymm, lt-of-lt-of-le, lt-of-le-of-lt, lt-irrefl, lt-of-not-le, eq-or-lt-of-le, add-mul, mul-pos, mul-le-mul-left, mul-le-mul-right, mul-lt-mul-of-pos-right, mul-assoc, mul-comm}
 use native.Mathlib.Omega.{arith}
 use native.Mathlib.Decide.{decLe}
 use lib.Arith.{le→nltb}
@@ -17,37 +17,38 @@ use lib.Ieee.Fits.{two, reach, down-pos}
 use Rattle.nat_laws.proofs.Ring.{ring}
 use Rattle.nat_laws.proofs.Power.{four, four-pos, quad}
 use Rattle.root_spec.specs.Root.{rootOf, sqrtOf, hypotOf}
-use Rattle.root_spec.specs.Nearest.{Holds, root, middle, NearestRoot, largest, next}
+use Rattle.root_spec.specs.Nearest.{Holds, twiceRootSquared, sumSquared, NearestRoot, largest, pastLargest}
 use Rattle.root_spec.proofs.Halfway.{doubled}
 use Rattle.root_spec.proofs.Patterns.{Keeps, pattern, units-hold}
-use Rattle.root_spec.proofs.Values.{bounds, decompose, same-value, step-up, add-one-mul, largest-lt, at-most-largest}
+use Rattle.root_spec.proofs.Units.{fits-in}
+use Rattle.root_spec.proofs.Values.{decompose, same-value, step-up, add-one-mul, largest-lt, at-most-largest}
 use Rattle.root_spec.proofs.Neighbours.{keep, square-le, square-lt, square-up, too-large, small-enough, units-nearest}
 
 -- ---- every fraction
-units-infinite : (f : Format) (c k : ℕ) → next f ≤ c * 2 ^ k → units f false c k ≡ inf false
+units-infinite : (f : Format) (c k : ℕ) → pastLargest f ≤ c * 2 ^ k → units f false c k ≡ inf false
 unfolding units
-units-infinite f c k h = cond-no (ltb (c * 2 ^ k) (next f)) (odd (suc (prec f)) false c k (low f)) (inf false) (le→nltb (c * 2 ^ k) (next f) h)
+units-infinite f c k h = cond-no (ltb (c * 2 ^ k) (pastLargest f)) (odd (suc (prec f)) false c k (low f)) (inf false) (le→nltb (c * 2 ^ k) (pastLargest f) h)
 
 -- below the middle of the largest value and the next, `rootOf` is the nearest value
-pub rootOf-nearest : (f : Format) (num den : ℕ) → 0 < den → root f num < middle den (largest f) (next f) → NearestRoot f num den (rootOf f num den)
+pub rootOf-nearest : (f : Format) (num den : ℕ) → 0 < den → twiceRootSquared f num < sumSquared den (largest f) (pastLargest f) → NearestRoot f num den (rootOf f num den)
 rootOf-nearest f num den D h =
     let s = keep f num den D in
-    rw (s .is) (elim (decLe (next f) (s .c * 2 ^ s .k)) [
-      | yes g ↦ absurd (lt-irrefl (root f num) (lt-of-lt-of-le h (too-large f num den (s .q) (s .c) (s .k) D (s .keeps) (s .most) (s .rounded) g)))
+    rw (s .is) (elim (decLe (pastLargest f) (s .c * 2 ^ s .k)) [
+      | yes g ↦ absurd (lt-irrefl (twiceRootSquared f num) (lt-of-lt-of-le h (too-large f num den (s .q) (s .c) (s .k) D (s .keeps) (s .most) (s .rounded) g)))
       | no g ↦ units-nearest f num den (s .q) (s .c) (s .k) D (s .keeps) (s .most) (s .rounded) (lt-of-not-le g)
     ])
 
 -- from there on it is infinity
-pub rootOf-overflow : (f : Format) (num den : ℕ) → 0 < den → middle den (largest f) (next f) ≤ root f num → rootOf f num den ≡ inf false
+pub rootOf-overflow : (f : Format) (num den : ℕ) → 0 < den → sumSquared den (largest f) (pastLargest f) ≤ twiceRootSquared f num → rootOf f num den ≡ inf false
 rootOf-overflow f num den D h =
     let s = keep f num den D in
-    s .is ∙ elim (decLe (next f) (s .c * 2 ^ s .k)) [
+    s .is ∙ elim (decLe (pastLargest f) (s .c * 2 ^ s .k)) [
       | yes g ↦ units-infinite f (s .c) (s .k) g
       | no g ↦ absurd (small-enough f num den (s .q) (s .c) (s .k) D (s .keeps) (s .most) (s .rounded) (lt-of-not-le g) h)
     ]
 
 -- ---- there is one such value
-swapped : (den a b : ℕ) → middle den a b ≡ middle den b a
+swapped : (den a b : ℕ) → sumSquared den a b ≡ sumSquared den b a
 swapped den a b = ap (λ (x : ℕ). x * x * den) (add-comm a b)
 
 -- two, a below b: the root is their middle, so both patterns are even, and the value after a, whose pattern is odd, is nearer
@@ -55,7 +56,7 @@ two-nearest : (f : Format) (num den : ℕ) (r s : Float) → 0 < den → (a : Ne
 two-nearest f num den r s D a b l =
     let A = a .value in
     let B = b .value in
-    let t : root f num ≡ middle den A B = le-antisymm (a .above s B (b .holds) l) (le-trans (le-of-eq (swapped den A B)) (b .below r A (a .holds) l)) in
+    let t : twiceRootSquared f num ≡ sumSquared den A B = le-antisymm (a .above s B (b .holds) l) (le-trans (le-of-eq (swapped den A B)) (b .below r A (a .holds) l)) in
     let d = decompose f r A (a .holds) in
     let g = decompose f s B (b .holds) in
     let C = (d .c + 1) * 2 ^ d .k in
@@ -72,7 +73,7 @@ two-nearest f num den r s D a b l =
       | inr m ↦
           let n : A < C = let h = pow-pos (d .k) in omega arith in
           let h = units-hold f (d .c + 1) (d .k) most (lt-of-le-of-lt u (g .small)) in
-          lt-irrefl (root f num)
+          lt-irrefl (twiceRootSquared f num)
           (lt-of-le-of-lt (a .above (units f false (d .c + 1) (d .k)) C h n) (lt-of-lt-of-le (square-lt den (A + C) (A + B) D (omega arith)) (le-of-eq (sym t))))
     ]
   where
@@ -90,7 +91,7 @@ nearest-unique f num den r s D a b =
 -- ---- a root that is itself a value, a subnormal one too, is the result
 exact-nearest : (f : Format) (num den : ℕ) (y : Float) (Y : ℕ) → 0 < den → Holds f y Y → num * 4 ^ low f ≡ Y * Y * den → NearestRoot f num den y
 exact-nearest f num den y Y D h e =
-    let t : root f num ≡ middle den Y Y = ap (λ (x : ℕ). 4 * x) e ∙ sym (doubled Y den) in
+    let t : twiceRootSquared f num ≡ sumSquared den Y Y = ap (λ (x : ℕ). 4 * x) e ∙ sym (doubled Y den) in
     record {
       value = Y;
       holds = h;
@@ -107,26 +108,26 @@ rootOf-exact f num den y Y D h e =
     let l = at-most-largest f y Y h in
     let g = largest-lt f in
     nearest-unique f num den (rootOf f num den) y D
-    (rootOf-nearest f num den D (lt-of-le-of-lt (le-of-eq (ap (λ (x : ℕ). 4 * x) e ∙ sym (doubled Y den))) (square-lt den (Y + Y) (largest f + next f) D (omega arith))))
+    (rootOf-nearest f num den D (lt-of-le-of-lt (le-of-eq (ap (λ (x : ℕ). 4 * x) e ∙ sym (doubled Y den))) (square-lt den (Y + Y) (largest f + pastLargest f) D (omega arith))))
     (exact-nearest f num den y Y D h e)
 
 -- ---- one fraction for another of the same size
 module _ (f : Format) (num den num' den' : ℕ) (D : 0 < den) (e : num * den' ≡ num' * den) where
-  crossed : root f num * den' ≡ root f num' * den
+  crossed : twiceRootSquared f num * den' ≡ twiceRootSquared f num' * den
   crossed = move num den' ∙ ap (λ (x : ℕ). 4 * (x * 4 ^ low f)) e ∙ sym (move num' den)
     where
-      move : (a b : ℕ) → root f a * b ≡ 4 * (a * b * 4 ^ low f)
+      move : (a b : ℕ) → twiceRootSquared f a * b ≡ 4 * (a * b * 4 ^ low f)
       move a b = mul-assoc 4 (a * 4 ^ low f) b ∙ ap (λ (x : ℕ). 4 * x) (mul-right-comm a (4 ^ low f) b)
 
-  most-at : (S : ℕ) → root f num ≤ S * den → root f num' ≤ S * den'
+  most-at : (S : ℕ) → twiceRootSquared f num ≤ S * den → twiceRootSquared f num' ≤ S * den'
   most-at S h = le-of-mul-le-mul-right (le-trans (le-of-eq (sym crossed)) (le-trans (mul-le-mul-right den' h) (le-of-eq (mul-right-comm S den den')))) D
 
-  least-at : (S : ℕ) → S * den ≤ root f num → S * den' ≤ root f num'
+  least-at : (S : ℕ) → S * den ≤ twiceRootSquared f num → S * den' ≤ twiceRootSquared f num'
   least-at S h = le-of-mul-le-mul-right (le-trans (le-of-eq (mul-right-comm S den' den)) (le-trans (mul-le-mul-right den' h) (le-of-eq crossed))) D
 
-below-at : (f : Format) (num den num' den' S : ℕ) → 0 < den' → num * den' ≡ num' * den → root f num < S * den → root f num' < S * den'
+below-at : (f : Format) (num den num' den' S : ℕ) → 0 < den' → num * den' ≡ num' * den → twiceRootSquared f num < S * den → twiceRootSquared f num' < S * den'
 below-at f num den num' den' S D e h =
-    elim (decLe (S * den') (root f num')) [ yes g ↦ absurd (lt-irrefl (root f num) (lt-of-lt-of-le h (least-at f num' den' num den D (sym e) S g))) | no g ↦ lt-of-not-le g ]
+    elim (decLe (S * den') (twiceRootSquared f num')) [ yes g ↦ absurd (lt-irrefl (twiceRootSquared f num) (lt-of-lt-of-le h (least-at f num' den' num den D (sym e) S g))) | no g ↦ lt-of-not-le g ]
 
 same-fraction : (f : Format) (num den num' den' : ℕ) (r : Float) → 0 < den → 0 < den' → num * den' ≡ num' * den → NearestRoot f num den r → NearestRoot f num' den' r
 same-fraction f num den num' den' r D D' e n = record {
@@ -140,20 +141,20 @@ same-fraction f num den num' den' r D D' e n = record {
 }
 
 -- ---- the square root of x = a / c, a value of the format that is not negative: it never overflows
-sqrt-small : (f : Format) (num den : ℕ) → 0 < den → num < 2 ^ suc (emax f) * den → root f num < middle den (largest f) (next f)
+sqrt-small : (f : Format) (num den : ℕ) → 0 < den → num < 2 ^ suc (emax f) * den → twiceRootSquared f num < sumSquared den (largest f) (pastLargest f)
 sqrt-small f num den D h =
     let E = 2 ^ emax f in
     let F = 4 ^ low f in
     let one : 1 ≤ emax f = let a = two f in let b = reach f in omega arith in
     let a : 2 ^ suc (emax f) ≤ E * E = le-trans (le-of-eq (pow-suc 2 (emax f))) (mul-le-mul-left E (pow-mono {i = 1} one)) in
-    let b : F * (E * E * 4) ≡ next f * next f =
+    let b : F * (E * E * 4) ≡ pastLargest f * pastLargest f =
     ap (λ (x : ℕ). x * (E * E * 4)) (four (low f))
     ∙ ap (λ (x : ℕ). 2 ^ low f * 2 ^ low f * x) (quad E ∙ ap (λ (x : ℕ). x * x) (sym (pow-suc 2 (emax f))))
     ∙ sym (mul-mul-mul-comm (2 ^ low f) (2 ^ suc (emax f)) (2 ^ low f) (2 ^ suc (emax f)))
     ∙ ap (λ (x : ℕ). x * x) (sym (pow-add 2 (low f) (suc (emax f)))) in
     let c : num * F < E * E * den * F = mul-lt-mul-of-pos-right (lt-of-lt-of-le h (mul-le-mul-right den a)) (four-pos (low f)) in
-    let d : 4 * (E * E * den * F) ≡ next f * next f * den = sort F (E * E) ∙ ap (λ (x : ℕ). x * den) b in
-    lt-of-lt-of-le (lt-of-lt-of-le (let g : 4 * (num * F) < 4 * (E * E * den * F) = omega arith in g) (le-of-eq d)) (square-le den (next f) (largest f + next f) (omega arith))
+    let d : 4 * (E * E * den * F) ≡ pastLargest f * pastLargest f * den = sort F (E * E) ∙ ap (λ (x : ℕ). x * den) b in
+    lt-of-lt-of-le (lt-of-lt-of-le (let g : 4 * (num * F) < 4 * (E * E * den * F) = omega arith in g) (le-of-eq d)) (square-le den (pastLargest f) (largest f + pastLargest f) (omega arith))
   where
     sort : (F G : ℕ) → 4 * (G * den * F) ≡ F * (G * 4) * den
     sort F G = simp ring refl
@@ -178,7 +179,15 @@ sqrt-nearest f (fin false zero e) a c C t v =
     none y = ap (λ (x : ℕ). x * y) (zero-mul (up e)) ∙ zero-mul y
 sqrt-nearest f (fin false (suc m) e) a c C t v =
     rw (sqrt-positive f false m e) (same-fraction f (suc m * up e) (down e) a c (rootOf f (suc m * up e) (down e)) (down-pos e) C (v .1)
-    (rootOf-nearest f (suc m * up e) (down e) (down-pos e) (sqrt-small f (suc m * up e) (down e) (down-pos e) (bounds f false m e t .2))))
+    (rootOf-nearest f (suc m * up e) (down e) (down-pos e) (sqrt-small f (suc m * up e) (down e) (down-pos e) (fits-in f false (suc m) e t .under))))
+
+-- every value of the format that is not negative is such a fraction
+pub sqrt-of-value : (f : Format) (m : ℕ) (e : ℤ) → T (fits f (fin false m e)) → NearestRoot f (m * up e) (down e) (sqrtOf f (fin false m e))
+sqrt-of-value f m e t = sqrt-nearest f (fin false m e) (m * up e) (down e) (down-pos e) t (refl, refl)
+
+pub sqrt-special : (f : Format) → (sqrtOf f (inf false) ≡ inf false) × (sqrtOf f (inf true) ≡ nan) × (sqrtOf f nan ≡ nan)
+unfolding sqrtOf
+sqrt-special f = (refl, refl, refl)
 
 -- a number below 0 has no root
 pub sqrt-negative : (f : Format) (x : Float) (a c : ℕ) → 0 < a → 0 < c → HasValue x true a c → sqrtOf f x ≡ nan
@@ -220,18 +229,33 @@ squares f (fin z m e) (fin u n d) s t a b c v w =
       is = refl;
     }
 
-pub hypot-nearest : (f : Format) (x y : Float) (s t : Bool) (a b c : ℕ) → 0 < c → HasValue x s a c → HasValue y t b c → root f (a * a + b * b) < middle (c * c) (largest f) (next f)
+pub hypot-nearest : (f : Format) (x y : Float) (s t : Bool) (a b c : ℕ) → 0 < c → HasValue x s a c → HasValue y t b c → twiceRootSquared f (a * a + b * b) < sumSquared (c * c) (largest f) (pastLargest f)
     → NearestRoot f (a * a + b * b) (c * c) (hypotOf f x y)
 hypot-nearest f x y s t a b c C v w h =
     let q = squares f x y s t a b c v w in
     rw (q .is) (same-fraction f (q .num) (q .den) (a * a + b * b) (c * c) (rootOf f (q .num) (q .den)) (q .positive) (mul-pos C C) (q .same)
-    (rootOf-nearest f (q .num) (q .den) (q .positive) (below-at f (a * a + b * b) (c * c) (q .num) (q .den) ((largest f + next f) * (largest f + next f)) (q .positive) (sym (q .same)) h)))
+    (rootOf-nearest f (q .num) (q .den) (q .positive) (below-at f (a * a + b * b) (c * c) (q .num) (q .den) ((largest f + pastLargest f) * (largest f + pastLargest f)) (q .positive) (sym (q .same)) h)))
 
-pub hypot-overflow : (f : Format) (x y : Float) (s t : Bool) (a b c : ℕ) → 0 < c → HasValue x s a c → HasValue y t b c → middle (c * c) (largest f) (next f) ≤ root f (a * a + b * b)
+pub hypot-overflow : (f : Format) (x y : Float) (s t : Bool) (a b c : ℕ) → 0 < c → HasValue x s a c → HasValue y t b c → sumSquared (c * c) (largest f) (pastLargest f) ≤ twiceRootSquared f (a * a + b * b)
     → hypotOf f x y ≡ inf false
 hypot-overflow f x y s t a b c C v w h =
     let q = squares f x y s t a b c v w in
-    q .is ∙ rootOf-overflow f (q .num) (q .den) (q .positive) (least-at f (a * a + b * b) (c * c) (q .num) (q .den) (mul-pos C C) (sym (q .same)) ((largest f + next f) * (largest f + next f)) h)
+    q .is ∙ rootOf-overflow f (q .num) (q .den) (q .positive) (least-at f (a * a + b * b) (c * c) (q .num) (q .den) (mul-pos C C) (sym (q .same)) ((largest f + pastLargest f) * (largest f + pastLargest f)) h)
+
+-- every two finite numbers are such fractions
+pub over-both : (s : Bool) (m : ℕ) (e d : ℤ) → HasValue (fin s m e) s (m * up e * down d) (down e * down d)
+over-both s m e d = (refl, sym (mul-assoc (m * up e) (down e) (down d)) ∙ mul-right-comm (m * up e) (down e) (down d))
+
+over-other : (t : Bool) (n : ℕ) (d e : ℤ) → HasValue (fin t n d) t (n * up d * down e) (down e * down d)
+over-other t n d e = (refl, ap (λ (c : ℕ). n * up d * c) (mul-comm (down e) (down d)) ∙ over-both t n d e .1)
+
+pub hypot-of-values : (f : Format) (s t : Bool) (m n : ℕ) (e d : ℤ) → let a = m * up e * down d in let b = n * up d * down e in let c = down e * down d in
+    (twiceRootSquared f (a * a + b * b) < sumSquared (c * c) (largest f) (pastLargest f) → NearestRoot f (a * a + b * b) (c * c) (hypotOf f (fin s m e) (fin t n d)))
+    × (sumSquared (c * c) (largest f) (pastLargest f) ≤ twiceRootSquared f (a * a + b * b) → hypotOf f (fin s m e) (fin t n d) ≡ inf false)
+hypot-of-values f s t m n e d = (
+  hypot-nearest f (fin s m e) (fin t n d) s t (m * up e * down d) (n * up d * down e) (down e * down d) (mul-pos (down-pos e) (down-pos d)) (over-both s m e d) (over-other t n d e),
+  hypot-overflow f (fin s m e) (fin t n d) s t (m * up e * down d) (n * up d * down e) (down e * down d) (mul-pos (down-pos e) (down-pos d)) (over-both s m e d) (over-other t n d e),
+)
 
 -- an infinity wins, beside a NaN too; otherwise a NaN does
 pub hypot-infinite : (f : Format) (s : Bool) (x : Float) → (hypotOf f (inf s) x ≡ inf false) × (hypotOf f x (inf s) ≡ inf false)

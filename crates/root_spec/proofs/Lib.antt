@@ -5,6 +5,7 @@ pub mod Patterns
 pub mod Whole
 pub mod Floats
 pub mod Halfway
+pub mod Units
 pub mod Values
 pub mod Neighbours
 pub mod Correct

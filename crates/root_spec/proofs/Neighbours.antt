@@ -16,7 +16,7 @@ use lib.Ieee.Exact.{HasValue}
 use lib.Ieee.Fits.{two, nearest-le}
 use Rattle.nat_laws.proofs.Power.{four-pos, scaled}
 use Rattle.root_spec.specs.Root.{isqrt, rootOf}
-use Rattle.root_spec.specs.Nearest.{root, middle, NearestRoot, largest, next}
+use Rattle.root_spec.specs.Nearest.{twiceRootSquared, sumSquared, NearestRoot, largest, pastLargest}
 use Rattle.root_spec.proofs.Isqrt.{Rooted, rooted}
 use Rattle.root_spec.proofs.RootOf.{root-low, root-high}
 use Rattle.root_spec.proofs.Halfway.{Rounded, halfway}
@@ -60,54 +60,54 @@ module _ (f : Format) (num den q c k : ℕ) (D : 0 < den) (keeps : Keeps (prec f
   near : (m j : ℕ) → m ≤ 2 ^ prec f → m * 2 ^ j < c * 2 ^ k → c * 2 ^ k + m * 2 ^ j ≤ (c + q) * 2 ^ k
   near m j h l = omega (arith, add-mul c q (2 ^ k), under m j h l)
 
-  high : root f num ≤ (c + (c + 1)) * 2 ^ k * ((c + (c + 1)) * 2 ^ k) * den
+  high : twiceRootSquared f num ≤ (c + (c + 1)) * 2 ^ k * ((c + (c + 1)) * 2 ^ k) * den
   high = le-trans (r .most) (le-of-eq (in-units den (c + (c + 1)) k))
 
-  least : (c + q) * 2 ^ k * ((c + q) * 2 ^ k) * den ≤ root f num
+  least : (c + q) * 2 ^ k * ((c + q) * 2 ^ k) * den ≤ twiceRootSquared f num
   least = le-trans (le-of-eq (sym (in-units den (c + q) k))) (r .least)
 
-  above : (m j : ℕ) → m ≤ 2 ^ prec f → c * 2 ^ k < m * 2 ^ j → root f num ≤ middle den (c * 2 ^ k) (m * 2 ^ j)
+  above : (m j : ℕ) → m ≤ 2 ^ prec f → c * 2 ^ k < m * 2 ^ j → twiceRootSquared f num ≤ sumSquared den (c * 2 ^ k) (m * 2 ^ j)
   above m j h l = le-trans high (square-le den _ _ (far m j h l))
 
-  below : (m j : ℕ) → m ≤ 2 ^ prec f → m * 2 ^ j < c * 2 ^ k → middle den (c * 2 ^ k) (m * 2 ^ j) ≤ root f num
+  below : (m j : ℕ) → m ≤ 2 ^ prec f → m * 2 ^ j < c * 2 ^ k → sumSquared den (c * 2 ^ k) (m * 2 ^ j) ≤ twiceRootSquared f num
   below m j h l = le-trans (square-le den _ _ (near m j h l)) least
 
-  even-above : (m j : ℕ) → m ≤ 2 ^ prec f → c * 2 ^ k < m * 2 ^ j → root f num ≡ middle den (c * 2 ^ k) (m * 2 ^ j) → c % 2 ≡ 0
+  even-above : (m j : ℕ) → m ≤ 2 ^ prec f → c * 2 ^ k < m * 2 ^ j → twiceRootSquared f num ≡ sumSquared den (c * 2 ^ k) (m * 2 ^ j) → c % 2 ≡ 0
   even-above m j h l t = r .even-high (le-antisymm (r .most) (le-trans (le-of-eq (in-units den (c + (c + 1)) k)) (le-trans (square-le den _ _ (far m j h l)) (le-of-eq (sym t)))))
 
-  even-below : (m j : ℕ) → m ≤ 2 ^ prec f → m * 2 ^ j < c * 2 ^ k → root f num ≡ middle den (c * 2 ^ k) (m * 2 ^ j) → c % 2 ≡ 0
+  even-below : (m j : ℕ) → m ≤ 2 ^ prec f → m * 2 ^ j < c * 2 ^ k → twiceRootSquared f num ≡ sumSquared den (c * 2 ^ k) (m * 2 ^ j) → c % 2 ≡ 0
   even-below m j h l t = r .even-low moved (le-antisymm (le-trans (le-of-eq t) (le-trans (square-le den _ _ (near m j h l)) (le-of-eq (sym (in-units den (c + q) k))))) (r .least))
     where
       -- c is not q: with another value below q * 2 ^ k the root would be above the middle
       moved : c ≡ q + 1
       moved = elim (eq-or-lt-of-le (r .from)) [
-        | inl e ↦ absurd (lt-irrefl (root f num) (lt-of-le-of-lt (le-of-eq t) (lt-of-lt-of-le (square-lt den _ _ D (omega (arith, l, add-mul c q (2 ^ k), ap (λ (x : ℕ). x * 2 ^ k) e))) least)))
+        | inl e ↦ absurd (lt-irrefl (twiceRootSquared f num) (lt-of-le-of-lt (le-of-eq t) (lt-of-lt-of-le (square-lt den _ _ D (omega (arith, l, add-mul c q (2 ^ k), ap (λ (x : ℕ). x * 2 ^ k) e))) least)))
         | inr h ↦ le-antisymm (r .to) (let i : q + 1 ≤ c = omega arith in i)
       ]
 
-  even-at : (m j : ℕ) → m ≤ 2 ^ prec f → (m * 2 ^ j ≡ c * 2 ^ k → ⊥) → root f num ≡ middle den (c * 2 ^ k) (m * 2 ^ j) → c % 2 ≡ 0
+  even-at : (m j : ℕ) → m ≤ 2 ^ prec f → (m * 2 ^ j ≡ c * 2 ^ k → ⊥) → twiceRootSquared f num ≡ sumSquared den (c * 2 ^ k) (m * 2 ^ j) → c % 2 ≡ 0
   even-at m j h ne t = elim (decLe (m * 2 ^ j) (c * 2 ^ k)) [ yes l ↦ even-below m j h (lt-of-le-ne l ne) t | no l ↦ even-above m j h (lt-of-not-le l) t ]
 
   bits : (v : Float) → HasValue v false (c * 2 ^ k) (2 ^ low f) → toBits f v ≡ k * hid f + c
   bits v h = pattern f v c k h kept most
 
   -- 2 ^ (emax + 1) or more: the root is at or above the middle of the largest value and that
-  pub too-large : next f ≤ c * 2 ^ k → middle den (largest f) (next f) ≤ root f num
+  pub too-large : pastLargest f ≤ c * 2 ^ k → sumSquared den (largest f) (pastLargest f) ≤ twiceRootSquared f num
   too-large g =
       let l = largest-lt f in
-      le-trans (square-le den (largest f + next f) (c * 2 ^ k + largest f) (omega arith)) (below (2 ^ prec f - 1) (highest f) (omega arith) (lt-of-lt-of-le l g))
+      le-trans (square-le den (largest f + pastLargest f) (c * 2 ^ k + largest f) (omega arith)) (below (2 ^ prec f - 1) (highest f) (omega arith) (lt-of-lt-of-le l g))
 
   -- less: the root is below that middle. Where it were at the middle, c would be the largest value's significand, which is odd
-  pub small-enough : c * 2 ^ k < next f → middle den (largest f) (next f) ≤ root f num → ⊥
+  pub small-enough : c * 2 ^ k < pastLargest f → sumSquared den (largest f) (pastLargest f) ≤ twiceRootSquared f num → ⊥
   small-enough l o =
       let j = highest f in
       let m = 2 ^ prec f - 1 in
-      let z : next f ≡ 2 ^ prec f * 2 ^ j = next-is f in
+      let z : pastLargest f ≡ 2 ^ prec f * 2 ^ j = next-is f in
       let g : c * 2 ^ k < 2 ^ prec f * 2 ^ j = lt-of-lt-of-le l (le-of-eq z) in
-      let a : root f num ≤ middle den (c * 2 ^ k) (next f) = rw z (above (2 ^ prec f) j (le-refl (2 ^ prec f)) g) in
-      let u : largest f + next f ≤ c * 2 ^ k + next f = square-up den (largest f + next f) (c * 2 ^ k + next f) D (le-trans o a) in
+      let a : twiceRootSquared f num ≤ sumSquared den (c * 2 ^ k) (pastLargest f) = rw z (above (2 ^ prec f) j (le-refl (2 ^ prec f)) g) in
+      let u : largest f + pastLargest f ≤ c * 2 ^ k + pastLargest f = square-up den (largest f + pastLargest f) (c * 2 ^ k + pastLargest f) D (le-trans o a) in
       let e : c * 2 ^ k ≡ m * 2 ^ j = le-antisymm (below-next f c k most l) (omega arith) in
-      let t : root f num ≡ middle den (c * 2 ^ k) (next f) = le-antisymm a (le-trans (le-of-eq (ap (λ (x : ℕ). middle den x (next f)) e)) o) in
+      let t : twiceRootSquared f num ≡ sumSquared den (c * 2 ^ k) (pastLargest f) = le-antisymm a (le-trans (le-of-eq (ap (λ (x : ℕ). sumSquared den x (pastLargest f)) e)) o) in
       let v = largest-holds f .1 in
       let w = subst (λ (x : ℕ). HasValue (units f false m j) false x (2 ^ low f)) (sym e) v in
       odd-bits (2 ^ prec f) (hid f) (k * hid f + c) (j * hid f)
@@ -120,7 +120,7 @@ module _ (f : Format) (num den q c k : ℕ) (D : 0 < den) (keeps : Keeps (prec f
       odd-bits : (t h a b : ℕ) → a % 2 ≡ 0 → b % 2 ≡ 0 → t ≡ 2 * h → 0 < t → a ≡ b + (t - 1) → ⊥
       odd-bits t h a b x y e g i = omega arith
 
-  pub units-nearest : c * 2 ^ k < next f → NearestRoot f num den (units f false c k)
+  pub units-nearest : c * 2 ^ k < pastLargest f → NearestRoot f num den (units f false c k)
   units-nearest l =
       let H = units-hold f c k most l in
       record {

@@ -2,7 +2,7 @@
 use mathlib.Core.Path.{_≡_, ap, subst}
 use mathlib.Core.Bool.{true, false}
 use mathlib.Core.List.{List}
-use Prim.Native.Nat.{ℕ, suc, _+_, _*_, _/_, _≤_, _<_}
+use Prim.Native.Nat.{ℕ, _+_, _*_, _/_, _≤_, _<_}
 use native.Mathlib.Nat.{add-zero, mul-assoc, mul-div-le, mul-le-mul-left, mul-suc}
 use native.Mathlib.Numerals.{add-one}
 use native.Mathlib.Omega.{arith}
@@ -25,13 +25,3 @@ whole-record w k n h = subst (λ (x : ℕ). x ≤ w * n) (mul-suc w k) (mul-le-m
 -- n records of 8 * w bytes fit in the length that n was counted from
 pub records-fit : (w l : ℕ) → 8 * (w * (l / (8 * w))) ≤ l
 records-fit w l = subst (λ (x : ℕ). x ≤ l) (mul-assoc 8 w (l / (8 * w))) (mul-div-le l (8 * w))
-
--- one record more, that holds or differs
-module _ (f : Function) (s : List ℕ) (k n : ℕ) (e : n ≡ differing f s k) where
-  pub same-count : holdsAt f s k ≡ true → n ≡ differing f s (k + 1)
-  unfolding differing
-  same-count h = rw (add-one k, h, add-zero) e
-
-  pub one-more : holdsAt f s k ≡ false → n + 1 ≡ differing f s (k + 1)
-  unfolding differing
-  one-more h = rw (add-one k, h) (ap (λ (x : ℕ). x + 1) e)

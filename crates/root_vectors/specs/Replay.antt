@@ -1,11 +1,11 @@
 -- What the records of a file of roots say. Definitions only.
 use mathlib.Core.List.{List}
-use mathlib.Core.Bool.{Bool, cond}
-use Prim.Native.Nat.{ℕ, zero, suc, _+_, _*_, _/_}
+use mathlib.Core.Bool.{Bool}
+use Prim.Native.Nat.{ℕ, _+_, _*_, _/_}
 use lib.ListN.{length}
 use lib.Ieee.{Float, binary64}
 use Rattle.root_spec.specs.Root.{sqrtOf, hypotOf}
-use Rattle.vectors.specs.Records.{wordAt, floatAt, agrees}
+use Rattle.vectors.specs.Records.{wordAt, floatAt, agrees, failing}
 use Rattle.root_vectors.specs.declared.Function.{Function}
 use Rattle.root_vectors.specs.declared.Function.the-variants.{Sqrt, Hypot}
 
@@ -32,7 +32,5 @@ unfoldable pub recordsIn : Function → List ℕ → ℕ
 recordsIn f s = length s / (8 * width f)
 
 -- how many of the first n records differ
-unfoldable pub differing : Function → List ℕ → ℕ → ℕ
-unfolding holdsAt
-differing f s zero = 0
-differing f s (suc n) = differing f s n + cond (holdsAt f s n) 0 1
+abbrev pub differing : Function → List ℕ → ℕ → ℕ
+differing f s n = failing (holdsAt f s) n

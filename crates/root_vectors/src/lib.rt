@@ -117,7 +117,7 @@ fn replay_chunk(f: Function, fd: i32) -> Tally
 }
 
 // Replays what can be read from fd, up to 2^32 chunks.
-pub fn replay(f: Function, fd: i32) -> Tally {
+fn replay(f: Function, fd: i32) -> Tally {
     let mut cases: u64 = 0;
     let mut differences: u64 = 0;
     let mut turns: u64 = 0x1_0000_0000;

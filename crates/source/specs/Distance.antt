@@ -31,13 +31,11 @@ footOf (Line ux uy c) x y = if lt zero uy then x ⊖ ux ⊗ y ⊘ uy else x
 
 -- the least distance from b0 to b1 on the edge
 unfoldable pub lowestOf : Src → Float → Float → Float
-unfolding edgeOf
 lowestOf (Point x y s) b0 b1 = if le b0 x && le x b1 then absOf y ⊕ s else minOf (edgeOf (Point x y s) b0) (edgeOf (Point x y s) b1)
 lowestOf (Line ux uy c) b0 b1 = minOf (edgeOf (Line ux uy c) b0) (edgeOf (Line ux uy c) b1)
 
 -- where two points are equally far
 unfoldable pub tiesOfPoints : Float → Float → Float → Float → Float → Float → RealRoots
-unfolding rootsOf
 tiesOfPoints a0 h0 s0 a1 h1 s1 =
     let b = s1 ⊖ s0 in
     let k1 = two ⊗ (a1 ⊖ a0) in
@@ -50,14 +48,12 @@ tiesOfPoints a0 h0 s0 a1 h1 s1 =
 
 -- where a point and a line are equally far
 unfoldable pub tiesOfPointLine : Float → Float → Float → Float → Float → RealRoots
-unfolding rootsOf
 tiesOfPointLine a h s ux c =
     let n = c ⊖ s in
     rootsOf (one ⊖ ux ⊗ ux) (neg two ⊗ a ⊖ two ⊗ ux ⊗ n) (a ⊗ a ⊕ h ⊗ h ⊖ n ⊗ n)
 
 -- where two sources are equally far on the edge
 unfoldable pub tiesOf : Src → Src → RealRoots
-unfolding tiesOfPoints tiesOfPointLine
 tiesOf (Point a0 h0 s0) (Point a1 h1 s1) = tiesOfPoints a0 h0 s0 a1 h1 s1
 tiesOf (Point a h s) (Line ux uy c) = tiesOfPointLine a h s ux c
 tiesOf (Line ux uy c) (Point a h s) = tiesOfPointLine a h s ux c
@@ -65,7 +61,6 @@ tiesOf (Line u0 v0 c0) (Line u1 v1 c1) = if ne u0 u1 then One ((c1 ⊖ c0) ⊘ (
 
 -- the least of |p - p'| + D(p') over the p' in the window, for p = (x, y)
 unfoldable pub evalOf : Win → Float → Float → Float
-unfolding footOf freeOf edgeOf
 evalOf w x y =
     let f = footOf (w .src) x y in
     if le (w .b0) f && le f (w .b1) then freeOf (w .src) x y else

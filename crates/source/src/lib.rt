@@ -130,7 +130,7 @@ fn ties_points(a0: f64, h0: f64, s0: f64, a1: f64, h1: f64, s1: f64) -> RealRoot
     )
 }
 
-// Where a point and a line are: r = (c - s) + ux x, squared.
+// Where a point and a line are equally far: r = (c - s) + ux x, squared.
 fn ties_point_line(a: f64, h: f64, s: f64, ux: f64, c: f64) -> RealRoots
     ensures { λ r. ⌜ r ≡ tiesOfPointLine a h s ux c ⌝ }
 {

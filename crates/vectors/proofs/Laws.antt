@@ -2,8 +2,8 @@
 use mathlib.Core.Path.{_≡_, refl, sym, ap, subst, _∙_}
 use mathlib.Core.Bool.{Bool, true, false, true≢false}
 use mathlib.Core.List.{List}
-use Prim.Native.Nat.{ℕ, suc, _+_, _*_, _%_, _^_, _≤_, _<_}
-use native.Mathlib.Nat.{le-mul-of-pos-right, mul-le-mul-right, lt-of-lt-of-le, le-trans, mul-assoc, mul-comm}
+use Prim.Native.Nat.{ℕ, _+_, _*_, _%_, _^_, _≤_, _<_}
+use native.Mathlib.Nat.{add-zero, le-mul-of-pos-right, mul-le-mul-right, le-trans, mul-assoc, mul-comm}
 use native.Mathlib.Numerals.{add-one}
 use native.Mathlib.Omega.{arith}
 use lib.Dec.{T}
@@ -14,7 +14,7 @@ use lib.Ieee.{Float, nan, inf, fin, binary64, fits, ofBits, toBits, isNan, ne}
 use lib.Ieee.Compare.{differs-from-itself}
 use lib.Ieee.Bits.{ofBits-toBits, ofBits-fits, nanBits-is, nanBits-above}
 use borrow.Author.Tests.{eqb-true, eqb-false, lt-ltb}
-use Rattle.vectors.specs.Records.{littleEndian, agrees}
+use Rattle.vectors.specs.Records.{littleEndian, agrees, failing}
 
 -- one byte more, below the others
 pub byte-below : (s : List ℕ) (p q n m r : ℕ) → q ≡ p + 1 → m ≡ n + 1 → p < length s → r ≡ littleEndian (take n (drop q s))
@@ -22,12 +22,12 @@ pub byte-below : (s : List ℕ) (p q n m r : ℕ) → q ≡ p + 1 → m ≡ n + 
 unfolding littleEndian
 byte-below s p q n m r eq em h er = rw (em, add-one, drop-cons s p 0, er, eq, add-one) (omega arith)
 
--- a number with j bytes still to come has room for them: so has the number with the next byte, and then for one byte fewer
-pub room : (r j w : ℕ) → (r + 1) * 2 ^ (8 * j) ≤ w → r < w
-room r j w h = omega (arith, le-trans (le-mul-of-pos-right (r + 1) (pow-pos (8 * j))) h)
+-- a number that j more bytes keep within w: it is below w, and with one byte more it is one that j - 1 more bytes keep within w
+pub bounded : (r j w : ℕ) → (r + 1) * 2 ^ (8 * j) ≤ w → r < w
+bounded r j w h = omega (arith, le-trans (le-mul-of-pos-right (r + 1) (pow-pos (8 * j))) h)
 
-pub room-less : (r b i j w : ℕ) → b < 256 → j ≡ i + 1 → (r + 1) * 2 ^ (8 * j) ≤ w → (256 * r + b + 1) * 2 ^ (8 * i) ≤ w
-room-less r b i j w hb e h =
+pub bounded-step : (r b i j w : ℕ) → b < 256 → j ≡ i + 1 → (r + 1) * 2 ^ (8 * j) ≤ w → (256 * r + b + 1) * 2 ^ (8 * i) ≤ w
+bounded-step r b i j w hb e h =
     let t : (256 * (r + 1)) * 2 ^ (8 * i) ≡ (r + 1) * 2 ^ (8 * j) =
     ap (λ (x : ℕ). x * 2 ^ (8 * i)) (mul-comm 256 (r + 1)) ∙ mul-assoc (r + 1) 256 (2 ^ (8 * i)) ∙ ap (λ (x : ℕ). (r + 1) * x) (sym (pow-add 2 8 (8 * i)) ∙ ap (λ (x : ℕ). 2 ^ x) (omega arith)) in
     let le : 256 * r + b + 1 ≤ 256 * (r + 1) = omega arith in
@@ -59,3 +59,13 @@ module _ (x : Float) (b : ℕ) (h : T (fits binary64 x)) where
   pub agrees-not : agrees x b ≡ false → x ≡ ofBits binary64 b → ⊥
   unfolding agrees
   agrees-not e q = eqb-false _ _ e (ap (toBits binary64) q)
+
+-- ---- one case more, that holds or fails
+module _ (holds : ℕ → Bool) (k n : ℕ) (e : n ≡ failing holds k) where
+  pub same-count : holds k ≡ true → n ≡ failing holds (k + 1)
+  unfolding failing
+  same-count h = rw (add-one k, h, add-zero) e
+
+  pub one-more : holds k ≡ false → n + 1 ≡ failing holds (k + 1)
+  unfolding failing
+  one-more h = rw (add-one k, h) (ap (λ (x : ℕ). x + 1) e)

@@ -1,7 +1,7 @@
 -- What a file of stored cases holds: numbers of 8 bytes, and floats by their bit patterns. Definitions only.
 use mathlib.Core.List.{List, [], _∷_}
-use mathlib.Core.Bool.{Bool}
-use Prim.Native.Nat.{ℕ, _+_, _*_}
+use mathlib.Core.Bool.{Bool, cond}
+use Prim.Native.Nat.{ℕ, zero, suc, _+_, _*_}
 use lib.ListN.{take, drop}
 use lib.Dec.{eqb}
 use lib.Ieee.{Float, binary64, ofBits, toBits}
@@ -23,3 +23,8 @@ floatAt s k = ofBits binary64 (wordAt s k)
 -- `agrees-is` and `agrees-not` in proofs/ say that it decides x ≡ ofBits binary64 b.
 unfoldable pub agrees : Float → ℕ → Bool
 agrees x b = eqb (toBits binary64 x) (toBits binary64 (ofBits binary64 b))
+
+-- at how many of the numbers below n a test fails
+unfoldable pub failing : (ℕ → Bool) → ℕ → ℕ
+failing holds zero = 0
+failing holds (suc n) = failing holds n + cond (holds n) 0 1

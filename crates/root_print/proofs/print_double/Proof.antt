@@ -28,38 +28,14 @@ write-all-requires-2 c κs = search needs
 thousandths-requires : tie.Need-thousandths-requires
 thousandths-requires c κs = search needs
 
-print-decimal-requires : tie.Need-print-decimal-requires
-print-decimal-requires c κs = search needs
+print-thousandths-requires : tie.Need-print-thousandths-requires
+print-thousandths-requires c κs = search needs
 
 slice-aggregate-write-all-3 : tie.Need-slice-aggregate-write-all-3
 slice-aggregate-write-all-3 c = search needs
 
 write-all-requires-3 : tie.Need-write-all-requires-3
 write-all-requires-3 c κs = search needs
-
-cast-t18 : tie.Need-cast-t18
-cast-t18 c = search needs
-
-add-t19 : tie.Need-add-t19
-add-t19 c = search needs
-
-cast-t22 : tie.Need-cast-t22
-cast-t22 c = search needs
-
-add-t23 : tie.Need-add-t23
-add-t23 c = search needs
-
-cast-t25 : tie.Need-cast-t25
-cast-t25 c = search needs
-
-add-t26 : tie.Need-add-t26
-add-t26 c = search needs
-
-slice-aggregate-write-all-4 : tie.Need-slice-aggregate-write-all-4
-slice-aggregate-write-all-4 c = search needs
-
-write-all-requires-4 : tie.Need-write-all-requires-4
-write-all-requires-4 c κs = search needs
 
 returns-2 : tie.Need-returns-2
 returns-2 c = search needs
@@ -76,15 +52,7 @@ print-double-spec =
     slice-aggregate-write-all-2
     write-all-requires-2
     thousandths-requires
-    print-decimal-requires
+    print-thousandths-requires
     slice-aggregate-write-all-3
     write-all-requires-3
-    cast-t18
-    add-t19
-    cast-t22
-    add-t23
-    cast-t25
-    add-t26
-    slice-aggregate-write-all-4
-    write-all-requires-4
     returns-2)

@@ -7,7 +7,9 @@ use native.Mathlib.Nat.{add-mul, one-mul}
 use native.Mathlib.Omega.{arith}
 use borrow.Author.Tests.{not-true, not-false}
 use Rattle.root_vectors.specs.Replay.{arity, width, recordsIn, differing}
-use Rattle.root_vectors.proofs.Laws.{whole-record, same-count, one-more}
+use Rattle.vectors.specs.Records.{failing}
+use Rattle.vectors.proofs.Laws.{same-count, one-more}
+use Rattle.root_vectors.proofs.Laws.{whole-record}
 use Rattle.root_vectors.proofs.differences.Statement.{statement}
 use Rattle.root_vectors.proofs.differences.Tie as tie
 
@@ -21,7 +23,7 @@ records-requires : tie.Need-records-requires Inv-loop μ-loop
 records-requires c κs = search needs
 
 loop-holds : tie.Need-loop-holds Inv-loop μ-loop
-unfolding differing
+unfolding failing
 loop-holds c = (omega arith, omega arith, refl)
 
 holds-requires : tie.Need-holds-requires Inv-loop μ-loop
@@ -43,8 +45,8 @@ loop-again c =
     let t = c .before .before .before in
     let h = c .before .holds .ensures in
     ⊎-elim
-    (λ w. (omega arith, omega arith, w .1 ∙ one-more _ _ _ _ (t .loop .inv .2) (sym h ∙ not-true _ (w .0 .taken))))
-    (λ w. (omega arith, omega arith, w .1 ∙ same-count _ _ _ _ (t .loop .inv .2) (sym h ∙ not-false _ (w .0 .left))))
+    (λ w. (omega arith, omega arith, w .1 ∙ one-more _ _ _ (t .loop .inv .2) (sym h ∙ not-true _ (w .0 .taken))))
+    (λ w. (omega arith, omega arith, w .1 ∙ same-count _ _ _ (t .loop .inv .2) (sym h ∙ not-false _ (w .0 .left))))
     (c .if1 .came)
 
 few : (a n l : ℕ) → 8 * ((a + 1) * n) ≤ l → n ≤ l

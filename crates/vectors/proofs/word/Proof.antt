@@ -1,12 +1,12 @@
 -- `vectors::word` meets its contract. The loop takes the bytes from the most significant down: r is the number of those that it has taken,
--- and leaves room for the j that are to come. Assumes nothing.
+-- and the j that are to come keep it within 64 bits. Assumes nothing.
 use mathlib.Core.Path.{_≡_, refl, ap, _∙_}
 use Prim.Native.Nat.{ℕ, _+_, _-_, _*_, _^_, _≤_, _<_}
 use native.Mathlib.Nat.{add-zero}
 use native.Mathlib.Omega.{arith}
 use lib.ListN.{take, drop}
 use Rattle.vectors.specs.Records.{littleEndian, wordAt}
-use Rattle.vectors.proofs.Laws.{byte-below, room, room-less}
+use Rattle.vectors.proofs.Laws.{byte-below, bounded, bounded-step}
 use Rattle.vectors.proofs.word.Statement.{statement}
 use Rattle.vectors.proofs.word.Tie as tie
 
@@ -27,7 +27,7 @@ sub-j : tie.Need-sub-j Inv-loop μ-loop
 sub-j c = omega arith
 
 mul-r : tie.Need-mul-r Inv-loop μ-loop
-mul-r c = omega (arith, room _ _ _ (room-less (c .before .loop .r) 0 (c .before .loop .j - 1) (c .before .loop .j) (2 ^ 64) (omega arith) (omega arith) (c .before .loop .inv .2)))
+mul-r c = omega (arith, bounded _ _ _ (bounded-step (c .before .loop .r) 0 (c .before .loop .j - 1) (c .before .loop .j) (2 ^ 64) (omega arith) (omega arith) (c .before .loop .inv .2)))
 
 add-wide : tie.Need-add-wide Inv-loop μ-loop
 add-wide c = omega arith
@@ -38,15 +38,15 @@ shared-slice-read-wide c = omega arith
 wide-requires : tie.Need-wide-requires Inv-loop μ-loop
 wide-requires c κs = tt
 
--- the room that is left once the byte is taken
+-- the bound once the byte is taken
 fewer : (c : tie.After-wide Inv-loop μ-loop) → (256 * c .before .before .before .loop .r + c .wide .result + 1) * 2 ^ (8 * (c .before .before .before .loop .j - 1)) ≤ 2 ^ 64
 fewer c =
     let t = c .before .before .before in
     let byte : c .wide .result < 256 = omega (arith, c .wide .ensures, c .before .shared-slice-known2 .given (8 * t .before .before .args .k + (t .loop .j - 1))) in
-    room-less (t .loop .r) (c .wide .result) (t .loop .j - 1) (t .loop .j) (2 ^ 64) byte (omega arith) (t .loop .inv .2)
+    bounded-step (t .loop .r) (c .wide .result) (t .loop .j - 1) (t .loop .j) (2 ^ 64) byte (omega arith) (t .loop .inv .2)
 
 add-r : tie.Need-add-r Inv-loop μ-loop
-add-r c = omega (arith, room _ _ _ (fewer c))
+add-r c = omega (arith, bounded _ _ _ (fewer c))
 
 loop-less : tie.Need-loop-less Inv-loop μ-loop
 loop-less c = omega arith

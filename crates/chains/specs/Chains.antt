@@ -1,0 +1,99 @@
+-- The Rust's `on_edge` as chains of window numbers. A link is a window's number plus one, and 0 is none. An edge's slot has the
+-- head of its chain, field 4 of 6; a window's slot has its edge and the next link, fields 0 and 3 of 4.
+use Prim.Native.Nat.{ℕ, zero, suc, _+_, _*_, _≤_, _<_}
+use mathlib.Core.Bool.{cond}
+use mathlib.Core.List.{List, [], _∷_}
+use mathlib.Core.Logic.{_≢_}
+use mathlib.Core.Path.{_≡_}
+use lib.Dec.{eqb}
+use lib.ListN.{getD, set, length}
+
+pub record Links : Type 0 where
+  pub edges : List ℕ
+  pub words : List ℕ
+
+abbrev pub links : List ℕ → List ℕ → Links
+links edges words = record { edges = edges; words = words }
+
+abbrev pub headOf : List ℕ → ℕ → ℕ
+headOf edges e = getD edges (6 * e + 4) 0
+
+abbrev pub edgeOf : List ℕ → ℕ → ℕ
+edgeOf words i = getD words (4 * i + 0) 0
+
+abbrev pub nextOf : List ℕ → ℕ → ℕ
+nextOf words i = getD words (4 * i + 3) 0
+
+-- the windows from a link on, at most n of them
+unfoldable pub chain : ℕ → List ℕ → ℕ → List ℕ
+chain zero w l = []
+chain (suc n) w zero = []
+chain (suc n) w (suc i) = i ∷ chain n w (nextOf w i)
+
+-- the link that n steps from a link lead to
+unfoldable pub walk : ℕ → List ℕ → ℕ → ℕ
+walk zero w l = l
+walk (suc n) w zero = 0
+walk (suc n) w (suc i) = walk n w (nextOf w i)
+
+-- the link that follows `before` on the chain of edge e: the head where `before` is none, else the link of that window
+unfoldable pub linkAt : Links → ℕ → ℕ → ℕ
+linkAt b e zero = headOf (b .edges) e
+linkAt b e (suc k) = nextOf (b .words) k
+
+unfoldable pub withLink : Links → ℕ → ℕ → ℕ → Links
+withLink b e zero v = links (set (b .edges) (6 * e + 4) v) (b .words)
+withLink b e (suc k) v = links (b .edges) (set (b .words) (4 * k + 3) v)
+
+-- window j is put after `before`
+unfoldable pub inserted : Links → ℕ → ℕ → ℕ → Links
+inserted b e before j = withLink (links (b .edges) (set (b .words) (4 * j + 3) (linkAt b e before))) e before (suc j)
+
+-- the links of the windows from l up to `stop`, at most n of them, are set to none
+unfoldable pub cleared : ℕ → List ℕ → ℕ → ℕ → List ℕ
+cleared zero w l stop = w
+cleared (suc n) w zero stop = w
+cleared (suc n) w (suc i) stop = cond (eqb (suc i) stop) w (cleared n (set w (4 * i + 3) 0) (nextOf w i) stop)
+
+-- the run from the link after `before` up to `stop` is taken out
+unfoldable pub removed : ℕ → Links → ℕ → ℕ → ℕ → Links
+removed n b e before stop = withLink (links (b .edges) (cleared n (b .words) (linkAt b e before) stop)) e before stop
+
+-- ---- what a chain is
+-- the windows from link l on are those of the list, and the chain ends there
+unfoldable pub Path : List ℕ → ℕ → List ℕ → Type 0
+Path w l [] = l ≡ 0
+Path w l (i ∷ is) = (l ≡ suc i) × Path w (nextOf w i) is
+
+-- i is none of the list
+unfoldable pub Out : ℕ → List ℕ → Type 0
+Out i [] = Unit {0}
+Out i (j ∷ js) = (i ≢ j) × Out i js
+
+-- a window of edge e whose slot is there
+pub record Belongs (w : List ℕ) (e i : ℕ) : Type 0 where
+  pub edge : edgeOf w i ≡ e
+  pub there : 4 * i + 4 ≤ length w
+
+unfoldable pub AllBelong : List ℕ → ℕ → List ℕ → Type 0
+AllBelong w e [] = Unit {0}
+AllBelong w e (i ∷ is) = Belongs w e i × AllBelong w e is
+
+-- `before` is none, or a window of edge e
+unfoldable pub Before : List ℕ → ℕ → ℕ → Type 0
+Before w e zero = Unit {0}
+Before w e (suc k) = Belongs w e k
+
+-- the link of the first window of a list
+unfoldable pub firstLink : List ℕ → ℕ
+firstLink [] = 0
+firstLink (i ∷ is) = suc i
+
+-- the chain of edge e is the list, and its windows are that edge's
+pub record OnEdge (b : Links) (e : ℕ) (is : List ℕ) : Type 0 where
+  pub path : Path (b .words) (headOf (b .edges) e) is
+  pub belong : AllBelong (b .words) e is
+
+-- the invariant: the chains of all m edges are the lists of `on`
+abbrev pub Chains : ℕ → Links → (ℕ → List ℕ) → Type 0
+Chains m b on = (e : ℕ) → e < m → OnEdge b e (on e)

@@ -1,0 +1,4 @@
+pub mod OrderLaws
+pub mod HeapOrder
+pub mod Turns
+pub mod SameAnswers

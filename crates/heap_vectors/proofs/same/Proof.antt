@@ -1,0 +1,38 @@
+use Rattle.heap_vectors.proofs.Outcomes.{other-key, other-number, other-kind, one-event}
+use borrow.Author.Needs.{needs}
+use Rattle.heap_vectors.proofs.same.Statement.{statement}
+use Rattle.heap_vectors.proofs.same.Tie as tie
+
+pattern-requires : tie.Need-pattern-requires
+pattern-requires c κs = search needs
+
+pattern-requires-2 : tie.Need-pattern-requires-2
+pattern-requires-2 c κs = search needs
+
+returns : tie.Need-returns
+returns c =
+    let keyed = c .before in
+    let a = keyed .before .before .args in
+    other-key (a .a) (a .b) (keyed .before .pattern .ensures) (keyed .pattern2 .ensures) (c .if1 .taken)
+
+returns-2 : tie.Need-returns-2
+returns-2 c =
+    let keyed = c .before .before .before .before in
+    let a = keyed .before .before .args in
+    other-number (a .a) (a .b) (keyed .before .pattern .ensures) (keyed .pattern2 .ensures) (c .before .before .before .if1 .left) (c .if2 .taken)
+
+returns-3 : tie.Need-returns-3
+returns-3 c =
+    let keyed = c .before .before .before .before .before .before .before in
+    let a = keyed .before .before .args in
+    other-kind (a .a) (a .b) (keyed .before .pattern .ensures) (keyed .pattern2 .ensures) (c .before .before .before .before .before .before .if1 .left) (c .before .before .before .if2 .left) (c .if3 .taken)
+
+returns-4 : tie.Need-returns-4
+returns-4 c =
+    let keyed = c .before .before .before .before .before .before .before in
+    let a = keyed .before .before .args in
+    one-event (a .a) (a .b) (keyed .before .pattern .ensures) (keyed .pattern2 .ensures) (c .before .before .before .before .before .before .if1 .left) (c .before .before .before .if2 .left) (c .if3 .left)
+
+pub same-spec : {M : Type 1} → statement M
+same-spec =
+    tie.close (tie.spec pattern-requires pattern-requires-2 returns returns-2 returns-3 returns-4)

@@ -1,0 +1,4 @@
+pub mod Any
+pub mod Edge
+pub mod Sound
+pub mod Tests

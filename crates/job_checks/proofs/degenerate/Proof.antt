@@ -1,0 +1,51 @@
+-- `job_checks::degenerate` meets its contract. Assumes nothing.
+use mathlib.Core.Path.{sym}
+use Rattle.job_checks.proofs.Edge.{short-edge, low-vertex, sound-edge}
+use borrow.Author.Needs.{needs}
+use Rattle.job_checks.proofs.degenerate.Statement.{statement}
+use Rattle.job_checks.proofs.degenerate.Tie as tie
+
+sub-requires : tie.Need-sub-requires
+sub-requires c κs = search needs
+
+norm-requires : tie.Need-norm-requires
+norm-requires c κs = search needs
+
+scale-requires : tie.Need-scale-requires
+scale-requires c κs = search needs
+
+sub-requires-2 : tie.Need-sub-requires-2
+sub-requires-2 c κs = search needs
+
+dot-requires : tie.Need-dot-requires
+dot-requires c κs = search needs
+
+axpy-requires : tie.Need-axpy-requires
+axpy-requires c κs = search needs
+
+norm-requires-2 : tie.Need-norm-requires-2
+norm-requires-2 c κs = search needs
+
+returns : tie.Need-returns
+returns c = sym (sound-edge _ _ _ _ _ _ _ _ _ _ (c .before .before .before .before .before .before .before .before .sub .ensures) (c .before .before .before .before .before .before .before .norm .ensures) (c .before .before .before .before .before .scale .ensures) (c .before .before .before .before .sub2 .ensures) (c .before .before .before .dot .ensures) (c .before .before .axpy .ensures) (c .before .norm2 .ensures) (c .before .before .before .before .before .before .if1 .taken) (c .if2 .taken))
+
+returns-2 : tie.Need-returns-2
+returns-2 c = sym (low-vertex _ _ _ _ _ _ _ _ _ _ (c .before .before .before .before .before .before .before .before .sub .ensures) (c .before .before .before .before .before .before .before .norm .ensures) (c .before .before .before .before .before .scale .ensures) (c .before .before .before .before .sub2 .ensures) (c .before .before .before .dot .ensures) (c .before .before .axpy .ensures) (c .before .norm2 .ensures) (c .before .before .before .before .before .before .if1 .taken) (c .if2 .left))
+
+returns-3 : tie.Need-returns-3
+returns-3 c = sym (short-edge _ _ _ _ _ (c .before .before .sub .ensures) (c .before .norm .ensures) (c .if1 .left))
+
+pub degenerate-spec : {M : Type 1} → statement M
+degenerate-spec =
+    tie.close
+    (tie.spec
+    sub-requires
+    norm-requires
+    scale-requires
+    sub-requires-2
+    dot-requires
+    axpy-requires
+    norm-requires-2
+    returns
+    returns-2
+    returns-3)

@@ -1,0 +1,428 @@
+// What is checked of a job before any work: document 01's refusals 1 to 9, each over the whole job before the next.
+// The checks only read. The step budget is any u32, so there is nothing to check of it.
+
+ghost use mathlib.Core.Path.{_≡_};
+ghost use mathlib.Core.Bool.{false};
+ghost use Prim.Native.Nat.{_+_, _*_, _/_, _<_, _≤_};
+ghost use lib.ListN.{length};
+ghost use Rattle.job_checks.specs.Any.{anyBelow};
+ghost use Rattle.job_checks.specs.Edge.{vertexAt};
+ghost use Rattle.job_checks.specs.Job.{job};
+ghost use Rattle.job_checks.specs.Refusals.{
+  refusalNumber,
+  refusalOf,
+  wrongCounts,
+  malformed,
+  aboveOne,
+  missing,
+  repeated,
+  repeatedIn,
+  outOfRange,
+  outOfRangeAt,
+  degenerate,
+  degenerateEdge,
+  degenerateIn,
+  degenerateAt,
+  usedOutOfRange,
+  limitOutside,
+  tooShort,
+};
+use vec3::Vec3;
+
+// The answer: `refusalNumber` of specs/ gives each case its number.
+pub enum Checked {
+    Passed,
+    Malformed,
+    MissingVertex,
+    RepeatedVertex,
+    VertexOutOfRange,
+    DegenerateTriangle,
+    MissingFace,
+    PieceOutOfRange,
+    LimitOutOfRange,
+    ShortBuffer,
+}
+
+// How many slots each lent buffer of a fixed size has, and how many windows there is a slot for.
+pub struct BufferCounts {
+    pub vertices: u32,
+    pub edges: u32,
+    pub vertex_faces: u32,
+    pub triangles: u32,
+    pub pieces: u32,
+    pub windows: u32,
+    pub scratch: u32,
+    pub other_scratch: u32,
+}
+
+fn any_above_one(bytes: &[u8]) -> bool
+    ensures { λ r. ⌜ r ≡ anyBelow (aboveOne (now (bytes .entry))) (length (now (bytes .entry))) ⌝ }
+{
+    let mut i = 0;
+    while i < bytes.len() {
+        if bytes[i] > 1 {
+            return true;
+        }
+        i += 1;
+    }
+    false
+}
+
+// Whether one of the numbers names none of count things.
+fn any_missing(numbers: &[u32], count: usize) -> bool
+    ensures { λ r. ⌜ r ≡ anyBelow (missing count (now (numbers .entry))) (length (now (numbers .entry))) ⌝ }
+{
+    let mut i = 0;
+    while i < numbers.len() {
+        if wide(numbers[i]) >= count {
+            return true;
+        }
+        i += 1;
+    }
+    false
+}
+
+fn wide(x: u32) -> usize
+    ensures { λ r. ⌜ r ≡ x ⌝ }
+{
+    x as usize
+}
+
+// Whether a triangle names a vertex twice.
+fn any_repeated(triangles: &[u32]) -> bool
+    ensures { λ r. ⌜ r ≡ anyBelow (repeatedIn (now (triangles .entry))) (length (now (triangles .entry)) / 3) ⌝ }
+{
+    let mut t = 0;
+    while t < triangles.len() / 3 {
+        let a = triangles[3 * t];
+        let b = triangles[3 * t + 1];
+        let c = triangles[3 * t + 2];
+        if repeated(a, b, c) {
+            return true;
+        }
+        t += 1;
+    }
+    false
+}
+
+fn repeated(a: u32, b: u32, c: u32) -> bool
+    ensures { λ r. ⌜ r ≡ repeated a b c ⌝ }
+{
+    if a == b {
+        return true;
+    }
+    if b == c {
+        return true;
+    }
+    if c == a {
+        return true;
+    }
+    false
+}
+
+// A NaN fails every comparison, so what is tested is what must hold.
+fn out_of_range(x: f64) -> bool
+    ensures { λ r. ⌜ r ≡ outOfRange x ⌝ }
+{
+    if -1_000_000.0 <= x {
+        if x <= 1_000_000.0 {
+            return false;
+        }
+        return true;
+    }
+    true
+}
+
+fn any_out_of_range(coords: &[f64]) -> bool
+    ensures { λ r. ⌜ r ≡ anyBelow (outOfRangeAt (now (coords .entry))) (length (now (coords .entry))) ⌝ }
+{
+    let mut i = 0;
+    while i < coords.len() {
+        if out_of_range(coords[i]) {
+            return true;
+        }
+        i += 1;
+    }
+    false
+}
+
+// The edge from o to b, and the altitude of the third vertex over it.
+fn degenerate(o: Vec3, b: Vec3, third: Vec3) -> bool
+    ensures { λ r. ⌜ r ≡ degenerate o b third ⌝ }
+{
+    let d = vec3::sub(b, o);
+    let len = vec3::norm(d);
+    if 0.001 <= len {
+        let xhat = vec3::scale(d, 1.0 / len);
+        let w = vec3::sub(third, o);
+        let p = vec3::axpy(w, -vec3::dot(w, xhat), xhat);
+        if 0.000_001 <= vec3::norm(p) {
+            return false;
+        }
+        return true;
+    }
+    true
+}
+
+fn vertex(v: &[f64], k: usize) -> Vec3
+    requires { ⌜ k < length (now v) / 3 ⌝ }
+    ensures { λ r. ⌜ r ≡ vertexAt (now (v .entry)) k ⌝ }
+{
+    Vec3 {
+        x: v[3 * k],
+        y: v[3 * k + 1],
+        z: v[3 * k + 2],
+    }
+}
+
+// The edge of a and b starts at its lower-numbered vertex.
+fn degenerate_edge(v: &[f64], a: usize, b: usize, third: usize) -> bool
+    requires { ⌜ (a < length (now v) / 3) × ((b < length (now v) / 3) × (third < length (now v) / 3)) ⌝ }
+    ensures { λ r. ⌜ r ≡ degenerateEdge (now (v .entry)) a b third ⌝ }
+{
+    if a < b {
+        return degenerate(vertex(v, a), vertex(v, b), vertex(v, third));
+    }
+    degenerate(vertex(v, b), vertex(v, a), vertex(v, third))
+}
+
+fn degenerate_triangle(v: &[f64], a: usize, b: usize, c: usize) -> bool
+    requires { ⌜ (a < length (now v) / 3) × ((b < length (now v) / 3) × (c < length (now v) / 3)) ⌝ }
+    ensures { λ r. ⌜ r ≡ degenerateIn (now (v .entry)) a b c ⌝ }
+{
+    if degenerate_edge(v, a, b, c) {
+        return true;
+    }
+    if degenerate_edge(v, b, c, a) {
+        return true;
+    }
+    if degenerate_edge(v, c, a, b) {
+        return true;
+    }
+    false
+}
+
+// Whether a triangle has an edge too short or an altitude too small.
+fn any_degenerate(v: &[f64], triangles: &[u32]) -> bool
+    requires { ⌜ anyBelow (missing (length (now v) / 3) (now triangles)) (length (now triangles)) ≡ false ⌝ }
+    ensures { λ r. ⌜ r ≡ anyBelow (degenerateAt (now (v .entry)) (now (triangles .entry))) (length (now (triangles .entry)) / 3) ⌝ }
+{
+    let mut t = 0;
+    while t < triangles.len() / 3 {
+        let a = wide(triangles[3 * t]);
+        let b = wide(triangles[3 * t + 1]);
+        let c = wide(triangles[3 * t + 2]);
+        if degenerate_triangle(v, a, b, c) {
+            return true;
+        }
+        t += 1;
+    }
+    false
+}
+
+// Whether coordinate i is out of range and its piece uses it: a point has only the first three of six.
+fn used_out_of_range(kinds: &[u8], coords: &[f64], i: usize) -> bool
+    requires { ⌜ (i < length (now coords)) × (i / 6 < length (now kinds)) ⌝ }
+    ensures { λ r. ⌜ r ≡ usedOutOfRange (now (kinds .entry)) (now (coords .entry)) i ⌝ }
+{
+    if out_of_range(coords[i]) {
+        if i % 6 < 3 {
+            return true;
+        }
+        if kinds[i / 6] != 0 {
+            return true;
+        }
+        return false;
+    }
+    false
+}
+
+fn any_piece_out_of_range(kinds: &[u8], coords: &[f64]) -> bool
+    requires { ⌜ length (now coords) ≤ 6 * length (now kinds) ⌝ }
+    ensures { λ r. ⌜ r ≡ anyBelow (usedOutOfRange (now (kinds .entry)) (now (coords .entry))) (length (now (coords .entry))) ⌝ }
+{
+    let mut i = 0;
+    while i < coords.len() {
+        if used_out_of_range(kinds, coords, i) {
+            return true;
+        }
+        i += 1;
+    }
+    false
+}
+
+fn limit_out_of_range(limit: f64) -> bool
+    ensures { λ r. ⌜ r ≡ limitOutside limit ⌝ }
+{
+    if 0.0 <= limit {
+        if limit <= 10_000_000.0 {
+            return false;
+        }
+        return true;
+    }
+    true
+}
+
+// Whether a buffer of a fixed size is too short for so many vertices, triangles and pieces.
+fn short_buffer(vertices: usize, triangles: usize, pieces: usize, buffers: BufferCounts) -> bool
+    requires { ⌜ triangles ≤ 131_070 ⌝ }
+    ensures { λ r. ⌜ r ≡ tooShort vertices triangles pieces buffers ⌝ }
+{
+    if (buffers.edges as usize) < 3 * triangles {
+        return true;
+    }
+    if (buffers.vertex_faces as usize) < 3 * triangles {
+        return true;
+    }
+    if (buffers.vertices as usize) < vertices {
+        return true;
+    }
+    if (buffers.triangles as usize) < triangles {
+        return true;
+    }
+    if (buffers.pieces as usize) < pieces {
+        return true;
+    }
+    if buffers.scratch < buffers.windows {
+        return true;
+    }
+    if buffers.other_scratch < buffers.windows {
+        return true;
+    }
+    false
+}
+
+fn wrong_counts(
+    vertices: usize,
+    triangles: usize,
+    flags: usize,
+    kinds: usize,
+    faces: usize,
+    coords: usize,
+) -> bool
+    ensures { λ r. ⌜ r ≡ wrongCounts vertices triangles flags kinds faces coords ⌝ }
+{
+    if vertices % 3 != 0 {
+        return true;
+    }
+    if triangles % 3 != 0 {
+        return true;
+    }
+    if vertices / 3 > 65_535 {
+        return true;
+    }
+    if triangles / 3 > 131_070 {
+        return true;
+    }
+    if kinds > 65_535 {
+        return true;
+    }
+    if flags != vertices / 3 {
+        return true;
+    }
+    if faces != kinds {
+        return true;
+    }
+    if coords != 6 * kinds {
+        return true;
+    }
+    false
+}
+
+// The answer's number in document 01, 0 where the job passed.
+pub fn refusal_number(checked: Checked) -> u32
+    ensures { λ r. ⌜ r ≡ refusalNumber checked ⌝ }
+{
+    match checked {
+        Checked::Passed => 0,
+        Checked::Malformed => 1,
+        Checked::MissingVertex => 2,
+        Checked::RepeatedVertex => 3,
+        Checked::VertexOutOfRange => 4,
+        Checked::DegenerateTriangle => 5,
+        Checked::MissingFace => 6,
+        Checked::PieceOutOfRange => 7,
+        Checked::LimitOutOfRange => 8,
+        Checked::ShortBuffer => 9,
+    }
+}
+
+// Refusal 1.
+fn is_malformed(
+    vertices: usize,
+    triangles: usize,
+    flags: &[u8],
+    kinds: &[u8],
+    faces: usize,
+    coords: usize,
+) -> bool
+    ensures { λ r. ⌜ r ≡ malformed vertices triangles (now (flags .entry)) (now (kinds .entry)) faces coords ⌝ }
+{
+    if wrong_counts(vertices, triangles, flags.len(), kinds.len(), faces, coords) {
+        return true;
+    }
+    if any_above_one(flags) {
+        return true;
+    }
+    if any_above_one(kinds) {
+        return true;
+    }
+    false
+}
+
+// The first of the refusals 1 to 9 that holds, if any.
+pub fn check(
+    vertices: &[f64],
+    triangles: &[u32],
+    flags: &[u8],
+    kinds: &[u8],
+    faces: &[u32],
+    coords: &[f64],
+    limit: f64,
+    buffers: BufferCounts,
+) -> Checked
+    ensures { λ r. ⌜ refusalNumber r ≡ refusalOf
+        (job (now (vertices .entry)) (now (triangles .entry)) (now (flags .entry)) (now (kinds .entry)) (now (faces .entry)) (now (coords .entry)) limit)
+        buffers ⌝ }
+{
+    if is_malformed(
+        vertices.len(),
+        triangles.len(),
+        flags,
+        kinds,
+        faces.len(),
+        coords.len(),
+    ) {
+        return Checked::Malformed;
+    }
+    if any_missing(triangles, vertices.len() / 3) {
+        return Checked::MissingVertex;
+    }
+    if any_repeated(triangles) {
+        return Checked::RepeatedVertex;
+    }
+    if any_out_of_range(vertices) {
+        return Checked::VertexOutOfRange;
+    }
+    if any_degenerate(vertices, triangles) {
+        return Checked::DegenerateTriangle;
+    }
+    if any_missing(faces, triangles.len() / 3) {
+        return Checked::MissingFace;
+    }
+    if any_piece_out_of_range(kinds, coords) {
+        return Checked::PieceOutOfRange;
+    }
+    if limit_out_of_range(limit) {
+        return Checked::LimitOutOfRange;
+    }
+    if short_buffer(
+        vertices.len() / 3,
+        triangles.len() / 3,
+        kinds.len(),
+        buffers,
+    ) {
+        return Checked::ShortBuffer;
+    }
+    Checked::Passed
+}

@@ -1,0 +1,241 @@
+-- The laws that make the window buffer a list of windows.
+use Prim.Native.Nat.{ℕ, zero, suc, _+_, _*_, _<_, _≤_}
+use native.Mathlib.Omega.{arith}
+use native.Mathlib.Decide.{ℕ-discrete}
+use mathlib.Core.Bool.{Bool, true, false, cond}
+use mathlib.Core.Path.{_≡_, refl, sym, ap, _∙_}
+use mathlib.Core.List.{List, [], _∷_, _++_}
+use mathlib.Core.Logic.{_≢_}
+use lib.ListN.{length, getD, set, length-append}
+use lib.Seq.{set-at, set-append-left}
+use lib.Ieee.{Float, nan}
+use Rattle.buffers.specs.Slots.{slot}
+use Rattle.buffers.proofs.Strides.{slot-at, slot-set-same, slot-set-other, length-slot, fill-sets, fill-same, fill-other}
+use Rattle.windows.specs.declared.WindowRecord.{WindowRecord}
+use Rattle.windows.specs.Windows.{flagsOf, hasFlag, windowAt, wordsWith, realsWith, rangeWith, flagsWith, trimmed, reflagged, relinked, windows}
+
+pub weight-le : (b : Bool) (v : ℕ) → cond b v 0 ≤ v
+weight-le true v = omega arith
+weight-le false v = omega arith
+
+-- ---- a window is what its two slots say
+unfoldable decode : List ℕ → List Float → WindowRecord
+decode w f = record {
+  edge = record { 0 = getD w 0 0 };
+  into = record { 0 = getD w 1 0 };
+  line = hasFlag (getD w 2 0) 1;
+  alive = hasFlag (getD w 2 0) 2;
+  queued = hasFlag (getD w 2 0) 4;
+  link = getD w 3 0;
+  b0 = getD f 0 nan;
+  b1 = getD f 1 nan;
+  low = getD f 2 nan;
+  s0 = getD f 3 nan;
+  s1 = getD f 4 nan;
+  s2 = getD f 5 nan;
+}
+
+by-slots : (w : List ℕ) (f : List Float) (k : ℕ) → windowAt w f k ≡ decode (slot 4 w k) (slot 6 f k)
+unfolding windowAt decode
+by-slots w f k =
+    let word : (a : ℕ) → a < 4 → getD w (4 * k + a) 0 ≡ getD (slot 4 w k) a 0 = λ a h. sym (slot-at 4 w k a 0 h) in
+    let real : (a : ℕ) → a < 6 → getD f (6 * k + a) nan ≡ getD (slot 6 f k) a nan = λ a h. sym (slot-at 6 f k a nan h) in
+    λ t. record {
+      edge = record { 0 = word 0 (omega arith) t };
+      into = record { 0 = word 1 (omega arith) t };
+      line = hasFlag (word 2 (omega arith) t) 1;
+      alive = hasFlag (word 2 (omega arith) t) 2;
+      queued = hasFlag (word 2 (omega arith) t) 4;
+      link = word 3 (omega arith) t;
+      b0 = real 0 (omega arith) t;
+      b1 = real 1 (omega arith) t;
+      low = real 2 (omega arith) t;
+      s0 = real 3 (omega arith) t;
+      s1 = real 4 (omega arith) t;
+      s2 = real 5 (omega arith) t;
+    }
+
+-- one field of a window, where the whole is not wanted
+module _ (w : List ℕ) (f : List Float) (k : ℕ) where
+  pub edge-is : windowAt w f k .edge .0 ≡ getD w (4 * k + 0) 0
+  unfolding windowAt
+  edge-is = refl
+
+  pub link-is : windowAt w f k .link ≡ getD w (4 * k + 3) 0
+  unfolding windowAt
+  link-is = refl
+
+  pub b0-is : windowAt w f k .b0 ≡ getD f (6 * k + 0) nan
+  unfolding windowAt
+  b0-is = refl
+
+  pub b1-is : windowAt w f k .b1 ≡ getD f (6 * k + 1) nan
+  unfolding windowAt
+  b1-is = refl
+
+  pub low-is : windowAt w f k .low ≡ getD f (6 * k + 2) nan
+  unfolding windowAt
+  low-is = refl
+
+-- the flags are read as they were put together
+decoded : (line alive queued : Bool) → (hasFlag (flagsOf line alive queued) 1 ≡ line) × ((hasFlag (flagsOf line alive queued) 2 ≡ alive) × (hasFlag (flagsOf line alive queued) 4 ≡ queued))
+decoded false false false = (refl, (refl, refl))
+decoded false false true = (refl, (refl, refl))
+decoded false true false = (refl, (refl, refl))
+decoded false true true = (refl, (refl, refl))
+decoded true false false = (refl, (refl, refl))
+decoded true false true = (refl, (refl, refl))
+decoded true true false = (refl, (refl, refl))
+decoded true true true = (refl, (refl, refl))
+
+-- ---- a load after a store
+module _ (w : List ℕ) (f : List Float) (k : ℕ) (x : WindowRecord) where
+  pub load-same : 4 * k + 4 ≤ length w → 6 * k + 6 ≤ length f → windowAt (wordsWith w k x) (realsWith f k x) k ≡ x
+  unfolding wordsWith realsWith decode
+  load-same p q =
+      let d = decoded (x .line) (x .alive) (x .queued) in
+      by-slots (wordsWith w k x) (realsWith f k x) k
+      ∙ ap (λ s. decode s (slot 6 (realsWith f k x) k)) (fill-same 4 w k _ refl p)
+      ∙ ap (decode (x .edge .0 ∷ x .into .0 ∷ flagsOf (x .line) (x .alive) (x .queued) ∷ x .link ∷ [])) (fill-same 6 f k _ refl q)
+      ∙ (λ t. record {
+        edge = x .edge;
+        into = x .into;
+        line = d .0 t;
+        alive = d .1 .0 t;
+        queued = d .1 .1 t;
+        link = x .link;
+        b0 = x .b0;
+        b1 = x .b1;
+        low = x .low;
+        s0 = x .s0;
+        s1 = x .s1;
+        s2 = x .s2;
+      })
+
+  pub load-other : (j : ℕ) → k ≢ j → windowAt (wordsWith w k x) (realsWith f k x) j ≡ windowAt w f j
+  unfolding wordsWith realsWith
+  load-other j ne =
+      by-slots (wordsWith w k x) (realsWith f k x) j
+      ∙ ap (λ s. decode s (slot 6 (realsWith f k x) j)) (fill-other 4 _ w k j 0 ne (omega arith))
+      ∙ ap (decode (slot 4 w j)) (fill-other 6 _ f k j 0 ne (omega arith))
+      ∙ sym (by-slots w f j)
+
+-- a trim changes the ends and the least value of its window alone
+decode-trim : (w : List ℕ) (p : List Float) (b0 b1 low : Float) → 3 ≤ length p → decode w (set (set (set p 0 b0) 1 b1) 2 low) ≡ trimmed (decode w p) b0 b1 low
+unfolding decode trimmed
+decode-trim w [] b0 b1 low h = absurd (omega arith)
+decode-trim w (x ∷ []) b0 b1 low h = absurd (omega arith)
+decode-trim w (x ∷ y ∷ []) b0 b1 low h = absurd (omega arith)
+decode-trim w (x ∷ y ∷ z ∷ p) b0 b1 low h = refl
+
+module _ (w : List ℕ) (f : List Float) (k : ℕ) (b0 b1 low : Float) where
+  pub trim-same : 6 * k + 6 ≤ length f → windowAt w (rangeWith f k b0 b1 low) k ≡ trimmed (windowAt w f k) b0 b1 low
+  unfolding rangeWith
+  trim-same p =
+      by-slots w (rangeWith f k b0 b1 low) k
+      ∙ ap (decode (slot 4 w k)) (fill-sets 6 (b0 ∷ b1 ∷ low ∷ []) f k 0 (omega arith))
+      ∙ decode-trim (slot 4 w k) (slot 6 f k) b0 b1 low (rw (length-slot 6 f k p) (omega arith))
+      ∙ ap (λ x. trimmed x b0 b1 low) (sym (by-slots w f k))
+
+  pub trim-other : (j : ℕ) → k ≢ j → windowAt w (rangeWith f k b0 b1 low) j ≡ windowAt w f j
+  unfolding rangeWith
+  trim-other j ne =
+      by-slots w (rangeWith f k b0 b1 low) j ∙ ap (decode (slot 4 w j)) (fill-other 6 (b0 ∷ b1 ∷ low ∷ []) f k j 0 ne (omega arith)) ∙ sym (by-slots w f j)
+
+-- a change of flags changes those flags alone
+decode-flags : (p : List ℕ) (f : List Float) (line alive queued : Bool) → 3 ≤ length p → decode (set p 2 (flagsOf line alive queued)) f ≡ reflagged (decode p f) line alive queued
+unfolding decode reflagged
+decode-flags [] f line alive queued h = absurd (omega arith)
+decode-flags (x ∷ []) f line alive queued h = absurd (omega arith)
+decode-flags (x ∷ y ∷ []) f line alive queued h = absurd (omega arith)
+decode-flags (x ∷ y ∷ z ∷ p) f line alive queued h =
+    let d = decoded line alive queued in
+    λ t. record {
+      edge = record { 0 = x };
+      into = record { 0 = y };
+      line = d .0 t;
+      alive = d .1 .0 t;
+      queued = d .1 .1 t;
+      link = getD p 0 0;
+      b0 = getD f 0 nan;
+      b1 = getD f 1 nan;
+      low = getD f 2 nan;
+      s0 = getD f 3 nan;
+      s1 = getD f 4 nan;
+      s2 = getD f 5 nan;
+    }
+
+module _ (w : List ℕ) (f : List Float) (k : ℕ) (line alive queued : Bool) where
+  pub flags-same : 4 * k + 4 ≤ length w → windowAt (flagsWith w k line alive queued) f k ≡ reflagged (windowAt w f k) line alive queued
+  unfolding flagsWith
+  flags-same p =
+      by-slots (flagsWith w k line alive queued) f k
+      ∙ ap (λ s. decode s (slot 6 f k)) (slot-set-same 4 w k 2 (flagsOf line alive queued) (omega arith))
+      ∙ decode-flags (slot 4 w k) (slot 6 f k) line alive queued (rw (length-slot 4 w k p) (omega arith))
+      ∙ ap (λ x. reflagged x line alive queued) (sym (by-slots w f k))
+
+  pub flags-other : (j : ℕ) → k ≢ j → windowAt (flagsWith w k line alive queued) f j ≡ windowAt w f j
+  unfolding flagsWith
+  flags-other j ne =
+      by-slots (flagsWith w k line alive queued) f j
+      ∙ ap (λ s. decode s (slot 6 f j)) (slot-set-other 4 w k j 2 (flagsOf line alive queued) ne (omega arith))
+      ∙ sym (by-slots w f j)
+
+-- a change of a link changes that link alone
+decode-link : (p : List ℕ) (f : List Float) (v : ℕ) → 4 ≤ length p → decode (set p 3 v) f ≡ relinked (decode p f) v
+unfolding decode relinked
+decode-link [] f v h = absurd (omega arith)
+decode-link (x ∷ []) f v h = absurd (omega arith)
+decode-link (x ∷ y ∷ []) f v h = absurd (omega arith)
+decode-link (x ∷ y ∷ z ∷ []) f v h = absurd (omega arith)
+decode-link (x ∷ y ∷ z ∷ t ∷ p) f v h = refl
+
+module _ (w : List ℕ) (f : List Float) (k v : ℕ) where
+  pub link-same : 4 * k + 4 ≤ length w → windowAt (set w (4 * k + 3) v) f k ≡ relinked (windowAt w f k) v
+  link-same p =
+      by-slots (set w (4 * k + 3) v) f k
+      ∙ ap (λ s. decode s (slot 6 f k)) (slot-set-same 4 w k 3 v (omega arith))
+      ∙ decode-link (slot 4 w k) (slot 6 f k) v (rw (length-slot 4 w k p) (omega arith))
+      ∙ ap (λ x. relinked x v) (sym (by-slots w f k))
+
+  pub link-other : (j : ℕ) → k ≢ j → windowAt (set w (4 * k + 3) v) f j ≡ windowAt w f j
+  link-other j ne =
+      by-slots (set w (4 * k + 3) v) f j ∙ ap (λ s. decode s (slot 6 f j)) (slot-set-other 4 w k j 3 v ne (omega arith)) ∙ sym (by-slots w f j)
+
+-- ---- the first n windows, as a list
+pub length-windows : (n : ℕ) (w : List ℕ) (f : List Float) → length (windows n w f) ≡ n
+unfolding windows
+length-windows zero w f = refl
+length-windows (suc n) w f = length-append (windows n w f) (windowAt w f n ∷ []) ∙ simp (length-windows n w f) (omega arith)
+
+-- slices that hold the same windows below n have the same list
+pub windows-same : (n : ℕ) (w w′ : List ℕ) (f f′ : List Float) → ((j : ℕ) → j < n → windowAt w′ f′ j ≡ windowAt w f j) → windows n w′ f′ ≡ windows n w f
+unfolding windows
+windows-same zero w w′ f f′ h = refl
+windows-same (suc n) w w′ f f′ h =
+    ap (λ l. l ++ (windowAt w′ f′ n ∷ [])) (windows-same n w w′ f f′ (λ j l. h j (omega arith)))
+    ∙ ap (λ x. windows n w f ++ (x ∷ [])) (h n (omega arith))
+
+-- a window stored past the first n is appended
+pub windows-push : (n : ℕ) (w : List ℕ) (f : List Float) (x : WindowRecord) → 4 * n + 4 ≤ length w → 6 * n + 6 ≤ length f
+    → windows (suc n) (wordsWith w n x) (realsWith f n x) ≡ windows n w f ++ (x ∷ [])
+unfolding windows
+windows-push n w f x p q =
+    ap (λ l. l ++ (windowAt (wordsWith w n x) (realsWith f n x) n ∷ []))
+    (windows-same n w (wordsWith w n x) f (realsWith f n x) (λ j h. load-other w f n x j (omega arith)))
+    ∙ ap (λ y. windows n w f ++ (y ∷ [])) (load-same w f n x p q)
+
+-- a change of window k alone is a change of element k alone
+pub windows-set : (n : ℕ) (w w′ : List ℕ) (f f′ : List Float) (k : ℕ) → k < n → ((j : ℕ) → j < n → k ≢ j → windowAt w′ f′ j ≡ windowAt w f j)
+    → windows n w′ f′ ≡ set (windows n w f) k (windowAt w′ f′ k)
+unfolding windows
+windows-set zero w w′ f f′ k b h = absurd (omega arith)
+windows-set (suc n) w w′ f f′ k b h = go (ℕ-discrete k n) (λ l. windows-set n w w′ f f′ k l (λ j m. h j (omega arith))) where
+  go : Dec (k ≡ n) → (k < n → windows n w′ f′ ≡ set (windows n w f) k (windowAt w′ f′ k)) → windows n w′ f′ ++ (windowAt w′ f′ n ∷ []) ≡ set (windows n w f ++ (windowAt w f n ∷ [])) k (windowAt w′ f′ k)
+  go (yes e) ih = rw e
+      (ap (λ l. l ++ (windowAt w′ f′ n ∷ [])) (windows-same n w w′ f f′ (λ j l. h j (omega arith) (λ t. omega (arith, t, e, l))))
+      ∙ sym (set-at (windows n w f) (windowAt w f n) [] (windowAt w′ f′ n) n (length-windows n w f)))
+  go (no e) ih =
+      ap (λ l. l ++ (windowAt w′ f′ n ∷ [])) (ih (omega (arith, e)))
+      ∙ ap (λ x. set (windows n w f) k (windowAt w′ f′ k) ++ (x ∷ [])) (h n (omega arith) e)
+      ∙ sym (set-append-left (windows n w f) (windowAt w f n ∷ []) k (windowAt w′ f′ k) (rw (length-windows n w f) (omega (arith, e))))
