@@ -2,3 +2,4 @@ pub mod Cutting
 pub mod Ties
 pub mod Points
 pub mod Stretches
+pub mod Buffers

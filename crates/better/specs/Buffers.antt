@@ -1,0 +1,36 @@
+-- Lists in lent buffers. Definitions only.
+use Prim.Native.Nat.{ℕ, _≤_, _<_}
+use mathlib.Core.Bool.{Bool}
+use mathlib.Core.Path.{_≡_}
+use mathlib.Core.List.{List}
+use lib.ListN.{length, take, drop}
+use lib.Ieee.{Float}
+use Rattle.float64.specs.Notation.{if_then_else_}
+use Rattle.better.specs.Points.{insertOf}
+use Rattle.better.specs.declared.Placed.{Placed}
+use Rattle.better.specs.declared.Placed.the-variants as placed
+use Rattle.better.specs.declared.Placed.the-variants.{From}
+use Rattle.better.specs.declared.Listed.{Listed}
+use Rattle.better.specs.declared.Listed.the-variants.{Full, Entries}
+
+-- the list stands in front of the buffer; or it has more entries than the buffer
+abbrev pub Holds : Listed → List Float → List Float → Type 0
+Holds Full buffer xs = length buffer < length xs
+Holds (Entries n) buffer xs = (length xs ≡ n) × (take n buffer ≡ xs)
+
+-- the list stands at the end of the buffer; or it has more entries than the buffer
+abbrev pub Within : Placed → List Float → Type 0
+Within placed.Full buffer = Unit {0}
+Within (From t) buffer = t ≤ length buffer
+
+abbrev pub Ends : Placed → List Float → List Float → Type 0
+Ends placed.Full buffer xs = length buffer < length xs
+Ends (From t) buffer xs = drop t buffer ≡ xs
+
+-- a point that is put in its order if it is kept
+abbrev pub keptOf : Bool → Float → List Float → List Float
+keptOf keep x xs = if keep then insertOf x xs else xs
+
+-- what holds of the list before holds of it after, with x put in
+abbrev pub Adds : Placed → List Float → Bool → Float → Placed → List Float → Type 0
+Adds from buffer keep x r after = Within r after × ((xs : List Float) → Ends from buffer xs → Ends r after (keptOf keep x xs))
