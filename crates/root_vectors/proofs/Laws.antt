@@ -1,12 +1,9 @@
 -- Laws of records and of the count of those that differ. Assumes nothing.
 use mathlib.Core.Path.{_≡_, ap, subst}
-use mathlib.Core.Bool.{true, false}
-use mathlib.Core.List.{List}
 use Prim.Native.Nat.{ℕ, _+_, _*_, _/_, _≤_, _<_}
-use native.Mathlib.Nat.{add-zero, mul-assoc, mul-div-le, mul-le-mul-left, mul-suc}
-use native.Mathlib.Numerals.{add-one}
+use native.Mathlib.Nat.{mul-assoc, mul-div-le, mul-le-mul-left, mul-suc}
 use native.Mathlib.Omega.{arith}
-use Rattle.root_vectors.specs.Replay.{arity, width, holdsAt, differing}
+use Rattle.root_vectors.specs.Replay.{arity, width}
 use Rattle.root_vectors.specs.declared.Function.{Function}
 use Rattle.root_vectors.specs.declared.Function.the-variants.{Sqrt, Hypot}
 

@@ -1,14 +1,12 @@
 -- Laws of records and of the count of those that differ. Assumes nothing.
-use mathlib.Core.Path.{_≡_, ap}
-use mathlib.Core.Bool.{true, false}
+use mathlib.Core.Path.{_≡_}
 use mathlib.Core.List.{List}
 use Prim.Native.Nat.{ℕ, _+_, _-_, _*_, _≤_, _<_}
-use native.Mathlib.Nat.{add-zero, add-sub-cancel-left, mul-suc, mul-le-mul-left}
-use native.Mathlib.Numerals.{add-one}
+use native.Mathlib.Nat.{add-sub-cancel-left, mul-suc, mul-le-mul-left}
 use native.Mathlib.Omega.{arith}
 use lib.ListN.{length, take, drop, length-drop}
 use lib.Seq.{take-all}
-use Rattle.source_vectors.specs.Replay.{size, holdsFor, recordAt, differing}
+use Rattle.source_vectors.specs.Replay.{size, recordAt}
 use Rattle.source_vectors.specs.declared.Leaf.{Leaf}
 use Rattle.source_vectors.specs.declared.Leaf.the-variants.{Roots, Ties, Edge, Free, Foot, Lowest, Eval}
 

@@ -12,10 +12,11 @@ use native.Mathlib.Omega.{arith}
 use lib.ListN.{length, length-append}
 use lib.Ieee.{Float, lt, le}
 use Rattle.float64.specs.Scalar.{minOf, maxOf}
-use Rattle.trim_model.specs.Intervals.{Interval, interval, width, pushIf, isSliver, sliver, cuts, nextOf, next, pieceSlivers, keepSlivers}
+use Rattle.better.specs.Stretches.{Interval, interval}
+use Rattle.trim_model.specs.Intervals.{width, pushIf, isSliver, sliver, cuts, nextOf, next, pieceSlivers, keepSlivers}
 use Rattle.trim_model.specs.Windows.{Window}
 use Rattle.trim_model.specs.Add.{Better, Walk, before, run, behind, start, untouched, meet, visit, visits, addTo, metBound, metBounds, addBound, sharedLo, sharedHi}
-use Rattle.trim_model.specs.Claim.{All, Point}
+use Rattle.better.specs.Claim.{All, Point}
 use Rattle.trim_model.proofs.Ranks.{rank, lt-yes, max-point, max-rank, min-point, min-rank, le-no, Nonneg, by-cases}
 use Rattle.trim_model.proofs.Intervals.{Rise}
 use Rattle.trim_model.proofs.Windows.{parted, Wide, FineWindow}

@@ -18,10 +18,12 @@ use Rattle.float64.specs.Scalar.{minOf, maxOf}
 use Rattle.float64.specs.TotalOrder.{totalLess}
 use Rattle.source.specs.declared.Src.{Src}
 use Rattle.float64.specs.Scalar as scalar
-use Rattle.trim_model.specs.Intervals.{Interval, interval, width, pushIf, isSliver, sliver, cuts, nextOf, next, pieces, pieceSlivers, wideOf, keepSlivers}
+use Rattle.better.specs.Stretches.{Interval, interval}
+use Rattle.trim_model.specs.Intervals.{width, pushIf, isSliver, sliver, cuts, nextOf, next, pieces, pieceSlivers, wideOf, keepSlivers}
 use Rattle.trim_model.specs.Windows.{Window, fresh, split, insert, sorted}
 use Rattle.trim_model.specs.Add.{Better, Walk, before, run, behind, start, untouched, meet, visit, visits, addTo, sharedLo, sharedHi}
-use Rattle.trim_model.specs.Claim.{All, Any, Point}
+use Rattle.better.specs.Claim.{All, Point}
+use Rattle.trim_model.specs.Claim.{Any}
 use Rattle.trim_model.proofs.Ranks.{rank, max-point, max-rank, min-point, min-rank, width-pos, lt-no, le-no, Nonneg, slim-no, by-cases}
 use Rattle.trim_model.proofs.Lists.{any-left, any-right, any-split, any-if, either}
 use Rattle.trim_model.proofs.Intervals.{Rise, Gaps, rise-le}

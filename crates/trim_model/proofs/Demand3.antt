@@ -8,11 +8,13 @@ use lib.Dec.{T}
 use lib.Ieee.{Float, lt, le}
 use Rattle.float64.specs.Scalar.{minOf, maxOf}
 use Rattle.float_laws.proofs.Order.{le-or-lt, lt-number-l}
-use Rattle.trim_model.specs.Intervals.{Interval, width, tinyOf}
+use Rattle.better.specs.Stretches.{Interval}
+use Rattle.trim_model.specs.Intervals.{width, tinyOf}
 use Rattle.trim_model.specs.Windows.{Window}
 use Rattle.trim_model.specs.Add.{Better}
 use Rattle.trim_model.specs.Model.{EdgeState, empty, steps, stepsBound}
-use Rattle.trim_model.specs.Claim.{All, Pairs, Point, Stretch, SeparateStretches, Trimmed, Demand3}
+use Rattle.better.specs.Claim.{All, Pairs, Point, Stretch, Separates}
+use Rattle.trim_model.specs.Claim.{Trimmed, Demand3}
 use Rattle.trim_model.proofs.Ranks.{rank, le-yes, rank-le, lt-yes, rank-lt, max-point, max-rank, min-point, min-rank, width-number}
 use Rattle.trim_model.proofs.Count.{has, has-yes}
 use Rattle.trim_model.proofs.Lists.{all-map, all-map2, any-of, either}
@@ -21,6 +23,8 @@ use Rattle.trim_model.proofs.Windows.{wcount, counted, Steps, Ordered, 
 use Rattle.trim_model.proofs.Run.{Spaced, Stretches}
 use Rattle.trim_model.proofs.Order.{Lone}
 use Rattle.trim_model.proofs.Model.{EdgeOk, model-ok}
+use Rattle.better.specs.Stretches.{betterOf}
+use Rattle.better.proofs.Stretches.{better-separates}
 
 -- ---- `better`, by ranks
 module _ {lo hi : Float} (gl : Point lo) (gh : Point hi) where
@@ -40,7 +44,7 @@ module _ {lo hi : Float} (gl : Point lo) (gh : Point hi) where
   spaced-of [] w a = tt
   spaced-of (g ∷ gs) w a = gaps-of (rank (g .to)) gs (w .1) (a .1) (all-map2 (λ h k c. lt-yes (w .0 .point1) (k .point0) c) gs (w .1) (a .0))
 
-pub stretches : {better : Better} → SeparateStretches better → Stretches better
+pub stretches : {better : Better} → Separates better → Stretches better
 stretches {better} N = record {
   rising = λ p q lo hi gl gh z.
       let w = N .within p q lo hi gl gh (rank-lt gl gh z) in
@@ -97,5 +101,9 @@ trimmed t n s k =
     }
 
 -- whatever the limit and the lengths
-pub demand3 : (better : Better) → SeparateStretches better → (limit : Float) (len : ℕ → Float) → Demand3 better limit len
+pub demand3 : (better : Better) → Separates better → (limit : Float) (len : ℕ → Float) → Demand3 better limit len
 demand3 better N limit len cs p e = trimmed (tinyOf (len e)) (stepsBound better limit len e cs empty) (steps better limit len cs empty .edge e) (model-ok (stretches N) limit len cs p e)
+
+-- of the model with the `better` that the port has
+pub demand3-of-better : (limit : Float) (len : ℕ → Float) → Demand3 betterOf limit len
+demand3-of-better limit len = demand3 betterOf better-separates limit len

@@ -9,7 +9,7 @@ use lib.Ieee.Bits.{is-true}
 use Rattle.float_laws.proofs.Order.{lt-trans}
 use Rattle.trim_model.specs.Windows.{Window, takeWhile, dropWhile, all, takeWhileEnd, dropWhileEnd}
 use Rattle.trim_model.specs.Add.{startsBefore, endsAfter, before, onward}
-use Rattle.trim_model.specs.Claim.{All}
+use Rattle.better.specs.Claim.{All}
 use Rattle.trim_model.proofs.Ranks.{rank, rank-lt, by-cases}
 use Rattle.trim_model.proofs.Lists.{take-drop}
 use Rattle.trim_model.proofs.Windows.{Steps, Ordered, ordered-right, Wide}

@@ -13,10 +13,11 @@ use lib.Dec.{T}
 use lib.Ieee.{Float, lt, le}
 use Rattle.float64.specs.Scalar.{maxOf}
 use Rattle.source.specs.declared.Src.{Src}
-use Rattle.trim_model.specs.Intervals.{Interval, interval, width, pieces, wideOf}
+use Rattle.better.specs.Stretches.{Interval, interval}
+use Rattle.trim_model.specs.Intervals.{width, pieces, wideOf}
 use Rattle.trim_model.specs.Windows.{Window, fresh, split, sorted}
 use Rattle.trim_model.specs.Add.{Better, Walk, before, run, behind, start, untouched, meet, visit, visits, addTo, sharedLo, sharedHi}
-use Rattle.trim_model.specs.Claim.{All, Pairs, Point}
+use Rattle.better.specs.Claim.{All, Pairs, Point}
 use Rattle.trim_model.proofs.Ranks.{rank, max-point, max-rank, Nonneg, wide-pos, by-cases}
 use Rattle.trim_model.proofs.Count.{has-yes}
 use Rattle.trim_model.proofs.Lists.{all-map, all-map2, all-append, all-left, all-right}

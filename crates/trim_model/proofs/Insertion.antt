@@ -9,7 +9,7 @@ use lib.Dec.{T}
 use Rattle.float64.specs.TotalOrder.{totalLess}
 use Rattle.float_laws.proofs.Order.{holds, fails}
 use Rattle.trim_model.specs.Windows.{Window, insert, sorted}
-use Rattle.trim_model.specs.Claim.{All, Pairs, Point}
+use Rattle.better.specs.Claim.{All, Pairs, Point}
 use Rattle.trim_model.proofs.Ranks.{rank, total-yes, total-no, by-cases}
 use Rattle.trim_model.proofs.Lists.{all-map, all-append, all-left, all-right}
 use Rattle.trim_model.proofs.Windows.{Ordered, steps-all, ordered-right, From, sorted-all}

@@ -7,8 +7,9 @@ use native.Mathlib.Nat.{le-refl, le-trans}
 use native.Mathlib.Omega.{arith}
 use lib.Ieee.{Float, lt, le}
 use Rattle.float64.specs.Scalar.{minOf, maxOf}
-use Rattle.trim_model.specs.Intervals.{Interval, interval, width, pushIf, cuts, nextOf, next, pieces}
-use Rattle.trim_model.specs.Claim.{Point}
+use Rattle.better.specs.Stretches.{Interval, interval}
+use Rattle.trim_model.specs.Intervals.{width, pushIf, cuts, nextOf, next, pieces}
+use Rattle.better.specs.Claim.{Point}
 use Rattle.trim_model.proofs.Ranks.{rank, le-yes, lt-yes, max-point, max-rank, min-point, min-rank, le-no, by-cases}
 use Rattle.trim_model.proofs.Count.{has, has-in, has-two, view, holding, missing}
 

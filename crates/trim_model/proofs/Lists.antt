@@ -6,7 +6,8 @@ use mathlib.Core.Path.{_≡_, refl, ap}
 use lib.Dec.{T}
 use Rattle.trim_model.specs.Intervals.{pushIf}
 use Rattle.trim_model.specs.Windows.{takeWhile, dropWhile, all, takeWhileEnd, dropWhileEnd}
-use Rattle.trim_model.specs.Claim.{All, Any}
+use Rattle.better.specs.Claim.{All}
+use Rattle.trim_model.specs.Claim.{Any}
 use Rattle.trim_model.proofs.Ranks.{by-cases}
 
 module _ {A : Type 0} where

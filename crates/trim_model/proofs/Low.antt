@@ -7,11 +7,12 @@ use lib.Dec.{eqb}
 use lib.Ieee.{Float, le}
 use Rattle.source.specs.declared.Src.{Src}
 use Rattle.source.specs.Distance.{lowestOf}
-use Rattle.trim_model.specs.Intervals.{Interval, width, tinyOf, pieces, wideOf}
+use Rattle.better.specs.Stretches.{Interval}
+use Rattle.trim_model.specs.Intervals.{width, tinyOf, pieces, wideOf}
 use Rattle.trim_model.specs.Windows.{Window, fresh, split, sorted}
 use Rattle.trim_model.specs.Add.{Better, Walk, before, run, behind, start, untouched, meet, visit, visits, addTo, sharedLo, sharedHi}
 use Rattle.trim_model.specs.Model.{Candidate, Model, empty, asWindow, admits, updated, admit, step, steps}
-use Rattle.trim_model.specs.Claim.{All}
+use Rattle.better.specs.Claim.{All}
 use Rattle.trim_model.proofs.Ranks.{by-cases}
 use Rattle.trim_model.proofs.Lists.{all-append, all-left, all-right}
 use Rattle.trim_model.proofs.Windows.{parted, sorted-all}

@@ -10,11 +10,13 @@ use lib.Dec.{T, eqb, eqb→eq}
 use lib.ListN.{length, length-append}
 use lib.Ieee.{Float, lt, le}
 use Rattle.source.specs.Distance.{lowestOf}
-use Rattle.trim_model.specs.Intervals.{Interval, interval, width, tinyOf}
+use Rattle.better.specs.Stretches.{Interval, interval}
+use Rattle.trim_model.specs.Intervals.{width, tinyOf}
 use Rattle.trim_model.specs.Windows.{Window}
 use Rattle.trim_model.specs.Add.{Better, Added, addTo, addBound}
 use Rattle.trim_model.specs.Model.{Candidate, EdgeState, Model, empty, asWindow, admits, updated, admit, step, steps, stepBound, stepsBound}
-use Rattle.trim_model.specs.Claim.{All, Any, Point, Proper}
+use Rattle.better.specs.Claim.{All, Point}
+use Rattle.trim_model.specs.Claim.{Any, Proper}
 use Rattle.trim_model.proofs.Ranks.{Nonneg, wide-no, tiny-nonneg, by-cases}
 use Rattle.trim_model.proofs.Lists.{all-append, any-left, any-right, any-split, either}
 use Rattle.trim_model.proofs.Windows.{wcount, Wide}

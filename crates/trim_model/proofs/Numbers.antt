@@ -13,11 +13,13 @@ use lib.ListN.{length}
 use lib.Ieee.{Float, le}
 use Rattle.float64.specs.TotalOrder.{totalLess}
 use Rattle.source.specs.declared.Src.{Src}
-use Rattle.trim_model.specs.Intervals.{Interval, width, tinyOf, pieces, wideOf}
+use Rattle.better.specs.Stretches.{Interval}
+use Rattle.trim_model.specs.Intervals.{width, tinyOf, pieces, wideOf}
 use Rattle.trim_model.specs.Windows.{Window, fresh, split, insert, sorted}
 use Rattle.trim_model.specs.Add.{Better, Walk, before, run, behind, start, untouched, meet, visit, visits, addTo, sharedLo, sharedHi}
 use Rattle.trim_model.specs.Model.{Candidate, EdgeState, Model, empty, asWindow, admits, updated, admit, step, steps}
-use Rattle.trim_model.specs.Claim.{All, Pairs, Numbered}
+use Rattle.better.specs.Claim.{All, Pairs}
+use Rattle.trim_model.specs.Claim.{Numbered}
 use Rattle.trim_model.proofs.Ranks.{by-cases}
 use Rattle.trim_model.proofs.Count.{has, has-yes, has-left, has-right, has-one, has-two}
 use Rattle.trim_model.proofs.Lists.{all-map}

@@ -14,7 +14,7 @@ use lib.Ieee.{Float, binary64, add, lt}
 use Rattle.trim_model.specs.Intervals.{width, wideOf}
 use Rattle.trim_model.specs.Windows.{Window, fresh, sorted, takeWhile, dropWhile}
 use Rattle.trim_model.specs.Add.{Better, Walk, startsBefore, before, onward, run, behind, start, visits, addTo}
-use Rattle.trim_model.specs.Claim.{All, Point}
+use Rattle.better.specs.Claim.{All, Point}
 use Rattle.trim_model.proofs.Ranks.{rank, Nonneg, wide-pos}
 use Rattle.trim_model.proofs.Count.{has, has-yes, has-one, view, holding, missing}
 use Rattle.trim_model.proofs.Lists.{all-map, all-map2, all-append, all-left, all-right, take-drop}

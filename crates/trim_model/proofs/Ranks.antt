@@ -3,16 +3,16 @@
 --     min, max     max-point, max-rank, min-point, min-rank
 --     width        wide-mono, wide-pos, wide-no, slim-no, slim, width-pos; run-left, run-right (the ends of the run); tiny-nonneg
 use Prim.Native.Nat.{ℕ, _≤_, _<_, min, max}
-use mathlib.Core.Path.{_≡_, refl}
+use mathlib.Core.Path.{_≡_}
 use mathlib.Core.Bool.{Bool, true, false, not}
 use native.Mathlib.Decide.{decLe}
 use native.Mathlib.Omega.{arith}
 use lib.Dec.{T}
-use lib.Ieee.{Float, binary64, add, sub, mul, lt, le, ofBits}
+use lib.Ieee.{Float, binary64, add, sub, lt, le, ofBits}
 use lib.Ieee.Scale.{finite}
 use Rattle.float64.specs.Scalar.{zero, minOf, maxOf}
 use Rattle.float64.specs.TotalOrder.{totalLess}
-use Rattle.float_laws.proofs.Order.{Number, finite-number, lt-le, not-lt-le, not-le-lt, lt-not-le, le-number-r, le-trans, le-refl, lt-le-trans, le-lt-trans}
+use Rattle.float_laws.proofs.Order.{Number, finite-number, lt-le, not-lt-le, not-le-lt, lt-not-le, le-number-r, le-trans, lt-le-trans, le-lt-trans}
 use Rattle.float_laws.proofs.Total.{total-le, not-total-le}
 use Rattle.float_laws.proofs.Rank as laws
 use Rattle.float_laws.proofs.Rank.{Held, held-finite}
@@ -20,7 +20,7 @@ use Rattle.float_laws.proofs.MinMax.{max-keeps, min-keeps, rank-max, rank-min}
 use Rattle.float_laws.proofs.Sum.{sub-mono, sub-number, sub-nonpos, sub-pos, sub-below, add-above}
 use Rattle.float_laws.proofs.Product.{mul-nonneg}
 use Rattle.trim_model.specs.Intervals.{width, tinyOf}
-use Rattle.trim_model.specs.Claim.{Point}
+use Rattle.better.specs.Claim.{Point}
 
 unfoldable pub rank : Float → ℕ
 rank x = laws.rank binary64 x

@@ -13,10 +13,11 @@ use lib.Dec.{T}
 use lib.Ieee.{Float, lt, le}
 use Rattle.float64.specs.Scalar.{maxOf}
 use Rattle.source.specs.declared.Src.{Src}
-use Rattle.trim_model.specs.Intervals.{Interval, interval, width, pushIf, next, pieces, wideOf}
+use Rattle.better.specs.Stretches.{Interval, interval}
+use Rattle.trim_model.specs.Intervals.{width, pushIf, next, pieces, wideOf}
 use Rattle.trim_model.specs.Windows.{Window, split, all}
 use Rattle.trim_model.specs.Add.{Better, Walk, untouched, meet, visit, visits, sharedLo, sharedHi}
-use Rattle.trim_model.specs.Claim.{All, Point}
+use Rattle.better.specs.Claim.{All, Point}
 use Rattle.trim_model.proofs.Ranks.{rank, max-point, max-rank, min-point, min-rank, Nonneg, wide-pos, wide-no, wide-mono, slim, by-cases}
 use Rattle.trim_model.proofs.Count.{has, has-one, view, holding, missing}
 use Rattle.trim_model.proofs.Lists.{all-append}

@@ -7,10 +7,11 @@ use lib.Ieee.{Float, lt, le}
 use lib.Ieee.Fits.{and-l, and-r}
 use Rattle.float64.specs.Scalar.{maxOf}
 use Rattle.float64.specs.Scalar as scalar
-use Rattle.trim_model.specs.Intervals.{Interval, interval, width, pushIf, isSliver, sliver, pieceSlivers, keepSlivers}
+use Rattle.better.specs.Stretches.{Interval, interval}
+use Rattle.trim_model.specs.Intervals.{width, pushIf, isSliver, sliver, pieceSlivers, keepSlivers}
 use Rattle.trim_model.specs.Windows.{Window}
 use Rattle.trim_model.specs.Add.{Better, Walk, run, start, untouched, meet, visit, visits, addTo, sharedLo, sharedHi}
-use Rattle.trim_model.specs.Claim.{All, Point}
+use Rattle.better.specs.Claim.{All, Point}
 use Rattle.trim_model.proofs.Ranks.{rank, max-point, Nonneg, by-cases}
 use Rattle.trim_model.proofs.Lists.{all-append}
 use Rattle.trim_model.proofs.Intervals.{Rise}

@@ -9,10 +9,11 @@ use lib.Dec.{T}
 use lib.Ieee.{Float, binary64, add, sub, lt}
 use Rattle.float64.specs.TotalOrder.{totalLess}
 use Rattle.source.specs.declared.Src.{Src}
-use Rattle.trim_model.specs.Intervals.{Interval, width}
+use Rattle.better.specs.Stretches.{Interval}
+use Rattle.trim_model.specs.Intervals.{width}
 use Rattle.trim_model.specs.Windows.{Window, fresh, split, insert, sorted, takeWhile, dropWhile, all, takeWhileEnd, dropWhileEnd}
 use Rattle.trim_model.specs.Add.{startsBefore, endsAfter, before, onward, run, behind}
-use Rattle.trim_model.specs.Claim.{All, Point}
+use Rattle.better.specs.Claim.{All, Point}
 use Rattle.trim_model.proofs.Ranks.{rank, total-yes, total-no, Nonneg, run-left, run-right, by-cases}
 use Rattle.trim_model.proofs.Count.{has, has-left, has-right}
 use Rattle.trim_model.proofs.Lists.{all-map, all-right, take-drop, drop-take-end}

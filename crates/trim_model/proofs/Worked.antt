@@ -1,7 +1,7 @@
 -- The model worked out on small lists, with a `better` that names all of [lo, hi] or nothing: what is asked of `better` can be met, windows are split and numbered as the Rust does it,
 -- and slivers are dropped and noted. Assumes nothing.
 use Prim.Native.Nat.{ℕ}
-use mathlib.Core.Bool.{Bool, true, false, cond}
+use mathlib.Core.Bool.{Bool, true, false}
 use mathlib.Core.List.{List, [], _∷_}
 use mathlib.Core.Path.{_≡_, refl}
 use lib.Dec.{T}
@@ -12,12 +12,13 @@ use Rattle.float_laws.proofs.Order.{le-refl, finite-number}
 use Rattle.source.specs.declared.Src.{Src}
 use Rattle.source.specs.declared.Src.the-variants.{Point, Line}
 use Rattle.source.specs.Distance.{lowestOf, edgeOf}
-use Rattle.trim_model.specs.Intervals.{Interval, interval, tinyOf, pushIf, sliver, cuts, nextOf, next, pieces, pieceSlivers, wideOf, keepSlivers}
-use Rattle.trim_model.specs.Windows.{Window, window, fresh, split, insert, sorted, takeWhile, dropWhile, all, takeWhileEnd, dropWhileEnd}
+use Rattle.better.specs.Stretches.{Interval, interval}
+use Rattle.trim_model.specs.Intervals.{tinyOf, pushIf, sliver, cuts, nextOf, next, pieces, pieceSlivers, wideOf, keepSlivers}
+use Rattle.trim_model.specs.Windows.{window, fresh, split, insert, sorted, takeWhile, dropWhile, all, takeWhileEnd, dropWhileEnd}
 use Rattle.trim_model.specs.Add.{Better, meet, visit, visits, addTo, metBound, metBounds}
-use Rattle.trim_model.specs.Model.{Candidate, EdgeState, Model, empty, admit, step, steps, stepBound, stepsBound}
-use Rattle.trim_model.specs.Claim as claim
-use Rattle.trim_model.specs.Claim.{All, Pairs, Stretch, SeparateStretches}
+use Rattle.trim_model.specs.Model.{Candidate, Model, empty, admit, step, steps, stepBound, stepsBound}
+use Rattle.better.specs.Claim as claim
+use Rattle.better.specs.Claim.{All, Pairs, Stretch, Separates}
 
 -- a level source: the same distance all along the edge
 level : Float → Src
@@ -30,7 +31,7 @@ constant (Line ux uy c) = c
 lower : Better
 lower p q lo hi = pushIf (lt (constant p) (constant q)) (interval lo hi)
 
-lower-is-separate : SeparateStretches lower
+lower-is-separate : Separates lower
 unfolding lower
 lower-is-separate = record {
   within = λ p q lo hi gl gh h. within (lt (constant p) (constant q)) lo hi gl gh h;

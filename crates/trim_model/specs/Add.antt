@@ -1,13 +1,14 @@
 -- The Rust's `add` of an admitted window to the live windows of its edge, and the slivers that it drops. Definitions only.
 use Prim.Native.Nat.{ℕ, _+_, _*_, pred}
-use mathlib.Core.Bool.{Bool, cond}
+use mathlib.Core.Bool.{Bool}
 use mathlib.Core.List.{List, [], _∷_, _++_}
 use lib.ListN.{length}
-use lib.Ieee.{Float, binary64, add, sub, lt, le}
+use lib.Ieee.{Float, lt, le}
 use Rattle.float64.specs.Scalar.{minOf, maxOf}
 use Rattle.float64.specs.Notation.{_⊕_, _⊖_, if_then_else_}
 use Rattle.source.specs.declared.Src.{Src}
-use Rattle.trim_model.specs.Intervals.{Interval, interval, width, next, pieces, pieceSlivers, wideOf, keepSlivers}
+use Rattle.better.specs.Stretches.{Interval, interval}
+use Rattle.trim_model.specs.Intervals.{width, next, pieces, pieceSlivers, wideOf, keepSlivers}
 use Rattle.trim_model.specs.Windows.{Window, fresh, split, sorted, takeWhile, dropWhile, takeWhileEnd, dropWhileEnd}
 
 -- where the first source is shorter than the second from lo to hi: the type of the Rust's `better`

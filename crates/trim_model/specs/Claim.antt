@@ -1,37 +1,23 @@
--- Demand 3 about the reference model, and what it asks of `better`. Definitions only.
+-- Demand 3 about the reference model. What it asks of `better`, `Separates`, stands with `better`. Definitions only.
 use Prim.Native.Nat.{ℕ, _≤_, _<_}
 use mathlib.Core.List.{List, [], _∷_}
 use mathlib.Core.Logic.{_⊎_}
 use mathlib.Core.Path.{_≡_}
 use lib.Dec.{T}
 use lib.ListN.{length}
-use lib.Ieee.{Float, binary64, lt, le, fits}
-use lib.Ieee.Scale.{finite}
+use lib.Ieee.{Float, lt, le}
 use Rattle.float64.specs.Scalar.{zero, minOf, maxOf}
-use Rattle.source.specs.declared.Src.{Src}
-use Rattle.trim_model.specs.Intervals.{Interval, width, tinyOf}
+use Rattle.better.specs.Stretches.{Interval}
+use Rattle.trim_model.specs.Intervals.{width, tinyOf}
 use Rattle.trim_model.specs.Windows.{Window}
 use Rattle.trim_model.specs.Add.{Better}
 use Rattle.trim_model.specs.Model.{Candidate, EdgeState, Model, empty, steps, stepsBound}
+use Rattle.better.specs.Claim.{All, Pairs, Point}
 
-module _ {A : Type 0} where
-  -- each element of a list, some element, and each two, the earlier first
-  abbrev pub All : (A → Type 0) → List A → Type 0
-  All P [] = Unit {0}
-  All P (x ∷ xs) = P x × All P xs
-
-  abbrev pub Any : (A → Type 0) → List A → Type 0
-  Any P [] = ⊥
-  Any P (x ∷ xs) = P x ⊎ Any P xs
-
-  abbrev pub Pairs : (A → A → Type 0) → List A → Type 0
-  Pairs R [] = Unit {0}
-  Pairs R (x ∷ xs) = All (R x) xs × Pairs R xs
-
--- a point of an edge: a finite double
-pub record Point (x : Float) : Type 0 where
-  pub number : T (finite x)
-  pub double : T (fits binary64 x)
+-- some element of a list
+abbrev pub Any : {A : Type 0} → (A → Type 0) → List A → Type 0
+Any P [] = ⊥
+Any P (x ∷ xs) = P x ⊎ Any P xs
 
 -- x lies in an interval, in a window, the ends included
 abbrev pub In : Float → Interval → Type 0
@@ -39,20 +25,6 @@ In x k = T (le (k .from) x) × T (le x (k .to))
 
 abbrev pub InWindow : Float → Window → Type 0
 InWindow x u = T (le (u .b0) x) × T (le x (u .b1))
-
--- ---- what is asked of `better`
--- a stretch of [lo, hi]
-pub record Stretch (lo hi : Float) (g : Interval) : Type 0 where
-  pub point0 : Point (g .from)
-  pub point1 : Point (g .to)
-  pub above : T (le lo (g .from))
-  pub rises : T (lt (g .from) (g .to))
-  pub below : T (le (g .to) hi)
-
--- it names stretches of [lo, hi], in rising order, with ground between each two
-pub record SeparateStretches (better : Better) : Type 0 where
-  pub within : (p q : Src) (lo hi : Float) → Point lo → Point hi → T (lt lo hi) → All (Stretch lo hi) (better p q lo hi)
-  pub apart : (p q : Src) (lo hi : Float) → Point lo → Point hi → T (lt lo hi) → Pairs (λ (g h : Interval). T (lt (g .to) (h .from))) (better p q lo hi)
 
 -- ---- demand 3 for an edge whose tiny is given, sentence by sentence. Widths are computed differences, as 01 reads them.
 pub record Trimmed (tiny : Float) (bound : ℕ) (s : EdgeState) : Type 0 where

@@ -1,19 +1,12 @@
 -- Intervals of an edge, and what trimming leaves of them: the Rust's lists `next` and `pieces` of `add`, and the slivers. Definitions only.
-use mathlib.Core.Bool.{Bool, not, cond, _&&_}
+use mathlib.Core.Bool.{Bool, not, _&&_}
 use mathlib.Core.List.{List, [], _∷_, _++_}
-use lib.Ieee.{Float, binary64, sub, mul, lt, le, ofBits}
+use lib.Ieee.{Float, binary64, lt, le, ofBits}
 use Rattle.float64.specs.Scalar.{zero, minOf, maxOf}
 use Rattle.float64.specs.Notation.{_⊖_, _⊗_, if_then_else_}
+use Rattle.better.specs.Stretches.{Interval, interval}
 
--- the Rust's pair of two ends
-pub record Interval : Type 0 where
-  pub from : Float
-  pub to : Float
-
-abbrev pub interval : Float → Float → Interval
-interval a b = record { from = a; to = b }
-
--- its width, as computed
+-- the width from a to b, as computed
 abbrev pub width : Float → Float → Float
 width a b = b ⊖ a
 

@@ -1,14 +1,15 @@
 -- The reference model of window trimming: 01's book of demand 3. Definitions only.
 -- It is fed one limit, each edge's length and the candidate windows' arguments (01's offers), and nothing else.
 use Prim.Native.Nat.{ℕ, _+_}
-use mathlib.Core.Bool.{Bool, not, cond, _&&_, _||_}
+use mathlib.Core.Bool.{Bool, not, _&&_, _||_}
 use mathlib.Core.List.{List, [], _∷_, _++_}
 use lib.Dec.{eqb}
-use lib.Ieee.{Float, binary64, sub, mul, lt, le}
+use lib.Ieee.{Float, lt, le}
 use Rattle.float64.specs.Notation.{if_then_else_}
 use Rattle.source.specs.declared.Src.{Src}
 use Rattle.source.specs.Distance.{lowestOf}
-use Rattle.trim_model.specs.Intervals.{Interval, interval, width, tinyOf}
+use Rattle.better.specs.Stretches.{Interval, interval}
+use Rattle.trim_model.specs.Intervals.{width, tinyOf}
 use Rattle.trim_model.specs.Windows.{Window, window}
 use Rattle.trim_model.specs.Add.{Better, Added, addTo, addBound}
 

@@ -1,13 +1,13 @@
 -- The live windows of an edge as a list, numbered and sorted as the Rust does it. Definitions only.
 use Prim.Native.Nat.{ℕ, suc}
-use mathlib.Core.Bool.{Bool, true, not, cond, _&&_}
-use mathlib.Core.List.{List, [], _∷_, _++_}
+use mathlib.Core.Bool.{Bool, true, _&&_}
+use mathlib.Core.List.{List, [], _∷_}
 use lib.Ieee.{Float}
 use Rattle.float64.specs.TotalOrder.{totalLess}
 use Rattle.float64.specs.Notation.{if_then_else_}
 use Rattle.source.specs.declared.Src.{Src}
 use Rattle.source.specs.Distance.{lowestOf}
-use Rattle.trim_model.specs.Intervals.{Interval}
+use Rattle.better.specs.Stretches.{Interval}
 
 -- what demand 3 compares of a live window: its ends, lowest value, source and number
 pub record Window : Type 0 where
