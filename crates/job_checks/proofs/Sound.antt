@@ -1,16 +1,15 @@
 -- What the checks found, as facts on numbers: a job that passed is sound, so later layers need no test of their own. Assumes nothing.
-use Prim.Native.Nat.{ℕ, zero, suc, _+_, _*_, _/_, _%_, _<_, _≤_}
-use mathlib.Core.Path.{_≡_, refl, sym, ap, _∙_}
-use mathlib.Core.Bool.{Bool, true, false, not}
-use mathlib.Core.List.{List, [], _∷_}
+use Prim.Native.Nat.{ℕ, _%_, _<_, _≤_}
+use mathlib.Core.Path.{_≡_}
+use mathlib.Core.Bool.{false}
+use mathlib.Core.List.{List}
 use native.Mathlib.Omega.{arith}
 use borrow.Author.Tests.{ltb-false, eqb-true, eqb-false, not-false}
 use lib.ListN.{length, getD}
 use Rattle.job_checks.specs.declared.BufferCounts.{BufferCounts}
-use Rattle.job_checks.specs.Any.{anyBelow, anyOf, firstOf}
 use Rattle.job_checks.specs.Job.{Job}
-use Rattle.job_checks.specs.Refusals.{wrongCounts, malformed, aboveOne, repeated, tooShort, refusalOf}
-use Rattle.job_checks.specs.Sound.{WholeRecords, Distinct, SoundMesh, SoundPieces, LongEnough, Sound}
+use Rattle.job_checks.specs.Refusals.{wrongCounts, malformed, repeated, tooShort, refusalOf}
+use Rattle.job_checks.specs.Sound.{WholeRecords, Distinct, LongEnough, Sound}
 use Rattle.job_checks.proofs.Any.{none-below, head-none, tail-none, passed-here, passed-on}
 use Rattle.job_checks.proofs.Tests.{at-most-one, present}
 

@@ -2,7 +2,6 @@
 use Prim.Native.Nat.{ℕ, _+_, _*_, _/_, _<_, _≤_}
 use mathlib.Core.Path.{_≡_}
 use mathlib.Core.Bool.{false}
-use mathlib.Core.List.{List}
 use lib.ListN.{length, getD}
 use lib.Ieee.{nan}
 use Rattle.job_checks.specs.declared.BufferCounts.{BufferCounts}

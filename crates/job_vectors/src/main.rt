@@ -2,7 +2,7 @@
 // A job is a row of numbers of 8 bytes: its refusal, six lengths, eight buffer counts, the limit's bits, then the lists. tests/jobs/make_jobs.py makes them.
 use job_checks::BufferCounts;
 ghost use mathlib.Core.Path.{_≡_};
-ghost use Prim.Native.Nat.{_+_, _*_, _≤_, _<_};
+ghost use Prim.Native.Nat.{_≤_, _<_};
 ghost use lib.ListN.{length};
 
 // Number k of s, 0 past the end.

@@ -1,6 +1,6 @@
 -- The mesh of a job that passed the checks: the other laws' premises, and the ends of its edges. Assumes nothing.
-use Prim.Native.Nat.{ℕ, zero, suc, _+_, _*_, _/_, _%_, _<_, _≤_}
-use mathlib.Core.Path.{_≡_, refl, sym, ap, subst, _∙_}
+use Prim.Native.Nat.{ℕ, zero, suc, _+_, _*_, _/_, _%_, _<_}
+use mathlib.Core.Path.{_≡_, refl, sym, ap, _∙_}
 use mathlib.Core.List.{List}
 use mathlib.Core.Logic.{⊎-elim, _⊎_, inl, inr}
 use native.Mathlib.Omega.{arith}
@@ -9,7 +9,7 @@ use lib.ListN.{length, getD}
 use Rattle.job_checks.specs.declared.BufferCounts.{BufferCounts}
 use Rattle.job_checks.specs.Job.{Job, vertexCount, triangleCount}
 use Rattle.job_checks.specs.Sound.{Distinct, Sound}
-use Rattle.topology.specs.Edges.{Edge, noEdge, between, corner, sideEdge, edges, triEdge}
+use Rattle.topology.specs.Edges.{noEdge, between, corner, sideEdge, edges, triEdge}
 use Rattle.topology.proofs.Edges.{FromSide, edge-is-side}
 use Rattle.topology.proofs.Triangles.{ends, ends-rise, three-edges}
 

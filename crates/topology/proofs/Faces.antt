@@ -1,8 +1,8 @@
 -- Laws of the faces of an edge: they are the triangles of the sides that have the edge; where no edge lies in more than two triangles a side's face is one of
 -- its edge's two. Assumes nothing.
-use Prim.Native.Nat.{ℕ, zero, suc, _+_, _*_, _/_, _%_, _<_, _≤_}
-use mathlib.Core.Path.{_≡_, refl, sym, ap, subst, _∙_}
-use mathlib.Core.Bool.{Bool, true, false}
+use Prim.Native.Nat.{ℕ, zero, suc, _+_, _*_, _/_, _<_, _≤_}
+use mathlib.Core.Path.{_≡_, sym, ap, subst, _∙_}
+use mathlib.Core.Bool.{true, false}
 use mathlib.Core.List.{List, [], _∷_, _++_}
 use mathlib.Core.Logic.{⊎-elim, _⊎_, inl, inr}
 use native.Mathlib.Nat.{le-of-suc-le-suc, not-suc-le-zero, eq-or-lt-of-le}
@@ -12,7 +12,7 @@ use lib.ListN.{length, getD, length-append, List·getD-append}
 use lib.Seq.{getD-append-seam}
 use Rattle.job_checks.proofs.Any.{none-below}
 use Rattle.topology.specs.Edges.{Edge, noEdge, noFace, sameEdge, sideEdge, edges, triEdge, facesAmong, edgeFaces, overfull, sharedByThree, face}
-use Rattle.topology.proofs.Find.{either, same-self, same-edge}
+use Rattle.topology.proofs.Find.{either, same-self}
 use Rattle.topology.proofs.Edges.{FromSide, edge-is-side, tri-edge-there, tri-edge-is}
 
 -- Number f stands in a list.

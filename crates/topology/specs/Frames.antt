@@ -6,9 +6,9 @@ use lib.Ieee.{Float}
 use Rattle.float64.specs.Scalar.{one}
 use Rattle.float64.specs.Notation.{_⊘_}
 use Rattle.vec3.specs.declared.Vec3.{Vec3}
-use Rattle.vec3.specs.Vec.{scaleOf, subOf, dotOf, normOf}
+use Rattle.vec3.specs.Vec.{scaleOf, subOf, dotOf}
 use Rattle.job_checks.specs.Edge.{vertexAt, lenOf, xhatOf, perpendicularOf, altitudeOf}
-use Rattle.topology.specs.Edges.{Edge, noEdge, edges, corner, triEdge, local}
+use Rattle.topology.specs.Edges.{noEdge, edges, corner, triEdge, local}
 
 module _ (v : List Float) (triangles : List ℕ) where
   -- where edge e starts and ends

@@ -5,9 +5,8 @@ use Prim.Native.Nat.{_≤_, _-_}
 use lib.ListN.{length}
 use Rattle.job_checks.specs.Any.{anyBelow}
 use Rattle.job_checks.proofs.Any.{none-yet, none-more, found, none-at-all}
-use Rattle.job_checks.specs.Refusals.{missing, degenerateAt}
+use Rattle.job_checks.specs.Refusals.{degenerateAt}
 use Prim.Native.Nat.{_/_, _+_, _*_}
-use native.Mathlib.Omega.{arith}
 use Rattle.job_checks.proofs.Any.{none-below}
 use Rattle.job_checks.proofs.Tests.{present}
 use borrow.Author.Needs.{needs}

@@ -7,8 +7,6 @@ use Rattle.job_checks.specs.Any.{anyBelow}
 use Rattle.job_checks.proofs.Any.{none-yet, none-more, found, none-at-all}
 use Rattle.job_checks.specs.Refusals.{missing}
 use Rattle.job_checks.proofs.Tests.{is-missing, not-missing}
-use mathlib.Core.Path.{subst}
-use native.Mathlib.Omega.{arith}
 use borrow.Author.Needs.{needs}
 use Rattle.job_checks.proofs.any_missing.Statement.{statement}
 use Rattle.job_checks.proofs.any_missing.Tie as tie

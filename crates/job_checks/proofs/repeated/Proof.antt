@@ -1,5 +1,5 @@
 -- `job_checks::repeated` meets its contract. Assumes nothing.
-use mathlib.Core.Path.{sym, ap, _∙_}
+use mathlib.Core.Path.{sym}
 use Rattle.job_checks.proofs.Any.{one-holds, next-of, none-of}
 use borrow.Author.Tests.{eq-eqb, ne-eqb}
 use Rattle.job_checks.specs.Refusals.{repeated}

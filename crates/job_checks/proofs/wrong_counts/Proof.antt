@@ -1,5 +1,5 @@
 -- `job_checks::wrong_counts` meets its contract. Assumes nothing.
-use mathlib.Core.Path.{sym, ap, _∙_}
+use mathlib.Core.Path.{sym, ap}
 use Rattle.job_checks.proofs.Any.{one-holds, next-of, none-of}
 use mathlib.Core.Bool.{not}
 use borrow.Author.Tests.{lt-ltb, le-ltb, eq-eqb, ne-eqb}
