@@ -1,12 +1,13 @@
 -- Laws of `anyBelow`, `anyOf` and `firstOf`: what they mean, and how a loop or a row of tests finds them. Assumes nothing.
 use Prim.Native.Nat.{ℕ, zero, suc, _+_, _<_, _≤_}
-use mathlib.Core.Path.{_≡_, refl, sym, subst}
+use mathlib.Core.Path.{_≡_, refl, sym, subst, _∙_}
 use mathlib.Core.Bool.{Bool, true, false, _||_, or-true}
 use mathlib.Core.List.{List, [], _∷_}
 use mathlib.Core.Logic.{⊎-elim}
 use native.Mathlib.Nat.{le-of-suc-le-suc, not-suc-le-zero, eq-or-lt-of-le, le-antisymm}
 use native.Mathlib.Numerals.{add-one}
 use native.Mathlib.Omega.{arith}
+use lib.ListN.{getD}
 use Rattle.job_checks.specs.Any.{anyBelow, anyOf, firstOf}
 
 -- a disjunction is false where both sides are
@@ -91,3 +92,10 @@ none-of = refl
 pub first-none : (n : ℕ) → firstOf n [] ≡ 0
 unfolding firstOf
 first-none n = refl
+
+-- What `firstOf` means: where test k is the first that holds, it answers n + k.
+pub first-is : (bs : List Bool) (n k : ℕ) → getD bs k false ≡ true → ((i : ℕ) → i < k → getD bs i false ≡ false) → firstOf n bs ≡ n + k
+unfolding firstOf
+first-is [] n k h before = absurd (let z : _≡_ {A = ℕ} 0 1 = cc in omega arith)
+first-is (b ∷ bs) n zero h before = rw h (omega arith)
+first-is (b ∷ bs) n (suc k) h before = rw (before zero (omega arith)) (first-is bs (suc n) k h (λ i l. before (suc i) (omega arith)) ∙ omega arith)

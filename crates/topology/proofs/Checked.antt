@@ -18,14 +18,14 @@ ends-below : (a b m : ℕ) → a < m → b < m → between a b .high < m
 ends-below a b m p q = ⊎-elim (λ w. omega arith) (λ w. omega arith) (ends a b)
 
 -- a number below three
-three-ways : (k : ℕ) → k < 3 → (k ≡ 0) ⊎ ((k ≡ 1) ⊎ (k ≡ 2))
+pub three-ways : (k : ℕ) → k < 3 → (k ≡ 0) ⊎ ((k ≡ 1) ⊎ (k ≡ 2))
 three-ways zero l = inl refl
 three-ways (suc zero) l = inr (inl refl)
 three-ways (suc (suc zero)) l = inr (inr refl)
 three-ways (suc (suc (suc k))) l = absurd (not-suc-le-zero (le-of-suc-le-suc (le-of-suc-le-suc (le-of-suc-le-suc l))))
 
 module _ (triangles : List ℕ) (h : ℕ) where
-  corner-at : (k i : ℕ) → 3 * (h / 3) + (h % 3 + k) % 3 ≡ i → corner triangles h k ≡ getD triangles i 0
+  pub corner-at : (k i : ℕ) → 3 * (h / 3) + (h % 3 + k) % 3 ≡ i → corner triangles h k ≡ getD triangles i 0
   unfolding corner
   corner-at k i q = ap (λ (x : ℕ). getD triangles x 0) q
 

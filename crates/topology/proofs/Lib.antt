@@ -2,4 +2,5 @@ pub mod Checked
 pub mod Edges
 pub mod Faces
 pub mod Find
+pub mod Frames
 pub mod Triangles

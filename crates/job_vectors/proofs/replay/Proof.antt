@@ -1,0 +1,68 @@
+-- `job_vectors::replay` is safe and ends. The loop's invariant bounds what it counts. Assumes nothing.
+use Prim.Native.Nat.{_≤_, _-_}
+use native.Mathlib.Omega.{arith}
+use mathlib.Core.Logic.{⊎-elim}
+use borrow.Author.Needs.{needs}
+use Rattle.job_vectors.proofs.replay.Statement.{statement}
+use Rattle.job_vectors.proofs.replay.Tie as tie
+
+abbrev Inv-loop : tie.InvT-loop
+Inv-loop s end cases₀ differences₀ k₀ cases differences k = (k ≤ 66_200) × ((cases ≤ k) × (differences ≤ cases))
+
+abbrev μ-loop : tie.MeasureT-loop
+μ-loop s end cases₀ differences₀ k₀ cases differences k = 70_000 - k
+
+numbers-requires : tie.Need-numbers-requires Inv-loop μ-loop
+numbers-requires c κs = search needs
+
+loop-holds : tie.Need-loop-holds Inv-loop μ-loop
+loop-holds c = search needs
+
+refusal-requires : tie.Need-refusal-requires Inv-loop μ-loop
+refusal-requires c κs = search needs
+
+cast-if1 : tie.Need-cast-if1 Inv-loop μ-loop
+cast-if1 c = search needs
+
+number-requires : tie.Need-number-requires Inv-loop μ-loop
+number-requires c κs = search needs
+
+add-differences : tie.Need-add-differences Inv-loop μ-loop
+add-differences c = search needs
+
+add-cases : tie.Need-add-cases Inv-loop μ-loop
+add-cases c = search needs
+
+size-requires : tie.Need-size-requires Inv-loop μ-loop
+size-requires c κs = search needs
+
+add-k : tie.Need-add-k Inv-loop μ-loop
+add-k c = search needs
+
+loop-less : tie.Need-loop-less Inv-loop μ-loop
+loop-less c = search needs
+
+loop-again : tie.Need-loop-again Inv-loop μ-loop
+loop-again c = ⊎-elim (λ w. omega arith) (λ w. omega arith) (c .before .if1 .came)
+
+returns : tie.Need-returns Inv-loop μ-loop
+returns c = search needs
+
+pub replay-spec : {M : Type 1} → statement M
+replay-spec =
+    tie.close
+    (tie.spec
+    Inv-loop
+    μ-loop
+    numbers-requires
+    loop-holds
+    refusal-requires
+    cast-if1
+    number-requires
+    add-differences
+    add-cases
+    size-requires
+    add-k
+    loop-less
+    loop-again
+    returns)

@@ -1,0 +1,74 @@
+-- The frames of a mesh that passed the checks: no edge is shorter and no altitude smaller than document 01 allows, so nothing is divided by zero. Assumes nothing.
+use Prim.Native.Nat.{ℕ, _+_, _*_, _/_, _%_, _<_}
+use mathlib.Core.Path.{_≡_, ap}
+use mathlib.Core.Bool.{true, false}
+use mathlib.Core.List.{List}
+use mathlib.Core.Logic.{⊎-elim}
+use native.Mathlib.Omega.{arith}
+use borrow.Author.Tests.{not-false}
+use lib.ListN.{length, getD}
+use lib.Ieee.{Float, le}
+use Rattle.vec3.specs.declared.Vec3.{Vec3}
+use Rattle.job_checks.specs.declared.BufferCounts.{BufferCounts}
+use Rattle.job_checks.specs.Edge.{vertexAt, lower, higher, lenOf, altitudeOf}
+use Rattle.job_checks.specs.Job.{Job}
+use Rattle.job_checks.specs.Refusals.{minLength, minAltitude, degenerate, degenerateEdge, degenerateIn}
+use Rattle.job_checks.specs.Sound.{Sound}
+use Rattle.job_checks.proofs.Any.{head-none, tail-none}
+use Rattle.topology.specs.Edges.{Edge, noEdge, between, corner, sideEdge, edges, triEdge}
+use Rattle.topology.specs.Frames.{origin, end, len}
+use Rattle.topology.proofs.Find.{and-left, and-right}
+use Rattle.topology.proofs.Edges.{FromSide, edge-is-side, tri-edge-is}
+use Rattle.topology.proofs.Checked.{three-ways, corner-at}
+
+-- what a side that is not degenerate has
+module _ (o b third : Vec3) (e : degenerate o b third ≡ false) where
+  long : le minLength (lenOf o b) ≡ true
+  unfolding degenerate
+  long = and-left (le minLength (lenOf o b)) (le minAltitude (altitudeOf o b third)) (not-false _ e)
+
+  tall : le minAltitude (altitudeOf o b third) ≡ true
+  unfolding degenerate
+  tall = and-right (le minLength (lenOf o b)) (le minAltitude (altitudeOf o b third)) (not-false _ e)
+
+-- a triangle's three sides, as corners of side h
+regular-side : (v : List Float) (triangles : List ℕ) (h : ℕ) → degenerateIn v (getD triangles (3 * (h / 3)) 0) (getD triangles (3 * (h / 3) + 1) 0) (getD triangles (3 * (h / 3) + 2) 0) ≡ false → degenerateEdge v (corner triangles h 0) (corner triangles h 1) (corner triangles h 2) ≡ false
+unfolding degenerateIn
+regular-side v triangles h e =
+    ⊎-elim (λ z. rw (corner-at triangles h 0 (3 * (h / 3)) (omega arith), corner-at triangles h 1 (3 * (h / 3) + 1) (omega arith), corner-at triangles h 2 (3 * (h / 3) + 2) (omega arith)) (head-none _ _ e))
+    (⊎-elim (λ z. rw (corner-at triangles h 0 (3 * (h / 3) + 1) (omega arith), corner-at triangles h 1 (3 * (h / 3) + 2) (omega arith), corner-at triangles h 2 (3 * (h / 3)) (omega arith)) (head-none _ _ (tail-none _ _ e)))
+    (λ z. rw (corner-at triangles h 0 (3 * (h / 3) + 2) (omega arith), corner-at triangles h 1 (3 * (h / 3)) (omega arith), corner-at triangles h 2 (3 * (h / 3) + 1) (omega arith)) (head-none _ _ (tail-none _ _ (tail-none _ _ e)))))
+    (three-ways (h % 3) (omega arith))
+
+-- the frame of a side's edge starts at its lower-numbered vertex
+module _ (v : List Float) (triangles : List ℕ) (e h : ℕ) (q : getD (edges triangles) e noEdge ≡ sideEdge triangles h) where
+  origin-is : origin v triangles e ≡ vertexAt v (lower (corner triangles h 0) (corner triangles h 1))
+  unfolding origin sideEdge between
+  origin-is = ap (λ (x : Edge). vertexAt v (x .low)) q
+
+  end-is : end v triangles e ≡ vertexAt v (higher (corner triangles h 0) (corner triangles h 1))
+  unfolding end sideEdge between
+  end-is = ap (λ (x : Edge). vertexAt v (x .high)) q
+
+  module _ (d : degenerateEdge v (corner triangles h 0) (corner triangles h 1) (corner triangles h 2) ≡ false) where
+    side-long : le minLength (len v triangles e) ≡ true
+    unfolding len degenerateEdge
+    side-long = rw (origin-is, end-is) (long _ _ (vertexAt v (corner triangles h 2)) d)
+
+    side-tall : le minAltitude (altitudeOf (origin v triangles e) (end v triangles e) (vertexAt v (corner triangles h 2))) ≡ true
+    unfolding degenerateEdge
+    side-tall = rw (origin-is, end-is) (tall _ _ (vertexAt v (corner triangles h 2)) d)
+
+module _ (j : Job) (b : BufferCounts) (s : Sound j b) where
+  regular-at : (h : ℕ) → h < length (j .triangles) → degenerateEdge (j .vertices) (corner (j .triangles) h 0) (corner (j .triangles) h 1) (corner (j .triangles) h 2) ≡ false
+  regular-at h l = regular-side (j .vertices) (j .triangles) h (s .mesh .regular (h / 3) (omega (arith, s .whole .whole-triangles)))
+
+  -- every edge is long enough
+  pub edge-long : (e : ℕ) → e < length (edges (j .triangles)) → le minLength (len (j .vertices) (j .triangles) e) ≡ true
+  edge-long e l =
+      let r : FromSide (j .triangles) (length (j .triangles)) (getD (edges (j .triangles)) e noEdge) = edge-is-side (j .triangles) e l in
+      side-long (j .vertices) (j .triangles) e (r .0) (r .1 .1) (regular-at (r .0) (r .1 .0))
+
+  -- and what the normal of every side is divided by
+  pub altitude-tall : (h : ℕ) → h < length (j .triangles) → le minAltitude (altitudeOf (origin (j .vertices) (j .triangles) (triEdge (j .triangles) h)) (end (j .vertices) (j .triangles) (triEdge (j .triangles) h)) (vertexAt (j .vertices) (corner (j .triangles) h 2))) ≡ true
+  altitude-tall h l = side-tall (j .vertices) (j .triangles) (triEdge (j .triangles) h) h (tri-edge-is (j .triangles) h l) (regular-at h l)
