@@ -1,7 +1,7 @@
 -- Reading a strided slice after a write, over any stride and any field.
 use Prim.Native.Nat.{ℕ, suc, _+_, _*_, _-_, _/_, _^_, _<_, _≤_}
 use native.Mathlib.Nat.{mul-le-mul-left, mul-le-mul-right, mul-suc, mul-comm, div-mul-le-self}
-use native.Mathlib.Decide.{decLe}
+use native.Mathlib.Decide.{ℕ-discrete, decLe}
 use native.Mathlib.Omega.{arith}
 use mathlib.Core.Path.{_≡_, refl, sym, ap, _∙_}
 use mathlib.Core.List.{List, [], _∷_, _++_, append-nil}
@@ -46,6 +46,13 @@ module _ {A : Type 0} (s : ℕ) (l : List A) where
 
   pub other-slot : (i j a b : ℕ) (x d : A) → i ≢ j → a < s → b < s → getD (set l (s * i + a) x) (s * j + b) d ≡ getD l (s * j + b) d
   other-slot i j a b x d ne ha hb = getD-set-other l (s * i + a) (s * j + b) x d (λ e. apart s i j a b ne ha hb (sym e))
+
+  -- a read of another field, of whatever slot
+  pub other-fields : (i j a b : ℕ) (x d : A) → a ≢ b → a < s → b < s → getD (set l (s * i + a) x) (s * j + b) d ≡ getD l (s * j + b) d
+  other-fields i j a b x d ne ha hb = go (ℕ-discrete i j) where
+    go : Dec (i ≡ j) → getD (set l (s * i + a) x) (s * j + b) d ≡ getD l (s * j + b) d
+    go (yes e) = rw e (other-field j a b x d ne)
+    go (no e) = other-slot i j a b x d e ha hb
 
   -- a write to a field: its slot has it, and the others are as they were
   pub slot-set-same : (i a : ℕ) (x : A) → a < s → slot s (set l (s * i + a) x) i ≡ set (slot s l i) a x

@@ -1,385 +1,382 @@
--- What the operations on links do to chains. A chain is a path of links that ends; a link of a window that is not on it can
--- change freely (`path-set`), and pointing the link after a front at another path exchanges the rest (`splice`). Since each window
--- of a chain has that chain's edge, a window of edge e is on no other chain, so what is done to one chain leaves the others.
-use Prim.Native.Nat.{ℕ, zero, suc, _+_, _*_, _≤_}
+-- What the operations on links do to chains. A chain is a path of links whose windows have that chain's edge, so a window of edge e
+-- is on no other chain, and what is done to one chain leaves the others. `made` is the number of windows made.
+use Prim.Native.Nat.{ℕ, zero, suc, _+_, _*_, _≤_, _<_}
 use native.Mathlib.Omega.{arith}
-use native.Mathlib.Decide.{ℕ-discrete, decLe}
+use native.Mathlib.Decide.{ℕ-discrete}
 use mathlib.Core.Bool.{Bool, true, false, cond}
 use mathlib.Core.Path.{_≡_, refl, sym, ap, subst, _∙_}
 use mathlib.Core.List.{List, [], _∷_, _++_, append-assoc}
 use mathlib.Core.Logic.{_≢_}
 use borrow.Author.Tests.{eq-eqb, ne-eqb}
 use lib.Dec.{eqb}
-use lib.ListN.{set, length, length-set, length-append}
-use lib.Seq.{getD-set-same, set-out}
-use Rattle.chains.proofs.Turns.{cleared-stop}
-use Rattle.buffers.proofs.Strides.{other-field, other-slot}
-use Rattle.chains.specs.Chains.{Links, links, headOf, edgeOf, nextOf, chain, walk, linkAt, withLink, inserted, cleared, removed, Path, Out, Belongs, AllBelong, Before, firstLink, OnEdge, Chains}
+use lib.ListN.{getD, set, length, replicate, length-set}
+use lib.Seq.{getD-set-same, getD-set-other}
+use lib.Ieee.{Float}
+use Rattle.buffers.specs.Slots.{slot}
+use Rattle.buffers.proofs.Strides.{slot-at, other-fields, other-slot}
+use Rattle.windows.specs.declared.WindowRecord.{WindowRecord}
+use Rattle.windows.specs.Windows.{flagsOf, hasFlag, winAt, windowAt, wordsWith, flagsWith, relinked}
+use Rattle.windows.proofs.WindowList.{stored-edge, stored-other, length-stored}
+use Rattle.chains.proofs.Paths.{each-other, path-same, path-set, path-drop, out-append, front-out, front-of, front-set, splice, unlinked, clear-is, path-after, Apart, unlink-path, unlink-front, length-unlinked, unlinked-none, apart-rest, apart-less, apart-front}
+use Rattle.chains.specs.Chains.{Links, links, headOf, edgeOf, nextOf, linkAt, withLink, inserted, cleared, removed, Each, Path, Out, Belongs, AllBelong, Before, firstLink, OnEdge, Chains}
 
--- ---- a path
--- with limit enough, a path is what `chain` finds
-pub path-chain : (n : ℕ) (w : List ℕ) (l : ℕ) (is : List ℕ) → length is ≤ n → Path w l is → chain n w l ≡ is
-unfolding chain Path
-path-chain zero w l [] h p = refl
-path-chain (suc n) w l [] h p = rw p refl
-path-chain zero w l (i ∷ is) h p = absurd (omega arith)
-path-chain (suc n) w l (i ∷ is) h p = ap (chain (suc n) w) (p .0) ∙ ap (λ t. i ∷ t) (path-chain n w (nextOf w i) is (omega arith) (p .1))
+-- what holds of every window holds of each of a list
+each : (P : ℕ → Type 0) (is : List ℕ) → ((i : ℕ) → P i) → Each P is
+unfolding Each
+each P [] f = tt
+each P (i ∷ is) f = (f i, each P is f)
 
--- the window at place k of the list is where k steps lead
-pub path-walk : (w : List ℕ) (l : ℕ) (is : List ℕ) (i : ℕ) (js : List ℕ) → Path w l (is ++ i ∷ js) → walk (length is) w l ≡ suc i
-unfolding walk Path
-path-walk w l [] i js p = p .0
-path-walk w l (x ∷ is) i js p = ap (walk (suc (length is)) w) (p .0) ∙ path-walk w (nextOf w x) is i js (p .1)
+each-map : (P Q : ℕ → Type 0) (is : List ℕ) → ((i : ℕ) → P i → Q i) → Each P is → Each Q is
+unfolding Each
+each-map P Q [] f h = tt
+each-map P Q (i ∷ is) f h = (f i (h .0), each-map P Q is f (h .1))
 
-suc-same : {i j : ℕ} → suc i ≡ suc j → i ≡ j
-suc-same e = omega arith
+-- ---- an insertion and a removal change nothing of the windows but links, and nothing of the edges but one head
+pub record OnlyLinks (w w′ : List ℕ) : Type 0 where
+  pub same-length : length w′ ≡ length w
+  pub fields : (i a : ℕ) → a < 3 → getD w′ (4 * i + a) 0 ≡ getD w (4 * i + a) 0
 
--- from a link there is one path
-pub path-unique : (w : List ℕ) (l : ℕ) (is js : List ℕ) → Path w l is → Path w l js → is ≡ js
-unfolding Path
-path-unique w l [] [] p q = refl
-path-unique w l [] (j ∷ js) p q = absurd (omega (arith, p, q .0))
-path-unique w l (i ∷ is) [] p q = absurd (omega (arith, p .0, q))
-path-unique w l (i ∷ is) (j ∷ js) p q =
-    let e : i ≡ j = omega (arith, p .0, q .0) in
-    ap (λ k. k ∷ is) e ∙ ap (λ t. j ∷ t) (path-unique w (nextOf w j) is js (subst (λ k. Path w (nextOf w k) is) e (p .1)) (q .1))
+pub record OnlyHead (e : ℕ) (v v′ : List ℕ) : Type 0 where
+  pub same-length : length v′ ≡ length v
+  pub fields : (p : ℕ) → p ≢ 6 * e + 4 → getD v′ p 0 ≡ getD v p 0
 
-path-drop : (w : List ℕ) (l : ℕ) (xs : List ℕ) (i : ℕ) (zs : List ℕ) → Path w l (xs ++ i ∷ zs) → Path w (nextOf w i) zs
-unfolding Path
-path-drop w l [] i zs p = p .1
-path-drop w l (x ∷ xs) i zs p = path-drop w (nextOf w x) xs i zs (p .1)
+only-none : (w : List ℕ) → OnlyLinks w w
+only-none w = record { same-length = refl; fields = λ i a h. refl }
 
-out-of : (i : ℕ) (ys : List ℕ) → ((xs zs : List ℕ) → ys ≡ xs ++ i ∷ zs → ⊥) → Out i ys
-unfolding Out
-out-of i [] f = tt
-out-of i (y ∷ ys) f = (λ e. f [] ys (ap (λ k. k ∷ ys) (sym e)), out-of i ys (λ xs zs e. f (y ∷ xs) zs (ap (λ t. y ∷ t) e)))
+only-set : (w : List ℕ) (k v : ℕ) → OnlyLinks w (set w (4 * k + 3) v)
+only-set w k v = record { same-length = simp length-set; fields = λ i a h. other-fields 4 w k i 3 a v 0 (omega arith) (omega arith) (omega arith) }
 
--- so no window comes twice
-pub path-once : (w : List ℕ) (l i : ℕ) (ys : List ℕ) → Path w l (i ∷ ys) → Out i ys
-unfolding Path
-path-once w l i ys p = out-of i ys go where
-  go : (xs zs : List ℕ) → ys ≡ xs ++ i ∷ zs → ⊥
-  go xs zs e =
-      let q : Path w (nextOf w i) zs = path-drop w (nextOf w i) xs i zs (subst (Path w (nextOf w i)) e (p .1)) in
-      let n : length ys ≡ length zs = ap length (path-unique w (nextOf w i) ys zs (p .1) q) in
-      omega (arith, n, ap length e ∙ length-append xs (i ∷ zs))
+only-trans : (u v w : List ℕ) → OnlyLinks u v → OnlyLinks v w → OnlyLinks u w
+only-trans u v w p q = record { same-length = q .same-length ∙ p .same-length; fields = λ i a h. q .fields i a h ∙ p .fields i a h }
 
--- ---- lists without a window
-pub out-append : (i : ℕ) (xs ys : List ℕ) → Out i (xs ++ ys) → Out i xs × Out i ys
-unfolding Out
-out-append i [] ys o = (tt, o)
-out-append i (x ∷ xs) ys o = ((o .0, out-append i xs ys (o .1) .0), out-append i xs ys (o .1) .1)
-
--- on a path each window of the front is none of what follows
-front-out : (w : List ℕ) (l : ℕ) (xs : List ℕ) (k : ℕ) (zs : List ℕ) → Path w l (xs ++ k ∷ zs) → Out k xs × Out k zs
-unfolding Path Out
-front-out w l [] k zs p = (tt, path-once w l k zs p)
-front-out w l (x ∷ xs) k zs p =
-    let o = out-append x xs (k ∷ zs) (path-once w l x (xs ++ k ∷ zs) p) in
-    let r = front-out w (nextOf w x) xs k zs (p .1) in
-    ((λ e. o .1 .0 (sym e), r .0), r .1)
-
--- ---- a link changes
-pub path-set : (w : List ℕ) (l : ℕ) (is : List ℕ) (k v : ℕ) → Out k is → Path w l is → Path (set w (4 * k + 3) v) l is
-unfolding Path Out
-path-set w l [] k v o p = p
-path-set w l (i ∷ is) k v o p =
-    (p .0, rw (other-slot 4 w k i 3 3 v 0 (o .0) (omega arith) (omega arith)) (path-set w (nextOf w i) is k v (o .1) (p .1)))
-
--- from link l on the windows xs are passed, and the next is k
-unfoldable Front : List ℕ → ℕ → List ℕ → ℕ → Type 0
-Front w l [] k = l ≡ suc k
-Front w l (x ∷ xs) k = (l ≡ suc x) × Front w (nextOf w x) xs k
-
-front-of : (w : List ℕ) (l : ℕ) (xs : List ℕ) (k : ℕ) (zs : List ℕ) → Path w l (xs ++ k ∷ zs) → Front w l xs k
-unfolding Path Front
-front-of w l [] k zs p = p .0
-front-of w l (x ∷ xs) k zs p = (p .0, front-of w (nextOf w x) xs k zs (p .1))
-
-front-set : (w : List ℕ) (l : ℕ) (xs : List ℕ) (k i v : ℕ) → Out i xs → Front w l xs k → Front (set w (4 * i + 3) v) l xs k
-unfolding Front Out
-front-set w l [] k i v o p = p
-front-set w l (x ∷ xs) k i v o p =
-    (p .0, rw (other-slot 4 w i x 3 3 v 0 (o .0) (omega arith) (omega arith)) (front-set w (nextOf w x) xs k i v (o .1) (p .1)))
-
--- the link of k points at the path vs
-splice : (w : List ℕ) (l : ℕ) (xs : List ℕ) (k : ℕ) (vs : List ℕ) (v : ℕ) → 4 * k + 4 ≤ length w → Out k xs → Out k vs
-    → Front w l xs k → Path w v vs → Path (set w (4 * k + 3) v) l (xs ++ k ∷ vs)
-unfolding Path Out Front
-splice w l [] k vs v b ox ov p q = (p, rw (getD-set-same w (4 * k + 3) v 0 (omega arith)) (path-set w v vs k v ov q))
-splice w l (x ∷ xs) k vs v b ox ov p q =
-    (p .0, rw (other-slot 4 w k x 3 3 v 0 (ox .0) (omega arith) (omega arith)) (splice w (nextOf w x) xs k vs v b (ox .1) ov (p .1) q))
-
--- ---- windows stay their edge's
-belongs-set : (w : List ℕ) (e i k v : ℕ) → Belongs w e i → Belongs (set w (4 * k + 3) v) e i
-belongs-set w e i k v h = record { edge = go (ℕ-discrete k i); there = simp length-set (h .there) } where
-  go : Dec (k ≡ i) → edgeOf (set w (4 * k + 3) v) i ≡ e
-  go (yes d) = rw d (other-field 4 w i 3 0 v 0 (λ z. omega (arith, z)) ∙ h .edge)
-  go (no d) = other-slot 4 w k i 3 0 v 0 d (omega arith) (omega arith) ∙ h .edge
-
-pub all-set : (w : List ℕ) (e : ℕ) (is : List ℕ) (k v : ℕ) → AllBelong w e is → AllBelong (set w (4 * k + 3) v) e is
-unfolding AllBelong
-all-set w e [] k v h = tt
-all-set w e (i ∷ is) k v h = (belongs-set w e i k v (h .0), all-set w e is k v (h .1))
-
--- a window of another edge is not among them, so chains never meet
-pub elsewhere : (w : List ℕ) (e : ℕ) (is : List ℕ) (k : ℕ) → edgeOf w k ≢ e → AllBelong w e is → Out k is
-unfolding AllBelong Out
-elsewhere w e [] k d h = tt
-elsewhere w e (i ∷ is) k d h = (λ z. d (ap (edgeOf w) z ∙ h .0 .edge), elsewhere w e is k d (h .1))
-
-pub all-append : (w : List ℕ) (e : ℕ) (xs ys : List ℕ) → AllBelong w e (xs ++ ys) → AllBelong w e xs × AllBelong w e ys
-unfolding AllBelong
-all-append w e [] ys h = (tt, h)
-all-append w e (x ∷ xs) ys h = ((h .0, all-append w e xs ys (h .1) .0), all-append w e xs ys (h .1) .1)
-
-all-join : (w : List ℕ) (e : ℕ) (xs ys : List ℕ) → AllBelong w e xs → AllBelong w e ys → AllBelong w e (xs ++ ys)
-unfolding AllBelong
-all-join w e [] ys p q = q
-all-join w e (x ∷ xs) ys p q = (p .0, all-join w e xs ys (p .1) q)
-
--- ---- the other chains stay
-module _ (b : Links) (e e′ : ℕ) (ne : e ≢ e′) (is : List ℕ) where
-  -- a window of edge e has its link changed
-  pub set-frame : (k v : ℕ) → Belongs (b .words) e k → OnEdge b e′ is → OnEdge (links (b .edges) (set (b .words) (4 * k + 3) v)) e′ is
-  set-frame k v h o =
-      let out : Out k is = elsewhere (b .words) e′ is k (λ z. ne (sym (h .edge) ∙ z)) (o .belong) in
-      record { path = path-set (b .words) (headOf (b .edges) e′) is k v out (o .path); belong = all-set (b .words) e′ is k v (o .belong) }
-
-  pub with-frame : (k v : ℕ) → Before (b .words) e k → OnEdge b e′ is → OnEdge (withLink b e k v) e′ is
-  unfolding withLink Before
-  with-frame zero v h o =
-      record { path = rw (other-slot 6 (b .edges) e e′ 4 4 v 0 ne (omega arith) (omega arith)) (o .path); belong = o .belong }
-  with-frame (suc k) v h o = set-frame k v h o
-
-before-set : (w : List ℕ) (e k j v : ℕ) → Before w e k → Before (set w (4 * j + 3) v) e k
-unfolding Before
-before-set w e zero j v h = tt
-before-set w e (suc k) j v h = belongs-set w e k j v h
-
-pub insert-frame : (b : Links) (e e′ k j : ℕ) (is : List ℕ) → e ≢ e′ → Before (b .words) e k → Belongs (b .words) e j → OnEdge b e′ is → OnEdge (inserted b e k j) e′ is
-unfolding inserted
-insert-frame b e e′ k j is ne h g o =
-    with-frame (links (b .edges) (set (b .words) (4 * j + 3) (linkAt b e k))) e e′ ne is k (suc j)
-    (before-set (b .words) e k j (linkAt b e k) h) (set-frame b e e′ ne is j (linkAt b e k) g o)
-
--- ---- an insertion
-pub insert-head : (b : Links) (e j : ℕ) (zs : List ℕ) → 6 * e + 6 ≤ length (b .edges) → Belongs (b .words) e j → Out j zs → OnEdge b e zs → OnEdge (inserted b e 0 j) e (j ∷ zs)
-unfolding inserted withLink linkAt Path AllBelong
-insert-head b e j zs h g out o =
-    let w = b .words in
-    let l = headOf (b .edges) e in
-    record {
-      path = (
-        getD-set-same (b .edges) (6 * e + 4) (suc j) 0 (omega arith),
-        rw (getD-set-same w (4 * j + 3) l 0 (omega (arith, g .there))) (path-set w l zs j l out (o .path)),
-      );
-      belong = (belongs-set w e j j l g, all-set w e zs j l (o .belong));
-    }
-
-pub insert-after : (b : Links) (e k j : ℕ) (xs zs : List ℕ) → Belongs (b .words) e j → Out j (xs ++ k ∷ zs) → OnEdge b e (xs ++ k ∷ zs) → OnEdge (inserted b e (suc k) j) e (xs ++ k ∷ j ∷ zs)
-unfolding inserted withLink linkAt Path Out AllBelong
-insert-after b e k j xs zs g out o =
-    let w = b .words in
-    let l = headOf (b .edges) e in
-    let v = nextOf w k in
-    let f = front-out w l xs k zs (o .path) in
-    let oj = out-append j xs (k ∷ zs) out in
-    let m = all-append w e xs (k ∷ zs) (o .belong) in
-    let bound : 4 * k + 4 ≤ length (set w (4 * j + 3) v) = simp length-set (m .1 .0 .there) in
-    let rest : Path (set w (4 * j + 3) v) (suc j) (j ∷ zs) =
-    (refl, rw (getD-set-same w (4 * j + 3) v 0 (omega (arith, g .there))) (path-set w v zs j v (oj .1 .1) (path-drop w l xs k zs (o .path)))) in
-    let all : AllBelong w e (xs ++ k ∷ j ∷ zs) = all-join w e xs (k ∷ j ∷ zs) (m .0) (m .1 .0, (g, m .1 .1)) in
-    record {
-      path = splice (set w (4 * j + 3) v) l xs k (j ∷ zs) (suc j) bound (f .0) (λ z. oj .1 .0 (sym z), f .1) (front-set w l xs k j v (oj .0) (front-of w l xs k zs (o .path))) rest;
-      belong = all-set (set w (4 * j + 3) v) e (xs ++ k ∷ j ∷ zs) k (suc j) (all-set w e (xs ++ k ∷ j ∷ zs) j v all);
-    }
-
--- ---- a removal: the windows of the run lose their links
-unfoldable pub unlinked : List ℕ → List ℕ → List ℕ
-unlinked w [] = w
-unlinked w (i ∷ is) = unlinked (set w (4 * i + 3) 0) is
-
-first-out : (i : ℕ) (zs : List ℕ) → Out i zs → suc i ≢ firstLink zs
-unfolding firstLink Out
-first-out i [] o e = omega (arith, e)
-first-out i (z ∷ zs) o e = o .0 (suc-same e)
-
-path-first : (w : List ℕ) (l : ℕ) (zs : List ℕ) → Path w l zs → l ≡ firstLink zs
-unfolding firstLink Path
-path-first w l [] p = p
-path-first w l (z ∷ zs) p = p .0
-
-pub clear-is : (n : ℕ) (w : List ℕ) (l : ℕ) (ys zs : List ℕ) → length ys ≤ n → Path w l (ys ++ zs) → cleared n w l (firstLink zs) ≡ unlinked w ys
-unfolding unlinked cleared Path
-clear-is n w l [] zs h p = sym (cleared-stop n w l (firstLink zs) (path-first w l zs p))
-clear-is zero w l (i ∷ ys) zs h p = absurd (omega arith)
-clear-is (suc n) w l (i ∷ ys) zs h p =
-    let out = path-once w l i (ys ++ zs) p in
-    ap (λ k. cleared (suc n) w k (firstLink zs)) (p .0)
-    ∙ rw (ne-eqb (suc i) (firstLink zs) (first-out i zs (out-append i ys zs out .1)))
-    (clear-is n (set w (4 * i + 3) 0) (nextOf w i) ys zs (omega arith) (path-set w (nextOf w i) (ys ++ zs) i 0 out (p .1)))
-
-path-after : (w : List ℕ) (l : ℕ) (ys zs : List ℕ) → Path w l (ys ++ zs) → Path w (firstLink zs) zs
-unfolding Path
-path-after w l [] zs p = subst (λ k. Path w k zs) (path-first w l zs p) p
-path-after w l (y ∷ ys) zs p = path-after w (nextOf w y) ys zs (p .1)
-
--- each of ys is none of the list
-unfoldable Apart : List ℕ → List ℕ → Type 0
-unfolding Out
-Apart [] is = Unit {0}
-Apart (y ∷ ys) is = Out y is × Apart ys is
-
-module _ (is : List ℕ) where
-  unlink-path : (w : List ℕ) (l : ℕ) (ys : List ℕ) → Apart ys is → Path w l is → Path (unlinked w ys) l is
-  unfolding Apart unlinked
-  unlink-path w l [] a p = p
-  unlink-path w l (y ∷ ys) a p = unlink-path (set w (4 * y + 3) 0) l ys (a .1) (path-set w l is y 0 (a .0) p)
-
-  unlink-front : (w : List ℕ) (l k : ℕ) (ys : List ℕ) → Apart ys is → Front w l is k → Front (unlinked w ys) l is k
-  unfolding Apart unlinked
-  unlink-front w l k [] a p = p
-  unlink-front w l k (y ∷ ys) a p = unlink-front (set w (4 * y + 3) 0) l k ys (a .1) (front-set w l is k y 0 (a .0) p)
-
-  unlink-all : (w : List ℕ) (e : ℕ) (ys : List ℕ) → AllBelong w e is → AllBelong (unlinked w ys) e is
-  unfolding unlinked
-  unlink-all w e [] h = h
-  unlink-all w e (y ∷ ys) h = unlink-all (set w (4 * y + 3) 0) e ys (all-set w e is y 0 h)
-
-length-unlinked : (w ys : List ℕ) → length (unlinked w ys) ≡ length w
-unfolding unlinked
-length-unlinked w [] = refl
-length-unlinked w (y ∷ ys) = length-unlinked (set w (4 * y + 3) 0) ys ∙ simp length-set
-
--- the windows that were taken out have no link
-none-stays : (w : List ℕ) (i j : ℕ) → nextOf w i ≡ 0 → nextOf (set w (4 * j + 3) 0) i ≡ 0
-none-stays w i j h = go (ℕ-discrete j i) (decLe (length w) (4 * j + 3)) where
-  go : Dec (j ≡ i) → Dec (length w ≤ 4 * j + 3) → nextOf (set w (4 * j + 3) 0) i ≡ 0
-  go (no d) s = other-slot 4 w j i 3 3 0 0 d (omega arith) (omega arith) ∙ h
-  go (yes d) (yes s) = rw (set-out w (4 * j + 3) 0 s) h
-  go (yes d) (no s) = rw (← d) (getD-set-same w (4 * j + 3) 0 0 (omega arith))
-
-none-kept : (w : List ℕ) (i : ℕ) (ys : List ℕ) → nextOf w i ≡ 0 → nextOf (unlinked w ys) i ≡ 0
-unfolding unlinked
-none-kept w i [] h = h
-none-kept w i (y ∷ ys) h = none-kept (set w (4 * y + 3) 0) i ys (none-stays w i y h)
-
-pub unlinked-none : (w xs : List ℕ) (i : ℕ) (ys : List ℕ) → 4 * i + 4 ≤ length w → nextOf (unlinked w (xs ++ i ∷ ys)) i ≡ 0
-unfolding unlinked
-unlinked-none w [] i ys h = none-kept (set w (4 * i + 3) 0) i ys (getD-set-same w (4 * i + 3) 0 0 (omega arith))
-unlinked-none w (x ∷ xs) i ys h = unlinked-none (set w (4 * x + 3) 0) xs i ys (simp length-set h)
-
--- on a path, the windows of a run are none of what follows and none of the front
-apart-rest : (w : List ℕ) (l : ℕ) (ys zs : List ℕ) → Path w l (ys ++ zs) → Apart ys zs
-unfolding Path Apart
-apart-rest w l [] zs p = tt
-apart-rest w l (y ∷ ys) zs p = (out-append y ys zs (path-once w l y (ys ++ zs) p) .1, apart-rest w (nextOf w y) ys zs (p .1))
-
-apart-less : (xs vs ys : List ℕ) → Apart ys (xs ++ vs) → Apart ys xs
-unfolding Apart
-apart-less xs vs [] a = tt
-apart-less xs vs (y ∷ ys) a = (out-append y xs vs (a .0) .0, apart-less xs vs ys (a .1))
-
-apart-front : (w : List ℕ) (l : ℕ) (xs ys zs : List ℕ) → Path w l (xs ++ (ys ++ zs)) → Apart ys xs
-unfolding Apart
-apart-front w l xs [] zs p = tt
-apart-front w l xs (y ∷ ys) zs p = (
-  front-out w l xs y (ys ++ zs) p .0,
-  apart-less xs (y ∷ []) ys (apart-front w l (xs ++ (y ∷ [])) ys zs (rw append-assoc p)),
-)
-
--- ---- the run ys is taken out
-pub remove-head : (n : ℕ) (b : Links) (e : ℕ) (ys zs : List ℕ) → length ys ≤ n → 6 * e + 6 ≤ length (b .edges) → OnEdge b e (ys ++ zs) → OnEdge (removed n b e 0 (firstLink zs)) e zs
-unfolding removed withLink linkAt
-remove-head n b e ys zs h r o =
-    let w = b .words in
-    let l = headOf (b .edges) e in
-    let c : cleared n w l (firstLink zs) ≡ unlinked w ys = clear-is n w l ys zs h (o .path) in
-    rw c
-    (record {
-      path = rw (getD-set-same (b .edges) (6 * e + 4) (firstLink zs) 0 (omega arith)) (unlink-path zs w (firstLink zs) ys (apart-rest w l ys zs (o .path)) (path-after w l ys zs (o .path)));
-      belong = unlink-all zs w e ys (all-append w e ys zs (o .belong) .1);
-    })
-
-pub remove-after : (n : ℕ) (b : Links) (e k : ℕ) (xs ys zs : List ℕ) → length ys ≤ n → OnEdge b e (xs ++ k ∷ (ys ++ zs)) → OnEdge (removed n b e (suc k) (firstLink zs)) e (xs ++ k ∷ zs)
-unfolding removed withLink linkAt AllBelong
-remove-after n b e k xs ys zs h o =
-    let w = b .words in
-    let l = headOf (b .edges) e in
-    let p : Path w l (xs ++ k ∷ (ys ++ zs)) = o .path in
-    let q : Path w (nextOf w k) (ys ++ zs) = path-drop w l xs k (ys ++ zs) p in
-    let f = front-out w l xs k (ys ++ zs) p in
-    let m = all-append w e xs (k ∷ (ys ++ zs)) (o .belong) in
-    let a : Apart ys (xs ++ (k ∷ [])) = apart-front w l (xs ++ (k ∷ [])) ys zs (rw append-assoc p) in
-    let bound : 4 * k + 4 ≤ length (unlinked w ys) = rw (length-unlinked w ys) (m .1 .0 .there) in
-    let all : AllBelong w e (xs ++ k ∷ zs) = all-join w e xs (k ∷ zs) (m .0) (m .1 .0, all-append w e ys zs (m .1 .1) .1) in
-    let c : cleared n w (nextOf w k) (firstLink zs) ≡ unlinked w ys = clear-is n w (nextOf w k) ys zs h q in
-    rw c
-    (record {
-      path = splice (unlinked w ys) l xs k zs (firstLink zs) bound (f .0) (out-append k ys zs (f .1) .1)
-          (unlink-front xs w l k ys (apart-less xs (k ∷ []) ys a) (front-of w l xs k (ys ++ zs) p))
-          (unlink-path zs w (firstLink zs) ys (apart-rest w (nextOf w k) ys zs q) (path-after w (nextOf w k) ys zs q));
-      belong = all-set (unlinked w ys) e (xs ++ k ∷ zs) k (firstLink zs) (unlink-all (xs ++ k ∷ zs) w e ys all);
-    })
-
--- and the other chains stay
-unlink-frame : (b : Links) (e e′ : ℕ) (is ys : List ℕ) → e ≢ e′ → AllBelong (b .words) e ys → OnEdge b e′ is → OnEdge (links (b .edges) (unlinked (b .words) ys)) e′ is
-unfolding unlinked AllBelong
-unlink-frame b e e′ is [] ne h o = o
-unlink-frame b e e′ is (y ∷ ys) ne h o =
-    unlink-frame (links (b .edges) (set (b .words) (4 * y + 3) 0)) e e′ is ys ne (all-set (b .words) e ys y 0 (h .1)) (set-frame b e e′ ne is y 0 (h .0) o)
-
-before-unlinked : (w : List ℕ) (e k : ℕ) (ys : List ℕ) → Before w e k → Before (unlinked w ys) e k
-unfolding unlinked
-before-unlinked w e k [] h = h
-before-unlinked w e k (y ∷ ys) h = before-unlinked (set w (4 * y + 3) 0) e k ys (before-set w e k y 0 h)
-
-pub remove-frame : (n : ℕ) (b : Links) (e e′ k : ℕ) (ys zs is : List ℕ) → e ≢ e′ → Before (b .words) e k → length ys ≤ n
-    → Path (b .words) (linkAt b e k) (ys ++ zs) → AllBelong (b .words) e ys → OnEdge b e′ is → OnEdge (removed n b e k (firstLink zs)) e′ is
-unfolding removed
-remove-frame n b e e′ k ys zs is ne h m p g o =
-    let w = b .words in
-    let c : cleared n w (linkAt b e k) (firstLink zs) ≡ unlinked w ys = clear-is n w (linkAt b e k) ys zs m p in
-    rw c
-    (with-frame (links (b .edges) (unlinked w ys)) e e′ ne is k (firstLink zs) (before-unlinked w e k ys h) (unlink-frame b e e′ is ys ne g o))
-
--- ---- a run is replaced by one window: a removal, then an insertion
-belongs-cleared : (n : ℕ) (w : List ℕ) (l stop e i : ℕ) → Belongs w e i → Belongs (cleared n w l stop) e i
+only-cleared : (n : ℕ) (w : List ℕ) (l stop : ℕ) → OnlyLinks w (cleared n w l stop)
 unfolding cleared
-belongs-cleared zero w l stop e i h = h
-belongs-cleared (suc n) w zero stop e i h = h
-belongs-cleared (suc n) w (suc k) stop e i h = go (eqb (suc k) stop) (belongs-cleared n (set w (4 * k + 3) 0) (nextOf w k) stop e i (belongs-set w e i k 0 h)) where
-  go : (s : Bool) → Belongs (cleared n (set w (4 * k + 3) 0) (nextOf w k) stop) e i → Belongs (cond s w (cleared n (set w (4 * k + 3) 0) (nextOf w k) stop)) e i
-  go true ih = h
+only-cleared zero w l stop = only-none w
+only-cleared (suc n) w zero stop = only-none w
+only-cleared (suc n) w (suc i) stop = go (eqb (suc i) stop) (only-trans w (set w (4 * i + 3) 0) (cleared n (set w (4 * i + 3) 0) (nextOf w i) stop) (only-set w i 0) (only-cleared n (set w (4 * i + 3) 0) (nextOf w i) stop)) where
+  go : (s : Bool) → OnlyLinks w (cleared n (set w (4 * i + 3) 0) (nextOf w i) stop) → OnlyLinks w (cond s w (cleared n (set w (4 * i + 3) 0) (nextOf w i) stop))
+  go true ih = only-none w
   go false ih = ih
 
-pub belongs-removed : (n : ℕ) (b : Links) (e k stop e′ i : ℕ) → Belongs (b .words) e′ i → Belongs (removed n b e k stop .words) e′ i
-unfolding removed withLink
-belongs-removed n b e zero stop e′ i h = belongs-cleared n (b .words) (linkAt b e zero) stop e′ i h
-belongs-removed n b e (suc k) stop e′ i h =
-    belongs-set (cleared n (b .words) (linkAt b e (suc k)) stop) e′ i k stop (belongs-cleared n (b .words) (linkAt b e (suc k)) stop e′ i h)
+only-with : (b : Links) (e k v : ℕ) → OnlyLinks (b .words) (withLink b e k v .words)
+unfolding withLink
+only-with b e zero v = only-none (b .words)
+only-with b e (suc k) v = only-set (b .words) k v
 
-pub replace-head : (n : ℕ) (b : Links) (e j : ℕ) (ys zs : List ℕ) → length ys ≤ n → 6 * e + 6 ≤ length (b .edges) → Belongs (b .words) e j → Out j zs
-    → OnEdge b e (ys ++ zs) → OnEdge (inserted (removed n b e 0 (firstLink zs)) e 0 j) e (j ∷ zs)
-replace-head n b e j ys zs h r g out o =
-    insert-head (removed n b e 0 (firstLink zs)) e j zs (unfold removed withLink in simp length-set r) (belongs-removed n b e 0 (firstLink zs) e j g) out (remove-head n b e ys zs h r o)
+head-with : (b : Links) (e k v : ℕ) → OnlyHead e (b .edges) (withLink b e k v .edges)
+unfolding withLink
+head-with b e zero v = record { same-length = simp length-set; fields = λ p ne. getD-set-other (b .edges) (6 * e + 4) p v 0 ne }
+head-with b e (suc k) v = record { same-length = refl; fields = λ p ne. refl }
 
-pub replace-after : (n : ℕ) (b : Links) (e k j : ℕ) (xs ys zs : List ℕ) → length ys ≤ n → Belongs (b .words) e j → Out j (xs ++ k ∷ zs)
-    → OnEdge b e (xs ++ k ∷ (ys ++ zs)) → OnEdge (inserted (removed n b e (suc k) (firstLink zs)) e (suc k) j) e (xs ++ k ∷ j ∷ zs)
-replace-after n b e k j xs ys zs h g out o =
-    insert-after (removed n b e (suc k) (firstLink zs)) e k j xs zs (belongs-removed n b e (suc k) (firstLink zs) e j g) out (remove-after n b e k xs ys zs h o)
+module _ (b : Links) (e k : ℕ) where
+  pub inserted-links : (j : ℕ) → OnlyLinks (b .words) (inserted b e k j .words)
+  unfolding inserted
+  inserted-links j =
+      let w = set (b .words) (4 * j + 3) (linkAt b e k) in
+      only-trans (b .words) w (withLink (links (b .edges) w) e k (suc j) .words) (only-set (b .words) j (linkAt b e k)) (only-with (links (b .edges) w) e k (suc j))
 
--- ---- all chains at once: one becomes another list, and the others stay
-pub chains-after : (m : ℕ) (b b′ : Links) (on : ℕ → List ℕ) (e : ℕ) (new : List ℕ) → Chains m b on → OnEdge b′ e new
-    → ((e′ : ℕ) (is : List ℕ) → e ≢ e′ → OnEdge b e′ is → OnEdge b′ e′ is) → Chains m b′ (λ x. cond (eqb e x) new (on x))
-chains-after m b b′ on e new h o f x l = go (ℕ-discrete e x) where
-  go : Dec (e ≡ x) → OnEdge b′ x (cond (eqb e x) new (on x))
-  go (yes d) = rw (eq-eqb e x d) (subst (λ y. OnEdge b′ y new) d o)
-  go (no d) = rw (ne-eqb e x d) (f x (on x) d (h x l))
+  pub inserted-head : (j : ℕ) → OnlyHead e (b .edges) (inserted b e k j .edges)
+  unfolding inserted
+  inserted-head j = head-with (links (b .edges) (set (b .words) (4 * j + 3) (linkAt b e k))) e k (suc j)
 
--- two chains that share a window are of one edge
-pub never-meet : (b : Links) (e e′ i : ℕ) (xs ys xs′ ys′ : List ℕ) → OnEdge b e (xs ++ i ∷ ys) → OnEdge b e′ (xs′ ++ i ∷ ys′) → e ≡ e′
-unfolding AllBelong
-never-meet b e e′ i xs ys xs′ ys′ o o′ =
-    sym (all-append (b .words) e xs (i ∷ ys) (o .belong) .1 .0 .edge) ∙ all-append (b .words) e′ xs′ (i ∷ ys′) (o′ .belong) .1 .0 .edge
+  pub removed-links : (n stop : ℕ) → OnlyLinks (b .words) (removed n b e k stop .words)
+  unfolding removed
+  removed-links n stop =
+      let w = cleared n (b .words) (linkAt b e k) stop in
+      only-trans (b .words) w (withLink (links (b .edges) w) e k stop .words) (only-cleared n (b .words) (linkAt b e k) stop) (only-with (links (b .edges) w) e k stop)
+
+  pub removed-head : (n stop : ℕ) → OnlyHead e (b .edges) (removed n b e k stop .edges)
+  unfolding removed
+  removed-head n stop = head-with (links (b .edges) (cleared n (b .words) (linkAt b e k) stop)) e k stop
+
+-- a window is then as it was but for its link
+pub relinked-only : (w w′ : List ℕ) (f : List Float) (i : ℕ) → OnlyLinks w w′ → windowAt w′ f i ≡ relinked (windowAt w f i) (nextOf w′ i)
+unfolding windowAt relinked
+relinked-only w w′ f i h =
+    let flags = h .fields i 2 (omega arith) in
+    λ t. record {
+      edge = record { 0 = h .fields i 0 (omega arith) t };
+      into = record { 0 = h .fields i 1 (omega arith) t };
+      alive = hasFlag (flags t) 2;
+      queued = hasFlag (flags t) 4;
+      link = nextOf w′ i;
+      win = winAt (hasFlag (flags t) 1) f i;
+    }
+
+-- ---- what chains see of a window
+pub record Agrees (w w′ : List ℕ) (i : ℕ) : Type 0 where
+  pub edge : edgeOf w′ i ≡ edgeOf w i
+  pub next : nextOf w′ i ≡ nextOf w i
+
+slot-agrees : (w w′ : List ℕ) (i : ℕ) → slot 4 w′ i ≡ slot 4 w i → Agrees w w′ i
+slot-agrees w w′ i h = record { edge = field 0 (omega arith); next = field 3 (omega arith) } where
+  field : (a : ℕ) → a < 4 → getD w′ (4 * i + a) 0 ≡ getD w (4 * i + a) 0
+  field a l = sym (slot-at 4 w′ i a 0 l) ∙ ap (λ s. getD s a 0) h ∙ slot-at 4 w i a 0 l
+
+flags-agree : (w : List ℕ) (k : ℕ) (alive queued : Bool) (i : ℕ) → Agrees w (flagsWith w k alive queued) i
+unfolding flagsWith
+flags-agree w k alive queued i = record { edge = field 0 (omega arith) (omega arith); next = field 3 (omega arith) (omega arith) } where
+  field : (a : ℕ) → 2 ≢ a → a < 4 → getD (set w (4 * k + 2) (flagsOf (hasFlag (getD w (4 * k + 2) 0) 1) alive queued)) (4 * i + a) 0 ≡ getD w (4 * i + a) 0
+  field a ne l = other-fields 4 w k i 2 a (flagsOf (hasFlag (getD w (4 * k + 2) 0) 1) alive queued) 0 ne (omega arith) l
+
+length-flags : (w : List ℕ) (k : ℕ) (alive queued : Bool) → length (flagsWith w k alive queued) ≡ length w
+unfolding flagsWith
+length-flags w k alive queued = simp length-set
+
+zeros : (n i : ℕ) → _≡_ {A = ℕ} (getD (replicate n 0) i 0) 0
+zeros zero i = refl
+zeros (suc n) zero = refl
+zeros (suc n) (suc i) = zeros n i
+
+module _ (made : ℕ) where
+  -- ---- windows stay their edge's
+  belongs-same : (w w′ : List ℕ) (e i : ℕ) → length w′ ≡ length w → edgeOf w′ i ≡ edgeOf w i → Belongs made w e i → Belongs made w′ e i
+  belongs-same w w′ e i n h g = record { edge = h ∙ g .edge; made = g .made; there = rw n (g .there) }
+
+  -- whose a window is depends on nothing but its edge and the length
+  pub all-same : (w w′ : List ℕ) (e : ℕ) (is : List ℕ) → length w′ ≡ length w → Each (λ i. edgeOf w′ i ≡ edgeOf w i) is → AllBelong made w e is → AllBelong made w′ e is
+  unfolding AllBelong Each
+  all-same w w′ e [] n h g = tt
+  all-same w w′ e (i ∷ is) n h g = (belongs-same w w′ e i n (h .0) (g .0), all-same w w′ e is n (h .1) (g .1))
+
+  -- so a change of links changes it for none
+  belongs-set : (w : List ℕ) (e i k v : ℕ) → Belongs made w e i → Belongs made (set w (4 * k + 3) v) e i
+  belongs-set w e i k v = belongs-same w (set w (4 * k + 3) v) e i (simp length-set) (other-fields 4 w k i 3 0 v 0 (λ z. omega (arith, z)) (omega arith) (omega arith))
+
+  pub all-set : (w : List ℕ) (e : ℕ) (is : List ℕ) (k v : ℕ) → AllBelong made w e is → AllBelong made (set w (4 * k + 3) v) e is
+  all-set w e is k v =
+      all-same w (set w (4 * k + 3) v) e is (simp length-set)
+      (each (λ i. edgeOf (set w (4 * k + 3) v) i ≡ edgeOf w i) is (λ i. other-fields 4 w k i 3 0 v 0 (λ z. omega (arith, z)) (omega arith) (omega arith)))
+
+  -- a window of another edge is not among them, so chains never meet
+  pub elsewhere : (w : List ℕ) (e : ℕ) (is : List ℕ) (k : ℕ) → edgeOf w k ≢ e → AllBelong made w e is → Out k is
+  unfolding AllBelong Out
+  elsewhere w e [] k d h = tt
+  elsewhere w e (i ∷ is) k d h = (λ z. d (ap (edgeOf w) z ∙ h .0 .edge), elsewhere w e is k d (h .1))
+
+  pub all-append : (w : List ℕ) (e : ℕ) (xs ys : List ℕ) → AllBelong made w e (xs ++ ys) → AllBelong made w e xs × AllBelong made w e ys
+  unfolding AllBelong
+  all-append w e [] ys h = (tt, h)
+  all-append w e (x ∷ xs) ys h = ((h .0, all-append w e xs ys (h .1) .0), all-append w e xs ys (h .1) .1)
+
+  all-join : (w : List ℕ) (e : ℕ) (xs ys : List ℕ) → AllBelong made w e xs → AllBelong made w e ys → AllBelong made w e (xs ++ ys)
+  unfolding AllBelong
+  all-join w e [] ys p q = q
+  all-join w e (x ∷ xs) ys p q = (p .0, all-join w e xs ys (p .1) q)
+
+  -- ---- the other chains stay
+  module _ (b : Links) (e e′ : ℕ) (ne : e ≢ e′) (is : List ℕ) where
+    -- a window of edge e has its link changed
+    pub set-frame : (k v : ℕ) → Belongs made (b .words) e k → OnEdge made b e′ is → OnEdge made (links (b .edges) (set (b .words) (4 * k + 3) v)) e′ is
+    set-frame k v h o =
+        let out : Out k is = elsewhere (b .words) e′ is k (λ z. ne (sym (h .edge) ∙ z)) (o .belong) in
+        record { path = path-set (b .words) (headOf (b .edges) e′) is k v out (o .path); belong = all-set (b .words) e′ is k v (o .belong) }
+
+    pub with-frame : (k v : ℕ) → Before made (b .words) e k → OnEdge made b e′ is → OnEdge made (withLink b e k v) e′ is
+    unfolding withLink Before
+    with-frame zero v h o =
+        record { path = rw (other-slot 6 (b .edges) e e′ 4 4 v 0 ne (omega arith) (omega arith)) (o .path); belong = o .belong }
+    with-frame (suc k) v h o = set-frame k v h o
+
+  before-set : (w : List ℕ) (e k j v : ℕ) → Before made w e k → Before made (set w (4 * j + 3) v) e k
+  unfolding Before
+  before-set w e zero j v h = tt
+  before-set w e (suc k) j v h = belongs-set w e k j v h
+
+  pub insert-frame : (b : Links) (e e′ k j : ℕ) (is : List ℕ) → e ≢ e′ → Before made (b .words) e k → Belongs made (b .words) e j → OnEdge made b e′ is → OnEdge made (inserted b e k j) e′ is
+  unfolding inserted
+  insert-frame b e e′ k j is ne h g o =
+      with-frame (links (b .edges) (set (b .words) (4 * j + 3) (linkAt b e k))) e e′ ne is k (suc j)
+      (before-set (b .words) e k j (linkAt b e k) h) (set-frame b e e′ ne is j (linkAt b e k) g o)
+
+  -- ---- an insertion
+  pub insert-head : (b : Links) (e j : ℕ) (zs : List ℕ) → 6 * e + 6 ≤ length (b .edges) → Belongs made (b .words) e j → Out j zs → OnEdge made b e zs → OnEdge made (inserted b e 0 j) e (j ∷ zs)
+  unfolding inserted withLink linkAt Path AllBelong
+  insert-head b e j zs h g out o =
+      let w = b .words in
+      let l = headOf (b .edges) e in
+      record {
+        path = (
+          getD-set-same (b .edges) (6 * e + 4) (suc j) 0 (omega arith),
+          rw (getD-set-same w (4 * j + 3) l 0 (omega (arith, g .there))) (path-set w l zs j l out (o .path)),
+        );
+        belong = (belongs-set w e j j l g, all-set w e zs j l (o .belong));
+      }
+
+  pub insert-after : (b : Links) (e k j : ℕ) (xs zs : List ℕ) → Belongs made (b .words) e j → Out j (xs ++ k ∷ zs) → OnEdge made b e (xs ++ k ∷ zs) → OnEdge made (inserted b e (suc k) j) e (xs ++ k ∷ j ∷ zs)
+  unfolding inserted withLink linkAt Path Out AllBelong
+  insert-after b e k j xs zs g out o =
+      let w = b .words in
+      let l = headOf (b .edges) e in
+      let v = nextOf w k in
+      let f = front-out w l xs k zs (o .path) in
+      let oj = out-append j xs (k ∷ zs) out in
+      let m = all-append w e xs (k ∷ zs) (o .belong) in
+      let bound : 4 * k + 4 ≤ length (set w (4 * j + 3) v) = simp length-set (m .1 .0 .there) in
+      let rest : Path (set w (4 * j + 3) v) (suc j) (j ∷ zs) =
+      (refl, rw (getD-set-same w (4 * j + 3) v 0 (omega (arith, g .there))) (path-set w v zs j v (oj .1 .1) (path-drop w l xs k zs (o .path)))) in
+      let all : AllBelong made w e (xs ++ k ∷ j ∷ zs) = all-join w e xs (k ∷ j ∷ zs) (m .0) (m .1 .0, (g, m .1 .1)) in
+      record {
+        path = splice (set w (4 * j + 3) v) l xs k (j ∷ zs) (suc j) bound (f .0) (λ z. oj .1 .0 (sym z), f .1) (front-set w l xs k j v (oj .0) (front-of w l xs k zs (o .path))) rest;
+        belong = all-set (set w (4 * j + 3) v) e (xs ++ k ∷ j ∷ zs) k (suc j) (all-set w e (xs ++ k ∷ j ∷ zs) j v all);
+      }
+
+  -- ---- the run ys is taken out
+  unlink-all : (is w : List ℕ) (e : ℕ) (ys : List ℕ) → AllBelong made w e is → AllBelong made (unlinked w ys) e is
+  unfolding unlinked
+  unlink-all is w e [] h = h
+  unlink-all is w e (y ∷ ys) h = unlink-all is (set w (4 * y + 3) 0) e ys (all-set w e is y 0 h)
+
+  pub remove-head : (n : ℕ) (b : Links) (e : ℕ) (ys zs : List ℕ) → length ys ≤ n → 6 * e + 6 ≤ length (b .edges) → OnEdge made b e (ys ++ zs) → OnEdge made (removed n b e 0 (firstLink zs)) e zs
+  unfolding removed withLink linkAt
+  remove-head n b e ys zs h r o =
+      let w = b .words in
+      let l = headOf (b .edges) e in
+      let c : cleared n w l (firstLink zs) ≡ unlinked w ys = clear-is n w l ys zs h (o .path) in
+      rw c
+      (record {
+        path = rw (getD-set-same (b .edges) (6 * e + 4) (firstLink zs) 0 (omega arith)) (unlink-path zs w (firstLink zs) ys (apart-rest w l ys zs (o .path)) (path-after w l ys zs (o .path)));
+        belong = unlink-all zs w e ys (all-append w e ys zs (o .belong) .1);
+      })
+
+  pub remove-after : (n : ℕ) (b : Links) (e k : ℕ) (xs ys zs : List ℕ) → length ys ≤ n → OnEdge made b e (xs ++ k ∷ (ys ++ zs)) → OnEdge made (removed n b e (suc k) (firstLink zs)) e (xs ++ k ∷ zs)
+  unfolding removed withLink linkAt AllBelong
+  remove-after n b e k xs ys zs h o =
+      let w = b .words in
+      let l = headOf (b .edges) e in
+      let p : Path w l (xs ++ k ∷ (ys ++ zs)) = o .path in
+      let q : Path w (nextOf w k) (ys ++ zs) = path-drop w l xs k (ys ++ zs) p in
+      let f = front-out w l xs k (ys ++ zs) p in
+      let m = all-append w e xs (k ∷ (ys ++ zs)) (o .belong) in
+      let a : Apart ys (xs ++ (k ∷ [])) = apart-front w l (xs ++ (k ∷ [])) ys zs (rw append-assoc p) in
+      let bound : 4 * k + 4 ≤ length (unlinked w ys) = rw (length-unlinked w ys) (m .1 .0 .there) in
+      let all : AllBelong made w e (xs ++ k ∷ zs) = all-join w e xs (k ∷ zs) (m .0) (m .1 .0, all-append w e ys zs (m .1 .1) .1) in
+      let c : cleared n w (nextOf w k) (firstLink zs) ≡ unlinked w ys = clear-is n w (nextOf w k) ys zs h q in
+      rw c
+      (record {
+        path = splice (unlinked w ys) l xs k zs (firstLink zs) bound (f .0) (out-append k ys zs (f .1) .1)
+            (unlink-front xs w l k ys (apart-less xs (k ∷ []) ys a) (front-of w l xs k (ys ++ zs) p))
+            (unlink-path zs w (firstLink zs) ys (apart-rest w (nextOf w k) ys zs q) (path-after w (nextOf w k) ys zs q));
+        belong = all-set (unlinked w ys) e (xs ++ k ∷ zs) k (firstLink zs) (unlink-all (xs ++ k ∷ zs) w e ys all);
+      })
+
+  -- and the other chains stay
+  unlink-frame : (b : Links) (e e′ : ℕ) (is ys : List ℕ) → e ≢ e′ → AllBelong made (b .words) e ys → OnEdge made b e′ is → OnEdge made (links (b .edges) (unlinked (b .words) ys)) e′ is
+  unfolding unlinked AllBelong
+  unlink-frame b e e′ is [] ne h o = o
+  unlink-frame b e e′ is (y ∷ ys) ne h o =
+      unlink-frame (links (b .edges) (set (b .words) (4 * y + 3) 0)) e e′ is ys ne (all-set (b .words) e ys y 0 (h .1)) (set-frame b e e′ ne is y 0 (h .0) o)
+
+  before-unlinked : (w : List ℕ) (e k : ℕ) (ys : List ℕ) → Before made w e k → Before made (unlinked w ys) e k
+  unfolding unlinked
+  before-unlinked w e k [] h = h
+  before-unlinked w e k (y ∷ ys) h = before-unlinked (set w (4 * y + 3) 0) e k ys (before-set w e k y 0 h)
+
+  pub remove-frame : (n : ℕ) (b : Links) (e e′ k : ℕ) (ys zs is : List ℕ) → e ≢ e′ → Before made (b .words) e k → length ys ≤ n
+      → Path (b .words) (linkAt b e k) (ys ++ zs) → AllBelong made (b .words) e ys → OnEdge made b e′ is → OnEdge made (removed n b e k (firstLink zs)) e′ is
+  unfolding removed
+  remove-frame n b e e′ k ys zs is ne h m p g o =
+      let w = b .words in
+      let c : cleared n w (linkAt b e k) (firstLink zs) ≡ unlinked w ys = clear-is n w (linkAt b e k) ys zs m p in
+      rw c
+      (with-frame (links (b .edges) (unlinked w ys)) e e′ ne is k (firstLink zs) (before-unlinked w e k ys h) (unlink-frame b e e′ is ys ne g o))
+
+  -- ---- a run is replaced by one window: a removal, then an insertion
+  pub belongs-removed : (n : ℕ) (b : Links) (e k stop e′ i : ℕ) → Belongs made (b .words) e′ i → Belongs made (removed n b e k stop .words) e′ i
+  belongs-removed n b e k stop e′ i =
+      let r = removed-links b e k n stop in
+      belongs-same (b .words) (removed n b e k stop .words) e′ i (r .same-length) (r .fields i 0 (omega arith))
+
+  before-removed : (n : ℕ) (b : Links) (e k stop e′ l : ℕ) → Before made (b .words) e′ l → Before made (removed n b e k stop .words) e′ l
+  unfolding Before
+  before-removed n b e k stop e′ zero h = tt
+  before-removed n b e k stop e′ (suc l) h = belongs-removed n b e k stop e′ l h
+
+  pub replace-head : (n : ℕ) (b : Links) (e j : ℕ) (ys zs : List ℕ) → length ys ≤ n → 6 * e + 6 ≤ length (b .edges) → Belongs made (b .words) e j → Out j zs
+      → OnEdge made b e (ys ++ zs) → OnEdge made (inserted (removed n b e 0 (firstLink zs)) e 0 j) e (j ∷ zs)
+  replace-head n b e j ys zs h r g out o =
+      insert-head (removed n b e 0 (firstLink zs)) e j zs (unfold removed withLink in simp length-set r) (belongs-removed n b e 0 (firstLink zs) e j g) out (remove-head n b e ys zs h r o)
+
+  pub replace-after : (n : ℕ) (b : Links) (e k j : ℕ) (xs ys zs : List ℕ) → length ys ≤ n → Belongs made (b .words) e j → Out j (xs ++ k ∷ zs)
+      → OnEdge made b e (xs ++ k ∷ (ys ++ zs)) → OnEdge made (inserted (removed n b e (suc k) (firstLink zs)) e (suc k) j) e (xs ++ k ∷ j ∷ zs)
+  replace-after n b e k j xs ys zs h g out o =
+      insert-after (removed n b e (suc k) (firstLink zs)) e k j xs zs (belongs-removed n b e (suc k) (firstLink zs) e j g) out (remove-after n b e k xs ys zs h o)
+
+  -- ---- all chains at once: one becomes another list, and the others stay
+  pub chains-after : (m : ℕ) (b b′ : Links) (on : ℕ → List ℕ) (e : ℕ) (new : List ℕ) → Chains made m b on → OnEdge made b′ e new
+      → ((e′ : ℕ) (is : List ℕ) → e ≢ e′ → OnEdge made b e′ is → OnEdge made b′ e′ is) → Chains made m b′ (λ x. cond (eqb e x) new (on x))
+  chains-after m b b′ on e new h o f x l = go (ℕ-discrete e x) where
+    go : Dec (e ≡ x) → OnEdge made b′ x (cond (eqb e x) new (on x))
+    go (yes d) = rw (eq-eqb e x d) (subst (λ y. OnEdge made b′ y new) d o)
+    go (no d) = rw (ne-eqb e x d) (f x (on x) d (h x l))
+
+  -- two chains that share a window are of one edge
+  pub never-meet : (b : Links) (e e′ i : ℕ) (xs ys xs′ ys′ : List ℕ) → OnEdge made b e (xs ++ i ∷ ys) → OnEdge made b e′ (xs′ ++ i ∷ ys′) → e ≡ e′
+  unfolding AllBelong
+  never-meet b e e′ i xs ys xs′ ys′ o o′ =
+      sym (all-append (b .words) e xs (i ∷ ys) (o .belong) .1 .0 .edge) ∙ all-append (b .words) e′ xs′ (i ∷ ys′) (o′ .belong) .1 .0 .edge
+
+  -- and the other chains stay
+  pub replace-frame : (n : ℕ) (b : Links) (e e′ k j : ℕ) (ys zs is : List ℕ) → e ≢ e′ → Before made (b .words) e k → Belongs made (b .words) e j → length ys ≤ n
+      → Path (b .words) (linkAt b e k) (ys ++ zs) → AllBelong made (b .words) e ys → OnEdge made b e′ is → OnEdge made (inserted (removed n b e k (firstLink zs)) e k j) e′ is
+  replace-frame n b e e′ k j ys zs is ne h g m p a o =
+      let v = firstLink zs in
+      insert-frame (removed n b e k v) e e′ k j is ne (before-removed n b e k v e k h) (belongs-removed n b e k v e j g) (remove-frame n b e e′ k ys zs is ne h m p a o)
+
+  -- ---- at first there is no window
+  pub no-windows : (m : ℕ) (b : Links) → ((e : ℕ) → e < m → headOf (b .edges) e ≡ 0) → Chains made m b (λ e. [])
+  unfolding Path AllBelong
+  no-windows m b h e l = record { path = h e l; belong = tt }
+
+  pub zeroed-heads : (m n : ℕ) (w : List ℕ) → Chains made m (links (replicate n 0) w) (λ e. [])
+  zeroed-heads m n w = no-windows m (links (replicate n 0) w) (λ e l. zeros n (6 * e + 4))
+
+  -- ---- a chain depends on nothing but its head, the edges and links of its windows, and the length
+  pub chain-same : (b b′ : Links) (e : ℕ) (is : List ℕ) → headOf (b′ .edges) e ≡ headOf (b .edges) e → length (b′ .words) ≡ length (b .words)
+      → Each (Agrees (b .words) (b′ .words)) is → OnEdge made b e is → OnEdge made b′ e is
+  chain-same b b′ e is h n a o =
+      let w = b .words in
+      let w′ = b′ .words in
+      record {
+        path = rw h (path-same w w′ (headOf (b .edges) e) is (each-map (Agrees w w′) (λ i. nextOf w′ i ≡ nextOf w i) is (λ i g. g .next) a) (o .path));
+        belong = all-same w w′ e is n (each-map (Agrees w w′) (λ i. edgeOf w′ i ≡ edgeOf w i) is (λ i g. g .edge) a) (o .belong);
+      }
+
+  -- a store of flags; a store of a trimmed range leaves the words alone
+  pub flags-frame : (b : Links) (k : ℕ) (alive queued : Bool) (e : ℕ) (is : List ℕ) → OnEdge made b e is → OnEdge made (links (b .edges) (flagsWith (b .words) k alive queued)) e is
+  flags-frame b k alive queued e is =
+      let w = b .words in
+      let w′ = flagsWith w k alive queued in
+      chain-same b (links (b .edges) w′) e is refl (length-flags w k alive queued) (each (Agrees w w′) is (flags-agree w k alive queued))
+
+  -- ---- a window is made: the next number is on no chain, so the chains stay, and the new window is its edge's
+  pub new-out : (w : List ℕ) (e : ℕ) (is : List ℕ) → AllBelong made w e is → Out made is
+  unfolding AllBelong Out
+  new-out w e [] h = tt
+  new-out w e (i ∷ is) h = (λ z. omega (arith, z, h .0 .made), new-out w e is (h .1))
+
+  pub all-grown : (w : List ℕ) (e : ℕ) (is : List ℕ) → AllBelong made w e is → AllBelong (suc made) w e is
+  unfolding AllBelong
+  all-grown w e [] h = tt
+  all-grown w e (i ∷ is) h = (record { edge = h .0 .edge; made = omega (arith, h .0 .made); there = h .0 .there }, all-grown w e is (h .1))
+
+  pub store-frame : (b : Links) (x : WindowRecord) (e : ℕ) (is : List ℕ) → OnEdge made b e is → OnEdge (suc made) (links (b .edges) (wordsWith (b .words) made x)) e is
+  store-frame b x e is o =
+      let w = b .words in
+      let w′ = wordsWith w made x in
+      let other : (i : ℕ) → made ≢ i → Agrees w w′ i = λ i ne. slot-agrees w w′ i (stored-other w made x i ne) in
+      let kept : OnEdge made (links (b .edges) w′) e is = chain-same b (links (b .edges) w′) e is refl (length-stored w made x) (each-other (Agrees w w′) made is other (new-out w e is (o .belong))) o in
+      record { path = kept .path; belong = all-grown w′ e is (kept .belong) }
+
+  pub stored-belongs : (w : List ℕ) (x : WindowRecord) → 4 * made + 4 ≤ length w → Belongs (suc made) (wordsWith w made x) (x .edge .0) made
+  stored-belongs w x h = record { edge = stored-edge w made x h; made = omega arith; there = rw (length-stored w made x) h }
+
+  -- ---- a window that was taken out has no link
+  pub removed-none : (n : ℕ) (b : Links) (e k i : ℕ) (us vs zs : List ℕ) → length (us ++ i ∷ vs) ≤ n → Path (b .words) (linkAt b e k) ((us ++ i ∷ vs) ++ zs)
+      → k ≢ suc i → 4 * i + 4 ≤ length (b .words) → nextOf (removed n b e k (firstLink zs) .words) i ≡ 0
+  unfolding removed withLink
+  removed-none n b e zero i us vs zs m p ne h = rw (clear-is n (b .words) (linkAt b e 0) (us ++ i ∷ vs) zs m p) (unlinked-none (b .words) us i vs h)
+  removed-none n b e (suc k) i us vs zs m p ne h =
+      let w = unlinked (b .words) (us ++ i ∷ vs) in
+      rw (clear-is n (b .words) (linkAt b e (suc k)) (us ++ i ∷ vs) zs m p)
+      (other-slot 4 w k i 3 3 (firstLink zs) 0 (λ z. ne (ap suc z)) (omega arith) (omega arith) ∙ unlinked-none (b .words) us i vs h)

@@ -65,35 +65,41 @@ unfoldable pub Path : List ℕ → ℕ → List ℕ → Type 0
 Path w l [] = l ≡ 0
 Path w l (i ∷ is) = (l ≡ suc i) × Path w (nextOf w i) is
 
+-- P holds of each of the list
+unfoldable pub Each : (ℕ → Type 0) → List ℕ → Type 0
+Each P [] = Unit {0}
+Each P (i ∷ is) = P i × Each P is
+
 -- i is none of the list
 unfoldable pub Out : ℕ → List ℕ → Type 0
 Out i [] = Unit {0}
 Out i (j ∷ js) = (i ≢ j) × Out i js
 
--- a window of edge e whose slot is there
-pub record Belongs (w : List ℕ) (e i : ℕ) : Type 0 where
+-- one of the first n windows, of edge e, whose slot is there; n is the number of windows made, at most what the buffer counts for
+pub record Belongs (n : ℕ) (w : List ℕ) (e i : ℕ) : Type 0 where
   pub edge : edgeOf w i ≡ e
+  pub made : i < n
   pub there : 4 * i + 4 ≤ length w
 
-unfoldable pub AllBelong : List ℕ → ℕ → List ℕ → Type 0
-AllBelong w e [] = Unit {0}
-AllBelong w e (i ∷ is) = Belongs w e i × AllBelong w e is
+unfoldable pub AllBelong : ℕ → List ℕ → ℕ → List ℕ → Type 0
+AllBelong n w e [] = Unit {0}
+AllBelong n w e (i ∷ is) = Belongs n w e i × AllBelong n w e is
 
 -- `before` is none, or a window of edge e
-unfoldable pub Before : List ℕ → ℕ → ℕ → Type 0
-Before w e zero = Unit {0}
-Before w e (suc k) = Belongs w e k
+unfoldable pub Before : ℕ → List ℕ → ℕ → ℕ → Type 0
+Before n w e zero = Unit {0}
+Before n w e (suc k) = Belongs n w e k
 
 -- the link of the first window of a list
 unfoldable pub firstLink : List ℕ → ℕ
 firstLink [] = 0
 firstLink (i ∷ is) = suc i
 
--- the chain of edge e is the list, and its windows are that edge's
-pub record OnEdge (b : Links) (e : ℕ) (is : List ℕ) : Type 0 where
+-- the chain of edge e is the list, and its windows are that edge's, of the first n
+pub record OnEdge (n : ℕ) (b : Links) (e : ℕ) (is : List ℕ) : Type 0 where
   pub path : Path (b .words) (headOf (b .edges) e) is
-  pub belong : AllBelong (b .words) e is
+  pub belong : AllBelong n (b .words) e is
 
--- the invariant: the chains of all m edges are the lists of `on`
-abbrev pub Chains : ℕ → Links → (ℕ → List ℕ) → Type 0
-Chains m b on = (e : ℕ) → e < m → OnEdge b e (on e)
+-- the invariant: the chains of all m edges are the lists of `on`, of the first n windows
+abbrev pub Chains : ℕ → ℕ → Links → (ℕ → List ℕ) → Type 0
+Chains n m b on = (e : ℕ) → e < m → OnEdge n b e (on e)

@@ -6,6 +6,7 @@ use buffers::write_u32;
 ghost use mathlib.Core.Path.{_≡_};
 ghost use Prim.Native.Nat.{_+_, _-_, _<_};
 ghost use lib.ListN.{length};
+ghost use Rattle.buffers.specs.Slots.{slotsOf};
 ghost use Rattle.chains.specs.Chains.{links, chain, linkAt, withLink, inserted, cleared, removed};
 ghost use Rattle.chains.specs.Chains.{walk as Chains·walk};
 
@@ -52,6 +53,7 @@ pub fn link_at(edges: &[u32], words: &[u32], e: EdgeId, before: u32) -> u32
 }
 
 pub fn set_link(edges: &mut [u32], words: &mut [u32], e: EdgeId, before: u32, link: u32)
+    requires { ⌜ e .0 < slotsOf (length (now edges)) 6 ⌝ }
     ensures { λ r. ⌜ links (now (edges .exit)) (now (words .exit)) ≡ withLink (links (now (edges .entry)) (now (words .entry))) (e .0) before link ⌝ }
 {
     if before == 0 {
@@ -63,7 +65,7 @@ pub fn set_link(edges: &mut [u32], words: &mut [u32], e: EdgeId, before: u32, li
 
 // A window is put after `before`, or at the head where that is 0.
 pub fn insert(edges: &mut [u32], words: &mut [u32], e: EdgeId, before: u32, id: WindowId)
-    requires { ⌜ id .0 < 4294967295 ⌝ }
+    requires { ⌜ (e .0 < slotsOf (length (now edges)) 6) × (id .0 < slotsOf (length (now words)) 4) ⌝ }
     ensures { λ r. ⌜ links (now (edges .exit)) (now (words .exit)) ≡ inserted (links (now (edges .entry)) (now (words .entry))) (e .0) before (id .0) ⌝ }
 {
     let next = link_at(edges, words, e, before);
@@ -91,7 +93,7 @@ pub fn clear_run(words: &mut [u32], link: u32, stop: u32, limit: u32)
     }
 }
 
-// The run after `before` and up to `stop` is taken out, at most `limit` windows.
+// The run after `before` and up to `stop` is taken out. `limit` bounds only the clearing of its links: it is to be the run's length or more.
 pub fn remove_run(
     edges: &mut [u32],
     words: &mut [u32],
@@ -100,6 +102,7 @@ pub fn remove_run(
     stop: u32,
     limit: u32,
 )
+    requires { ⌜ e .0 < slotsOf (length (now edges)) 6 ⌝ }
     ensures { λ r. ⌜ links (now (edges .exit)) (now (words .exit)) ≡ removed limit (links (now (edges .entry)) (now (words .entry))) (e .0) before stop ⌝ }
 {
     let first = link_at(edges, words, e, before);
@@ -117,7 +120,7 @@ pub fn replace_run(
     limit: u32,
     id: WindowId,
 )
-    requires { ⌜ id .0 < 4294967295 ⌝ }
+    requires { ⌜ (e .0 < slotsOf (length (now edges)) 6) × (id .0 < slotsOf (length (now words)) 4) ⌝ }
     ensures { λ r. ⌜ links (now (edges .exit)) (now (words .exit)) ≡ inserted (removed limit (links (now (edges .entry)) (now (words .entry))) (e .0) before stop) (e .0) before (id .0) ⌝ }
 {
     remove_run(edges, words, e, before, stop, limit);

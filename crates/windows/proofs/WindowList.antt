@@ -10,7 +10,7 @@ use lib.ListN.{length, getD, set, length-append}
 use lib.Seq.{set-at, set-append-left}
 use lib.Ieee.{Float, nan}
 use Rattle.buffers.specs.Slots.{slot}
-use Rattle.buffers.proofs.Strides.{in-slots, slot-at, slot-set-same, slot-set-other, length-slot, fill-sets, fill-same, fill-other}
+use Rattle.buffers.proofs.Strides.{in-slots, slot-at, slot-set-same, slot-set-other, length-slot, length-fill, fill-sets, fill-same, fill-other}
 use Rattle.windows.specs.declared.WindowRecord.{WindowRecord}
 use Rattle.source.specs.declared.Src.{Src}
 use Rattle.source.specs.declared.Src.the-variants.{Point, Line}
@@ -112,6 +112,20 @@ decoded true false true = (refl, (refl, refl))
 decoded true true false = (refl, (refl, refl))
 decoded true true true = (refl, (refl, refl))
 
+-- ---- the words after a store
+module _ (w : List ℕ) (k : ℕ) (x : WindowRecord) where
+  pub length-stored : length (wordsWith w k x) ≡ length w
+  unfolding wordsWith
+  length-stored = length-fill 4 _ w k 0
+
+  pub stored-other : (j : ℕ) → k ≢ j → slot 4 (wordsWith w k x) j ≡ slot 4 w j
+  unfolding wordsWith
+  stored-other j ne = fill-other 4 _ w k j 0 ne (omega arith)
+
+  pub stored-edge : 4 * k + 4 ≤ length w → getD (wordsWith w k x) (4 * k + 0) 0 ≡ x .edge .0
+  unfolding wordsWith
+  stored-edge h = sym (slot-at 4 (wordsWith w k x) k 0 0 (omega arith)) ∙ ap (λ s. getD s 0 0) (fill-same 4 w k _ refl h)
+
 -- ---- a load after a store
 module _ (w : List ℕ) (f : List Float) (k : ℕ) (x : WindowRecord) where
   pub load-same : 4 * k + 4 ≤ length w → 6 * k + 6 ≤ length f → windowAt (wordsWith w k x) (realsWith f k (x .win)) k ≡ x
@@ -137,7 +151,7 @@ module _ (w : List ℕ) (f : List Float) (k : ℕ) (x : WindowRecord) where
   unfolding wordsWith realsWith
   load-other j ne =
       by-slots (wordsWith w k x) (realsWith f k (x .win)) j
-      ∙ ap (λ s. decode s (slot 6 (realsWith f k (x .win)) j)) (fill-other 4 _ w k j 0 ne (omega arith))
+      ∙ ap (λ s. decode s (slot 6 (realsWith f k (x .win)) j)) (stored-other w k x j ne)
       ∙ ap (decode (slot 4 w j)) (fill-other 6 _ f k j 0 ne (rw (length-realsOf (x .win .src)) (omega arith)))
       ∙ sym (by-slots w f j)
 

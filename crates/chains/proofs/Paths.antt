@@ -1,0 +1,208 @@
+-- Paths of links. A path ends, so no window comes twice on it; a link of a window that is not on it can change freely
+-- (`path-set`), pointing the link after a front at another path exchanges the rest (`splice`), and a run that is taken out loses its links (`unlinked`).
+use Prim.Native.Nat.{ℕ, zero, suc, _+_, _*_, _≤_}
+use native.Mathlib.Omega.{arith}
+use native.Mathlib.Decide.{ℕ-discrete, decLe}
+use mathlib.Core.Path.{_≡_, refl, sym, ap, subst, _∙_}
+use mathlib.Core.List.{List, [], _∷_, _++_, append-assoc}
+use mathlib.Core.Logic.{_≢_}
+use borrow.Author.Tests.{ne-eqb}
+use lib.ListN.{set, length, length-set, length-append}
+use lib.Seq.{getD-set-same, set-out}
+use Rattle.chains.proofs.Turns.{cleared-stop}
+use Rattle.buffers.proofs.Strides.{other-slot}
+use Rattle.chains.specs.Chains.{nextOf, chain, walk, cleared, Each, Path, Out, firstLink}
+
+-- ---- a path
+-- with limit enough, a path is what `chain` finds
+pub path-chain : (n : ℕ) (w : List ℕ) (l : ℕ) (is : List ℕ) → length is ≤ n → Path w l is → chain n w l ≡ is
+unfolding chain Path
+path-chain zero w l [] h p = refl
+path-chain (suc n) w l [] h p = rw p refl
+path-chain zero w l (i ∷ is) h p = absurd (omega arith)
+path-chain (suc n) w l (i ∷ is) h p = ap (chain (suc n) w) (p .0) ∙ ap (λ t. i ∷ t) (path-chain n w (nextOf w i) is (omega arith) (p .1))
+
+-- the window at place k of the list is where k steps lead
+pub path-walk : (w : List ℕ) (l : ℕ) (is : List ℕ) (i : ℕ) (js : List ℕ) → Path w l (is ++ i ∷ js) → walk (length is) w l ≡ suc i
+unfolding walk Path
+path-walk w l [] i js p = p .0
+path-walk w l (x ∷ is) i js p = ap (walk (suc (length is)) w) (p .0) ∙ path-walk w (nextOf w x) is i js (p .1)
+
+suc-same : {i j : ℕ} → suc i ≡ suc j → i ≡ j
+suc-same e = omega arith
+
+-- from a link there is one path
+pub path-unique : (w : List ℕ) (l : ℕ) (is js : List ℕ) → Path w l is → Path w l js → is ≡ js
+unfolding Path
+path-unique w l [] [] p q = refl
+path-unique w l [] (j ∷ js) p q = absurd (omega (arith, p, q .0))
+path-unique w l (i ∷ is) [] p q = absurd (omega (arith, p .0, q))
+path-unique w l (i ∷ is) (j ∷ js) p q =
+    let e : i ≡ j = omega (arith, p .0, q .0) in
+    ap (λ k. k ∷ is) e ∙ ap (λ t. j ∷ t) (path-unique w (nextOf w j) is js (subst (λ k. Path w (nextOf w k) is) e (p .1)) (q .1))
+
+pub path-drop : (w : List ℕ) (l : ℕ) (xs : List ℕ) (i : ℕ) (zs : List ℕ) → Path w l (xs ++ i ∷ zs) → Path w (nextOf w i) zs
+unfolding Path
+path-drop w l [] i zs p = p .1
+path-drop w l (x ∷ xs) i zs p = path-drop w (nextOf w x) xs i zs (p .1)
+
+out-of : (i : ℕ) (ys : List ℕ) → ((xs zs : List ℕ) → ys ≡ xs ++ i ∷ zs → ⊥) → Out i ys
+unfolding Out
+out-of i [] f = tt
+out-of i (y ∷ ys) f = (λ e. f [] ys (ap (λ k. k ∷ ys) (sym e)), out-of i ys (λ xs zs e. f (y ∷ xs) zs (ap (λ t. y ∷ t) e)))
+
+-- so no window comes twice
+pub path-once : (w : List ℕ) (l i : ℕ) (ys : List ℕ) → Path w l (i ∷ ys) → Out i ys
+unfolding Path
+path-once w l i ys p = out-of i ys go where
+  go : (xs zs : List ℕ) → ys ≡ xs ++ i ∷ zs → ⊥
+  go xs zs e =
+      let q : Path w (nextOf w i) zs = path-drop w (nextOf w i) xs i zs (subst (Path w (nextOf w i)) e (p .1)) in
+      let n : length ys ≡ length zs = ap length (path-unique w (nextOf w i) ys zs (p .1) q) in
+      omega (arith, n, ap length e ∙ length-append xs (i ∷ zs))
+
+-- ---- lists without a window
+pub out-append : (i : ℕ) (xs ys : List ℕ) → Out i (xs ++ ys) → Out i xs × Out i ys
+unfolding Out
+out-append i [] ys o = (tt, o)
+out-append i (x ∷ xs) ys o = ((o .0, out-append i xs ys (o .1) .0), out-append i xs ys (o .1) .1)
+
+-- on a path each window of the front is none of what follows
+pub front-out : (w : List ℕ) (l : ℕ) (xs : List ℕ) (k : ℕ) (zs : List ℕ) → Path w l (xs ++ k ∷ zs) → Out k xs × Out k zs
+unfolding Path Out
+front-out w l [] k zs p = (tt, path-once w l k zs p)
+front-out w l (x ∷ xs) k zs p =
+    let o = out-append x xs (k ∷ zs) (path-once w l x (xs ++ k ∷ zs) p) in
+    let r = front-out w (nextOf w x) xs k zs (p .1) in
+    ((λ e. o .1 .0 (sym e), r .0), r .1)
+
+-- ---- a link changes
+-- what holds of every window but k holds of each window of a list without it
+pub each-other : (P : ℕ → Type 0) (k : ℕ) (is : List ℕ) → ((i : ℕ) → k ≢ i → P i) → Out k is → Each P is
+unfolding Each Out
+each-other P k [] f o = tt
+each-other P k (i ∷ is) f o = (f i (o .0), each-other P k is f (o .1))
+
+-- a path depends on nothing but the links of its windows
+pub path-same : (w w′ : List ℕ) (l : ℕ) (is : List ℕ) → Each (λ i. nextOf w′ i ≡ nextOf w i) is → Path w l is → Path w′ l is
+unfolding Path Each
+path-same w w′ l [] h p = p
+path-same w w′ l (i ∷ is) h p = (p .0, rw (h .0) (path-same w w′ (nextOf w i) is (h .1) (p .1)))
+
+pub path-set : (w : List ℕ) (l : ℕ) (is : List ℕ) (k v : ℕ) → Out k is → Path w l is → Path (set w (4 * k + 3) v) l is
+path-set w l is k v o =
+    path-same w (set w (4 * k + 3) v) l is
+    (each-other (λ i. nextOf (set w (4 * k + 3) v) i ≡ nextOf w i) k is (λ i ne. other-slot 4 w k i 3 3 v 0 ne (omega arith) (omega arith)) o)
+
+-- from link l on the windows xs are passed, and the next is k
+unfoldable pub Front : List ℕ → ℕ → List ℕ → ℕ → Type 0
+Front w l [] k = l ≡ suc k
+Front w l (x ∷ xs) k = (l ≡ suc x) × Front w (nextOf w x) xs k
+
+pub front-of : (w : List ℕ) (l : ℕ) (xs : List ℕ) (k : ℕ) (zs : List ℕ) → Path w l (xs ++ k ∷ zs) → Front w l xs k
+unfolding Path Front
+front-of w l [] k zs p = p .0
+front-of w l (x ∷ xs) k zs p = (p .0, front-of w (nextOf w x) xs k zs (p .1))
+
+pub front-set : (w : List ℕ) (l : ℕ) (xs : List ℕ) (k i v : ℕ) → Out i xs → Front w l xs k → Front (set w (4 * i + 3) v) l xs k
+unfolding Front Out
+front-set w l [] k i v o p = p
+front-set w l (x ∷ xs) k i v o p =
+    (p .0, rw (other-slot 4 w i x 3 3 v 0 (o .0) (omega arith) (omega arith)) (front-set w (nextOf w x) xs k i v (o .1) (p .1)))
+
+-- the link of k points at the path vs
+pub splice : (w : List ℕ) (l : ℕ) (xs : List ℕ) (k : ℕ) (vs : List ℕ) (v : ℕ) → 4 * k + 4 ≤ length w → Out k xs → Out k vs
+    → Front w l xs k → Path w v vs → Path (set w (4 * k + 3) v) l (xs ++ k ∷ vs)
+unfolding Path Out Front
+splice w l [] k vs v b ox ov p q = (p, rw (getD-set-same w (4 * k + 3) v 0 (omega arith)) (path-set w v vs k v ov q))
+splice w l (x ∷ xs) k vs v b ox ov p q =
+    (p .0, rw (other-slot 4 w k x 3 3 v 0 (ox .0) (omega arith) (omega arith)) (splice w (nextOf w x) xs k vs v b (ox .1) ov (p .1) q))
+
+-- ---- a removal: the windows of the run lose their links
+unfoldable pub unlinked : List ℕ → List ℕ → List ℕ
+unlinked w [] = w
+unlinked w (i ∷ is) = unlinked (set w (4 * i + 3) 0) is
+
+pub first-out : (i : ℕ) (zs : List ℕ) → Out i zs → suc i ≢ firstLink zs
+unfolding firstLink Out
+first-out i [] o e = omega (arith, e)
+first-out i (z ∷ zs) o e = o .0 (suc-same e)
+
+pub path-first : (w : List ℕ) (l : ℕ) (zs : List ℕ) → Path w l zs → l ≡ firstLink zs
+unfolding firstLink Path
+path-first w l [] p = p
+path-first w l (z ∷ zs) p = p .0
+
+pub clear-is : (n : ℕ) (w : List ℕ) (l : ℕ) (ys zs : List ℕ) → length ys ≤ n → Path w l (ys ++ zs) → cleared n w l (firstLink zs) ≡ unlinked w ys
+unfolding unlinked cleared Path
+clear-is n w l [] zs h p = sym (cleared-stop n w l (firstLink zs) (path-first w l zs p))
+clear-is zero w l (i ∷ ys) zs h p = absurd (omega arith)
+clear-is (suc n) w l (i ∷ ys) zs h p =
+    let out = path-once w l i (ys ++ zs) p in
+    ap (λ k. cleared (suc n) w k (firstLink zs)) (p .0)
+    ∙ rw (ne-eqb (suc i) (firstLink zs) (first-out i zs (out-append i ys zs out .1)))
+    (clear-is n (set w (4 * i + 3) 0) (nextOf w i) ys zs (omega arith) (path-set w (nextOf w i) (ys ++ zs) i 0 out (p .1)))
+
+pub path-after : (w : List ℕ) (l : ℕ) (ys zs : List ℕ) → Path w l (ys ++ zs) → Path w (firstLink zs) zs
+unfolding Path
+path-after w l [] zs p = subst (λ k. Path w k zs) (path-first w l zs p) p
+path-after w l (y ∷ ys) zs p = path-after w (nextOf w y) ys zs (p .1)
+
+-- each of ys is none of the list
+unfoldable pub Apart : List ℕ → List ℕ → Type 0
+unfolding Out
+Apart [] is = Unit {0}
+Apart (y ∷ ys) is = Out y is × Apart ys is
+
+module _ (is : List ℕ) where
+  pub unlink-path : (w : List ℕ) (l : ℕ) (ys : List ℕ) → Apart ys is → Path w l is → Path (unlinked w ys) l is
+  unfolding Apart unlinked
+  unlink-path w l [] a p = p
+  unlink-path w l (y ∷ ys) a p = unlink-path (set w (4 * y + 3) 0) l ys (a .1) (path-set w l is y 0 (a .0) p)
+
+  pub unlink-front : (w : List ℕ) (l k : ℕ) (ys : List ℕ) → Apart ys is → Front w l is k → Front (unlinked w ys) l is k
+  unfolding Apart unlinked
+  unlink-front w l k [] a p = p
+  unlink-front w l k (y ∷ ys) a p = unlink-front (set w (4 * y + 3) 0) l k ys (a .1) (front-set w l is k y 0 (a .0) p)
+
+pub length-unlinked : (w ys : List ℕ) → length (unlinked w ys) ≡ length w
+unfolding unlinked
+length-unlinked w [] = refl
+length-unlinked w (y ∷ ys) = length-unlinked (set w (4 * y + 3) 0) ys ∙ simp length-set
+
+-- the windows that were taken out have no link
+none-stays : (w : List ℕ) (i j : ℕ) → nextOf w i ≡ 0 → nextOf (set w (4 * j + 3) 0) i ≡ 0
+none-stays w i j h = go (ℕ-discrete j i) (decLe (length w) (4 * j + 3)) where
+  go : Dec (j ≡ i) → Dec (length w ≤ 4 * j + 3) → nextOf (set w (4 * j + 3) 0) i ≡ 0
+  go (no d) s = other-slot 4 w j i 3 3 0 0 d (omega arith) (omega arith) ∙ h
+  go (yes d) (yes s) = rw (set-out w (4 * j + 3) 0 s) h
+  go (yes d) (no s) = rw (← d) (getD-set-same w (4 * j + 3) 0 0 (omega arith))
+
+none-kept : (w : List ℕ) (i : ℕ) (ys : List ℕ) → nextOf w i ≡ 0 → nextOf (unlinked w ys) i ≡ 0
+unfolding unlinked
+none-kept w i [] h = h
+none-kept w i (y ∷ ys) h = none-kept (set w (4 * y + 3) 0) i ys (none-stays w i y h)
+
+pub unlinked-none : (w xs : List ℕ) (i : ℕ) (ys : List ℕ) → 4 * i + 4 ≤ length w → nextOf (unlinked w (xs ++ i ∷ ys)) i ≡ 0
+unfolding unlinked
+unlinked-none w [] i ys h = none-kept (set w (4 * i + 3) 0) i ys (getD-set-same w (4 * i + 3) 0 0 (omega arith))
+unlinked-none w (x ∷ xs) i ys h = unlinked-none (set w (4 * x + 3) 0) xs i ys (simp length-set h)
+
+-- on a path, the windows of a run are none of what follows and none of the front
+pub apart-rest : (w : List ℕ) (l : ℕ) (ys zs : List ℕ) → Path w l (ys ++ zs) → Apart ys zs
+unfolding Path Apart
+apart-rest w l [] zs p = tt
+apart-rest w l (y ∷ ys) zs p = (out-append y ys zs (path-once w l y (ys ++ zs) p) .1, apart-rest w (nextOf w y) ys zs (p .1))
+
+pub apart-less : (xs vs ys : List ℕ) → Apart ys (xs ++ vs) → Apart ys xs
+unfolding Apart
+apart-less xs vs [] a = tt
+apart-less xs vs (y ∷ ys) a = (out-append y xs vs (a .0) .0, apart-less xs vs ys (a .1))
+
+pub apart-front : (w : List ℕ) (l : ℕ) (xs ys zs : List ℕ) → Path w l (xs ++ (ys ++ zs)) → Apart ys xs
+unfolding Apart
+apart-front w l xs [] zs p = tt
+apart-front w l xs (y ∷ ys) zs p = (
+  front-out w l xs y (ys ++ zs) p .0,
+  apart-less xs (y ∷ []) ys (apart-front w l (xs ++ (y ∷ [])) ys zs (rw append-assoc p)),
+)
