@@ -2,6 +2,7 @@
 use Prim.Native.Nat.{ℕ, zero, suc, _+_, _≤_, _<_}
 use mathlib.Core.Bool.{Bool, false}
 use mathlib.Core.Path.{_≡_}
+use mathlib.Core.Logic.{_⊎_}
 use mathlib.Core.List.{List, [], _∷_, _++_}
 use lib.ListN.{length, take, drop, getD}
 use lib.Ieee.{Float, nan, eq}
@@ -50,3 +51,8 @@ HoldsPairs (Entries m) buffer gs = (m + m ≤ length buffer) × (pairs m buffer 
 abbrev pub endsAt : ℕ → List Float → Float → Bool
 endsAt zero buffer x = false
 endsAt (suc m) buffer x = eq (getD buffer (suc (m + m)) nan) x
+
+-- the stretches stand in front of `out`; or the points or the stretches have more entries than their buffer (01's refusal 14)
+abbrev pub Answers : Listed → ℕ → List Float → List Float → List Interval → Type 0
+Answers Full room out pts gs = (room < length pts) ⊎ (length out < length gs + length gs)
+Answers (Entries m) room out pts gs = (length pts ≤ room) × ((m + m ≤ length out) × (pairs m out ≡ gs))
