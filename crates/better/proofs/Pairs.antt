@@ -1,6 +1,8 @@
 -- Intervals in a buffer, two numbers each. Assumes nothing.
---     joined-no, joined-yes     a stretch is one more, or part of the last
+--     joined-no      a stretch that does not continue the last is one more
 --     pairs-more, pairs-longer  what the buffer holds after it
+--     rest           what the loop over the points comes to from pts[k - 1] on; rest-start, rest-next, rest-end, rest-full
+--     answers        what `better` answers, from what its loop does
 use Prim.Native.Nat.{ℕ, zero, suc, _+_, _*_, _-_, _≤_, _<_}
 use native.Mathlib.Omega.{arith}
 use native.Mathlib.Numerals.{add-one}
@@ -124,11 +126,11 @@ module _ (p q : Src) where
       let b : length (take n pts) ≤ k = rw length-take (omega arith) in
       rw (drop-of-length-le (take n pts) b) (stretches-nil (getD pts (k - 1) nan) gs)
 
-  pub rest-full : (pts : List Float) (n k : ℕ) (gs : List Interval) (room : ℕ) → room < length gs + length gs → room < length (rest pts n k gs) + length (rest pts n k gs)
-  rest-full pts n k gs room h = omega (arith, stretches-more (getD pts (k - 1) nan) (drop k (take n pts)) gs)
+  pub rest-full : (pts : List Float) (n k : ℕ) (gs : List Interval) (size : ℕ) → size < length gs + length gs → size < length (rest pts n k gs) + length (rest pts n k gs)
+  rest-full pts n k gs size h = omega (arith, stretches-more (getD pts (k - 1) nan) (drop k (take n pts)) gs)
 
 -- the answer of the whole
-pub answers : (p q : Src) (lo hi : Float) (r : Listed) (room : ℕ) (out : List Float) → length (walkOf p q (ptsOf p q lo hi)) ≤ room → HoldsPairs r out (outOf p q (walkOf p q (ptsOf p q lo hi))) → Answers r room out (walkOf p q (ptsOf p q lo hi)) (betterOf p q lo hi)
+pub answers : (p q : Src) (lo hi : Float) (r : Listed) (size : ℕ) (out : List Float) → length (walkOf p q (ptsOf p q lo hi)) ≤ size → HoldsPairs r out (outOf p q (walkOf p q (ptsOf p q lo hi))) → Answers r size out (walkOf p q (ptsOf p q lo hi)) (betterOf p q lo hi)
 unfolding betterOf
-answers p q lo hi Full room out b h = inr h
-answers p q lo hi (Entries m) room out b h = (b, h)
+answers p q lo hi Full size out b h = inr h
+answers p q lo hi (Entries m) size out b h = (b, h)

@@ -54,5 +54,5 @@ endsAt (suc m) buffer x = eq (getD buffer (suc (m + m)) nan) x
 
 -- the stretches stand in front of `out`; or the points or the stretches have more entries than their buffer (01's refusal 14)
 abbrev pub Answers : Listed → ℕ → List Float → List Float → List Interval → Type 0
-Answers Full room out pts gs = (room < length pts) ⊎ (length out < length gs + length gs)
-Answers (Entries m) room out pts gs = (length pts ≤ room) × ((m + m ≤ length out) × (pairs m out ≡ gs))
+Answers Full size out pts gs = (size < length pts) ⊎ (length out < length gs + length gs)
+Answers (Entries m) size out pts gs = (length pts ≤ size) × ((m + m ≤ length out) × (pairs m out ≡ gs))
