@@ -3,3 +3,4 @@ pub mod Ties
 pub mod Points
 pub mod Stretches
 pub mod Buffers
+pub mod Pairs

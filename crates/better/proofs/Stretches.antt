@@ -1,5 +1,5 @@
 -- The stretches that `better` names lie in [lo, hi], rise, and do not touch, whatever the sources. Assumes nothing.
--- While the points are walked, every stretch in `out` ends at or before the point x0 that is reached, and there is ground between each two. The next, [x0, x1],
+-- While the points are walked, every stretch in `out` ends at or before the point x0 that is reached, and there is a gap between each two. The next, [x0, x1],
 -- starts at x0: it continues the last one where that ends at x0, and otherwise the last one ends before x0.
 --     better-separates     what the trimming of windows asks of `betterOf`
 use mathlib.Core.Logic.{inl, inr}

@@ -1,12 +1,14 @@
 -- Lists in lent buffers. Definitions only.
-use Prim.Native.Nat.{ℕ, _≤_, _<_}
-use mathlib.Core.Bool.{Bool}
+use Prim.Native.Nat.{ℕ, zero, suc, _+_, _≤_, _<_}
+use mathlib.Core.Bool.{Bool, false}
 use mathlib.Core.Path.{_≡_}
-use mathlib.Core.List.{List}
-use lib.ListN.{length, take, drop}
-use lib.Ieee.{Float}
+use mathlib.Core.Logic.{_⊎_}
+use mathlib.Core.List.{List, [], _∷_, _++_}
+use lib.ListN.{length, take, drop, getD}
+use lib.Ieee.{Float, nan, eq}
 use Rattle.float64.specs.Notation.{if_then_else_}
 use Rattle.better.specs.Points.{insertOf}
+use Rattle.better.specs.Stretches.{Interval, interval}
 use Rattle.better.specs.declared.Placed.{Placed}
 use Rattle.better.specs.declared.Placed.the-variants as placed
 use Rattle.better.specs.declared.Placed.the-variants.{From}
@@ -34,3 +36,23 @@ keptOf keep x xs = if keep then insertOf x xs else xs
 -- what holds of the list before holds of it after, with x put in
 abbrev pub Adds : Placed → List Float → Bool → Float → Placed → List Float → Type 0
 Adds from buffer keep x r after = Within r after × ((xs : List Float) → Ends from buffer xs → Ends r after (keptOf keep x xs))
+
+-- m intervals in front of a buffer, each its two ends
+abbrev pub pairs : ℕ → List Float → List Interval
+pairs zero buffer = []
+pairs (suc m) buffer = pairs m buffer ++ (interval (getD buffer (m + m) nan) (getD buffer (suc (m + m)) nan) ∷ [])
+
+-- the intervals stand in front of the buffer; or they have more than its entries, of two numbers each
+abbrev pub HoldsPairs : Listed → List Float → List Interval → Type 0
+HoldsPairs Full buffer gs = length buffer < length gs + length gs
+HoldsPairs (Entries m) buffer gs = (m + m ≤ length buffer) × (pairs m buffer ≡ gs)
+
+-- the last of them ends at x
+abbrev pub endsAt : ℕ → List Float → Float → Bool
+endsAt zero buffer x = false
+endsAt (suc m) buffer x = eq (getD buffer (suc (m + m)) nan) x
+
+-- the stretches stand in front of `out`; or the points or the stretches have more entries than their buffer (01's refusal 14)
+abbrev pub Answers : Listed → ℕ → List Float → List Float → List Interval → Type 0
+Answers Full size out pts gs = (size < length pts) ⊎ (length out < length gs + length gs)
+Answers (Entries m) size out pts gs = (length pts ≤ size) × ((m + m ≤ length out) × (pairs m out ≡ gs))

@@ -29,7 +29,7 @@ pub record Stretch (lo hi : Float) (g : Interval) : Type 0 where
   pub rises : T (lt (g .from) (g .to))
   pub below : T (le (g .to) hi)
 
--- it names stretches of [lo, hi], in rising order, with ground between each two
+-- it names stretches of [lo, hi], in rising order, with a gap between each two
 pub record Separates (better : Src → Src → Float → Float → List Interval) : Type 0 where
   pub within : (p q : Src) (lo hi : Float) → Point lo → Point hi → T (lt lo hi) → All (Stretch lo hi) (better p q lo hi)
   pub apart : (p q : Src) (lo hi : Float) → Point lo → Point hi → T (lt lo hi) → Pairs (λ (g h : Interval). T (lt (g .to) (h .from))) (better p q lo hi)
