@@ -2,11 +2,6 @@
 use Prim.Native.Nat.{ℕ, zero, suc}
 use mathlib.Core.List.{List, [], _∷_}
 use lib.ListN.{length, replicate}
-use lib.Ieee.{Float, binary64, ofBits}
-
--- the f64 of a zeroed slot is plus zero
-abbrev pub zero64 : Float
-zero64 = ofBits binary64 0
 
 -- the list with every element from n on replaced by z
 unfoldable pub zeroFrom : {A : Type 0} → A → ℕ → List A → List A

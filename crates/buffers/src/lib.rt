@@ -1,11 +1,13 @@
-// Buffers that a caller lends: slices of u32 and f64 in slots of a fixed stride. A read past the end gives the default and a
-// write past the end changes nothing, so whatever numbers a buffer holds, nothing outside it is touched.
+// Buffers that a caller lends: slices of u32 and f64 in slots of a fixed stride. A read past a slice's end gives 0 or a NaN and
+// a write past it changes nothing, so whatever numbers a buffer holds, nothing outside its slices is touched. Which of their slots are
+// counted (`count`) is for the callers to keep to.
 ghost use mathlib.Core.Path.{_≡_};
 ghost use Prim.Native.Nat.{_+_, _*_, _<_, min};
 ghost use lib.ListN.{set, getD, length, replicate};
 ghost use lib.Ieee.{nan};
 ghost use Rattle.buffers.specs.Slots.{slotsOf};
-ghost use Rattle.buffers.specs.Zero.{zeroFrom, zero64};
+ghost use Rattle.float64.specs.Scalar.{zero as zero64};
+ghost use Rattle.buffers.specs.Zero.{zeroFrom};
 
 // Vertices, edges, faces and windows are counted apart: the number of one is never taken for that of another.
 pub struct VertexId(pub u32);
@@ -17,7 +19,11 @@ pub struct FaceId(pub u32);
 pub struct WindowId(pub u32);
 
 // The number of no face: beyond a boundary edge, or where a window goes on into none.
-pub const NONE: u32 = 4294967295;
+pub fn no_face() -> FaceId
+    ensures { λ r. ⌜ r ≡ record { 0 = 4294967295 } ⌝ }
+{
+    FaceId(4294967295)
+}
 
 pub fn read_u32(s: &[u32], stride: u32, slot: u32, field: u32) -> u32
     ensures { λ r. ⌜ r ≡ getD (now (s .entry)) (stride * slot + field) 0 ⌝ }
@@ -73,8 +79,12 @@ pub fn count(m: usize, s: u32, n: usize, t: u32) -> u32
 pub fn zero_u32_from(s: &mut [u32], n: usize)
     ensures { λ r. ⌜ now (s .exit) ≡ zeroFrom 0 n (now (s .entry)) ⌝ }
 {
+    if s.len() <= n {
+        return;
+    }
+    let last = s.len() - 1;
     let mut i = n;
-    while i < s.len() {
+    while i <= last {
         s[i] = 0;
         i += 1;
     }
@@ -83,10 +93,14 @@ pub fn zero_u32_from(s: &mut [u32], n: usize)
 pub fn zero_f64_from(s: &mut [f64], n: usize)
     ensures { λ r. ⌜ now (s .exit) ≡ zeroFrom zero64 n (now (s .entry)) ⌝ }
 {
-    let mut i = n;
-    while i < s.len() {
-        s[i] = 0.0;
-        i += 1;
+    if s.len() <= n {
+        return;
+    }
+    let last = s.len() - 1;
+    let mut k = n;
+    while k <= last {
+        s[k] = 0.0;
+        k += 1;
     }
 }
 

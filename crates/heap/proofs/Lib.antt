@@ -2,3 +2,4 @@ pub mod OrderLaws
 pub mod HeapOrder
 pub mod Turns
 pub mod SameAnswers
+pub mod Answers

@@ -13,23 +13,23 @@ use Rattle.heap.specs.declared.Popped.the-variants.{Empty, First}
 use Rattle.heap.specs.Queue.{Queue, at, put, popped, slots, popping}
 use Rattle.heap_c.specs.Exports.{pushAnswer, popAnswer}
 
-module _ {q : Queue} {a : Pushed × Queue} {r : Pushed} (e : (r, q) ≡ a) where
-  pub push-full : r ≡ Full → (4294967295, q) ≡ pushAnswer a
+module _ (n : ℕ) {q : Queue} {a : Pushed × Queue} {r : Pushed} (e : (r, q) ≡ a) where
+  pub push-full : r ≡ Full → (n, q) ≡ pushAnswer n a
   unfolding pushAnswer
-  push-full h = (λ t. pushAnswer (sym h t, q)) ∙ ap pushAnswer e
+  push-full h = (λ t. pushAnswer n (sym h t, q)) ∙ ap (pushAnswer n) e
 
-  pub push-queued : {m : ℕ} → r ≡ Queued m → (m, q) ≡ pushAnswer a
+  pub push-queued : {m : ℕ} → r ≡ Queued m → (m, q) ≡ pushAnswer n a
   unfolding pushAnswer
-  push-queued h = (λ t. pushAnswer (sym h t, q)) ∙ ap pushAnswer e
+  push-queued h = (λ t. pushAnswer n (sym h t, q)) ∙ ap (pushAnswer n) e
 
-module _ {q : Queue} {a : Popped × Queue} {r : Popped} (e : (r, q) ≡ a) where
-  pub pop-empty : r ≡ Empty → (4294967295, q) ≡ popAnswer a
+module _ (n : ℕ) {q : Queue} {a : Popped × Queue} {r : Popped} (e : (r, q) ≡ a) where
+  pub pop-empty : r ≡ Empty → (n, q) ≡ popAnswer n a
   unfolding popAnswer
-  pop-empty h = (λ t. popAnswer (sym h t, q)) ∙ ap popAnswer e
+  pop-empty h = (λ t. popAnswer n (sym h t, q)) ∙ ap (popAnswer n) e
 
-  pub pop-first : {x : Event} {m : ℕ} {p : Queue} → r ≡ First x m → p ≡ put q m x → (m, p) ≡ popAnswer a
+  pub pop-first : {x : Event} {m : ℕ} {p : Queue} → r ≡ First x m → p ≡ put q m x → (m, p) ≡ popAnswer n a
   unfolding popAnswer
-  pop-first {x} {m} h k = (λ t. (m, k t)) ∙ (λ t. popAnswer (sym h t, q)) ∙ ap popAnswer e
+  pop-first {x} {m} h k = (λ t. (m, k t)) ∙ (λ t. popAnswer n (sym h t, q)) ∙ ap (popAnswer n) e
 
 not-both : {r : Popped} {x : Event} {m : ℕ} → r ≡ Empty → r ≡ First x m → ⊥
 not-both h k = let z : _≡_ {A = ℕ} 0 1 = cc in omega arith
