@@ -9,7 +9,8 @@ ghost use Rattle.buffers.specs.Slots.{slotsOf};
 ghost use Rattle.float64.specs.Scalar.{zero as zero64};
 ghost use Rattle.buffers.specs.Zero.{zeroFrom};
 
-// Vertices, edges, faces and windows are counted apart: the number of one is never taken for that of another.
+// Vertices, edges, faces and windows are counted apart: where the number of one is asked for, that of another is a type error.
+// In a buffer all are plain u32, and the field says which it is.
 pub struct VertexId(pub u32);
 
 pub struct EdgeId(pub u32);
