@@ -9,11 +9,11 @@ use native.Mathlib.Numerals.{add-one}
 use mathlib.Core.Path.{_≡_, refl, sym, ap, _∙_, subst}
 use mathlib.Core.Logic.{_≢_}
 use lib.Dec.{T}
-use mathlib.Core.Bool.{Bool, true, false}
+use mathlib.Core.Bool.{true, false}
 use mathlib.Core.List.{List, [], _∷_, _++_, append-assoc}
 use lib.ListN.{length, take, drop, getD, set, length-append, length-take, length-set, drop-of-length-le}
-use lib.Seq.{getD-set-same, getD-set-other, getD-take, drop-cons, drop-nil}
-use mathlib.Core.Logic.{inl, inr}
+use lib.Seq.{getD-set-same, getD-set-other, getD-take, drop-cons}
+use mathlib.Core.Logic.{inr}
 use lib.Ieee.{Float, nan, eq}
 use Rattle.better.specs.Stretches.{Interval, interval, joined, shorterBetween, stretches, outOf, betterOf}
 use Rattle.better.specs.Points.{ptsOf, walkOf}

@@ -4,7 +4,7 @@ use lib.Ieee.{Float, binary64, neg, lt, le, eq, ne}
 use lib.Ieee.Fits.{div-fits}
 use Rattle.root_spec.specs.Root.{sqrtOf}
 use Rattle.float64.specs.Scalar.{zero, two, maxOf, absOf, signumOf, isFinite}
-use Rattle.float64.specs.Notation.{_⊕_, _⊖_, _⊗_, _⊘_, if_then_else_}
+use Rattle.float64.specs.Notation.{_⊕_, _⊖_, _⊗_, _⊘_}
 use Rattle.source.specs.declared.Src.{Src}
 use Rattle.source.specs.declared.Src.the-variants.{Point, Line}
 use Rattle.source.specs.declared.RealRoots.{RealRoots}
