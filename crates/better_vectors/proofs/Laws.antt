@@ -1,0 +1,25 @@
+-- Laws of the records. Assumes nothing.
+use mathlib.Core.Path.{_≡_}
+use mathlib.Core.List.{List}
+use Prim.Native.Nat.{ℕ, _-_}
+use native.Mathlib.Omega.{arith}
+use lib.ListN.{length, take, drop, length-drop}
+use lib.Seq.{take-all}
+use lib.Ieee.{Float}
+use Rattle.source.specs.declared.Src.{Src}
+use Rattle.better.specs.declared.Listed.{Listed}
+use Rattle.better.specs.declared.Listed.the-variants.{Full, Entries}
+use Rattle.better.specs.Points.{ptsOf, walkOf}
+use Rattle.better.specs.Stretches.{betterOf}
+use Rattle.better.specs.Buffers.{Answers}
+use Rattle.better_vectors.specs.Replay.{Within}
+
+-- what is left from byte i on
+pub rest : (l : List ℕ) (i : ℕ) → take (length l - i) (drop i l) ≡ drop i l
+rest l i = take-all (length l - i) (drop i l) (omega (arith, length-drop i l))
+
+-- a right answer is within its buffer
+pub answer-within : (r : Listed) (p q : Src) (lo hi : Float) (size : ℕ) (out : List Float)
+    → Answers r size out (walkOf p q (ptsOf p q lo hi)) (betterOf p q lo hi) → Within r out
+answer-within Full p q lo hi size out h = tt
+answer-within (Entries m) p q lo hi size out h = h .1 .0

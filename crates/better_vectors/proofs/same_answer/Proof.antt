@@ -1,0 +1,60 @@
+-- `better_vectors::same_answer` meets its contract. Assumes nothing.
+use borrow.Author.Tests.{eq-eqb, ne-eqb}
+use Rattle.better_vectors.specs.Replay.{sameAnswer}
+use native.Mathlib.Omega.{arith}
+use borrow.Author.Needs.{needs}
+use Rattle.better_vectors.proofs.same_answer.Statement.{statement}
+use Rattle.better_vectors.proofs.same_answer.Tie as tie
+
+add-refusal : tie.Need-add-refusal
+add-refusal c = search needs
+
+shared-slice-read-refusal : tie.Need-shared-slice-read-refusal
+shared-slice-read-refusal c = search needs
+
+enum-told : tie.Need-enum-told
+enum-told c = search needs
+
+enum-known-listed : tie.Need-enum-known-listed
+enum-known-listed c = search needs
+
+returns : tie.Need-returns
+unfolding sameAnswer
+returns c = rw (c .before .before .listed .given .1, ne-eqb _ _ (c .if1 .taken))
+
+returns-2 : tie.Need-returns-2
+unfolding sameAnswer
+returns-2 c = rw (c .before .before .before .listed .given .1, eq-eqb _ _ (c .before .if1 .left), ne-eqb _ _ (c .if2 .taken))
+
+add-other-floats : tie.Need-add-other-floats
+add-other-floats c = search needs
+
+mul-other-floats : tie.Need-mul-other-floats
+mul-other-floats c = search needs
+
+other-floats-requires : tie.Need-other-floats-requires
+other-floats-requires c κs = (omega (arith, rw (c .before .before .before .listed .given .1) at (c .before .before .before .before .before .before .before .before .pre .1)), omega arith)
+
+returns-3 : tie.Need-returns-3
+unfolding sameAnswer
+returns-3 c = rw (c .enum-told .given .1)
+
+returns-4 : tie.Need-returns-4
+unfolding sameAnswer
+returns-4 c = rw (c .before .before .before .before .listed .given .1, eq-eqb _ _ (c .before .before .if1 .left), eq-eqb _ _ (c .before .if2 .left), c .other-floats .ensures)
+
+pub same-answer-spec : {M : Type 1} → statement M
+same-answer-spec =
+    tie.close
+    (tie.spec
+    add-refusal
+    shared-slice-read-refusal
+    enum-told
+    enum-known-listed
+    returns
+    returns-2
+    add-other-floats
+    mul-other-floats
+    other-floats-requires
+    returns-3
+    returns-4)

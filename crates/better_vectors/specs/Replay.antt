@@ -1,0 +1,53 @@
+-- What the stored cases of `better` say. A record is packed, from byte i on: two sources of 25 bytes, lo and hi, the capacity of the lists, the refusal (0 or 14) at byte 70,
+-- the count of stretches at byte 71, and from byte 75 on their ends. Definitions only.
+use mathlib.Core.Path.{_≡_}
+use mathlib.Core.List.{List}
+use mathlib.Core.Bool.{Bool, cond, _&&_}
+use Prim.Native.Nat.{ℕ, _+_, _*_, _/_, _≤_}
+use lib.ListN.{length, drop, getD}
+use lib.Dec.{eqb}
+use lib.Ieee.{Float, nan, binary64, ofBits}
+use Rattle.vectors.specs.Records.{wordAt, agrees, failing}
+use Rattle.source.specs.declared.Src.{Src}
+use Rattle.source.specs.declared.Src.the-variants.{Point, Line}
+use Rattle.better.specs.declared.Listed.{Listed}
+use Rattle.better.specs.declared.Listed.the-variants.{Full, Entries}
+use Rattle.better.specs.Points.{ptsOf, walkOf}
+use Rattle.better.specs.Stretches.{betterOf}
+use Rattle.better.specs.Buffers.{Answers}
+
+-- the number of 8 bytes, the float and the source that begin at byte i
+unfoldable pub wordFrom : List ℕ → ℕ → ℕ
+wordFrom s i = wordAt (drop i s) 0
+
+unfoldable pub floatFrom : List ℕ → ℕ → Float
+floatFrom s i = ofBits binary64 (wordFrom s i)
+
+unfoldable pub srcFrom : List ℕ → ℕ → Src
+srcFrom s i =
+    cond (eqb (getD s i 0) 0)
+    (Point (floatFrom s (i + 1)) (floatFrom s (i + 9)) (floatFrom s (i + 17)))
+    (Line (floatFrom s (i + 1)) (floatFrom s (i + 9)) (floatFrom s (i + 17)))
+
+-- at how many of the first n floats of a buffer another is stored from byte i on
+abbrev pub otherFloats : List Float → List ℕ → ℕ → ℕ → ℕ
+otherFloats out s i n = failing (λ k. agrees (getD out k nan) (wordFrom s (i + 8 * k))) n
+
+-- whether an answer, with its stretches in front of out, is the one that the record at byte i says, of n stretches
+unfoldable pub sameAnswer : Listed → List Float → List ℕ → ℕ → ℕ → Bool
+sameAnswer Full out s i n = eqb (getD s (i + 70) 0) 14
+sameAnswer (Entries m) out s i n = eqb (getD s (i + 70) 0) 0 && (eqb m n && eqb (otherFloats out s (i + 75) (2 * m)) 0)
+
+-- the stretches of an answer are within its buffer
+abbrev pub Within : Listed → List Float → Type 0
+Within Full out = Unit {0}
+Within (Entries m) out = m + m ≤ length out
+
+-- b says whether the right answer to the record's case, in lists of `size` points and of out's stretches, is the record's
+pub record Decides (s : List ℕ) (i n size : ℕ) (out : List Float) (b : Bool) : Type 0 where
+  pub answer : Listed
+  pub right :
+      Answers answer size out
+      (walkOf (srcFrom s i) (srcFrom s (i + 25)) (ptsOf (srcFrom s i) (srcFrom s (i + 25)) (floatFrom s (i + 50)) (floatFrom s (i + 58))))
+      (betterOf (srcFrom s i) (srcFrom s (i + 25)) (floatFrom s (i + 50)) (floatFrom s (i + 58)))
+  pub decided : b ≡ sameAnswer answer out s i n

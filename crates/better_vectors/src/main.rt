@@ -1,0 +1,163 @@
+// Replays the stored cases of `better`: how many there are, and how many are answered otherwise.
+// The file is a count of 4 bytes and packed records: two sources of 25 bytes, lo and hi, the capacity of the lists (4 bytes), the refusal (1 byte, 0 or 14),
+// the count of stretches (4 bytes), and their ends.
+use better::Listed;
+use source::Src;
+ghost use mathlib.Core.Path.{_≡_};
+ghost use Prim.Native.Nat.{_+_, _*_, _≤_, _<_};
+ghost use lib.ListN.{length};
+ghost use Rattle.better_vectors.specs.Replay.{wordFrom, floatFrom, srcFrom, otherFloats, sameAnswer, Within, Decides};
+
+// The number of 8 bytes at byte i.
+fn word_from(s: &[u8], i: usize) -> u64
+    requires { ⌜ i + 8 ≤ length (now s) ⌝ }
+    ensures { λ r. ⌜ r ≡ wordFrom (now (s .entry)) i ⌝ }
+{
+    vectors::word(&s[i..], 0)
+}
+
+fn float_from(s: &[u8], i: usize) -> f64
+    requires { ⌜ i + 8 ≤ length (now s) ⌝ }
+    ensures { λ r. ⌜ r ≡ floatFrom (now (s .entry)) i ⌝ }
+{
+    vectors::float(word_from(s, i))
+}
+
+fn src_from(s: &[u8], i: usize) -> Src
+    requires { ⌜ i + 25 ≤ length (now s) ⌝ }
+    ensures { λ r. ⌜ r ≡ srcFrom (now (s .entry)) i ⌝ }
+{
+    if s[i] == 0 {
+        return Src::Point {
+            x: float_from(s, i + 1),
+            y: float_from(s, i + 9),
+            s: float_from(s, i + 17),
+        };
+    }
+    Src::Line {
+        ux: float_from(s, i + 1),
+        uy: float_from(s, i + 9),
+        c: float_from(s, i + 17),
+    }
+}
+
+// The capacity and the count of stretches of the record at byte i: the low and the high 4 bytes of 8.
+fn capacity(s: &[u8], i: usize) -> usize
+    requires { ⌜ i + 75 ≤ length (now s) ⌝ }
+    ensures { λ r. ⌜ r < 4294967296 ⌝ }
+{
+    (word_from(s, i + 66) % 0x1_0000_0000) as usize
+}
+
+fn stretches(s: &[u8], i: usize) -> usize
+    requires { ⌜ i + 75 ≤ length (now s) ⌝ }
+    ensures { λ r. ⌜ r < 4294967296 ⌝ }
+{
+    (word_from(s, i + 67) / 0x1_0000_0000) as usize
+}
+
+// At how many of the n floats in front of out another is stored from byte i on.
+fn other_floats(out: &[f64], s: &[u8], i: usize, n: usize) -> u64
+    requires { ⌜ (n ≤ length (now out)) × (i + 8 * n ≤ length (now s)) ⌝ }
+    ensures { λ d. ⌜ d ≡ otherFloats (now (out .entry)) (now (s .entry)) i n ⌝ }
+{
+    let mut count: u64 = 0;
+    let mut k: usize = 0;
+    while k < n {
+        if !vectors::agrees(out[k], word_from(s, i + 8 * k)) {
+            count += 1;
+        }
+        k += 1;
+    }
+    count
+}
+
+// Whether an answer of `better` is the one that the record at byte i says, of n stretches.
+fn same_answer(listed: Listed, out: &[f64], s: &[u8], i: usize, n: usize) -> bool
+    requires { ⌜ (i + 75 + 16 * n ≤ length (now s)) × Within listed (now out) ⌝ }
+    ensures { λ b. ⌜ b ≡ sameAnswer listed (now (out .entry)) (now (s .entry)) i n ⌝ }
+{
+    let refusal = s[i + 70];
+    match listed {
+        Listed::Full => refusal == 14,
+        Listed::Entries(m) => {
+            if refusal != 0 {
+                return false;
+            }
+            if m != n {
+                return false;
+            }
+            other_floats(out, s, i + 75, 2 * m) == 0
+        }
+    }
+}
+
+// Whether `better` answers as that record says, in these buffers.
+fn holds(s: &[u8], i: usize, n: usize, pts: &mut [f64], out: &mut [f64]) -> bool
+    requires { ⌜ i + 75 + 16 * n ≤ length (now s) ⌝ }
+    ensures { λ b. ⌜ Decides (now (s .entry)) i n (length (now (pts .entry))) (now (out .exit)) b ⌝ }
+{
+    let p = src_from(s, i);
+    let q = src_from(s, i + 25);
+    let lo = float_from(s, i + 50);
+    let hi = float_from(s, i + 58);
+    let listed = better::better(p, q, lo, hi, pts, out);
+    same_answer(listed, out, s, i, n)
+}
+
+// The same, in lists of the record's capacity. A record whose capacity is above the buffers' counts as a difference.
+fn replays(s: &[u8], i: usize, n: usize, pts: &mut [f64], out: &mut [f64]) -> bool
+    requires { ⌜ i + 75 + 16 * n ≤ length (now s) ⌝ }
+{
+    let most = capacity(s, i);
+    if pts.len() < most {
+        return false;
+    }
+    if out.len() < 2 * most {
+        return false;
+    }
+    holds(s, i, n, &mut pts[..most], &mut out[..2 * most])
+}
+
+struct Tally {
+    cases: u64,
+    differences: u64,
+}
+
+// The whole records of s.
+fn replay(s: &[u8], pts: &mut [f64], out: &mut [f64]) -> Tally {
+    let mut cases: u64 = 0;
+    let mut differences: u64 = 0;
+    let mut i: usize = 0;
+    while 75 <= s.len() - i {
+        let n = stretches(s, i);
+        if s.len() - i < 75 + 16 * n {
+            break;
+        }
+        if !replays(s, i, n, pts, out) {
+            differences += 1;
+        }
+        cases += 1;
+        i += 75 + 16 * n;
+    }
+    Tally { cases, differences }
+}
+
+fn main() {
+    let name = b"better";
+    let fd = os::open_read(name);
+    if fd < 0 {
+        os::fail(name);
+        return;
+    }
+    // The count, then the records.
+    let mut head = [0u8; 4];
+    io::read_full(fd, &mut head);
+    let mut buf = [0u8; 524288];
+    let got = io::read_full(fd, &mut buf);
+    libc::close(fd);
+    let mut pts = [0.0f64; 2048];
+    let mut out = [0.0f64; 4096];
+    let t = replay(&buf[..got], &mut pts, &mut out);
+    vectors::report(name, t.cases, t.differences);
+}
