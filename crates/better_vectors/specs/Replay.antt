@@ -58,3 +58,13 @@ pub record Decides (s : List ℕ) (i size : ℕ) (out : List Float) (b : Bool) :
       (walkOf (srcFrom s i) (srcFrom s (i + 25)) (ptsOf (srcFrom s i) (srcFrom s (i + 25)) (floatFrom s (i + 50)) (floatFrom s (i + 58))))
       (betterOf (srcFrom s i) (srcFrom s (i + 25)) (floatFrom s (i + 50)) (floatFrom s (i + 58)))
   pub decided : b ≡ sameAnswer answer out s i
+
+-- the same in lists of the record's capacity, an entry of out two numbers
+pub record Replayed (s : List ℕ) (i : ℕ) (b : Bool) : Type 0 where
+  pub out : List Float
+  pub entries : length out ≡ 2 * capacityOf s i
+  pub decides : Decides s i (capacityOf s i) out b
+
+-- it is so where the buffers have that many numbers
+abbrev pub Replays : List ℕ → ℕ → List Float → List Float → Bool → Type 0
+Replays s i pts out b = capacityOf s i ≤ length pts → 2 * capacityOf s i ≤ length out → Replayed s i b

@@ -6,7 +6,7 @@ use source::Src;
 ghost use mathlib.Core.Path.{_≡_};
 ghost use Prim.Native.Nat.{_+_, _*_, _≤_, _<_};
 ghost use lib.ListN.{length};
-ghost use Rattle.better_vectors.specs.Replay.{wordFrom, floatFrom, srcFrom, capacityOf, stretchesOf, otherFloats, sameAnswer, Within, Decides};
+ghost use Rattle.better_vectors.specs.Replay.{wordFrom, floatFrom, srcFrom, capacityOf, stretchesOf, otherFloats, sameAnswer, Within, Decides, Replays};
 
 // The number of 8 bytes at byte i.
 fn word_from(s: &[u8], i: usize) -> u64
@@ -108,6 +108,7 @@ fn holds(s: &[u8], i: usize, pts: &mut [f64], out: &mut [f64]) -> bool
 // The same, in lists of the record's capacity. A record whose capacity is above the buffers' counts as a difference.
 fn replays(s: &[u8], i: usize, pts: &mut [f64], out: &mut [f64]) -> bool
     requires { ⌜ i + 75 + 16 * stretchesOf (now s) i ≤ length (now s) ⌝ }
+    ensures { λ b. ⌜ Replays (now (s .entry)) i (now (pts .entry)) (now (out .entry)) b ⌝ }
 {
     let most = capacity(s, i);
     if pts.len() < most {
