@@ -3,7 +3,7 @@
 use mathlib.Core.Path.{_≡_}
 use mathlib.Core.List.{List}
 use mathlib.Core.Bool.{Bool, cond, _&&_}
-use Prim.Native.Nat.{ℕ, _+_, _*_, _/_, _≤_}
+use Prim.Native.Nat.{ℕ, _+_, _*_, _/_, _%_, _≤_}
 use lib.ListN.{length, drop, getD}
 use lib.Dec.{eqb}
 use lib.Ieee.{Float, nan, binary64, ofBits}
@@ -29,14 +29,21 @@ srcFrom s i =
     (Point (floatFrom s (i + 1)) (floatFrom s (i + 9)) (floatFrom s (i + 17)))
     (Line (floatFrom s (i + 1)) (floatFrom s (i + 9)) (floatFrom s (i + 17)))
 
+-- the capacity and the count of stretches of the record at byte i
+unfoldable pub capacityOf : List ℕ → ℕ → ℕ
+capacityOf s i = wordFrom s (i + 66) % 4294967296
+
+unfoldable pub stretchesOf : List ℕ → ℕ → ℕ
+stretchesOf s i = wordFrom s (i + 67) / 4294967296
+
 -- at how many of the first n floats of a buffer another is stored from byte i on
 abbrev pub otherFloats : List Float → List ℕ → ℕ → ℕ → ℕ
 otherFloats out s i n = failing (λ k. agrees (getD out k nan) (wordFrom s (i + 8 * k))) n
 
--- whether an answer, with its stretches in front of out, is the one that the record at byte i says, of n stretches
-unfoldable pub sameAnswer : Listed → List Float → List ℕ → ℕ → ℕ → Bool
-sameAnswer Full out s i n = eqb (getD s (i + 70) 0) 14
-sameAnswer (Entries m) out s i n = eqb (getD s (i + 70) 0) 0 && (eqb m n && eqb (otherFloats out s (i + 75) (2 * m)) 0)
+-- whether an answer, with its stretches in front of out, is the one that the record at byte i says
+unfoldable pub sameAnswer : Listed → List Float → List ℕ → ℕ → Bool
+sameAnswer Full out s i = eqb (getD s (i + 70) 0) 14
+sameAnswer (Entries m) out s i = eqb (getD s (i + 70) 0) 0 && (eqb m (stretchesOf s i) && eqb (otherFloats out s (i + 75) (2 * m)) 0)
 
 -- the stretches of an answer are within its buffer
 abbrev pub Within : Listed → List Float → Type 0
@@ -44,10 +51,20 @@ Within Full out = Unit {0}
 Within (Entries m) out = m + m ≤ length out
 
 -- b says whether the right answer to the record's case, in lists of `size` points and of out's stretches, is the record's
-pub record Decides (s : List ℕ) (i n size : ℕ) (out : List Float) (b : Bool) : Type 0 where
+pub record Decides (s : List ℕ) (i size : ℕ) (out : List Float) (b : Bool) : Type 0 where
   pub answer : Listed
   pub right :
       Answers answer size out
       (walkOf (srcFrom s i) (srcFrom s (i + 25)) (ptsOf (srcFrom s i) (srcFrom s (i + 25)) (floatFrom s (i + 50)) (floatFrom s (i + 58))))
       (betterOf (srcFrom s i) (srcFrom s (i + 25)) (floatFrom s (i + 50)) (floatFrom s (i + 58)))
-  pub decided : b ≡ sameAnswer answer out s i n
+  pub decided : b ≡ sameAnswer answer out s i
+
+-- the same in lists of the record's capacity, an entry of out two numbers
+pub record Replayed (s : List ℕ) (i : ℕ) (b : Bool) : Type 0 where
+  pub out : List Float
+  pub entries : length out ≡ 2 * capacityOf s i
+  pub decides : Decides s i (capacityOf s i) out b
+
+-- it is so where the buffers have that many numbers
+abbrev pub Replays : List ℕ → ℕ → List Float → List Float → Bool → Type 0
+Replays s i pts out b = capacityOf s i ≤ length pts → 2 * capacityOf s i ≤ length out → Replayed s i b

@@ -6,7 +6,7 @@ use source::Src;
 ghost use mathlib.Core.Path.{_≡_};
 ghost use Prim.Native.Nat.{_+_, _*_, _≤_, _<_};
 ghost use lib.ListN.{length};
-ghost use Rattle.better_vectors.specs.Replay.{wordFrom, floatFrom, srcFrom, otherFloats, sameAnswer, Within, Decides};
+ghost use Rattle.better_vectors.specs.Replay.{wordFrom, floatFrom, srcFrom, capacityOf, stretchesOf, otherFloats, sameAnswer, Within, Decides, Replays};
 
 // The number of 8 bytes at byte i.
 fn word_from(s: &[u8], i: usize) -> u64
@@ -44,14 +44,14 @@ fn src_from(s: &[u8], i: usize) -> Src
 // The capacity and the count of stretches of the record at byte i: the low and the high 4 bytes of 8.
 fn capacity(s: &[u8], i: usize) -> usize
     requires { ⌜ i + 75 ≤ length (now s) ⌝ }
-    ensures { λ r. ⌜ r < 4294967296 ⌝ }
+    ensures { λ r. ⌜ (r ≡ capacityOf (now (s .entry)) i) × (r < 4294967296) ⌝ }
 {
     (word_from(s, i + 66) % 0x1_0000_0000) as usize
 }
 
 fn stretches(s: &[u8], i: usize) -> usize
     requires { ⌜ i + 75 ≤ length (now s) ⌝ }
-    ensures { λ r. ⌜ r < 4294967296 ⌝ }
+    ensures { λ r. ⌜ (r ≡ stretchesOf (now (s .entry)) i) × (r < 4294967296) ⌝ }
 {
     (word_from(s, i + 67) / 0x1_0000_0000) as usize
 }
@@ -72,10 +72,10 @@ fn other_floats(out: &[f64], s: &[u8], i: usize, n: usize) -> u64
     count
 }
 
-// Whether an answer of `better` is the one that the record at byte i says, of n stretches.
-fn same_answer(listed: Listed, out: &[f64], s: &[u8], i: usize, n: usize) -> bool
-    requires { ⌜ (i + 75 + 16 * n ≤ length (now s)) × Within listed (now out) ⌝ }
-    ensures { λ b. ⌜ b ≡ sameAnswer listed (now (out .entry)) (now (s .entry)) i n ⌝ }
+// Whether an answer of `better` is the one that the record at byte i says.
+fn same_answer(listed: Listed, out: &[f64], s: &[u8], i: usize) -> bool
+    requires { ⌜ (i + 75 + 16 * stretchesOf (now s) i ≤ length (now s)) × Within listed (now out) ⌝ }
+    ensures { λ b. ⌜ b ≡ sameAnswer listed (now (out .entry)) (now (s .entry)) i ⌝ }
 {
     let refusal = s[i + 70];
     match listed {
@@ -84,7 +84,7 @@ fn same_answer(listed: Listed, out: &[f64], s: &[u8], i: usize, n: usize) -> boo
             if refusal != 0 {
                 return false;
             }
-            if m != n {
+            if m != stretches(s, i) {
                 return false;
             }
             other_floats(out, s, i + 75, 2 * m) == 0
@@ -93,21 +93,22 @@ fn same_answer(listed: Listed, out: &[f64], s: &[u8], i: usize, n: usize) -> boo
 }
 
 // Whether `better` answers as that record says, in these buffers.
-fn holds(s: &[u8], i: usize, n: usize, pts: &mut [f64], out: &mut [f64]) -> bool
-    requires { ⌜ i + 75 + 16 * n ≤ length (now s) ⌝ }
-    ensures { λ b. ⌜ Decides (now (s .entry)) i n (length (now (pts .entry))) (now (out .exit)) b ⌝ }
+fn holds(s: &[u8], i: usize, pts: &mut [f64], out: &mut [f64]) -> bool
+    requires { ⌜ i + 75 + 16 * stretchesOf (now s) i ≤ length (now s) ⌝ }
+    ensures { λ b. ⌜ Decides (now (s .entry)) i (length (now (pts .entry))) (now (out .exit)) b ⌝ }
 {
     let p = src_from(s, i);
     let q = src_from(s, i + 25);
     let lo = float_from(s, i + 50);
     let hi = float_from(s, i + 58);
     let listed = better::better(p, q, lo, hi, pts, out);
-    same_answer(listed, out, s, i, n)
+    same_answer(listed, out, s, i)
 }
 
 // The same, in lists of the record's capacity. A record whose capacity is above the buffers' counts as a difference.
-fn replays(s: &[u8], i: usize, n: usize, pts: &mut [f64], out: &mut [f64]) -> bool
-    requires { ⌜ i + 75 + 16 * n ≤ length (now s) ⌝ }
+fn replays(s: &[u8], i: usize, pts: &mut [f64], out: &mut [f64]) -> bool
+    requires { ⌜ i + 75 + 16 * stretchesOf (now s) i ≤ length (now s) ⌝ }
+    ensures { λ b. ⌜ Replays (now (s .entry)) i (now (pts .entry)) (now (out .entry)) b ⌝ }
 {
     let most = capacity(s, i);
     if pts.len() < most {
@@ -116,7 +117,7 @@ fn replays(s: &[u8], i: usize, n: usize, pts: &mut [f64], out: &mut [f64]) -> bo
     if out.len() < 2 * most {
         return false;
     }
-    holds(s, i, n, &mut pts[..most], &mut out[..2 * most])
+    holds(s, i, &mut pts[..most], &mut out[..2 * most])
 }
 
 struct Tally {
@@ -134,7 +135,7 @@ fn replay(s: &[u8], pts: &mut [f64], out: &mut [f64]) -> Tally {
         if s.len() - i < 75 + 16 * n {
             break;
         }
-        if !replays(s, i, n, pts, out) {
+        if !replays(s, i, pts, out) {
             differences += 1;
         }
         cases += 1;

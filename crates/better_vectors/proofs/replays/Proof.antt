@@ -1,5 +1,7 @@
--- `better_vectors::replays` reads and writes within its slices, and ends. Assumes nothing.
-use mathlib.Core.Path.{sym}
+-- `better_vectors::replays` meets its contract. Assumes nothing.
+use mathlib.Core.Path.{sym, ap, _∙_}
+use Prim.Native.Nat.{ℕ, _*_}
+use native.Mathlib.Omega.{arith}
 use lib.Seq.{length-take-le}
 use borrow.Author.Needs.{needs}
 use Rattle.better_vectors.proofs.replays.Statement.{statement}
@@ -9,13 +11,13 @@ capacity-requires : tie.Need-capacity-requires
 capacity-requires c κs = search needs
 
 returns : tie.Need-returns
-returns c = search needs
+returns c = λ h k. absurd (omega (arith, h, c .before .capacity .ensures .0, c .if1 .taken))
 
 mul-if2 : tie.Need-mul-if2
 mul-if2 c = search needs
 
 returns-2 : tie.Need-returns-2
-returns-2 c = search needs
+returns-2 c = λ h k. absurd (omega (arith, k, c .before .before .capacity .ensures .0, c .if2 .taken))
 
 slice-relend-prefix-holds : tie.Need-slice-relend-prefix-holds
 slice-relend-prefix-holds c = search needs
@@ -42,7 +44,16 @@ same-length-2 : tie.Need-same-length-2
 same-length-2 c = search needs
 
 returns-3 : tie.Need-returns-3
-returns-3 c = search needs
+returns-3 c =
+    let called = c .before .before .before .before in
+    let most = called .before .before .before .before .before in
+    let a = most .before .before .before .before .args in
+    let size = length-take-le (most .capacity .result) (a .pts .now) (omega arith) ∙ most .capacity .ensures .0 in
+    λ h k. record {
+      out = called .holds .last .1 .1 .1 .0;
+      entries = called .holds .kept .1 .1 .1 .0 ∙ length-take-le (2 * most .capacity .result) (a .out .now) (omega arith) ∙ ap (λ (n : ℕ). 2 * n) (most .capacity .ensures .0);
+      decides = rw size at (called .holds .ensures);
+    }
 
 pub replays-spec : {M : Type 1} → statement M
 replays-spec =

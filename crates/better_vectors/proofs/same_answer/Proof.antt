@@ -22,9 +22,12 @@ returns : tie.Need-returns
 unfolding sameAnswer
 returns c = rw (c .before .before .listed .given .1, ne-eqb _ _ (c .if1 .taken))
 
+stretches-requires : tie.Need-stretches-requires
+stretches-requires c κs = search needs
+
 returns-2 : tie.Need-returns-2
 unfolding sameAnswer
-returns-2 c = rw (c .before .before .before .listed .given .1, eq-eqb _ _ (c .before .if1 .left), ne-eqb _ _ (c .if2 .taken))
+returns-2 c = rw (c .before .before .before .before .listed .given .1, eq-eqb _ _ (c .before .before .if1 .left), ← c .before .stretches .ensures .0, ne-eqb _ _ (c .if2 .taken))
 
 add-other-floats : tie.Need-add-other-floats
 add-other-floats c = search needs
@@ -33,7 +36,7 @@ mul-other-floats : tie.Need-mul-other-floats
 mul-other-floats c = search needs
 
 other-floats-requires : tie.Need-other-floats-requires
-other-floats-requires c κs = (omega (arith, rw (c .before .before .before .listed .given .1) at (c .before .before .before .before .before .before .before .before .pre .1)), omega arith)
+other-floats-requires c κs = (omega (arith, rw (c .before .before .before .before .listed .given .1) at (c .before .before .before .before .before .before .before .before .before .pre .1)), omega (arith, c .before .stretches .ensures .0))
 
 returns-3 : tie.Need-returns-3
 unfolding sameAnswer
@@ -41,7 +44,7 @@ returns-3 c = rw (c .enum-told .given .1)
 
 returns-4 : tie.Need-returns-4
 unfolding sameAnswer
-returns-4 c = rw (c .before .before .before .before .listed .given .1, eq-eqb _ _ (c .before .before .if1 .left), eq-eqb _ _ (c .before .if2 .left), c .other-floats .ensures)
+returns-4 c = rw (c .before .before .before .before .before .listed .given .1, eq-eqb _ _ (c .before .before .before .if1 .left), ← c .before .before .stretches .ensures .0, eq-eqb _ _ (c .before .if2 .left), c .other-floats .ensures)
 
 pub same-answer-spec : {M : Type 1} → statement M
 same-answer-spec =
@@ -52,6 +55,7 @@ same-answer-spec =
     enum-told
     enum-known-listed
     returns
+    stretches-requires
     returns-2
     add-other-floats
     mul-other-floats
