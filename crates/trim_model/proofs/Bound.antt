@@ -2,7 +2,7 @@
 --
 -- An existing window with n stretches drops n + 1 slivers of its own at most. `keep` grows by n + 2 at most: along `keep` from left to right, each entry beyond one for one uses up a
 -- stretch that ends ahead, or lo, or hi, and none of them twice (`potential`). In the end each entry of `keep` is one sliver at most. So a window met adds 2 n + 3 at most.
-use Prim.Native.Nat.{ℕ, _+_, _-_, _*_, _≤_, _<_, min}
+use Prim.Native.Nat.{ℕ, _+_, _*_, _≤_, _<_, min, _-_}
 use mathlib.Core.Bool.{Bool, true, false, cond}
 use mathlib.Core.List.{List, [], _∷_, _++_}
 use mathlib.Core.Path.{_≡_, ap}

@@ -1,5 +1,5 @@
 -- Whether an interval holding [X, Y], as 1 or 0, by ranks: to be added up over a list. Assumes nothing.
-use Prim.Native.Nat.{ℕ, _+_, _-_, _≤_, _<_}
+use Prim.Native.Nat.{ℕ, _+_, _≤_, _<_, _-_}
 use mathlib.Core.Path.{_≡_}
 use native.Mathlib.Decide.{decLe}
 use native.Mathlib.Nat.{le-refl}

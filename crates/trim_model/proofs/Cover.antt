@@ -16,7 +16,6 @@ use lib.Ieee.{Float, lt, le}
 use lib.Ieee.Fits.{and-i}
 use Rattle.float64.specs.Scalar.{minOf, maxOf}
 use Rattle.float64.specs.TotalOrder.{totalLess}
-use Rattle.source.specs.declared.Src.{Src}
 use Rattle.float64.specs.Scalar as scalar
 use Rattle.better.specs.Stretches.{Interval, interval}
 use Rattle.trim_model.specs.Intervals.{width, pushIf, isSliver, sliver, cuts, nextOf, next, pieces, pieceSlivers, wideOf, keepSlivers}
@@ -39,17 +38,17 @@ module _ (X : ℕ) where
   abbrev pub HoldsWindow : Window → Type 0
   HoldsWindow u = (rank (u .b0) ≤ X) × (X ≤ rank (u .b1))
 
-  pub fresh-any : (s : Src) (n : ℕ) (ps : List Interval) → Any Holds ps → Any HoldsWindow (fresh s n ps)
+  pub fresh-any : (v : Window) (n : ℕ) (ps : List Interval) → Any Holds ps → Any HoldsWindow (fresh v n ps)
   unfolding fresh
-  fresh-any s n [] h = h
-  fresh-any s n (p ∷ ps) (inl h) = inl h
-  fresh-any s n (p ∷ ps) (inr h) = inr (fresh-any s (suc n) ps h)
+  fresh-any v n [] h = h
+  fresh-any v n (p ∷ ps) (inl h) = inl h
+  fresh-any v n (p ∷ ps) (inr h) = inr (fresh-any v (suc n) ps h)
 
   pub split-any : (u : Window) (n : ℕ) (ps : List Interval) → Any Holds ps → Any HoldsWindow (split u n ps)
   unfolding split
   split-any u n [] h = h
   split-any u n (p ∷ ps) (inl h) = inl h
-  split-any u n (p ∷ ps) (inr h) = inr (fresh-any (u .src) n ps h)
+  split-any u n (p ∷ ps) (inr h) = inr (fresh-any u n ps h)
 
   insert-here : (u : Window) (l : List Window) → HoldsWindow u → Any HoldsWindow (insert u l)
   unfolding insert
@@ -377,7 +376,7 @@ module _ {t : Float} (t0 : Nonneg t) {better : Better} (B : Stretches better) {w
   s = visits better t w rn (start w made)
 
   abbrev news : List Window
-  news = fresh (w .src) (s .made) (wideOf t (s .keep))
+  news = fresh w (s .made) (wideOf t (s .keep))
 
   abbrev After : Type 0
   After = Any (HoldsWindow X) (pre ++ (sorted (s .survivors ++ news) ++ suf)) ⊎ Any (Holds X) (s .slivers ++ keepSlivers t (s .keep))
@@ -388,7 +387,7 @@ module _ {t : Float} (t0 : Nonneg t) {better : Better} (B : Stretches better) {w
   ended : Covered t0 X B W 0 (top rn) s → After
   ended (in-live i) = inl (middle (any-left (HoldsWindow X) (s .survivors) news i))
   ended (in-sliver i) = inr (any-left (Holds X) (s .slivers) (keepSlivers t (s .keep)) i)
-  ended (in-keep i) = either (λ r. inl (middle (any-right (HoldsWindow X) (s .survivors) news (fresh-any X (w .src) (s .made) (wideOf t (s .keep)) r)))) (λ r. inr (any-right (Holds X) (s .slivers) (keepSlivers t (s .keep)) r))
+  ended (in-keep i) = either (λ r. inl (middle (any-right (HoldsWindow X) (s .survivors) news (fresh-any X w (s .made) (wideOf t (s .keep)) r)))) (λ r. inr (any-right (Holds X) (s .slivers) (keepSlivers t (s .keep)) r))
       (kept-cover t0 X (rank (w .b0)) (s .keep) (rank (w .b1)) (walked-ok t0 B W made 0 (top rn) rn (run-fine t0 B W made l h) .rise) i)
 
   in-run : Covered t0 X B W 0 (top rn) (start w made) ⊎ Any (HoldsWindow X) rn → After

@@ -12,7 +12,6 @@ use native.Mathlib.Omega.{arith}
 use lib.Dec.{T}
 use lib.Ieee.{Float, lt, le}
 use Rattle.float64.specs.Scalar.{maxOf}
-use Rattle.source.specs.declared.Src.{Src}
 use Rattle.better.specs.Stretches.{Interval, interval}
 use Rattle.trim_model.specs.Intervals.{width, pieces, wideOf}
 use Rattle.trim_model.specs.Windows.{Window, fresh, split, sorted}
@@ -48,15 +47,15 @@ pieces-from t at b1 ga gb (g ∷ gs) h =
     by-cases (λ (c : Bool). StartsFrom (rank at) (cond c (interval at (g .from) ∷ []) [] ++ pieces t (maxOf at (g .to)) b1 gs)) (lt t (width at (g .from))) (λ y. (le-refl (rank at), r')) (λ n. r')
 
 -- ---- the survivors' starts rise
-fresh-from : (p : ℕ) (s : Src) (n : ℕ) (ps : List Interval) → StartsFrom p ps → From p (fresh s n ps)
+fresh-from : (p : ℕ) (v : Window) (n : ℕ) (ps : List Interval) → StartsFrom p ps → From p (fresh v n ps)
 unfolding fresh
-fresh-from p s n [] h = tt
-fresh-from p s n (k ∷ ks) h = (h .0, fresh-from (rank (k .from)) s (suc n) ks (h .1))
+fresh-from p v n [] h = tt
+fresh-from p v n (k ∷ ks) h = (h .0, fresh-from (rank (k .from)) v (suc n) ks (h .1))
 
 split-from : (p : ℕ) (u : Window) (n : ℕ) (ps : List Interval) → StartsFrom p ps → From p (split u n ps)
 unfolding split
 split-from p u n [] h = tt
-split-from p u n (k ∷ ks) h = (h .0, fresh-from (rank (k .from)) (u .src) n ks (h .1))
+split-from p u n (k ∷ ks) h = (h .0, fresh-from (rank (k .from)) u n ks (h .1))
 
 module _ {t : Float} (t0 : Nonneg t) where
   module _ {better : Better} (B : Stretches better) {w : Window} (W : Wide t w) (m M : ℕ) where
@@ -127,7 +126,7 @@ module _ {t : Float} (t0 : Nonneg t) where
     ended l = visits better t w (run t w l) (start w made)
 
     -- the addition, done in place
-    pub add-in-place : (l : List Window) → Tidy t l → addTo better t w l made .live ≡ insertAll (fresh (w .src) (ended l .made) (wideOf t (ended l .keep))) (before t w l ++ (ended l .survivors ++ behind t w l))
+    pub add-in-place : (l : List Window) → Tidy t l → addTo better t w l made .live ≡ insertAll (fresh w (ended l .made) (wideOf t (ended l .keep))) (before t w l ++ (ended l .survivors ++ behind t w l))
     unfolding addTo wcount
     add-in-place l h = ap (λ (m : List Window). pre ++ (m ++ suf)) (sorted-is S ns (all-left Start S ns st) (all-right Start S ns st) d ∙ ap (insertAll ns) (sorted-self 0 S (all-left Start S ns st) F (pairs-left S ns d))) ∙ sym (insert-all-mid ns pre S suf (all-right Start S ns st) lows highs)
       where
@@ -147,7 +146,7 @@ module _ {t : Float} (t0 : Nonneg t) where
         S = ended l .survivors
 
         ns : List Window
-        ns = fresh (w .src) (ended l .made) (wideOf t (ended l .keep))
+        ns = fresh w (ended l .made) (wideOf t (ended l .keep))
 
         td : Tidy t (pre ++ (sorted (S ++ ns) ++ suf))
         td = add-tidy t0 B W made l h

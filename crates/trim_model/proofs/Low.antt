@@ -5,7 +5,6 @@ use mathlib.Core.List.{List, [], _∷_, _++_}
 use mathlib.Core.Path.{_≡_, refl, subst}
 use lib.Dec.{eqb}
 use lib.Ieee.{Float, le}
-use Rattle.source.specs.declared.Src.{Src}
 use Rattle.source.specs.Distance.{lowestOf}
 use Rattle.better.specs.Stretches.{Interval}
 use Rattle.trim_model.specs.Intervals.{width, tinyOf, pieces, wideOf}
@@ -21,15 +20,15 @@ use Rattle.trim_model.proofs.Order.{news}
 abbrev pub LowRight : Window → Type 0
 LowRight u = u .low ≡ lowestOf (u .src) (u .b0) (u .b1)
 
-fresh-low : (s : Src) (n : ℕ) (ps : List Interval) → All LowRight (fresh s n ps)
+fresh-low : (v : Window) (n : ℕ) (ps : List Interval) → All LowRight (fresh v n ps)
 unfolding fresh
-fresh-low s n [] = tt
-fresh-low s n (p ∷ ps) = (refl, fresh-low s (suc n) ps)
+fresh-low v n [] = tt
+fresh-low v n (p ∷ ps) = (refl, fresh-low v (suc n) ps)
 
 split-low : (u : Window) (n : ℕ) (ps : List Interval) → All LowRight (split u n ps)
 unfolding split
 split-low u n [] = tt
-split-low u n (p ∷ ps) = (refl, fresh-low (u .src) n ps)
+split-low u n (p ∷ ps) = (refl, fresh-low u n ps)
 
 module _ (better : Better) (t : Float) (w : Window) where
   meet-low : (u : Window) → LowRight u → (lo hi : Float) (gs : List Interval) (s : Walk) → All LowRight (s .survivors) → All LowRight (meet t u lo hi gs s .survivors)
@@ -52,12 +51,12 @@ module _ (better : Better) (t : Float) (w : Window) where
   unfolding addTo
   add-low l made h =
       let s = visits better t w (run t w l) (start w made) in
-      let news = fresh (w .src) (s .made) (wideOf t (s .keep)) in
+      let news = fresh w (s .made) (wideOf t (s .keep)) in
       let k = subst (All LowRight) (parted t w l) h in
       let r = all-right LowRight (before t w l) (run t w l ++ behind t w l) k in
       all-append LowRight (before t w l) (sorted (s .survivors ++ news) ++ behind t w l) (all-left LowRight (before t w l) (run t w l ++ behind t w l) k)
       (all-append LowRight (sorted (s .survivors ++ news)) (behind t w l)
-      (sorted-all LowRight (s .survivors ++ news) (all-append LowRight (s .survivors) news (visits-low (run t w l) (all-left LowRight (run t w l) (behind t w l) r) (start w made) tt) (fresh-low (w .src) (s .made) (wideOf t (s .keep)))))
+      (sorted-all LowRight (s .survivors ++ news) (all-append LowRight (s .survivors) news (visits-low (run t w l) (all-left LowRight (run t w l) (behind t w l) r) (start w made) tt) (fresh-low w (s .made) (wideOf t (s .keep)))))
       (all-right LowRight (run t w l) (behind t w l) r))
 
 module _ (better : Better) (limit : Float) (len : ℕ → Float) where

@@ -12,7 +12,6 @@ use lib.Dec.{eqb}
 use lib.ListN.{length}
 use lib.Ieee.{Float, le}
 use Rattle.float64.specs.TotalOrder.{totalLess}
-use Rattle.source.specs.declared.Src.{Src}
 use Rattle.better.specs.Stretches.{Interval}
 use Rattle.trim_model.specs.Intervals.{width, tinyOf, pieces, wideOf}
 use Rattle.trim_model.specs.Windows.{Window, fresh, split, insert, sorted}
@@ -43,19 +42,19 @@ unfolding times
 times-append n [] m = omega arith
 times-append n (u ∷ us) m = omega (arith, times-append n us m)
 
-fresh-times : (n : ℕ) (s : Src) (a : ℕ) (ps : List Interval) → times n (fresh s a ps) ≤ range n a (a + length ps)
+fresh-times : (n : ℕ) (v : Window) (a : ℕ) (ps : List Interval) → times n (fresh v a ps) ≤ range n a (a + length ps)
 unfolding times fresh
-fresh-times n s a [] = zero-le
-fresh-times n s a (p ∷ ps) =
+fresh-times n v a [] = zero-le
+fresh-times n v a (p ∷ ps) =
     let i : a ≤ suc a = omega arith in
     let j : suc a ≤ suc a + length ps = omega arith in
     let e : suc a + length ps ≡ a + suc (length ps) = omega arith in
-    omega (arith, fresh-times n s (suc a) ps, two n {a = a} {m = suc a} {b = suc a + length ps} i j, ap (λ (b : ℕ). range n a b) e)
+    omega (arith, fresh-times n v (suc a) ps, two n {a = a} {m = suc a} {b = suc a + length ps} i j, ap (λ (b : ℕ). range n a b) e)
 
 split-times : (n : ℕ) (u : Window) (a : ℕ) (ps : List Interval) → times n (split u a ps) ≤ range n (u .num) (suc (u .num)) + range n a (a + pred (length ps))
 unfolding times split
 split-times n u a [] = zero-le
-split-times n u a (p ∷ ps) = let f = fresh-times n (u .src) a ps in omega arith
+split-times n u a (p ∷ ps) = let f = fresh-times n u a ps in omega arith
 
 insert-times : (n : ℕ) (u : Window) (l : List Window) → times n (insert u l) ≡ range n (u .num) (suc (u .num)) + times n l
 unfolding times insert
@@ -104,12 +103,12 @@ module _ (better : Better) (t : Float) (w : Window) (n : ℕ) where
   add-times l made =
       let s = visits better t w (run t w l) (start w made) in
       let ks = wideOf t (s .keep) in
-      let ns = fresh (w .src) (s .made) ks in
+      let ns = fresh w (s .made) ks in
       let g = visits-given (run t w l) (start w made) in
       let gm = g .more in
       let gf = g .few in
       let j : s .made ≤ s .made + length ks = omega arith in
-      omega (arith, ap (times n) (parted t w l), times-append n (before t w l) (run t w l ++ behind t w l), times-append n (run t w l) (behind t w l), times-append n (before t w l) (sorted (s .survivors ++ ns) ++ behind t w l), times-append n (sorted (s .survivors ++ ns)) (behind t w l), sorted-times n (s .survivors ++ ns), times-append n (s .survivors) ns, fresh-times n (w .src) (s .made) ks, two n {a = made} {m = s .made} {b = s .made + length ks} gm j)
+      omega (arith, ap (times n) (parted t w l), times-append n (before t w l) (run t w l ++ behind t w l), times-append n (run t w l) (behind t w l), times-append n (before t w l) (sorted (s .survivors ++ ns) ++ behind t w l), times-append n (sorted (s .survivors ++ ns)) (behind t w l), sorted-times n (s .survivors ++ ns), times-append n (s .survivors) ns, fresh-times n w (s .made) ks, two n {a = made} {m = s .made} {b = s .made + length ks} gm j)
 
   add-made : (l : List Window) (made : ℕ) → made ≤ addTo better t w l made .made
   unfolding addTo

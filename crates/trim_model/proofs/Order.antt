@@ -76,7 +76,7 @@ module _ {t : Float} (t0 : Nonneg t) where
     walked rn = visits better t w rn (start w made)
 
     abbrev pub news : List Window → List Window
-    news rn = fresh (w .src) (walked rn .made) (wideOf t (walked rn .keep))
+    news rn = fresh w (walked rn .made) (wideOf t (walked rn .keep))
 
     abbrev mid : List Window → List Window
     mid rn = walked rn .survivors ++ news rn
@@ -91,7 +91,7 @@ module _ {t : Float} (t0 : Nonneg t) where
     walked-ok m M rn f = visits-walk t0 B W m M rn f (start w made) (start-ok m M)
 
     pub news-fine : (m M : ℕ) (rn : List Window) → All (FineWindow t m M) rn → All (FineWindow t (rank (w .b0)) (rank (w .b1))) (news rn)
-    news-fine m M rn f = fresh-all (Fine t (rank (w .b0)) (rank (w .b1))) (w .src) (walked rn .made) (wideOf t (walked rn .keep)) (wide-fine t0 (rank (w .b0)) (rank (w .b1)) (rank (w .b0)) (walked rn .keep) (rank (w .b1)) (le-refl (rank (w .b0))) (le-refl (rank (w .b1))) (walked-ok m M rn f .rise))
+    news-fine m M rn f = fresh-all (Fine t (rank (w .b0)) (rank (w .b1))) w (walked rn .made) (wideOf t (walked rn .keep)) (wide-fine t0 (rank (w .b0)) (rank (w .b1)) (rank (w .b0)) (walked rn .keep) (rank (w .b1)) (le-refl (rank (w .b0))) (le-refl (rank (w .b1))) (walked-ok m M rn f .rise))
 
     record Ended (rn : List Window) (X Y : ℕ) : Type 0 where
       olds : wcount X Y (walked rn .survivors) ≤ wcount X Y rn
@@ -108,7 +108,7 @@ module _ {t : Float} (t0 : Nonneg t) where
         let k = walked-ok m M rn f in
         let v = visits-counts t0 B W m M x y gx gy wide rn f (start w made) (start-ok m M) (omega arith) (omega (arith, has-one X Y (rank (w .b0)) (rank (w .b1)))) in
         let a = wcount-append X Y (walked rn .survivors) (news rn) in
-        let b = fresh-count X Y (w .src) (walked rn .made) (wideOf t (walked rn .keep)) in
+        let b = fresh-count X Y w (walked rn .made) (wideOf t (walked rn .keep)) in
         let c = wide-count t0 X Y (walked rn .keep) in
         let d = rise-count X Y xy (rank (w .b0)) (walked rn .keep) (rank (w .b1)) (k .rise) in
         let va = v .added in

@@ -8,7 +8,6 @@ use native.Mathlib.Omega.{arith}
 use lib.Dec.{T}
 use lib.Ieee.{Float, binary64, add, sub, lt}
 use Rattle.float64.specs.TotalOrder.{totalLess}
-use Rattle.source.specs.declared.Src.{Src}
 use Rattle.better.specs.Stretches.{Interval}
 use Rattle.trim_model.specs.Intervals.{width}
 use Rattle.trim_model.specs.Windows.{Window, fresh, split, insert, sorted, takeWhile, dropWhile, all, takeWhileEnd, dropWhileEnd}
@@ -20,15 +19,15 @@ use Rattle.trim_model.proofs.Lists.{all-map, all-right, take-drop, drop
 use Rattle.trim_model.proofs.Intervals.{count}
 
 -- what holds of the ends of intervals holds of the windows made of them
-pub fresh-all : (P : Float → Float → Type 0) (s : Src) (n : ℕ) (ps : List Interval) → All (λ (k : Interval). P (k .from) (k .to)) ps → All (λ (u : Window). P (u .b0) (u .b1)) (fresh s n ps)
+pub fresh-all : (P : Float → Float → Type 0) (v : Window) (n : ℕ) (ps : List Interval) → All (λ (k : Interval). P (k .from) (k .to)) ps → All (λ (u : Window). P (u .b0) (u .b1)) (fresh v n ps)
 unfolding fresh
-fresh-all P s n [] h = tt
-fresh-all P s n (p ∷ ps) h = (h .0, fresh-all P s (suc n) ps (h .1))
+fresh-all P v n [] h = tt
+fresh-all P v n (p ∷ ps) h = (h .0, fresh-all P v (suc n) ps (h .1))
 
 pub split-all : (P : Float → Float → Type 0) (u : Window) (n : ℕ) (ps : List Interval) → All (λ (k : Interval). P (k .from) (k .to)) ps → All (λ (v : Window). P (v .b0) (v .b1)) (split u n ps)
 unfolding split
 split-all P u n [] h = tt
-split-all P u n (p ∷ ps) h = (h .0, fresh-all P (u .src) n ps (h .1))
+split-all P u n (p ∷ ps) h = (h .0, fresh-all P u n ps (h .1))
 
 -- how many hold [X, Y]
 unfoldable pub wcount : ℕ → ℕ → List Window → ℕ
@@ -40,15 +39,15 @@ unfolding wcount
 wcount-append X Y [] m = omega arith
 wcount-append X Y (k ∷ ks) m = omega (arith, wcount-append X Y ks m)
 
-pub fresh-count : (X Y : ℕ) (s : Src) (n : ℕ) (ps : List Interval) → wcount X Y (fresh s n ps) ≡ count X Y ps
+pub fresh-count : (X Y : ℕ) (v : Window) (n : ℕ) (ps : List Interval) → wcount X Y (fresh v n ps) ≡ count X Y ps
 unfolding wcount count fresh
-fresh-count X Y s n [] = refl
-fresh-count X Y s n (p ∷ ps) = omega (arith, fresh-count X Y s (suc n) ps)
+fresh-count X Y v n [] = refl
+fresh-count X Y v n (p ∷ ps) = omega (arith, fresh-count X Y v (suc n) ps)
 
 pub split-count : (X Y : ℕ) (u : Window) (n : ℕ) (ps : List Interval) → wcount X Y (split u n ps) ≡ count X Y ps
 unfolding wcount count split
 split-count X Y u n [] = refl
-split-count X Y u n (p ∷ ps) = omega (arith, fresh-count X Y (u .src) n ps)
+split-count X Y u n (p ∷ ps) = omega (arith, fresh-count X Y u n ps)
 
 insert-count : (X Y : ℕ) (u : Window) (l : List Window) → wcount X Y (insert u l) ≡ has X Y (rank (u .b0)) (rank (u .b1)) + wcount X Y l
 unfolding wcount insert

@@ -99,7 +99,7 @@ module _ (better : Better) where
       let s = visits tiny w (run tiny w list) (start w made) in
       let ks = wideOf tiny (s .keep) in
       record {
-        live = before tiny w list ++ (sorted (s .survivors ++ fresh (w .src) (s .made) ks) ++ behind tiny w list);
+        live = before tiny w list ++ (sorted (s .survivors ++ fresh w (s .made) ks) ++ behind tiny w list);
         made = s .made + length ks;
         slivers = s .slivers ++ keepSlivers tiny (s .keep);
       }

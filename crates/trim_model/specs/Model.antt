@@ -5,19 +5,21 @@ use mathlib.Core.Bool.{Bool, not, _&&_, _||_}
 use mathlib.Core.List.{List, [], _∷_, _++_}
 use lib.Dec.{eqb}
 use lib.Ieee.{Float, lt, le}
-use Rattle.float64.specs.Notation.{if_then_else_}
 use Rattle.source.specs.declared.Src.{Src}
 use Rattle.source.specs.Distance.{lowestOf}
 use Rattle.better.specs.Stretches.{Interval, interval}
 use Rattle.trim_model.specs.Intervals.{width, tinyOf}
-use Rattle.trim_model.specs.Windows.{Window, window}
+use Rattle.trim_model.specs.Windows.{Window}
 use Rattle.trim_model.specs.Add.{Better, Added, addTo, addBound}
+use Rattle.float64.specs.Notation.{if_then_else_}
 
 pub record Candidate : Type 0 where
   pub edge : ℕ
   pub b0 : Float
   pub b1 : Float
   pub src : Src
+  pub into : ℕ
+  pub queued : Bool
 
 -- of an edge: its live windows, the ranges of the candidates admitted to it, and the slivers that they dropped
 pub record EdgeState : Type 0 where
@@ -36,7 +38,7 @@ empty = record { edge = λ (e : ℕ). record { live = []; admitted = []; slivers
 
 -- the candidate as the window that `add` is given: its number is not used
 abbrev pub asWindow : Candidate → Window
-asWindow c = window (c .b0) (c .b1) (c .src) 0
+asWindow c = record { b0 = c .b0; b1 = c .b1; low = lowestOf (c .src) (c .b0) (c .b1); src = c .src; into = c .into; queued = c .queued; num = 0 }
 
 -- not admitted: width at most tiny, or lowest value above the limit
 abbrev pub admits : Float → (ℕ → Float) → Candidate → Bool

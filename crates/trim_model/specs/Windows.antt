@@ -1,35 +1,42 @@
 -- The live windows of an edge as a list, numbered and sorted as the Rust does it. Definitions only.
 use Prim.Native.Nat.{ℕ, suc}
-use mathlib.Core.Bool.{Bool, true, _&&_}
+use mathlib.Core.Bool.{Bool, true, false, _&&_}
 use mathlib.Core.List.{List, [], _∷_}
 use lib.Ieee.{Float}
 use Rattle.float64.specs.TotalOrder.{totalLess}
-use Rattle.float64.specs.Notation.{if_then_else_}
 use Rattle.source.specs.declared.Src.{Src}
 use Rattle.source.specs.Distance.{lowestOf}
 use Rattle.better.specs.Stretches.{Interval}
+use Rattle.float64.specs.Notation.{if_then_else_}
 
--- what demand 3 compares of a live window: its ends, lowest value, source and number
+-- what demand 3 compares of a live window, its ends, lowest value, source and number; and the Rust's `into`, the face that it goes into, and `queued`
 pub record Window : Type 0 where
   pub b0 : Float
   pub b1 : Float
   pub low : Float
   pub src : Src
+  pub into : ℕ
+  pub queued : Bool
   pub num : ℕ
 
-abbrev pub window : Float → Float → Src → ℕ → Window
-window b0 b1 s n = record { b0 = b0; b1 = b1; low = lowestOf s b0 b1; src = s; num = n }
+-- the Rust's `Win { b0, b1, ..u }`, as number n
+abbrev pub part : Window → Float → Float → ℕ → Window
+part u b0 b1 n = record { b0 = b0; b1 = b1; low = lowestOf (u .src) b0 b1; src = u .src; into = u .into; queued = u .queued; num = n }
 
--- intervals as windows, numbered from n on
-unfoldable pub fresh : Src → ℕ → List Interval → List Window
-fresh s n [] = []
-fresh s n (p ∷ ps) = window (p .from) (p .to) s n ∷ fresh s (suc n) ps
+-- intervals as parts of u, numbered from n on
+unfoldable pub fresh : Window → ℕ → List Interval → List Window
+fresh u n [] = []
+fresh u n (p ∷ ps) = part u (p .from) (p .to) n ∷ fresh u (suc n) ps
 
 -- the pieces of u as windows: the first keeps u's number
 unfoldable pub split : Window → ℕ → List Interval → List Window
 unfolding fresh
 split u n [] = []
-split u n (p ∷ rest) = window (p .from) (p .to) (u .src) (u .num) ∷ fresh (u .src) n rest
+split u n (p ∷ rest) = part u (p .from) (p .to) (u .num) ∷ fresh u n rest
+
+-- a window whose event was popped: nothing else of it changes
+abbrev pub unqueued : Window → Window
+unqueued u = record { b0 = u .b0; b1 = u .b1; low = u .low; src = u .src; into = u .into; queued = false; num = u .num }
 
 -- `sort_by` of the starts with `total_cmp`, which is stable
 unfoldable pub insert : Window → List Window → List Window
