@@ -1,0 +1,70 @@
+-- What the Rust's `add` does beside the list of its edge, one action after the other in the Rust's order, and what stops it. Definitions only.
+use Prim.Native.Nat.{ℕ, suc, _+_, _*_}
+use mathlib.Core.Bool.{Bool, cond, _&&_}
+use mathlib.Core.List.{List, [], _∷_}
+use lib.Dec.{ltb, leb, eqb}
+use lib.ListN.{getD, set}
+use lib.Ieee.{Float, nan, lt, le}
+use Rattle.float64.specs.Notation.{if_then_else_}
+use Rattle.heap.specs.declared.Event.{Event}
+use Rattle.heap.specs.declared.Pushed.{Pushed}
+use Rattle.heap.specs.declared.Pushed.the-variants.{Full, Queued}
+use Rattle.heap.specs.Queue.{Queue, pushing}
+
+pub data Action : Type 0 where
+  list : ℕ → Action  -- one of the lists `pts`, `out`, `keep`, `next` and `pieces` comes to so many entries
+  make : Action  -- `wins.push`
+  push : Event → Action  -- `queue.push`
+  touch : ℕ → Float → Action  -- `touch` of a vertex at a distance
+
+-- how many windows are made, the queue with its number of events, and the Rust's `vertex` and `emitted`, two numbers for each vertex
+pub record Stock : Type 0 where
+  pub made : ℕ
+  pub queued : ℕ
+  pub queue : Queue
+  pub vertex : List Float
+
+-- a refusal by its number in 01, or what there is afterwards
+pub data Outcome : Type 0 where
+  stopped : ℕ → Outcome
+  went : Stock → Outcome
+
+abbrev pub stock : ℕ → ℕ → Queue → List Float → Stock
+stock made queued queue vertex = record { made = made; queued = queued; queue = queue; vertex = vertex }
+
+-- the Rust's `vertex[v]`, and with d in its place
+abbrev pub distanceOf : List Float → ℕ → Float
+distanceOf vertex v = getD vertex (2 * v + 0) nan
+
+abbrev pub withDistance : List Float → ℕ → Float → List Float
+withDistance vertex v d = set vertex (2 * v + 0) d
+
+-- what a push answers: 13 where the queue has no slot
+unfoldable pub queueing : ℕ → List Float → Pushed × Queue → Outcome
+queueing made vertex (Full, q) = stopped 13
+queueing made vertex (Queued n, q) = went (stock made n q vertex)
+
+unfoldable pub andThen : Outcome → (Stock → Outcome) → Outcome
+andThen (stopped n) next = stopped n
+andThen (went s) next = next s
+
+-- the cut buffer's count and the window buffer's, the limit, and the flags of the vertices that pass distances round themselves
+module _ (cuts windows : ℕ) (limit : Float) (flags : List ℕ) where
+  unfoldable pub act : Action → Stock → Outcome
+  unfolding queueing
+  act (list n) s = cond (leb n cuts) (went s) (stopped 14)
+  act make s = cond (ltb (s .made) windows) (went (stock (suc (s .made)) (s .queued) (s .queue) (s .vertex))) (stopped 12)
+  act (push e) s = queueing (s .made) (s .vertex) (pushing (s .queue) (s .queued) e)
+  act (touch v d) s =
+      if lt d (distanceOf (s .vertex) v) then
+      (let vertex = withDistance (s .vertex) v d in
+      if eqb (getD flags v 0) 1 && le d limit then
+      queueing (s .made) vertex (pushing (s .queue) (s .queued) (record { key = d; number = v; kind = 1 }))
+      else went (stock (s .made) (s .queued) (s .queue) vertex))
+      else went s
+
+  -- one after the other, up to the first that is stopped
+  unfoldable pub play : List Action → Stock → Outcome
+  unfolding act andThen
+  play [] s = went s
+  play (a ∷ rest) s = andThen (act a s) (play rest)
