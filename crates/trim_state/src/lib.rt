@@ -1,0 +1,1 @@
+// The state of window trimming as values: definitions and laws, no code.
