@@ -18,3 +18,4 @@ pub mod Forward
 pub mod Insertion
 pub mod InPlace
 pub mod Flags
+pub mod Seat
