@@ -17,3 +17,5 @@ pub mod Low
 pub mod Forward
 pub mod Insertion
 pub mod InPlace
+pub mod Flags
+pub mod Seat
