@@ -1,6 +1,7 @@
 pub mod Places
 pub mod Stored
 pub mod Walks
+pub mod Lists
 pub mod Seats
 pub mod Standing
 pub mod Changed
