@@ -140,6 +140,7 @@ pub fn seat_from(
 }
 
 pub fn load(words: &[u32], reals: &[f64], id: WindowId) -> WindowRecord
+    requires { ⌜ id .0 < capacityOf (length (now words)) (length (now reals)) ⌝ }
     ensures { λ r. ⌜ Loads (now (words .entry)) (now (reals .entry)) (id .0) r ⌝ }
 {
     windows::load(words, reals, id)
@@ -174,23 +175,24 @@ pub fn make_window(
 }
 
 // A window is trimmed.
-pub fn trim_window(reals: &mut [f64], id: WindowId, b0: f64, b1: f64, low: f64)
-    requires { ⌜ id .0 < slotsOf (length (now reals)) 6 ⌝ }
+pub fn trim_window(words: &[u32], reals: &mut [f64], id: WindowId, b0: f64, b1: f64, low: f64)
+    requires { ⌜ id .0 < capacityOf (length (now words)) (length (now reals)) ⌝ }
     ensures { λ r. ⌜ Trims (now (reals .entry)) (now (reals .exit)) (id .0) b0 b1 low ⌝ }
 {
-    windows::store_range(reals, id, b0, b1, low);
+    windows::store_range(words, reals, id, b0, b1, low);
 }
 
 // A window is taken out from behind a link of its edge. It keeps no link and all else but its flag.
 pub fn kill_window(
     edges: &mut [u32],
     words: &mut [u32],
+    reals: &[f64],
     made: u32,
     e: EdgeId,
     before: u32,
     id: WindowId,
 )
-    requires { ⌜ (made ≤ slotsOf (length (now words)) 4) × ((e .0 < slotsOf (length (now edges)) 6) × ((before ≤ made) × (id .0 < made))) ⌝ }
+    requires { ⌜ (made ≤ capacityOf (length (now words)) (length (now reals))) × ((e .0 < slotsOf (length (now edges)) 6) × ((before ≤ made) × (id .0 < made))) ⌝ }
     ensures { λ r. ⌜ Kills made (links (now (edges .entry)) (now (words .entry))) (links (now (edges .exit)) (now (words .exit))) (e .0) before (id .0) ⌝ }
 {
     let link = read_u32(words, 4, id.0, 3);
@@ -199,15 +201,15 @@ pub fn kill_window(
     let queued = windows::has_flag(flags, 4);
     set_link(edges, words, e, before, next);
     write_u32(words, 4, id.0, 3, 0);
-    windows::store_flags(words, id, false, queued);
+    windows::store_flags(words, reals, id, false, queued);
 }
 
 // A window's event was popped.
-pub fn unqueue(words: &mut [u32], id: WindowId)
-    requires { ⌜ id .0 < slotsOf (length (now words)) 4 ⌝ }
+pub fn unqueue(words: &mut [u32], reals: &[f64], id: WindowId)
+    requires { ⌜ id .0 < capacityOf (length (now words)) (length (now reals)) ⌝ }
     ensures { λ r. ⌜ Unqueues (now (words .entry)) (now (words .exit)) (id .0) ⌝ }
 {
     let flags = read_u32(words, 4, id.0, 2);
     let alive = windows::has_flag(flags, 2);
-    windows::store_flags(words, id, alive, false);
+    windows::store_flags(words, reals, id, alive, false);
 }

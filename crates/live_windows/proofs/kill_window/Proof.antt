@@ -46,7 +46,7 @@ returns c =
     let flags = flag .before in
     let next = flags .before .before in
     let link = next .before in
-    let s = link .before .before .before .before in
+    let s = link .before .before .before .before .before in
     let a = s .args in
     kill-done (a .made) (links (a .edges .now) (a .words .now)) (a .e .0) (a .before) (a .id .0) (next .link-in .result) (flag .has-flag .result)
     (in-slots (length (a .words .now)) 4 (a .id .0) (omega arith)) (in-slots (length (a .edges .now)) 6 (a .e .0) (s .pre .1 .0)) (s .pre .1 .1 .0) (s .pre .1 .1 .1)
