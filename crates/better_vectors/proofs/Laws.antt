@@ -2,9 +2,6 @@
 use mathlib.Core.Path.{_≡_}
 use mathlib.Core.List.{List}
 use Prim.Native.Nat.{ℕ, _-_}
-use native.Mathlib.Omega.{arith}
-use lib.ListN.{length, take, drop, length-drop}
-use lib.Seq.{take-all}
 use lib.Ieee.{Float}
 use Rattle.source.specs.declared.Src.{Src}
 use Rattle.better.specs.declared.Listed.{Listed}
@@ -13,10 +10,6 @@ use Rattle.better.specs.Points.{ptsOf, walkOf}
 use Rattle.better.specs.Stretches.{betterOf}
 use Rattle.better.specs.Buffers.{Answers}
 use Rattle.better_vectors.specs.Replay.{Within}
-
--- what is left from byte i on
-pub rest : (l : List ℕ) (i : ℕ) → take (length l - i) (drop i l) ≡ drop i l
-rest l i = take-all (length l - i) (drop i l) (omega (arith, length-drop i l))
 
 -- a right answer is within its buffer
 pub answer-within : (r : Listed) (p q : Src) (lo hi : Float) (size : ℕ) (out : List Float)

@@ -2,32 +2,18 @@
 -- the count of stretches at byte 71, and from byte 75 on their ends. Definitions only.
 use mathlib.Core.Path.{_≡_}
 use mathlib.Core.List.{List}
-use mathlib.Core.Bool.{Bool, cond, _&&_}
+use mathlib.Core.Bool.{Bool, _&&_}
 use Prim.Native.Nat.{ℕ, _+_, _*_, _/_, _%_, _≤_}
-use lib.ListN.{length, drop, getD}
+use lib.ListN.{length, getD}
 use lib.Dec.{eqb}
-use lib.Ieee.{Float, nan, binary64, ofBits}
-use Rattle.vectors.specs.Records.{wordAt, agrees, failing}
-use Rattle.source.specs.declared.Src.{Src}
-use Rattle.source.specs.declared.Src.the-variants.{Point, Line}
+use lib.Ieee.{Float, nan}
+use Rattle.vectors.specs.Records.{agrees, failing}
+use Rattle.source_records.specs.Records.{wordFrom, floatFrom, srcFrom}
 use Rattle.better.specs.declared.Listed.{Listed}
 use Rattle.better.specs.declared.Listed.the-variants.{Full, Entries}
 use Rattle.better.specs.Points.{ptsOf, walkOf}
 use Rattle.better.specs.Stretches.{betterOf}
 use Rattle.better.specs.Buffers.{Answers}
-
--- the number of 8 bytes, the float and the source that begin at byte i
-unfoldable pub wordFrom : List ℕ → ℕ → ℕ
-wordFrom s i = wordAt (drop i s) 0
-
-unfoldable pub floatFrom : List ℕ → ℕ → Float
-floatFrom s i = ofBits binary64 (wordFrom s i)
-
-unfoldable pub srcFrom : List ℕ → ℕ → Src
-srcFrom s i =
-    cond (eqb (getD s i 0) 0)
-    (Point (floatFrom s (i + 1)) (floatFrom s (i + 9)) (floatFrom s (i + 17)))
-    (Line (floatFrom s (i + 1)) (floatFrom s (i + 9)) (floatFrom s (i + 17)))
 
 -- the capacity and the count of stretches of the record at byte i
 unfoldable pub capacityOf : List ℕ → ℕ → ℕ

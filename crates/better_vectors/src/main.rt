@@ -2,44 +2,14 @@
 // The file is a count of 4 bytes and packed records: two sources of 25 bytes, lo and hi, the capacity of the lists (4 bytes), the refusal (1 byte, 0 or 14),
 // the count of stretches (4 bytes), and their ends.
 use better::Listed;
-use source::Src;
+use source_records::float_from;
+use source_records::src_from;
+use source_records::word_from;
 ghost use mathlib.Core.Path.{_≡_};
 ghost use Prim.Native.Nat.{_+_, _*_, _≤_, _<_};
 ghost use lib.ListN.{length};
-ghost use Rattle.better_vectors.specs.Replay.{wordFrom, floatFrom, srcFrom, capacityOf, stretchesOf, otherFloats, sameAnswer, Within, Decides, Replays};
-
-// The number of 8 bytes at byte i.
-fn word_from(s: &[u8], i: usize) -> u64
-    requires { ⌜ i + 8 ≤ length (now s) ⌝ }
-    ensures { λ r. ⌜ r ≡ wordFrom (now (s .entry)) i ⌝ }
-{
-    vectors::word(&s[i..], 0)
-}
-
-fn float_from(s: &[u8], i: usize) -> f64
-    requires { ⌜ i + 8 ≤ length (now s) ⌝ }
-    ensures { λ r. ⌜ r ≡ floatFrom (now (s .entry)) i ⌝ }
-{
-    vectors::float(word_from(s, i))
-}
-
-fn src_from(s: &[u8], i: usize) -> Src
-    requires { ⌜ i + 25 ≤ length (now s) ⌝ }
-    ensures { λ r. ⌜ r ≡ srcFrom (now (s .entry)) i ⌝ }
-{
-    if s[i] == 0 {
-        return Src::Point {
-            x: float_from(s, i + 1),
-            y: float_from(s, i + 9),
-            s: float_from(s, i + 17),
-        };
-    }
-    Src::Line {
-        ux: float_from(s, i + 1),
-        uy: float_from(s, i + 9),
-        c: float_from(s, i + 17),
-    }
-}
+ghost use Rattle.source_records.specs.Records.{wordFrom, floatFrom, srcFrom};
+ghost use Rattle.better_vectors.specs.Replay.{capacityOf, stretchesOf, otherFloats, sameAnswer, Within, Decides, Replays};
 
 // The capacity and the count of stretches of the record at byte i: the low and the high 4 bytes of 8.
 fn capacity(s: &[u8], i: usize) -> usize

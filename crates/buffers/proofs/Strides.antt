@@ -1,32 +1,28 @@
 -- Reading a strided slice after a write, over any stride and any field.
 use Prim.Native.Nat.{ℕ, suc, _+_, _*_, _-_, _/_, _^_, _<_, _≤_}
-use native.Mathlib.Nat.{mul-le-mul-left, mul-le-mul-right, mul-suc, mul-comm, div-mul-le-self}
+use native.Mathlib.Nat.{add-suc, mul-le-mul-left, mul-div-le}
 use native.Mathlib.Decide.{ℕ-discrete, decLe}
 use native.Mathlib.Omega.{arith}
 use mathlib.Core.Path.{_≡_, refl, sym, ap, _∙_}
 use mathlib.Core.List.{List, [], _∷_, _++_, append-nil}
 use mathlib.Core.Logic.{_≢_}
-use lib.ListN.{length, getD, take, drop, set, length-set, length-drop, drop-of-length-le}
-use lib.Seq.{sets, sets-eq, getD-take, getD-drop, getD-set-other, drop-set-lt, drop-set-add, take-set-le, take-set-lt, length-take-le}
+use lib.ListN.{length, getD, take, drop, set, length-drop, drop-of-length-le}
+use lib.Seq.{sets, length-sets, sets-eq, getD-take, getD-drop, getD-set-other, drop-set-lt, drop-set-add, take-set-le, take-set-lt, length-take-le}
+use Rattle.nat_laws.proofs.Ring.{run-within}
 use Rattle.buffers.specs.Slots.{slot, fill, slotsOf}
-
--- a slot ends before the next one starts
-pub before : (s : ℕ) {i j : ℕ} → i < j → s * i + s ≤ s * j
-before s {i} {j} h = omega (arith, mul-le-mul-left s h, mul-suc s i)
 
 -- elements of different slots stand apart
 pub apart : (s i j a b : ℕ) → i ≢ j → a < s → b < s → s * i + a ≢ s * j + b
 apart s i j a b ne ha hb e = go (decLe i j) where
   go : Dec (i ≤ j) → ⊥
-  go (yes h) = let k : i < j = omega arith in omega (arith, before s k)
-  go (no h) = let k : j < i = omega arith in omega (arith, before s k)
+  go (yes h) = let k : i < j = omega arith in omega (arith, run-within s k)
+  go (no h) = let k : j < i = omega arith in omega (arith, run-within s k)
 
 -- a slot that is counted lies in the slice
 pub in-slots : (n s i : ℕ) → i < slotsOf n s → s * i + s ≤ n
 in-slots n s i h =
-    let d : n / s * s ≤ n = div-mul-le-self n s in
-    let m : suc i * s ≤ n / s * s = mul-le-mul-right s (omega arith) in
-    omega (arith, mul-comm (suc i) s, mul-suc s i)
+    let k : i < n / s = omega arith in
+    omega (arith, run-within s k, mul-div-le n s)
 
 -- the index of a field fits 64 bits, whatever 32-bit numbers make it
 pub index-fits : (s i a : ℕ) → s < 2 ^ 32 → i < 2 ^ 32 → a < 2 ^ 32 → s * i + a < 2 ^ 64
@@ -65,22 +61,25 @@ module _ {A : Type 0} (s : ℕ) (l : List A) where
     go : Dec (i ≤ j) → take s (drop (s * j) (set l (s * i + a) x)) ≡ take s (drop (s * j) l)
     go (yes le) =
         let k : i < j = omega arith in
-        let b : s * i + a < s * j = omega (arith, before s k) in
+        let b : s * i + a < s * j = omega (arith, run-within s k) in
         ap (take s) (drop-set-lt (s * j) l (s * i + a) x b)
     go (no nle) =
         let k : j < i = omega arith in
-        let e : s * i + a ≡ s * j + (s * i + a - s * j) = omega (arith, before s k) in
-        let b : s ≤ s * i + a - s * j = omega (arith, before s k) in
+        let e : s * i + a ≡ s * j + (s * i + a - s * j) = omega (arith, run-within s k) in
+        let b : s ≤ s * i + a - s * j = omega (arith, run-within s k) in
         ap (λ n. take s (drop (s * j) (set l n x))) e
         ∙ ap (take s) (drop-set-add (s * j) l (s * i + a - s * j) x)
         ∙ take-set-le s (drop (s * j) l) (s * i + a - s * j) x b
 
 -- a whole slot is written: it has the fields, and the others are as they were
 module _ {A : Type 0} (s : ℕ) where
-  pub length-fill : (vs l : List A) (i a : ℕ) → length (fill s l i a vs) ≡ length l
+  pub fill-is : (vs l : List A) (i a : ℕ) → fill s l i a vs ≡ sets l (s * i + a) vs
   unfolding fill
-  length-fill [] l i a = refl
-  length-fill (v ∷ vs) l i a = length-fill vs (set l (s * i + a) v) i (suc a) ∙ simp length-set
+  fill-is [] l i a = refl
+  fill-is (v ∷ vs) l i a = fill-is vs (set l (s * i + a) v) i (suc a) ∙ ap (λ k. sets (set l (s * i + a) v) k vs) (add-suc (s * i) a)
+
+  pub length-fill : (vs l : List A) (i a : ℕ) → length (fill s l i a vs) ≡ length l
+  length-fill vs l i a = ap length (fill-is vs l i a) ∙ length-sets l (s * i + a) vs
 
   pub fill-sets : (vs l : List A) (i a : ℕ) → a + length vs ≤ s → slot s (fill s l i a vs) i ≡ sets (slot s l i) a vs
   unfolding fill

@@ -7,7 +7,8 @@ use lib.ListN.{take, drop, set}
 unfoldable pub slot : {A : Type 0} → ℕ → List A → ℕ → List A
 slot s l i = take s (drop (s * i) l)
 
--- the list with the fields of slot i, from field a on, written in turn
+-- the list with the fields of slot i, from field a on, written in turn: the library's `sets` (`fill-is`), with each index as a slot and a field, as
+-- code that stores a record has it
 unfoldable pub fill : {A : Type 0} → ℕ → List A → ℕ → ℕ → List A → List A
 fill s l i a [] = l
 fill s l i a (v ∷ vs) = fill s (set l (s * i + a) v) i (suc a) vs

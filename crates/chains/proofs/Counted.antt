@@ -6,9 +6,10 @@ use mathlib.Core.Bool.{Bool, true, false, cond}
 use mathlib.Core.Path.{_≡_, refl, ap, _∙_}
 use mathlib.Core.List.{List, _∷_}
 use lib.Dec.{eqb}
-use lib.ListN.{getD, set}
+use lib.ListN.{getD}
 use lib.Seq.{getD-set-other}
 use Rattle.chains.proofs.Turns.{link-le}
+use Rattle.windows.specs.Windows.{linkWith}
 use Rattle.chains.specs.Chains.{Links, links, nextOf, linkIn, chain, walk, linkAt, withLink, inserted, cleared, removed}
 
 module _ (count : ℕ) where
@@ -32,7 +33,7 @@ module _ (count : ℕ) where
 
   -- ---- writes: the word at p, past the count
   module _ (p : ℕ) (past : 4 * count ≤ p) where
-    set-counted : (w : List ℕ) (i v : ℕ) → i < count → getD (set w (4 * i + 3) v) p 0 ≡ getD w p 0
+    set-counted : (w : List ℕ) (i v : ℕ) → i < count → getD (linkWith w i v) p 0 ≡ getD w p 0
     set-counted w i v h = getD-set-other w (4 * i + 3) p v 0 (λ e. omega (arith, e, h, past))
 
     with-counted : (b : Links) (e k v : ℕ) → k ≤ count → getD (withLink b e k v .words) p 0 ≡ getD (b .words) p 0
@@ -46,8 +47,8 @@ module _ (count : ℕ) where
     cleared-counted (suc n) w zero stop h = refl
     cleared-counted (suc n) w (suc i) stop h =
         let v = linkIn count (nextOf w i) in
-        go (eqb (suc i) stop) (cleared count n (set w (4 * i + 3) 0) v stop)
-        (cleared-counted n (set w (4 * i + 3) 0) v stop (link-le count (nextOf w i) v refl) ∙ set-counted w i 0 (omega arith)) where
+        go (eqb (suc i) stop) (cleared count n (linkWith w i 0) v stop)
+        (cleared-counted n (linkWith w i 0) v stop (link-le count (nextOf w i) v refl) ∙ set-counted w i 0 (omega arith)) where
           go : (s : Bool) (u : List ℕ) → getD u p 0 ≡ getD w p 0 → getD (cond s w u) p 0 ≡ getD w p 0
           go true u e = refl
           go false u e = e
@@ -56,7 +57,7 @@ module _ (count : ℕ) where
     unfolding inserted
     inserted-counted b e k j h g =
         let v = linkIn count (linkAt b e k) in
-        with-counted (links (b .edges) (set (b .words) (4 * j + 3) v)) e k (suc j) h ∙ set-counted (b .words) j v g
+        with-counted (links (b .edges) (linkWith (b .words) j v)) e k (suc j) h ∙ set-counted (b .words) j v g
 
     pub removed-counted : (n : ℕ) (b : Links) (e k stop : ℕ) → k ≤ count → getD (removed count n b e k stop .words) p 0 ≡ getD (b .words) p 0
     unfolding removed

@@ -15,7 +15,7 @@ use lib.Ieee.{Float}
 use Rattle.buffers.specs.Slots.{slot}
 use Rattle.buffers.proofs.Strides.{slot-at, other-fields, other-slot}
 use Rattle.windows.specs.declared.WindowRecord.{WindowRecord}
-use Rattle.windows.specs.Windows.{flagsOf, hasFlag, winAt, windowAt, wordsWith, flagsWith, relinked}
+use Rattle.windows.specs.Windows.{linkWith, flagsOf, hasFlag, winAt, windowAt, wordsWith, flagsWith, relinked}
 use Rattle.windows.proofs.WindowList.{stored-edge, stored-other, length-stored}
 use Rattle.chains.proofs.Paths.{each-other, path-in, path-same, path-set, path-drop, path-once, out-append, front-out, front-of, front-set, splice, unlinked, clear-is, path-after, Apart, unlink-path, unlink-front, length-unlinked, unlinked-none, apart-rest, apart-less, apart-front}
 use Rattle.chains.specs.Chains.{Links, links, headOf, edgeOf, nextOf, linkIn, linkAt, withLink, inserted, cleared, removed, Each, Path, Out, Belongs, AllBelong, Before, firstLink, OnEdge, Chains}
@@ -43,7 +43,7 @@ pub record OnlyHead (e : ℕ) (v v′ : List ℕ) : Type 0 where
 only-none : (w : List ℕ) → OnlyLinks w w
 only-none w = record { same-length = refl; fields = λ i a h. refl }
 
-only-set : (w : List ℕ) (k v : ℕ) → OnlyLinks w (set w (4 * k + 3) v)
+only-set : (w : List ℕ) (k v : ℕ) → OnlyLinks w (linkWith w k v)
 only-set w k v = record { same-length = simp length-set; fields = λ i a h. other-fields 4 w k i 3 a v 0 (omega arith) (omega arith) (omega arith) }
 
 only-trans : (u v w : List ℕ) → OnlyLinks u v → OnlyLinks v w → OnlyLinks u w
@@ -54,7 +54,7 @@ unfolding cleared
 only-cleared count zero w l stop = only-none w
 only-cleared count (suc n) w zero stop = only-none w
 only-cleared count (suc n) w (suc i) stop =
-    let w′ = set w (4 * i + 3) 0 in
+    let w′ = linkWith w i 0 in
     let l′ = linkIn count (nextOf w i) in
     go (eqb (suc i) stop) (cleared count n w′ l′ stop) (only-trans w w′ (cleared count n w′ l′ stop) (only-set w i 0) (only-cleared count n w′ l′ stop)) where
       go : (s : Bool) (v : List ℕ) → OnlyLinks w v → OnlyLinks w (cond s w v)
@@ -76,12 +76,12 @@ module _ (count : ℕ) (b : Links) (e k : ℕ) where
   unfolding inserted
   inserted-links j =
       let l = linkIn count (linkAt b e k) in
-      let w = set (b .words) (4 * j + 3) l in
+      let w = linkWith (b .words) j l in
       only-trans (b .words) w (withLink (links (b .edges) w) e k (suc j) .words) (only-set (b .words) j l) (only-with (links (b .edges) w) e k (suc j))
 
   pub inserted-head : (j : ℕ) → OnlyHead e (b .edges) (inserted count b e k j .edges)
   unfolding inserted
-  inserted-head j = head-with (links (b .edges) (set (b .words) (4 * j + 3) (linkIn count (linkAt b e k)))) e k (suc j)
+  inserted-head j = head-with (links (b .edges) (linkWith (b .words) j (linkIn count (linkAt b e k)))) e k (suc j)
 
   pub removed-links : (n stop : ℕ) → OnlyLinks (b .words) (removed count n b e k stop .words)
   unfolding removed
@@ -145,13 +145,13 @@ module _ (made : ℕ) where
   all-same w w′ e (i ∷ is) n h g = (belongs-same w w′ e i n (h .0) (g .0), all-same w w′ e is n (h .1) (g .1))
 
   -- so a change of links changes it for none
-  belongs-set : (w : List ℕ) (e i k v : ℕ) → Belongs made w e i → Belongs made (set w (4 * k + 3) v) e i
-  belongs-set w e i k v = belongs-same w (set w (4 * k + 3) v) e i (simp length-set) (other-fields 4 w k i 3 0 v 0 (λ z. omega (arith, z)) (omega arith) (omega arith))
+  belongs-set : (w : List ℕ) (e i k v : ℕ) → Belongs made w e i → Belongs made (linkWith w k v) e i
+  belongs-set w e i k v = belongs-same w (linkWith w k v) e i (simp length-set) (other-fields 4 w k i 3 0 v 0 (λ z. omega (arith, z)) (omega arith) (omega arith))
 
-  pub all-set : (w : List ℕ) (e : ℕ) (is : List ℕ) (k v : ℕ) → AllBelong made w e is → AllBelong made (set w (4 * k + 3) v) e is
+  pub all-set : (w : List ℕ) (e : ℕ) (is : List ℕ) (k v : ℕ) → AllBelong made w e is → AllBelong made (linkWith w k v) e is
   all-set w e is k v =
-      all-same w (set w (4 * k + 3) v) e is (simp length-set)
-      (each (λ i. edgeOf (set w (4 * k + 3) v) i ≡ edgeOf w i) is (λ i. other-fields 4 w k i 3 0 v 0 (λ z. omega (arith, z)) (omega arith) (omega arith)))
+      all-same w (linkWith w k v) e is (simp length-set)
+      (each (λ i. edgeOf (linkWith w k v) i ≡ edgeOf w i) is (λ i. other-fields 4 w k i 3 0 v 0 (λ z. omega (arith, z)) (omega arith) (omega arith)))
 
   -- a window of another edge is not among them, so chains never meet
   pub elsewhere : (w : List ℕ) (e : ℕ) (is : List ℕ) (k : ℕ) → edgeOf w k ≢ e → AllBelong made w e is → Out k is
@@ -172,7 +172,7 @@ module _ (made : ℕ) where
   -- ---- the other chains stay
   module _ (b : Links) (e e′ : ℕ) (ne : e ≢ e′) (is : List ℕ) where
     -- a window of edge e has its link changed
-    pub set-frame : (k v : ℕ) → Belongs made (b .words) e k → OnEdge made b e′ is → OnEdge made (links (b .edges) (set (b .words) (4 * k + 3) v)) e′ is
+    pub set-frame : (k v : ℕ) → Belongs made (b .words) e k → OnEdge made b e′ is → OnEdge made (links (b .edges) (linkWith (b .words) k v)) e′ is
     set-frame k v h o =
         let out : Out k is = elsewhere (b .words) e′ is k (λ z. ne (sym (h .edge) ∙ z)) (o .belong) in
         record { path = path-set (b .words) (headOf (b .edges) e′) is k v out (o .path); belong = all-set (b .words) e′ is k v (o .belong) }
@@ -183,7 +183,7 @@ module _ (made : ℕ) where
         record { path = rw (other-slot 6 (b .edges) e e′ 4 4 v 0 ne (omega arith) (omega arith)) (o .path); belong = o .belong }
     with-frame (suc k) v h o = set-frame k v h o
 
-  before-set : (w : List ℕ) (e k j v : ℕ) → Before made w e k → Before made (set w (4 * j + 3) v) e k
+  before-set : (w : List ℕ) (e k j v : ℕ) → Before made w e k → Before made (linkWith w j v) e k
   unfolding Before
   before-set w e zero j v h = tt
   before-set w e (suc k) j v h = belongs-set w e k j v h
@@ -198,7 +198,7 @@ module _ (made : ℕ) where
   unfolding inserted
   insert-frame count b e e′ k j is ne h g o =
       let l = linkIn count (linkAt b e k) in
-      with-frame (links (b .edges) (set (b .words) (4 * j + 3) l)) e e′ ne is k (suc j) (before-set (b .words) e k j l h) (set-frame b e e′ ne is j l g o)
+      with-frame (links (b .edges) (linkWith (b .words) j l)) e e′ ne is k (suc j) (before-set (b .words) e k j l h) (set-frame b e e′ ne is j l g o)
 
   -- ---- an insertion
   pub insert-head : (count : ℕ) → made ≤ count → (b : Links) (e j : ℕ) (zs : List ℕ) → 6 * e + 6 ≤ length (b .edges) → Belongs made (b .words) e j → Out j zs → OnEdge made b e zs → OnEdge made (inserted count b e 0 j) e (j ∷ zs)
@@ -225,22 +225,22 @@ module _ (made : ℕ) where
       let f = front-out w l xs k zs (o .path) in
       let oj = out-append j xs (k ∷ zs) out in
       let m = all-append w e xs (k ∷ zs) (o .belong) in
-      let bound : 4 * k + 4 ≤ length (set w (4 * j + 3) v) = simp length-set (m .1 .0 .there) in
-      let rest : Path (set w (4 * j + 3) v) (suc j) (j ∷ zs) =
+      let bound : 4 * k + 4 ≤ length (linkWith w j v) = simp length-set (m .1 .0 .there) in
+      let rest : Path (linkWith w j v) (suc j) (j ∷ zs) =
       (refl, rw (getD-set-same w (4 * j + 3) v 0 (omega (arith, g .there))) (path-set w v zs j v (oj .1 .1) (path-drop w l xs k zs (o .path)))) in
       let all : AllBelong made w e (xs ++ k ∷ j ∷ zs) = all-join w e xs (k ∷ j ∷ zs) (m .0) (m .1 .0, (g, m .1 .1)) in
       let r : linkIn count v ≡ v = path-in count w v zs (all-counted count c w e zs (m .1 .1)) (path-drop w l xs k zs (o .path)) in
       rw r
       (record {
-        path = splice (set w (4 * j + 3) v) l xs k (j ∷ zs) (suc j) bound (f .0) (λ z. oj .1 .0 (sym z), f .1) (front-set w l xs k j v (oj .0) (front-of w l xs k zs (o .path))) rest;
-        belong = all-set (set w (4 * j + 3) v) e (xs ++ k ∷ j ∷ zs) k (suc j) (all-set w e (xs ++ k ∷ j ∷ zs) j v all);
+        path = splice (linkWith w j v) l xs k (j ∷ zs) (suc j) bound (f .0) (λ z. oj .1 .0 (sym z), f .1) (front-set w l xs k j v (oj .0) (front-of w l xs k zs (o .path))) rest;
+        belong = all-set (linkWith w j v) e (xs ++ k ∷ j ∷ zs) k (suc j) (all-set w e (xs ++ k ∷ j ∷ zs) j v all);
       })
 
   -- ---- the run ys is taken out
   unlink-all : (is w : List ℕ) (e : ℕ) (ys : List ℕ) → AllBelong made w e is → AllBelong made (unlinked w ys) e is
   unfolding unlinked
   unlink-all is w e [] h = h
-  unlink-all is w e (y ∷ ys) h = unlink-all is (set w (4 * y + 3) 0) e ys (all-set w e is y 0 h)
+  unlink-all is w e (y ∷ ys) h = unlink-all is (linkWith w y 0) e ys (all-set w e is y 0 h)
 
   pub remove-head : (count : ℕ) → made ≤ count → (n : ℕ) (b : Links) (e : ℕ) (ys zs : List ℕ) → length ys ≤ n → 6 * e + 6 ≤ length (b .edges) → OnEdge made b e (ys ++ zs) → OnEdge made (removed count n b e 0 (firstLink zs)) e zs
   unfolding removed withLink linkAt
@@ -281,12 +281,12 @@ module _ (made : ℕ) where
   unfolding unlinked AllBelong
   unlink-frame b e e′ is [] ne h o = o
   unlink-frame b e e′ is (y ∷ ys) ne h o =
-      unlink-frame (links (b .edges) (set (b .words) (4 * y + 3) 0)) e e′ is ys ne (all-set (b .words) e ys y 0 (h .1)) (set-frame b e e′ ne is y 0 (h .0) o)
+      unlink-frame (links (b .edges) (linkWith (b .words) y 0)) e e′ is ys ne (all-set (b .words) e ys y 0 (h .1)) (set-frame b e e′ ne is y 0 (h .0) o)
 
   before-unlinked : (w : List ℕ) (e k : ℕ) (ys : List ℕ) → Before made w e k → Before made (unlinked w ys) e k
   unfolding unlinked
   before-unlinked w e k [] h = h
-  before-unlinked w e k (y ∷ ys) h = before-unlinked (set w (4 * y + 3) 0) e k ys (before-set w e k y 0 h)
+  before-unlinked w e k (y ∷ ys) h = before-unlinked (linkWith w y 0) e k ys (before-set w e k y 0 h)
 
   pub remove-frame : (count : ℕ) → made ≤ count → (n : ℕ) (b : Links) (e e′ k : ℕ) (ys zs is : List ℕ) → e ≢ e′ → Before made (b .words) e k → length ys ≤ n
       → Path (b .words) (linkAt b e k) (ys ++ zs) → AllBelong made (b .words) e ys → OnEdge made b e′ is → OnEdge made (removed count n b e k (firstLink zs)) e′ is

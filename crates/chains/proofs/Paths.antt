@@ -7,10 +7,11 @@ use mathlib.Core.Path.{_≡_, refl, sym, ap, subst, _∙_}
 use mathlib.Core.List.{List, [], _∷_, _++_, append-assoc}
 use mathlib.Core.Logic.{_≢_}
 use borrow.Author.Tests.{ne-eqb}
-use lib.ListN.{set, length, length-set, length-append}
+use lib.ListN.{length, length-set, length-append}
 use lib.Seq.{getD-set-same, set-out}
 use Rattle.chains.proofs.Turns.{link-in, link-none, cleared-end, cleared-stop}
 use Rattle.buffers.proofs.Strides.{other-slot}
+use Rattle.windows.specs.Windows.{linkWith}
 use Rattle.chains.specs.Chains.{nextOf, linkIn, chain, walk, cleared, Each, Path, Out, firstLink}
 
 -- ---- a path
@@ -102,10 +103,10 @@ unfolding Path Each
 path-same w w′ l [] h p = p
 path-same w w′ l (i ∷ is) h p = (p .0, rw (h .0) (path-same w w′ (nextOf w i) is (h .1) (p .1)))
 
-pub path-set : (w : List ℕ) (l : ℕ) (is : List ℕ) (k v : ℕ) → Out k is → Path w l is → Path (set w (4 * k + 3) v) l is
+pub path-set : (w : List ℕ) (l : ℕ) (is : List ℕ) (k v : ℕ) → Out k is → Path w l is → Path (linkWith w k v) l is
 path-set w l is k v o =
-    path-same w (set w (4 * k + 3) v) l is
-    (each-other (λ i. nextOf (set w (4 * k + 3) v) i ≡ nextOf w i) k is (λ i ne. other-slot 4 w k i 3 3 v 0 ne (omega arith) (omega arith)) o)
+    path-same w (linkWith w k v) l is
+    (each-other (λ i. nextOf (linkWith w k v) i ≡ nextOf w i) k is (λ i ne. other-slot 4 w k i 3 3 v 0 ne (omega arith) (omega arith)) o)
 
 -- from link l on the windows xs are passed, and the next is k
 unfoldable pub Front : List ℕ → ℕ → List ℕ → ℕ → Type 0
@@ -117,7 +118,7 @@ unfolding Path Front
 front-of w l [] k zs p = p .0
 front-of w l (x ∷ xs) k zs p = (p .0, front-of w (nextOf w x) xs k zs (p .1))
 
-pub front-set : (w : List ℕ) (l : ℕ) (xs : List ℕ) (k i v : ℕ) → Out i xs → Front w l xs k → Front (set w (4 * i + 3) v) l xs k
+pub front-set : (w : List ℕ) (l : ℕ) (xs : List ℕ) (k i v : ℕ) → Out i xs → Front w l xs k → Front (linkWith w i v) l xs k
 unfolding Front Out
 front-set w l [] k i v o p = p
 front-set w l (x ∷ xs) k i v o p =
@@ -125,7 +126,7 @@ front-set w l (x ∷ xs) k i v o p =
 
 -- the link of k points at the path vs
 pub splice : (w : List ℕ) (l : ℕ) (xs : List ℕ) (k : ℕ) (vs : List ℕ) (v : ℕ) → 4 * k + 4 ≤ length w → Out k xs → Out k vs
-    → Front w l xs k → Path w v vs → Path (set w (4 * k + 3) v) l (xs ++ k ∷ vs)
+    → Front w l xs k → Path w v vs → Path (linkWith w k v) l (xs ++ k ∷ vs)
 unfolding Path Out Front
 splice w l [] k vs v b ox ov p q = (p, rw (getD-set-same w (4 * k + 3) v 0 (omega arith)) (path-set w v vs k v ov q))
 splice w l (x ∷ xs) k vs v b ox ov p q =
@@ -134,7 +135,7 @@ splice w l (x ∷ xs) k vs v b ox ov p q =
 -- ---- a removal: the windows of the run lose their links
 unfoldable pub unlinked : List ℕ → List ℕ → List ℕ
 unlinked w [] = w
-unlinked w (i ∷ is) = unlinked (set w (4 * i + 3) 0) is
+unlinked w (i ∷ is) = unlinked (linkWith w i 0) is
 
 pub first-out : (i : ℕ) (zs : List ℕ) → Out i zs → suc i ≢ firstLink zs
 unfolding firstLink Out
@@ -159,7 +160,7 @@ clear-is count (suc n) w l (i ∷ ys) zs c h p =
     let e : linkIn count l ≡ suc i = link-in count l (omega (arith, c .0, p .0)) ∙ p .0 in
     ap (λ k. cleared count (suc n) w k (firstLink zs)) e
     ∙ rw (ne-eqb (suc i) (firstLink zs) (first-out i zs (out-append i ys zs out .1)))
-    (clear-is count n (set w (4 * i + 3) 0) (nextOf w i) ys zs (c .1) (omega arith) (path-set w (nextOf w i) (ys ++ zs) i 0 out (p .1)))
+    (clear-is count n (linkWith w i 0) (nextOf w i) ys zs (c .1) (omega arith) (path-set w (nextOf w i) (ys ++ zs) i 0 out (p .1)))
 
 pub path-after : (w : List ℕ) (l : ℕ) (ys zs : List ℕ) → Path w l (ys ++ zs) → Path w (firstLink zs) zs
 unfolding Path
@@ -176,22 +177,22 @@ module _ (is : List ℕ) where
   pub unlink-path : (w : List ℕ) (l : ℕ) (ys : List ℕ) → Apart ys is → Path w l is → Path (unlinked w ys) l is
   unfolding Apart unlinked
   unlink-path w l [] a p = p
-  unlink-path w l (y ∷ ys) a p = unlink-path (set w (4 * y + 3) 0) l ys (a .1) (path-set w l is y 0 (a .0) p)
+  unlink-path w l (y ∷ ys) a p = unlink-path (linkWith w y 0) l ys (a .1) (path-set w l is y 0 (a .0) p)
 
   pub unlink-front : (w : List ℕ) (l k : ℕ) (ys : List ℕ) → Apart ys is → Front w l is k → Front (unlinked w ys) l is k
   unfolding Apart unlinked
   unlink-front w l k [] a p = p
-  unlink-front w l k (y ∷ ys) a p = unlink-front (set w (4 * y + 3) 0) l k ys (a .1) (front-set w l is k y 0 (a .0) p)
+  unlink-front w l k (y ∷ ys) a p = unlink-front (linkWith w y 0) l k ys (a .1) (front-set w l is k y 0 (a .0) p)
 
 pub length-unlinked : (w ys : List ℕ) → length (unlinked w ys) ≡ length w
 unfolding unlinked
 length-unlinked w [] = refl
-length-unlinked w (y ∷ ys) = length-unlinked (set w (4 * y + 3) 0) ys ∙ simp length-set
+length-unlinked w (y ∷ ys) = length-unlinked (linkWith w y 0) ys ∙ simp length-set
 
 -- the windows that were taken out have no link
-none-stays : (w : List ℕ) (i j : ℕ) → nextOf w i ≡ 0 → nextOf (set w (4 * j + 3) 0) i ≡ 0
+none-stays : (w : List ℕ) (i j : ℕ) → nextOf w i ≡ 0 → nextOf (linkWith w j 0) i ≡ 0
 none-stays w i j h = go (ℕ-discrete j i) (decLe (length w) (4 * j + 3)) where
-  go : Dec (j ≡ i) → Dec (length w ≤ 4 * j + 3) → nextOf (set w (4 * j + 3) 0) i ≡ 0
+  go : Dec (j ≡ i) → Dec (length w ≤ 4 * j + 3) → nextOf (linkWith w j 0) i ≡ 0
   go (no d) s = other-slot 4 w j i 3 3 0 0 d (omega arith) (omega arith) ∙ h
   go (yes d) (yes s) = rw (set-out w (4 * j + 3) 0 s) h
   go (yes d) (no s) = rw (← d) (getD-set-same w (4 * j + 3) 0 0 (omega arith))
@@ -199,12 +200,12 @@ none-stays w i j h = go (ℕ-discrete j i) (decLe (length w) (4 * j + 3)) where
 none-kept : (w : List ℕ) (i : ℕ) (ys : List ℕ) → nextOf w i ≡ 0 → nextOf (unlinked w ys) i ≡ 0
 unfolding unlinked
 none-kept w i [] h = h
-none-kept w i (y ∷ ys) h = none-kept (set w (4 * y + 3) 0) i ys (none-stays w i y h)
+none-kept w i (y ∷ ys) h = none-kept (linkWith w y 0) i ys (none-stays w i y h)
 
 pub unlinked-none : (w xs : List ℕ) (i : ℕ) (ys : List ℕ) → 4 * i + 4 ≤ length w → nextOf (unlinked w (xs ++ i ∷ ys)) i ≡ 0
 unfolding unlinked
-unlinked-none w [] i ys h = none-kept (set w (4 * i + 3) 0) i ys (getD-set-same w (4 * i + 3) 0 0 (omega arith))
-unlinked-none w (x ∷ xs) i ys h = unlinked-none (set w (4 * x + 3) 0) xs i ys (simp length-set h)
+unlinked-none w [] i ys h = none-kept (linkWith w i 0) i ys (getD-set-same w (4 * i + 3) 0 0 (omega arith))
+unlinked-none w (x ∷ xs) i ys h = unlinked-none (linkWith w x 0) xs i ys (simp length-set h)
 
 -- on a path, the windows of a run are none of what follows and none of the front
 pub apart-rest : (w : List ℕ) (l : ℕ) (ys zs : List ℕ) → Path w l (ys ++ zs) → Apart ys zs

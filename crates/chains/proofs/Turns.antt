@@ -9,6 +9,7 @@ use mathlib.Core.Logic.{_≢_}
 use borrow.Author.Tests.{eq-eqb, ne-eqb, le-leb, lt-leb}
 use lib.Dec.{eqb}
 use lib.ListN.{set, length}
+use Rattle.windows.specs.Windows.{linkWith}
 use Rattle.chains.specs.Chains.{Links, links, headOf, nextOf, linkIn, chain, walk, linkAt, withLink, inserted, cleared, removed}
 
 -- ---- a link that is read: up to the count it is as it stands, above it is none, so none leads past the count
@@ -47,16 +48,16 @@ module _ (count n : ℕ) (w : List ℕ) (l : ℕ) (p : 0 < n) where
     go zero p = absurd (omega arith)
     go (suc n) p = let m : suc n - 1 ≡ n = omega arith in rw m (from-link (walk count (suc n) w) (λ i. walk count n w (linkIn count (nextOf w i))) (λ i. refl) l q)
 
-  pub cleared-on : (stop : ℕ) → l ≢ 0 → l ≢ stop → cleared count n w l stop ≡ cleared count (n - 1) (set w (4 * (l - 1) + 3) 0) (linkIn count (nextOf w (l - 1))) stop
+  pub cleared-on : (stop : ℕ) → l ≢ 0 → l ≢ stop → cleared count n w l stop ≡ cleared count (n - 1) (linkWith w (l - 1) 0) (linkIn count (nextOf w (l - 1))) stop
   unfolding cleared
   cleared-on stop q r = go n p where
-    go : (n : ℕ) → 0 < n → cleared count n w l stop ≡ cleared count (n - 1) (set w (4 * (l - 1) + 3) 0) (linkIn count (nextOf w (l - 1))) stop
+    go : (n : ℕ) → 0 < n → cleared count n w l stop ≡ cleared count (n - 1) (linkWith w (l - 1) 0) (linkIn count (nextOf w (l - 1))) stop
     go zero p = absurd (omega arith)
     go (suc n) p =
         let m : suc n - 1 ≡ n = omega arith in
         let e : suc (l - 1) ≡ l = omega arith in
         rw m
-        (from-link (λ k. cleared count (suc n) w k stop) (λ i. cond (eqb (suc i) stop) w (cleared count n (set w (4 * i + 3) 0) (linkIn count (nextOf w i)) stop)) (λ i. refl) l q
+        (from-link (λ k. cleared count (suc n) w k stop) (λ i. cond (eqb (suc i) stop) w (cleared count n (linkWith w i 0) (linkIn count (nextOf w i)) stop)) (λ i. refl) l q
         ∙ rw (e, ne-eqb l stop r) refl)
 
 -- a chain that ends, or a limit that is reached
@@ -107,9 +108,9 @@ module _ (b : Links) (e : ℕ) where
   unfolding withLink
   with-head k v h = rw h refl
 
-  pub with-next : (k v : ℕ) → k ≢ 0 → links (b .edges) (set (b .words) (4 * (k - 1) + 3) v) ≡ withLink b e k v
+  pub with-next : (k v : ℕ) → k ≢ 0 → links (b .edges) (linkWith (b .words) (k - 1) v) ≡ withLink b e k v
   unfolding withLink
-  with-next k v h = sym (from-link (λ k. withLink b e k v) (λ i. links (b .edges) (set (b .words) (4 * i + 3) v)) (λ i. refl) k h)
+  with-next k v h = sym (from-link (λ k. withLink b e k v) (λ i. links (b .edges) (linkWith (b .words) i v)) (λ i. refl) k h)
 
 -- the count, turn by turn; r is the link that was read
 module _ (count limit : ℕ) (w : List ℕ) (n at : ℕ) where
@@ -129,7 +130,7 @@ count-start count limit w l = let e : limit - 0 ≡ limit = omega arith in rw e 
 
 -- what the calls of an insertion and of a removal leave, put together
 module _ (count : ℕ) (b : Links) (e k : ℕ) where
-  pub insert-done : (j r v : ℕ) (w : List ℕ) (b′ : Links) → r ≡ linkIn count (linkAt b e k) → w ≡ set (b .words) (4 * j + 3) r → v ≡ suc j → b′ ≡ withLink (links (b .edges) w) e k v → b′ ≡ inserted count b e k j
+  pub insert-done : (j r v : ℕ) (w : List ℕ) (b′ : Links) → r ≡ linkIn count (linkAt b e k) → w ≡ linkWith (b .words) j r → v ≡ suc j → b′ ≡ withLink (links (b .edges) w) e k v → b′ ≡ inserted count b e k j
   unfolding inserted
   insert-done j r v w b′ x y z h = h ∙ rw (y, x, z) refl
 

@@ -1,5 +1,5 @@
 -- The Rust's `on_edge` as chains of window numbers. A link is a window's number plus one, and 0 is none. An edge's slot has the
--- head of its chain, field 4 of 6; a window's slot has its edge and the next link, fields 0 and 3 of 4.
+-- head of its chain, field 4 of 6; a window's slot has its edge and the next link (`edgeOf`, `linkOf` of windows).
 use Prim.Native.Nat.{ℕ, zero, suc, _+_, _*_, _≤_, _<_}
 use mathlib.Core.Bool.{cond}
 use mathlib.Core.List.{List, [], _∷_}
@@ -7,6 +7,8 @@ use mathlib.Core.Logic.{_≢_}
 use mathlib.Core.Path.{_≡_}
 use lib.Dec.{eqb, leb}
 use lib.ListN.{getD, set, length}
+use Rattle.windows.specs.Windows.{linkOf, linkWith}
+use Rattle.windows.specs.Windows.{edgeOf as Windows·edgeOf}
 
 pub record Links : Type 0 where
   pub edges : List ℕ
@@ -19,10 +21,10 @@ abbrev pub headOf : List ℕ → ℕ → ℕ
 headOf edges e = getD edges (6 * e + 4) 0
 
 abbrev pub edgeOf : List ℕ → ℕ → ℕ
-edgeOf words i = getD words (4 * i + 0) 0
+edgeOf words i = Windows·edgeOf words i
 
 abbrev pub nextOf : List ℕ → ℕ → ℕ
-nextOf words i = getD words (4 * i + 3) 0
+nextOf words i = linkOf words i
 
 -- a link that was read, where the window buffer counts for `count` windows: one that names a window past the count is none
 unfoldable pub linkIn : ℕ → ℕ → ℕ
@@ -47,19 +49,19 @@ linkAt b e (suc k) = nextOf (b .words) k
 
 unfoldable pub withLink : Links → ℕ → ℕ → ℕ → Links
 withLink b e zero v = links (set (b .edges) (6 * e + 4) v) (b .words)
-withLink b e (suc k) v = links (b .edges) (set (b .words) (4 * k + 3) v)
+withLink b e (suc k) v = links (b .edges) (linkWith (b .words) k v)
 
 -- window j is put after `before`
 unfoldable pub inserted : ℕ → Links → ℕ → ℕ → ℕ → Links
 inserted count b e before j =
-    withLink (links (b .edges) (set (b .words) (4 * j + 3) (linkIn count (linkAt b e before)))) e before (suc j)
+    withLink (links (b .edges) (linkWith (b .words) j (linkIn count (linkAt b e before)))) e before (suc j)
 
 -- the links of the windows from l up to `stop`, at most n of them, are set to none
 unfoldable pub cleared : ℕ → ℕ → List ℕ → ℕ → ℕ → List ℕ
 cleared count zero w l stop = w
 cleared count (suc n) w zero stop = w
 cleared count (suc n) w (suc i) stop =
-    cond (eqb (suc i) stop) w (cleared count n (set w (4 * i + 3) 0) (linkIn count (nextOf w i)) stop)
+    cond (eqb (suc i) stop) w (cleared count n (linkWith w i 0) (linkIn count (nextOf w i)) stop)
 
 -- the run from the link after `before` up to `stop` is taken out
 unfoldable pub removed : ℕ → ℕ → Links → ℕ → ℕ → ℕ → Links

@@ -1,7 +1,7 @@
 -- Laws of records and of the count of those that differ. Assumes nothing.
 use mathlib.Core.Path.{_≡_, ap, subst}
 use Prim.Native.Nat.{ℕ, _+_, _*_, _/_, _≤_, _<_}
-use native.Mathlib.Nat.{mul-assoc, mul-div-le, mul-le-mul-left, mul-suc}
+use native.Mathlib.Nat.{mul-assoc, mul-div-le}
 use native.Mathlib.Omega.{arith}
 use Rattle.root_vectors.specs.Replay.{arity, width}
 use Rattle.root_vectors.specs.declared.Function.{Function}
@@ -14,10 +14,6 @@ arity-small Hypot = omega arith
 -- the number at which record k begins, as the code has it
 pub begins : {n : ℕ} (f : Function) (k : ℕ) → n ≡ arity f → (n + 1) * k ≡ width f * k
 begins f k e = ap (λ (x : ℕ). (x + 1) * k) e
-
--- a record below the n-th ends within n records
-pub whole-record : (w k n : ℕ) → k < n → w * k + w ≤ w * n
-whole-record w k n h = subst (λ (x : ℕ). x ≤ w * n) (mul-suc w k) (mul-le-mul-left w h)
 
 -- n records of 8 * w bytes fit in the length that n was counted from
 pub records-fit : (w l : ℕ) → 8 * (w * (l / (8 * w))) ≤ l

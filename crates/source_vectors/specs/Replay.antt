@@ -1,29 +1,18 @@
--- What the records of stored cases say. A record is packed: floats of 8 bytes, sources of 25 (a kind, 0 for a point, and three floats). Definitions only.
+-- What the records of stored cases say. A record is packed. Definitions only.
 use mathlib.Core.List.{List}
-use mathlib.Core.Bool.{Bool, cond, _&&_}
+use mathlib.Core.Bool.{Bool, _&&_}
 use Prim.Native.Nat.{ℕ, _+_, _*_, _/_}
 use lib.ListN.{length, take, drop, getD}
 use lib.Dec.{eqb}
 use lib.Ieee.{Float}
-use Rattle.vectors.specs.Records.{wordAt, floatAt, agrees, failing}
+use Rattle.vectors.specs.Records.{agrees, failing}
 use Rattle.source.specs.Quadratic.{rootsOf}
 use Rattle.source.specs.Distance.{edgeOf, freeOf, footOf, lowestOf, tiesOf, evalOf}
 use Rattle.source.specs.declared.RealRoots.{RealRoots}
 use Rattle.source.specs.declared.RealRoots.the-variants.{None, One, Two}
-use Rattle.source.specs.declared.Src.{Src}
-use Rattle.source.specs.declared.Src.the-variants.{Point, Line}
+use Rattle.source_records.specs.Records.{wordFrom, floatFrom, srcFrom}
 use Rattle.source_vectors.specs.declared.Leaf.{Leaf}
 use Rattle.source_vectors.specs.declared.Leaf.the-variants.{Roots, Ties, Edge, Free, Foot, Lowest, Eval}
-
--- the float and the source that begin at byte i of a record
-unfoldable pub floatFrom : List ℕ → ℕ → Float
-floatFrom r i = floatAt (drop i r) 0
-
-unfoldable pub srcFrom : List ℕ → ℕ → Src
-srcFrom r i =
-    cond (eqb (getD r i 0) 0)
-    (Point (floatFrom r (i + 1)) (floatFrom r (i + 9)) (floatFrom r (i + 17)))
-    (Line (floatFrom r (i + 1)) (floatFrom r (i + 9)) (floatFrom r (i + 17)))
 
 -- how many bytes the arguments take, and then the answer: a float, or how many roots and two floats
 abbrev pub arguments : Leaf → ℕ
@@ -49,7 +38,7 @@ size f = arguments f + answers f
 
 -- whether the float stored at byte i is x; whether the roots stored there, how many and two floats, are those of x
 unfoldable pub sameValue : Float → List ℕ → ℕ → Bool
-sameValue x r i = agrees x (wordAt (drop i r) 0)
+sameValue x r i = agrees x (wordFrom r i)
 
 unfoldable pub sameRoots : RealRoots → List ℕ → ℕ → Bool
 sameRoots None r i = eqb (getD r i 0) 0

@@ -1,12 +1,14 @@
 // Replays the stored cases of `source`: of each function, how many there are and how many differ.
 // A file is a count of 4 bytes and packed records: a function's arguments and its answer.
 use source::RealRoots;
-use source::Src;
 use source::Win;
+use source_records::float_from;
+use source_records::src_from;
+use source_records::word_from;
 ghost use mathlib.Core.Path.{_≡_};
 ghost use Prim.Native.Nat.{_+_, _*_, _≤_};
 ghost use lib.ListN.{length};
-ghost use Rattle.source_vectors.specs.Replay.{floatFrom, srcFrom, sameRoots, sameValue, holdsFor, recordsIn, differing};
+ghost use Rattle.source_vectors.specs.Replay.{sameRoots, sameValue, holdsFor, recordsIn, differing};
 ghost use Rattle.source_vectors.specs.declared.Leaf.the-variants.{Roots, Ties, Edge, Free, Foot, Lowest, Eval};
 ghost use Rattle.source_vectors.specs.Replay.{size as Replay·size};
 
@@ -36,37 +38,12 @@ fn size(f: Leaf) -> usize
     }
 }
 
-fn float_from(r: &[u8], i: usize) -> f64
-    requires { ⌜ i + 8 ≤ length (now r) ⌝ }
-    ensures { λ x. ⌜ x ≡ floatFrom (now (r .entry)) i ⌝ }
-{
-    vectors::float_at(&r[i..], 0)
-}
-
-fn src_from(r: &[u8], i: usize) -> Src
-    requires { ⌜ i + 25 ≤ length (now r) ⌝ }
-    ensures { λ x. ⌜ x ≡ srcFrom (now (r .entry)) i ⌝ }
-{
-    if r[i] == 0 {
-        return Src::Point {
-            x: float_from(r, i + 1),
-            y: float_from(r, i + 9),
-            s: float_from(r, i + 17),
-        };
-    }
-    Src::Line {
-        ux: float_from(r, i + 1),
-        uy: float_from(r, i + 9),
-        c: float_from(r, i + 17),
-    }
-}
-
 // Whether x is the float stored at byte i.
 fn same_value(x: f64, r: &[u8], i: usize) -> bool
     requires { ⌜ i + 8 ≤ length (now r) ⌝ }
     ensures { λ b. ⌜ b ≡ sameValue x (now (r .entry)) i ⌝ }
 {
-    vectors::agrees(x, vectors::word(&r[i..], 0))
+    vectors::agrees(x, word_from(r, i))
 }
 
 // Whether x has as many roots as byte i says, and they are those stored after it.

@@ -34,6 +34,19 @@ flagsOf line alive queued = cond line 1 0 + cond alive 2 0 + cond queued 4 0
 abbrev pub hasFlag : ℕ → ℕ → Bool
 hasFlag flags v = eqb (flags / v % 2) 1
 
+-- the four u32 of window k
+abbrev pub edgeOf : List ℕ → ℕ → ℕ
+edgeOf w k = getD w (4 * k + 0) 0
+
+abbrev pub intoOf : List ℕ → ℕ → ℕ
+intoOf w k = getD w (4 * k + 1) 0
+
+abbrev pub flagsAt : List ℕ → ℕ → ℕ
+flagsAt w k = getD w (4 * k + 2) 0
+
+abbrev pub linkOf : List ℕ → ℕ → ℕ
+linkOf w k = getD w (4 * k + 3) 0
+
 -- the ends, the least value and the source of window k, whose source is a line or else a point
 unfoldable pub winAt : Bool → List Float → ℕ → Win
 winAt line f k = record {
@@ -46,12 +59,12 @@ winAt line f k = record {
 -- the window of number k
 unfoldable pub windowAt : List ℕ → List Float → ℕ → WindowRecord
 windowAt w f k = record {
-  edge = record { 0 = getD w (4 * k + 0) 0 };
-  into = record { 0 = getD w (4 * k + 1) 0 };
-  alive = hasFlag (getD w (4 * k + 2) 0) 2;
-  queued = hasFlag (getD w (4 * k + 2) 0) 4;
-  link = getD w (4 * k + 3) 0;
-  win = winAt (hasFlag (getD w (4 * k + 2) 0) 1) f k;
+  edge = record { 0 = edgeOf w k };
+  into = record { 0 = intoOf w k };
+  alive = hasFlag (flagsAt w k) 2;
+  queued = hasFlag (flagsAt w k) 4;
+  link = linkOf w k;
+  win = winAt (hasFlag (flagsAt w k) 1) f k;
 }
 
 -- the two slices with window k stored
@@ -68,7 +81,11 @@ rangeWith f k b0 b1 low = fill 6 f k 0 (b0 ∷ b1 ∷ low ∷ [])
 
 -- the words with the flags of window k stored, and the kind of its source as it was
 unfoldable pub flagsWith : List ℕ → ℕ → Bool → Bool → List ℕ
-flagsWith w k alive queued = set w (4 * k + 2) (flagsOf (hasFlag (getD w (4 * k + 2) 0) 1) alive queued)
+flagsWith w k alive queued = set w (4 * k + 2) (flagsOf (hasFlag (flagsAt w k) 1) alive queued)
+
+-- the words with the link of window k stored
+abbrev pub linkWith : List ℕ → ℕ → ℕ → List ℕ
+linkWith w k link = set w (4 * k + 3) link
 
 -- a window with its ends and least value changed
 unfoldable pub trimmedWin : Win → Float → Float → Float → Win

@@ -7,7 +7,7 @@ use borrow.Author.Needs.{needs}
 use borrow.Author.Tests.{not-true, not-false}
 use Rattle.vectors.specs.Records.{agrees, failing}
 use Rattle.vectors.proofs.Laws.{same-count, one-more}
-use Rattle.better_vectors.specs.Replay.{wordFrom, otherFloats}
+use Rattle.better_vectors.specs.Replay.{otherFloats}
 use Rattle.better_vectors.proofs.other_floats.Statement.{statement}
 use Rattle.better_vectors.proofs.other_floats.Tie as tie
 

@@ -9,7 +9,7 @@ use borrow.Author.Tests.{not-true, not-false}
 use Rattle.root_vectors.specs.Replay.{arity, width, recordsIn, differing}
 use Rattle.vectors.specs.Records.{failing}
 use Rattle.vectors.proofs.Laws.{same-count, one-more}
-use Rattle.root_vectors.proofs.Laws.{whole-record}
+use Rattle.nat_laws.proofs.Ring.{run-within}
 use Rattle.root_vectors.proofs.differences.Statement.{statement}
 use Rattle.root_vectors.proofs.differences.Tie as tie
 
@@ -29,7 +29,7 @@ loop-holds c = (omega arith, omega arith, refl)
 holds-requires : tie.Need-holds-requires Inv-loop μ-loop
 holds-requires c κs =
     let r = c .before .before in
-    omega (arith, whole-record (width (r .before .before .args .f)) (c .before .loop .k) (r .records .result) (omega arith), r .records .ensures .1)
+    omega (arith, run-within (width (r .before .before .args .f)) {k = c .before .loop .k} {n = r .records .result} (omega arith), r .records .ensures .1)
 
 add-count : tie.Need-add-count Inv-loop μ-loop
 add-count c = omega arith

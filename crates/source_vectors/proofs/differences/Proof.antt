@@ -2,6 +2,7 @@
 use mathlib.Core.Path.{_≡_, refl, sym, ap, _∙_}
 use mathlib.Core.Logic.{⊎-elim}
 use Prim.Native.Nat.{_+_, _-_, _*_, _≤_}
+use native.Mathlib.Nat.{le-trans}
 use native.Mathlib.Omega.{arith}
 use lib.ListN.{length, length-take, length-drop}
 use borrow.Author.Needs.{needs}
@@ -9,7 +10,8 @@ use borrow.Author.Tests.{not-true, not-false}
 use Rattle.source_vectors.specs.Replay.{holdsFor, recordAt, recordsIn, differing}
 use Rattle.vectors.specs.Records.{failing}
 use Rattle.vectors.proofs.Laws.{same-count, one-more}
-use Rattle.source_vectors.proofs.Laws.{whole-record, part-is}
+use Rattle.nat_laws.proofs.Ring.{run-within}
+use Rattle.source_vectors.proofs.Laws.{part-is}
 use Rattle.source_vectors.proofs.differences.Statement.{statement}
 use Rattle.source_vectors.proofs.differences.Tie as tie
 
@@ -23,7 +25,7 @@ abbrev μ-loop : tie.MeasureT-loop
 inside : (c : tie.In-loop Inv-loop μ-loop) → c .before .before .size .result * c .before .loop .k + c .before .before .size .result ≤ length (c .before .before .before .before .before .args .s .now)
 inside c =
     let a = c .before .before in
-    whole-record (a .size .result) (c .before .loop .k) (a .before .records .result) _ (omega arith) (rw (a .size .ensures) (a .before .records .ensures .1))
+    le-trans (run-within (a .size .result) {k = c .before .loop .k} {n = a .before .records .result} (omega arith)) (rw (a .size .ensures) (a .before .records .ensures .1))
 
 answered : (c : tie.After-holds Inv-loop μ-loop) → c .holds .result ≡ holdsFor (c .before .before .before .before .before .before .before .args .f) (recordAt (c .before .before .before .before .before .before .before .args .f) (c .before .before .before .before .before .before .before .args .s .now) (c .before .before .before .loop .k))
 answered c = c .holds .ensures ∙ ap (holdsFor _) (part-is _ _ _ _ (c .before .before .before .before .size .ensures))

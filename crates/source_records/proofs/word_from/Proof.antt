@@ -1,9 +1,9 @@
--- `better_vectors::word_from` meets its contract. Assumes nothing.
+-- `source_records::word_from` meets its contract. Assumes nothing.
 use borrow.Author.Needs.{needs}
-use Rattle.better_vectors.proofs.Laws.{rest}
-use Rattle.better_vectors.specs.Replay.{wordFrom}
-use Rattle.better_vectors.proofs.word_from.Statement.{statement}
-use Rattle.better_vectors.proofs.word_from.Tie as tie
+use Rattle.source_records.proofs.Laws.{rest}
+use Rattle.source_records.specs.Records.{wordFrom}
+use Rattle.source_records.proofs.word_from.Statement.{statement}
+use Rattle.source_records.proofs.word_from.Tie as tie
 
 sub-word : tie.Need-sub-word
 sub-word c = search needs

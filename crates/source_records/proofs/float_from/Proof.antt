@@ -1,8 +1,8 @@
--- `better_vectors::float_from` meets its contract. Assumes nothing.
+-- `source_records::float_from` meets its contract. Assumes nothing.
 use borrow.Author.Needs.{needs}
-use Rattle.better_vectors.specs.Replay.{floatFrom}
-use Rattle.better_vectors.proofs.float_from.Statement.{statement}
-use Rattle.better_vectors.proofs.float_from.Tie as tie
+use Rattle.source_records.specs.Records.{floatFrom}
+use Rattle.source_records.proofs.float_from.Statement.{statement}
+use Rattle.source_records.proofs.float_from.Tie as tie
 
 word-from-requires : tie.Need-word-from-requires
 word-from-requires c κs = search needs

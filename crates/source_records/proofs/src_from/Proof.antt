@@ -1,9 +1,9 @@
--- `source_vectors::src_from` meets its contract. Assumes nothing.
+-- `source_records::src_from` meets its contract. Assumes nothing.
 use borrow.Author.Needs.{needs}
 use borrow.Author.Tests.{eq-eqb, ne-eqb}
-use Rattle.source_vectors.specs.Replay.{srcFrom}
-use Rattle.source_vectors.proofs.src_from.Statement.{statement}
-use Rattle.source_vectors.proofs.src_from.Tie as tie
+use Rattle.source_records.specs.Records.{srcFrom}
+use Rattle.source_records.proofs.src_from.Statement.{statement}
+use Rattle.source_records.proofs.src_from.Tie as tie
 
 shared-slice-read-if1 : tie.Need-shared-slice-read-if1
 shared-slice-read-if1 c = search needs
