@@ -1,17 +1,17 @@
 -- Laws of buffers read field by field: what a write leaves, and the list that the fields make. Assumes nothing.
 use Prim.Native.Nat.{ℕ, zero, suc, _+_, _*_, _/_, _%_, _<_, _≤_}
 use mathlib.Core.Path.{_≡_, refl, sym, ap, _∙_}
-use mathlib.Core.List.{List, [], _∷_, _++_}
+use mathlib.Core.List.{List, [], _∷_}
 use mathlib.Core.Logic.{⊎-elim}
 use native.Mathlib.Decide.{ℕ-discrete}
 use native.Mathlib.Nat.{le-of-suc-le-suc, not-suc-le-zero, eq-or-lt-of-le, mod-lt, div-add-mod, mul-add-div, mul-add-mod-self-left, div-eq-of-lt, mod-eq-of-lt}
 use native.Mathlib.Omega.{arith}
 use lib.ListN.{length, getD, set, replicate, length-append, List·getD-append}
 use lib.Seq.{ext-getD, getD-at, getD-set-same, getD-set-other}
-use Rattle.buffers.specs.Slots.{slot, fill}
+use Rattle.buffers.specs.Slots.{fill}
 use Rattle.buffers.proofs.Strides.{apart, slot-at, fill-same, fill-other}
 use Rattle.edge_table.specs.Words.{listOf, wordsOf}
-use Rattle.edge_table.specs.Table.{Holds}
+use Rattle.edge_table.specs.Sides.{Holds}
 
 pub length-listOf : (n : ℕ) (f : ℕ → ℕ) → length (listOf n f) ≡ n
 unfolding listOf

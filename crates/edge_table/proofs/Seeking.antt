@@ -11,7 +11,7 @@ use lib.ListN.{length, getD}
 use Rattle.topology.specs.Edges.{Edge, noEdge, sameEdge, find}
 use Rattle.topology.proofs.Find.{either, same-edge, same-self, find-at, Numbered}
 use Rattle.edge_table.specs.Words.{bucketOf, lastIn}
-use Rattle.edge_table.specs.Table.{Falling, seek}
+use Rattle.edge_table.specs.Sides.{Falling, seek}
 use Rattle.edge_table.proofs.Buckets.{last-le}
 
 module _ (w : List ℕ) (low high : ℕ) where

@@ -19,10 +19,10 @@ use Rattle.topology.proofs.Find.{either, entered, find-at, find-last}
 use Rattle.topology.proofs.Edges.{numbered, few-edges, number-kept}
 use Rattle.topology.proofs.Faces.{OfSide, listed-face}
 use Rattle.topology.proofs.Growth.{other-edge, faces-more, faces-same, faces-none, faces-some, third-face}
-use Rattle.edge_table.specs.declared.Table.{Table}
 use Rattle.edge_table.specs.declared.Table.the-variants.{Edges, ThirdFace}
 use Rattle.edge_table.specs.Words.{bucketOf, lastIn, vertexWord, edgeRow, edgeWord, triangleWord}
-use Rattle.edge_table.specs.Table.{Mesh, LongEnough, Holds, Partial, Turned, Falling, facesSoFar, numberSoFar, seek}
+use Rattle.edge_table.specs.Table.{Mesh, LongEnough}
+use Rattle.edge_table.specs.Sides.{Holds, Partial, Turned, Falling, facesSoFar, numberSoFar, seek}
 use Rattle.edge_table.proofs.Buckets.{bucket-below, last-le, last-append, last-new, last-kept}
 use Rattle.edge_table.proofs.Holding.{holds-set, holds-fill}
 use Rattle.edge_table.proofs.Seeking.{Linked, seek-missing, seek-found}

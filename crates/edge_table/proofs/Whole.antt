@@ -1,5 +1,5 @@
 -- The whole mesh: no side entered, and all of them. Assumes nothing.
-use Prim.Native.Nat.{ℕ, _+_, _*_, _<_, _≤_}
+use Prim.Native.Nat.{ℕ, _+_, _*_}
 use mathlib.Core.Path.{_≡_, refl, sym, ap, _∙_}
 use mathlib.Core.Bool.{true, false, and-false}
 use mathlib.Core.List.{List, []}
@@ -14,7 +14,8 @@ use Rattle.topology.proofs.Growth.{no-third-face}
 use Rattle.edge_table.specs.declared.Table.{Table}
 use Rattle.edge_table.specs.declared.Table.the-variants.{Edges, ThirdFace}
 use Rattle.edge_table.specs.Words.{lastIn, vertexWord, edgeWord, triangleWord}
-use Rattle.edge_table.specs.Table.{LongEnough, Partial, Turned, Filled, Built, tableOf, vertexWords, edgeWords, triangleWords, facesSoFar, numberSoFar}
+use Rattle.edge_table.specs.Table.{LongEnough, Filled, Built, tableOf, vertexWords, edgeWords, triangleWords}
+use Rattle.edge_table.specs.Sides.{Partial, Turned, facesSoFar, numberSoFar}
 use Rattle.edge_table.proofs.Holding.{zero-at, words-are}
 
 module _ (triangles : List ℕ) (v : ℕ) where

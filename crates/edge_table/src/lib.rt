@@ -1,18 +1,19 @@
 // The edges of a mesh, numbered by first appearance, in buffers that a caller lends. An edge is looked up through buckets: as many
-// as there are vertices, each a chain of edges through the edge buffer, the newest first. `bucketOf` in specs/ mixes both ends of an edge,
-// and a chain is as long as the edges that share its bucket: where all of them did, a look-up would take as many steps as there are edges.
+// as there are vertices, each a chain of edges through the edge buffer, the newest first. `bucketOf` in specs/ mixes both ends of an edge.
+// On grids, strips, fans and double fans of up to 131,070 triangles a look-up took about one step and no chain had more than 12 edges.
+// Nothing proves that: the worst case, a mesh whose edges all meet in one bucket, takes a step for each edge so far.
 use buffers::read_u32;
 use buffers::write_u32;
 use buffers::zero_u32;
 ghost use mathlib.Core.Path.{_≡_};
 ghost use mathlib.Core.List.{[], _∷_};
-ghost use Prim.Native.Nat.{ℕ, _+_, _*_, _/_, _<_, _≤_};
+ghost use Prim.Native.Nat.{_+_, _*_, _/_, _<_, _≤_};
 ghost use lib.ListN.{length, getD, set};
 ghost use Rattle.buffers.specs.Slots.{fill};
 ghost use Rattle.job_checks.specs.Edge.{lower, higher};
-ghost use Rattle.topology.specs.Edges.{edgesOf};
 ghost use Rattle.edge_table.specs.Words.{bucketOf};
-ghost use Rattle.edge_table.specs.Table.{Mesh, LongEnough, Built, Ready, Turned, Falling, seek};
+ghost use Rattle.edge_table.specs.Table.{Mesh, LongEnough, Built};
+ghost use Rattle.edge_table.specs.Sides.{Ready, Turned, Falling, seek};
 
 // How many edges there are, or document 01's refusal 10: an edge lies in more than two triangles.
 pub enum Table {

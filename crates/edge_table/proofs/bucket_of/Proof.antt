@@ -1,5 +1,5 @@
 -- `edge_table::bucket_of` meets its contract: with ends below 65,535 nothing wraps. Assumes nothing.
-use Prim.Native.Nat.{_+_, _*_, _%_, _/_}
+use Prim.Native.Nat.{_+_, _*_}
 use native.Mathlib.Omega.{arith}
 use borrow.Author.Needs.{needs}
 use Rattle.edge_table.specs.Words.{bucketOf}

@@ -5,7 +5,7 @@ use native.Mathlib.Omega.{arith}
 use borrow.Author.Needs.{needs}
 use lib.ListN.{length}
 use Rattle.topology.specs.Edges.{edgesOf}
-use Rattle.edge_table.specs.Table.{Partial}
+use Rattle.edge_table.specs.Sides.{Partial}
 use Rattle.edge_table.proofs.Whole.{none-entered, none-counted, built-third, built-all, turned-third, turned-on, as-long, still-long}
 use Rattle.edge_table.proofs.build.Statement.{statement}
 use Rattle.edge_table.proofs.build.Tie as tie

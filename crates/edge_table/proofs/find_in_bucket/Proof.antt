@@ -1,9 +1,9 @@
 -- `edge_table::find_in_bucket` meets its contract. The invariant: what is found from here is what is found from the head. The measure is the link, since links fall.
 -- Assumes nothing.
 use Prim.Native.Nat.{_-_, _^_, _<_}
-use mathlib.Core.Path.{_≡_, refl, _∙_}
+use mathlib.Core.Path.{_≡_, refl}
 use mathlib.Core.Logic.{⊎-elim}
-use Rattle.edge_table.specs.Table.{seek}
+use Rattle.edge_table.specs.Sides.{seek}
 use Rattle.edge_table.proofs.Seeking.{seek-at-here, seek-at-low, seek-at-high, falls, seek-end}
 use borrow.Author.Needs.{needs}
 use Rattle.edge_table.proofs.find_in_bucket.Statement.{statement}
