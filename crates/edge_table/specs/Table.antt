@@ -1,0 +1,47 @@
+-- The edge table of a mesh: the answer and the three buffers. Definitions only.
+use Prim.Native.Nat.{ℕ, _*_, _/_, _<_, _≤_}
+use mathlib.Core.Path.{_≡_}
+use mathlib.Core.Bool.{false, cond}
+use mathlib.Core.List.{List}
+use lib.ListN.{length, getD}
+use Rattle.topology.specs.Edges.{edges, triEdge, edgeFaces, sharedByThree}
+use Rattle.edge_table.specs.declared.Table.{Table}
+use Rattle.edge_table.specs.declared.Table.the-variants.{Edges, ThirdFace}
+use Rattle.edge_table.specs.Words.{wordsOf, vertexWord, edgeWord, triangleWord}
+
+-- What is asked of a mesh: three vertex numbers for each triangle, each below v, and no more of both than document 01 allows.
+pub record Mesh (triangles : List ℕ) (v : ℕ) : Type 0 where
+  pub whole : length triangles ≡ 3 * (length triangles / 3)
+  pub few-triangles : length triangles / 3 ≤ 131070
+  pub few-vertices : v ≤ 65535
+  pub there : (i : ℕ) → i < length triangles → getD triangles i 0 < v
+
+-- Buffers of so many words: a slot for each vertex, one for each side, which is what the edges can come to, and one for each triangle.
+pub record LongEnough (triangles : List ℕ) (v vertex edge triangle : ℕ) : Type 0 where
+  pub vertices-fit : 3 * v ≤ vertex
+  pub edges-fit : 6 * length triangles ≤ edge
+  pub triangles-fit : 2 * length triangles ≤ triangle
+
+unfoldable pub tableOf : List ℕ → Table
+tableOf triangles = cond (sharedByThree triangles) ThirdFace (Edges (length (edges triangles)))
+
+-- The three buffers, of n words each.
+unfoldable pub triangleWords : List ℕ → ℕ → List ℕ
+triangleWords triangles n = wordsOf n 6 (triangleWord (length triangles) (triEdge triangles))
+
+module _ (triangles : List ℕ) (v : ℕ) where
+  unfoldable pub vertexWords : ℕ → List ℕ
+  vertexWords n = wordsOf n 3 (vertexWord v (edges triangles))
+
+  unfoldable pub edgeWords : ℕ → List ℕ
+  edgeWords n = wordsOf n 6 (edgeWord v (edges triangles) (edgeFaces triangles))
+
+  -- What the buffers hold where no edge lies in more than two triangles, against what they held before, which counts by its length alone.
+  pub record Filled (vertex₀ edge₀ triangle₀ vertex edge triangle : List ℕ) : Type 0 where
+    pub vertex-words : vertex ≡ vertexWords (length vertex₀)
+    pub edge-words : edge ≡ edgeWords (length edge₀)
+    pub triangle-words : triangle ≡ triangleWords triangles (length triangle₀)
+
+  pub record Built (r : Table) (vertex₀ edge₀ triangle₀ vertex edge triangle : List ℕ) : Type 0 where
+    pub answer : r ≡ tableOf triangles
+    pub words : sharedByThree triangles ≡ false → Filled vertex₀ edge₀ triangle₀ vertex edge triangle
