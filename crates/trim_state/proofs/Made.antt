@@ -165,6 +165,7 @@ module _ (cuts windows : ℕ) (limit : Float) (flags : List ℕ) where
   pub making-made : (u : Window) (n : ℕ) (p : Interval) (k k' : Stock) → play cuts windows limit flags (making u n p) k ≡ went k' → k' .made ≡ suc (k .made)
   making-made u n p k k' h = went-made (making u n p) (suc (k .made)) k k' (omega (arith, making-makes u n p)) h
 
+  -- several, one after the other
   pub makings-made : (u : Window) (n : ℕ) (ps : List Interval) (k k' : Stock) → play cuts windows limit flags (makings u n ps) k ≡ went k' → k' .made ≡ k .made + length ps
   makings-made u n ps k k' h = went-made (makings u n ps) (k .made + length ps) k k' (ap (λ (m : ℕ). k .made + m) (makings-makes u n ps)) h
 

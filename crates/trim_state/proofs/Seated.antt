@@ -1,4 +1,4 @@
--- An addition of an admitted candidate to a tidy list, told as one walk forward: past the windows before the run, over the run, and back to seat the new windows. Assumes nothing.
+-- An addition of an admitted candidate to a tidy list, told as one walk forward: past the windows before the run, over the run, and from its start once more to seat the new windows. Assumes nothing.
 use Prim.Native.Nat.{ℕ}
 use mathlib.Core.Bool.{Bool, true, false, not, _||_}
 use mathlib.Core.List.{List, [], _∷_, _++_}
@@ -39,20 +39,23 @@ admitted-wide limit len c p y = record {
 }
 
 module _ (t : Float) (w : Window) (l : List Window) (made : ℕ) where
-  -- what the walk passes, what it comes to, what stands behind the run
+  -- what the walk passes
   abbrev pub passed : List Window
   passed = takeWhile (passes t (w .b0)) l
 
+  -- what it comes to
   abbrev pub reached : List Window
   reached = dropWhile (passes t (w .b0)) l
 
+  -- what stands behind the run
   abbrev pub beyond : List Window
   beyond = dropWhile (startsBefore (w .b1 ⊕ t)) reached
 
-  -- the walk over the run, and the new windows
+  -- the walk over the run
   abbrev pub walked : Walk
   walked = visits betterOf t w (takeWhile (startsBefore (w .b1 ⊕ t)) reached) (start w made)
 
+  -- the new windows
   abbrev pub newsOf : List Window
   newsOf = fresh w (walked .made) (wideOf t (walked .keep))
 
