@@ -19,3 +19,4 @@ pub mod Insertion
 pub mod InPlace
 pub mod Flags
 pub mod Seat
+pub mod Turns
