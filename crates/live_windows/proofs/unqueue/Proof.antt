@@ -1,6 +1,6 @@
 use mathlib.Core.Path.{ap, _∙_}
 use lib.ListN.{length}
-use Rattle.buffers.proofs.Strides.{in-slots}
+use Rattle.windows.proofs.WindowList.{counted}
 use Rattle.windows.specs.Windows.{hasFlag}
 use Rattle.live_windows.proofs.Changed.{unqueue-done}
 use borrow.Author.Needs.{needs}
@@ -24,9 +24,9 @@ returns c =
     let stored = c .before .before in
     let flag = stored .before .before in
     let read = flag .before in
-    let s = read .before .before .before in
+    let s = read .before .before .before .before in
     let a = s .args in
-    unqueue-done (a .words .now) (a .id .0) (flag .has-flag .result) (in-slots (length (a .words .now)) 4 (a .id .0) (s .pre))
+    unqueue-done (a .words .now) (a .id .0) (flag .has-flag .result) (counted (a .id .0) (length (a .words .now)) (length (a .reals .now)) (s .pre) .0)
     (flag .has-flag .ensures ∙ ap (λ z. hasFlag z 2) (read .read-u32 .ensures)) _ (stored .store-flags .ensures)
 
 pub unqueue-spec : {M : Type 1} → statement M
