@@ -11,12 +11,11 @@ use lib.Dec.{eqb}
 use lib.ListN.{length, getD}
 use lib.Seq.{drop-set-lt}
 use lib.Ieee.{Float}
-use Rattle.source.specs.declared.Src.{Src}
 use Rattle.windows.specs.declared.WindowRecord.{WindowRecord}
 use Rattle.windows.specs.Windows.{hasFlag, windowAt, rangeWith, flagsWith, trimmedWin, trimmed, reflagged, relinked}
 use Rattle.windows.proofs.WindowList.{edge-is, trim-same, trim-other, flags-same, flags-other}
 use Rattle.chains.specs.Chains.{Links, links, Path, Out, Belongs, OnEdge}
-use Rattle.chains.proofs.OnEdges.{all-append, flags-frame}
+use Rattle.chains.proofs.OnEdges.{flags-frame}
 use Rattle.better.specs.Claim.{All}
 use Rattle.source.specs.Distance.{lowestOf}
 use Rattle.trim_model.specs.Windows.{Window, part, unqueued}

@@ -8,16 +8,16 @@ use mathlib.Core.Logic.{_≢_}
 use lib.ListN.{length, getD, set, drop, length-set}
 use lib.Seq.{drop-set-lt}
 use lib.Ieee.{Float}
-use Rattle.source.specs.declared.Src.{Src}
 use Rattle.windows.specs.declared.WindowRecord.{WindowRecord}
 use Rattle.windows.specs.Windows.{hasFlag, windowAt, flagsWith, reflagged, relinked}
 use Rattle.windows.proofs.WindowList.{flags-same, flags-other, link-same, link-other}
-use Rattle.chains.specs.Chains.{Links, links, headOf, nextOf, withLink, Path, Out, Belongs, OnEdge}
+use Rattle.chains.proofs.Turns.{link-in}
+use Rattle.chains.specs.Chains.{Links, linkIn, links, headOf, nextOf, withLink, Path, Out, Belongs, OnEdge}
 use Rattle.chains.proofs.Paths.{path-first, path-set, path-drop}
-use Rattle.chains.proofs.OnEdges.{all-set, all-append, set-frame, with-frame, flags-frame}
+use Rattle.chains.proofs.OnEdges.{all-set, set-frame, with-frame, flags-frame}
 use Rattle.trim_model.specs.Windows.{Window}
-use Rattle.live_windows.specs.Live.{nums, lastLink, Stands, bare, winsOf, adjust, dead, linkIn, Kills}
-use Rattle.live_windows.proofs.Places.{link-in, first-in, point, before-is}
+use Rattle.live_windows.specs.Live.{nums, lastLink, Stands, bare, winsOf, adjust, dead, Kills}
+use Rattle.live_windows.proofs.Places.{first-in, point, before-is}
 use Rattle.live_windows.proofs.Stored.{Same, others, Behind, with-bare, wins-adjust}
 use Rattle.live_windows.proofs.Standing.{Around, at-edge, holds-put, stands-both, around, not-there, behind-is, last-out, out-both, with-edges, with-words, with-length, with-belongs}
 

@@ -15,13 +15,13 @@ use Rattle.source.specs.declared.Win.{Win}
 use Rattle.windows.specs.declared.WindowRecord.{WindowRecord}
 use Rattle.windows.specs.Windows.{realsOf, windowAt, wordsWith, realsWith, relinked}
 use Rattle.windows.proofs.WindowList.{link-is, load-same, load-other}
-use Rattle.chains.specs.Chains.{Links, links, headOf, nextOf, linkAt, withLink, Path, Out, AllBelong, firstLink, OnEdge}
+use Rattle.chains.specs.Chains.{Links, linkIn, links, headOf, nextOf, linkAt, withLink, Path, Out, AllBelong, firstLink, OnEdge}
 use Rattle.chains.proofs.Paths.{path-after}
 use Rattle.chains.proofs.OnEdges.{all-append, with-frame, store-frame, stored-belongs, new-out}
 use Rattle.better.specs.Claim.{All}
 use Rattle.trim_model.specs.Windows.{Window}
 use Rattle.trim_model.proofs.Lists.{all-left, all-right}
-use Rattle.live_windows.specs.Live.{liveOf, nums, lastLink, Alive, Stands, bare, winsOf, windowOf, linkIn, Makes}
+use Rattle.live_windows.specs.Live.{liveOf, nums, lastLink, Alive, Stands, bare, winsOf, windowOf, Makes}
 use Rattle.live_windows.proofs.Places.{nums-cons, next-is, point, before-is}
 use Rattle.live_windows.proofs.Stored.{Same, others, Behind, with-bare, wins-same}
 use Rattle.live_windows.proofs.Standing.{at-edge, holds-put, chain-both, stands-both, behind-is, last-out, with-edges, with-words, fill-outside}

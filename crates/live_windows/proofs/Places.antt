@@ -1,20 +1,21 @@
 -- Chains of numbers, between two places: what is read behind a link, a link that is pointed elsewhere, and how long a chain can be. Assumes nothing.
 use Prim.Native.Nat.{ℕ, zero, suc, _+_, _*_, _≤_, _<_}
 use native.Mathlib.Omega.{arith}
-use native.Mathlib.Decide.{ℕ-discrete, decLe}
+use native.Mathlib.Decide.{ℕ-discrete}
 use mathlib.Core.Bool.{Bool, true, false, cond}
 use mathlib.Core.Path.{_≡_, refl, sym, ap, subst, _∙_}
 use mathlib.Core.List.{List, [], _∷_, _++_}
 use mathlib.Core.Logic.{_≢_}
-use borrow.Author.Tests.{eq-eqb, ne-eqb, le-leb, lt-leb}
+use borrow.Author.Tests.{eq-eqb, ne-eqb}
 use lib.Dec.{eqb}
 use lib.ListN.{length}
 use lib.Seq.{getD-set-same, append-snoc}
-use Rattle.chains.specs.Chains.{Links, links, headOf, nextOf, linkAt, withLink, Each, Path, Out, AllBelong, Before, firstLink, OnEdge}
+use Rattle.chains.proofs.Turns.{link-in}
+use Rattle.chains.specs.Chains.{Links, linkIn, links, headOf, nextOf, linkAt, withLink, Each, Path, Out, AllBelong, Before, firstLink, OnEdge}
 use Rattle.chains.proofs.Paths.{path-once, path-first, front-out, front-of, splice}
 use Rattle.chains.proofs.OnEdges.{all-set, all-append}
 use Rattle.trim_model.specs.Windows.{Window}
-use Rattle.live_windows.specs.Live.{nums, endLink, linkIn}
+use Rattle.live_windows.specs.Live.{nums, endLink}
 
 -- ---- numbers and links of lists
 pub nums-append : (xs ys : List Window) → nums (xs ++ ys) ≡ nums xs ++ nums ys
@@ -45,21 +46,7 @@ snoc i (j ∷ is) =
     let s = snoc j is in
     record { front = i ∷ s .front; end = s .end; is-it = ap (λ l. i ∷ l) (s .is-it); link = λ k. s .link (suc i) }
 
--- ---- a link as it is read
-pub link-in : (n l : ℕ) → l ≤ n → linkIn n l ≡ l
-unfolding linkIn
-link-in n l h = rw (le-leb l n h) refl
-
-pub link-none : (n l : ℕ) → n < l → linkIn n l ≡ 0
-unfolding linkIn
-link-none n l h = rw (lt-leb l n h) refl
-
-pub link-le : (n l : ℕ) → linkIn n l ≤ n
-link-le n l = go (decLe l n) where
-  go : Dec (l ≤ n) → linkIn n l ≤ n
-  go (yes h) = rw (link-in n l h) h
-  go (no h) = rw (link-none n l (omega arith)) (omega arith)
-
+-- ---- what stands behind a link
 -- the path behind the last link of xs
 pub path-behind : (b : Links) (e k : ℕ) (xs zs : List ℕ) → Path (b .words) (linkAt b e k) (xs ++ zs) → Path (b .words) (linkAt b e (endLink k xs)) zs
 unfolding endLink Path linkAt

@@ -13,7 +13,6 @@ use lib.Seq.{append-snoc, getD-set-other, drop-set-lt}
 use lib.Ieee.{Float}
 use Rattle.buffers.specs.Slots.{fill}
 use Rattle.buffers.proofs.Strides.{before}
-use Rattle.source.specs.declared.Src.{Src}
 use Rattle.chains.specs.Chains.{Links, headOf, withLink, Path, Out, Belongs, AllBelong, OnEdge}
 use Rattle.chains.proofs.Paths.{front-out}
 use Rattle.chains.proofs.OnEdges.{all-set, all-append, elsewhere, no-windows}

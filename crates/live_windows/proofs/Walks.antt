@@ -10,14 +10,15 @@ use lib.Ieee.{Float, nan, lt}
 use Rattle.float64.specs.TotalOrder.{totalLess}
 use Rattle.float64.specs.Notation.{_⊖_}
 use Rattle.windows.proofs.WindowList.{b0-is, b1-is}
-use Rattle.chains.specs.Chains.{Links, linkAt, Path, AllBelong, OnEdge}
+use Rattle.chains.proofs.Turns.{link-in, link-le}
+use Rattle.chains.specs.Chains.{Links, linkIn, linkAt, Path, AllBelong, OnEdge}
 use Rattle.chains.proofs.OnEdges.{all-append}
 use Rattle.better.specs.Claim.{All}
 use Rattle.trim_model.specs.Windows.{Window, takeWhile}
 use Rattle.trim_model.specs.Add.{passes}
 use Rattle.trim_model.proofs.Lists.{all-map, all-right}
-use Rattle.live_windows.specs.Live.{nums, endLink, lastLink, linkIn, Alive, Stands, sortsBefore, Follows, Walked}
-use Rattle.live_windows.proofs.Places.{nums-append, end-append, head-path, path-behind, next-is, link-in, link-le, short}
+use Rattle.live_windows.specs.Live.{nums, endLink, lastLink, Alive, Stands, sortsBefore, Follows, Walked}
+use Rattle.live_windows.proofs.Places.{nums-append, end-append, head-path, path-behind, next-is, short}
 
 -- a link k is followed by l: it is the last where l is none or its window does not pass
 unfoldable turn : (ℕ → Bool) → ℕ → ℕ → (ℕ → ℕ) → ℕ
@@ -134,11 +135,10 @@ module _ (b0 lo : Float) (f : List Float) (i : ℕ) (x y : Float) (start : x ≡
   passes-both p q = sym (ap (λ c. c && not (lt lo y)) p ∙ ap not q) ∙ read-both
 
 -- the link that was read
-pub follows : (n : ℕ) (b : Links) (e k v r : ℕ) → v ≡ linkAt b e k → r ≡ linkIn n v → Follows n b e k r
-follows n b e k v r h i =
-    let is : r ≡ linkIn n (linkAt b e k) = i ∙ ap (linkIn n) h in
+pub follows : (n : ℕ) (b : Links) (e k r : ℕ) → r ≡ linkIn n (linkAt b e k) → Follows n b e k r
+follows n b e k r is =
     record {
       is = is;
-      made = rw is (link-le n (linkAt b e k));
+      made = link-le n (linkAt b e k) r is;
       first = λ m f live xs zs l H d g. is ∙ next-is n b e k (nums xs) (nums zs) g (subst (OnEdge n b e) (nums-append xs zs) (subst (Stands n b f e) d (H e l) .chain));
     }

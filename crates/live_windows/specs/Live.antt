@@ -4,7 +4,7 @@ use mathlib.Core.Bool.{Bool, true, false, cond}
 use mathlib.Core.List.{List, [], _∷_, _++_}
 use mathlib.Core.Logic.{_≢_}
 use mathlib.Core.Path.{_≡_}
-use lib.Dec.{eqb, leb}
+use lib.Dec.{eqb}
 use lib.ListN.{getD, drop}
 use lib.Ieee.{Float}
 use Rattle.float64.specs.TotalOrder.{totalLess}
@@ -14,7 +14,7 @@ use Rattle.buffers.specs.declared.FaceId.{FaceId}
 use Rattle.source.specs.declared.Win.{Win}
 use Rattle.windows.specs.declared.WindowRecord.{WindowRecord}
 use Rattle.windows.specs.Windows.{windowAt, trimmed, reflagged, relinked}
-use Rattle.chains.specs.Chains.{Links, links, linkAt, OnEdge, firstLink}
+use Rattle.chains.specs.Chains.{Links, links, linkIn, linkAt, OnEdge, firstLink}
 use Rattle.better.specs.Claim.{All}
 use Rattle.trim_model.specs.Windows.{Window, unqueued, takeWhile}
 use Rattle.trim_state.specs.State.{put}
@@ -94,10 +94,6 @@ sortsBefore b0 v = totalLess (v .b0) b0
 pub record Outside (n e : ℕ) (b b′ : Links) : Type 0 where
   pub edges : (p : ℕ) → p ≢ 6 * e + 4 → getD (b′ .edges) p 0 ≡ getD (b .edges) p 0
   pub words : drop (4 * n) (b′ .words) ≡ drop (4 * n) (b .words)
-
--- a link as it is read: one above n is none
-unfoldable pub linkIn : ℕ → ℕ → ℕ
-linkIn n l = cond (leb l n) l 0
 
 -- r is the link that follows k on the chain of edge e
 pub record Follows (n : ℕ) (b : Links) (e k r : ℕ) : Type 0 where

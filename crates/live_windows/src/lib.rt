@@ -17,41 +17,16 @@ ghost use lib.Ieee.{nan, lt};
 ghost use Rattle.float64.specs.TotalOrder.{totalLess};
 ghost use Rattle.buffers.specs.Slots.{slotsOf};
 ghost use Rattle.windows.specs.Windows.{capacityOf};
-ghost use Rattle.chains.specs.Chains.{links, linkAt, withLink};
+ghost use Rattle.chains.specs.Chains.{links};
 ghost use Rattle.trim_model.specs.Add.{passes};
-ghost use Rattle.live_windows.specs.Live.{linkIn, windowOf, sortsBefore, Follows, Walked, Loads, Makes, Trims, Kills, Unqueues};
-
-fn link_in(made: u32, link: u32) -> u32
-    ensures { λ r. ⌜ r ≡ linkIn made link ⌝ }
-{
-    if link <= made { link } else { 0 }
-}
-
-fn link_at(edges: &[u32], words: &[u32], e: EdgeId, before: u32) -> u32
-    ensures { λ r. ⌜ r ≡ linkAt (links (now (edges .entry)) (now (words .entry))) (e .0) before ⌝ }
-{
-    if before == 0 {
-        return read_u32(edges, 6, e.0, 4);
-    }
-    read_u32(words, 4, before - 1, 3)
-}
-
-fn set_link(edges: &mut [u32], words: &mut [u32], e: EdgeId, before: u32, link: u32)
-    ensures { λ r. ⌜ links (now (edges .exit)) (now (words .exit)) ≡ withLink (links (now (edges .entry)) (now (words .entry))) (e .0) before link ⌝ }
-{
-    if before == 0 {
-        write_u32(edges, 6, e.0, 4, link);
-        return;
-    }
-    write_u32(words, 4, before - 1, 3, link);
-}
+ghost use Rattle.live_windows.specs.Live.{windowOf, sortsBefore, Follows, Walked, Loads, Makes, Trims, Kills, Unqueues};
 
 // The link that follows `before` on the chain of an edge.
 pub fn next_link(edges: &[u32], words: &[u32], made: u32, e: EdgeId, before: u32) -> u32
+    requires { ⌜ (e .0 < slotsOf (length (now edges)) 6) × (before ≤ made) ⌝ }
     ensures { λ r. ⌜ Follows made (links (now (edges .entry)) (now (words .entry))) (e .0) before r ⌝ }
 {
-    let link = link_at(edges, words, e, before);
-    link_in(made, link)
+    chains::link_at(edges, words, made, e, before)
 }
 
 // Whether a window starts before b0 and ends at or before lo.
@@ -87,6 +62,7 @@ pub fn pass_front(
     b0: f64,
     tiny: f64,
 ) -> u32
+    requires { ⌜ e .0 < slotsOf (length (now edges)) 6 ⌝ }
     ensures { λ r. ⌜ Walked (passes tiny b0) made (links (now (edges .entry)) (now (words .entry))) (now (reals .entry)) (e .0) 0 r ⌝ }
 {
     let lo = b0 - tiny;
@@ -118,7 +94,7 @@ pub fn seat_from(
     from: u32,
     b0: f64,
 ) -> u32
-    requires { ⌜ from ≤ made ⌝ }
+    requires { ⌜ (e .0 < slotsOf (length (now edges)) 6) × (from ≤ made) ⌝ }
     ensures { λ r. ⌜ Walked (sortsBefore b0) made (links (now (edges .entry)) (now (words .entry))) (now (reals .entry)) (e .0) from r ⌝ }
 {
     let mut before = from;
@@ -171,7 +147,7 @@ pub fn make_window(
         win,
     };
     windows::store(words, reals, WindowId(made), x);
-    set_link(edges, words, e, before, made + 1);
+    chains::set_link(edges, words, made, e, before, made + 1);
 }
 
 // A window is trimmed.
@@ -196,10 +172,10 @@ pub fn kill_window(
     ensures { λ r. ⌜ Kills made (links (now (edges .entry)) (now (words .entry))) (links (now (edges .exit)) (now (words .exit))) (e .0) before (id .0) ⌝ }
 {
     let link = read_u32(words, 4, id.0, 3);
-    let next = link_in(made, link);
+    let next = chains::within(link, made);
     let flags = read_u32(words, 4, id.0, 2);
     let queued = windows::has_flag(flags, 4);
-    set_link(edges, words, e, before, next);
+    chains::set_link(edges, words, made, e, before, next);
     write_u32(words, 4, id.0, 3, 0);
     windows::store_flags(words, reals, id, false, queued);
 }

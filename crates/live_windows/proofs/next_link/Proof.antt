@@ -7,13 +7,10 @@ use Rattle.live_windows.proofs.next_link.Tie as tie
 link-at-requires : tie.Need-link-at-requires
 link-at-requires c κs = search needs
 
-link-in-requires : tie.Need-link-in-requires
-link-in-requires c κs = search needs
-
 returns : tie.Need-returns
 returns c =
-    let a = c .before .before .before .before .args in
-    follows (a .made) (links (a .edges .now) (a .words .now)) (a .e .0) (a .before) (c .before .link-at .result) (c .link-in .result) (c .before .link-at .ensures) (c .link-in .ensures)
+    let a = c .before .before .before .args in
+    follows (a .made) (links (a .edges .now) (a .words .now)) (a .e .0) (a .before) (c .link-at .result) (c .link-at .ensures)
 
 pub next-link-spec : {M : Type 1} → statement M
-next-link-spec = tie.close (tie.spec link-at-requires link-in-requires returns)
+next-link-spec = tie.close (tie.spec link-at-requires returns)
