@@ -1,3 +1,4 @@
 pub mod Turns
 pub mod Paths
 pub mod OnEdges
+pub mod Counted

@@ -17,8 +17,8 @@ use Rattle.buffers.proofs.Strides.{slot-at, other-fields, other-slot}
 use Rattle.windows.specs.declared.WindowRecord.{WindowRecord}
 use Rattle.windows.specs.Windows.{flagsOf, hasFlag, winAt, windowAt, wordsWith, flagsWith, relinked}
 use Rattle.windows.proofs.WindowList.{stored-edge, stored-other, length-stored}
-use Rattle.chains.proofs.Paths.{each-other, path-same, path-set, path-drop, out-append, front-out, front-of, front-set, splice, unlinked, clear-is, path-after, Apart, unlink-path, unlink-front, length-unlinked, unlinked-none, apart-rest, apart-less, apart-front}
-use Rattle.chains.specs.Chains.{Links, links, headOf, edgeOf, nextOf, linkAt, withLink, inserted, cleared, removed, Each, Path, Out, Belongs, AllBelong, Before, firstLink, OnEdge, Chains}
+use Rattle.chains.proofs.Paths.{each-other, path-in, path-same, path-set, path-drop, path-once, out-append, front-out, front-of, front-set, splice, unlinked, clear-is, path-after, Apart, unlink-path, unlink-front, length-unlinked, unlinked-none, apart-rest, apart-less, apart-front}
+use Rattle.chains.specs.Chains.{Links, links, headOf, edgeOf, nextOf, linkIn, linkAt, withLink, inserted, cleared, removed, Each, Path, Out, Belongs, AllBelong, Before, firstLink, OnEdge, Chains}
 
 -- what holds of every window holds of each of a list
 each : (P : ℕ → Type 0) (is : List ℕ) → ((i : ℕ) → P i) → Each P is
@@ -49,14 +49,17 @@ only-set w k v = record { same-length = simp length-set; fields = λ i a h. othe
 only-trans : (u v w : List ℕ) → OnlyLinks u v → OnlyLinks v w → OnlyLinks u w
 only-trans u v w p q = record { same-length = q .same-length ∙ p .same-length; fields = λ i a h. q .fields i a h ∙ p .fields i a h }
 
-only-cleared : (n : ℕ) (w : List ℕ) (l stop : ℕ) → OnlyLinks w (cleared n w l stop)
+only-cleared : (count n : ℕ) (w : List ℕ) (l stop : ℕ) → OnlyLinks w (cleared count n w l stop)
 unfolding cleared
-only-cleared zero w l stop = only-none w
-only-cleared (suc n) w zero stop = only-none w
-only-cleared (suc n) w (suc i) stop = go (eqb (suc i) stop) (only-trans w (set w (4 * i + 3) 0) (cleared n (set w (4 * i + 3) 0) (nextOf w i) stop) (only-set w i 0) (only-cleared n (set w (4 * i + 3) 0) (nextOf w i) stop)) where
-  go : (s : Bool) → OnlyLinks w (cleared n (set w (4 * i + 3) 0) (nextOf w i) stop) → OnlyLinks w (cond s w (cleared n (set w (4 * i + 3) 0) (nextOf w i) stop))
-  go true ih = only-none w
-  go false ih = ih
+only-cleared count zero w l stop = only-none w
+only-cleared count (suc n) w zero stop = only-none w
+only-cleared count (suc n) w (suc i) stop =
+    let w′ = set w (4 * i + 3) 0 in
+    let l′ = linkIn count (nextOf w i) in
+    go (eqb (suc i) stop) (cleared count n w′ l′ stop) (only-trans w w′ (cleared count n w′ l′ stop) (only-set w i 0) (only-cleared count n w′ l′ stop)) where
+      go : (s : Bool) (v : List ℕ) → OnlyLinks w v → OnlyLinks w (cond s w v)
+      go true v ih = only-none w
+      go false v ih = ih
 
 only-with : (b : Links) (e k v : ℕ) → OnlyLinks (b .words) (withLink b e k v .words)
 unfolding withLink
@@ -68,26 +71,28 @@ unfolding withLink
 head-with b e zero v = record { same-length = simp length-set; fields = λ p ne. getD-set-other (b .edges) (6 * e + 4) p v 0 ne }
 head-with b e (suc k) v = record { same-length = refl; fields = λ p ne. refl }
 
-module _ (b : Links) (e k : ℕ) where
-  pub inserted-links : (j : ℕ) → OnlyLinks (b .words) (inserted b e k j .words)
+module _ (count : ℕ) (b : Links) (e k : ℕ) where
+  pub inserted-links : (j : ℕ) → OnlyLinks (b .words) (inserted count b e k j .words)
   unfolding inserted
   inserted-links j =
-      let w = set (b .words) (4 * j + 3) (linkAt b e k) in
-      only-trans (b .words) w (withLink (links (b .edges) w) e k (suc j) .words) (only-set (b .words) j (linkAt b e k)) (only-with (links (b .edges) w) e k (suc j))
+      let l = linkIn count (linkAt b e k) in
+      let w = set (b .words) (4 * j + 3) l in
+      only-trans (b .words) w (withLink (links (b .edges) w) e k (suc j) .words) (only-set (b .words) j l) (only-with (links (b .edges) w) e k (suc j))
 
-  pub inserted-head : (j : ℕ) → OnlyHead e (b .edges) (inserted b e k j .edges)
+  pub inserted-head : (j : ℕ) → OnlyHead e (b .edges) (inserted count b e k j .edges)
   unfolding inserted
-  inserted-head j = head-with (links (b .edges) (set (b .words) (4 * j + 3) (linkAt b e k))) e k (suc j)
+  inserted-head j = head-with (links (b .edges) (set (b .words) (4 * j + 3) (linkIn count (linkAt b e k)))) e k (suc j)
 
-  pub removed-links : (n stop : ℕ) → OnlyLinks (b .words) (removed n b e k stop .words)
+  pub removed-links : (n stop : ℕ) → OnlyLinks (b .words) (removed count n b e k stop .words)
   unfolding removed
   removed-links n stop =
-      let w = cleared n (b .words) (linkAt b e k) stop in
-      only-trans (b .words) w (withLink (links (b .edges) w) e k stop .words) (only-cleared n (b .words) (linkAt b e k) stop) (only-with (links (b .edges) w) e k stop)
+      let l = linkIn count (linkAt b e k) in
+      let w = cleared count n (b .words) l stop in
+      only-trans (b .words) w (withLink (links (b .edges) w) e k stop .words) (only-cleared count n (b .words) l stop) (only-with (links (b .edges) w) e k stop)
 
-  pub removed-head : (n stop : ℕ) → OnlyHead e (b .edges) (removed n b e k stop .edges)
+  pub removed-head : (n stop : ℕ) → OnlyHead e (b .edges) (removed count n b e k stop .edges)
   unfolding removed
-  removed-head n stop = head-with (links (b .edges) (cleared n (b .words) (linkAt b e k) stop)) e k stop
+  removed-head n stop = head-with (links (b .edges) (cleared count n (b .words) (linkIn count (linkAt b e k)) stop)) e k stop
 
 -- a window is then as it was but for its link
 pub relinked-only : (w w′ : List ℕ) (f : List Float) (i : ℕ) → OnlyLinks w w′ → windowAt w′ f i ≡ relinked (windowAt w f i) (nextOf w′ i)
@@ -183,29 +188,37 @@ module _ (made : ℕ) where
   before-set w e zero j v h = tt
   before-set w e (suc k) j v h = belongs-set w e k j v h
 
-  pub insert-frame : (b : Links) (e e′ k j : ℕ) (is : List ℕ) → e ≢ e′ → Before made (b .words) e k → Belongs made (b .words) e j → OnEdge made b e′ is → OnEdge made (inserted b e k j) e′ is
+  -- below the count every window made is counted
+  pub all-counted : (count : ℕ) → made ≤ count → (w : List ℕ) (e : ℕ) (is : List ℕ) → AllBelong made w e is → Each (λ i. i < count) is
+  unfolding AllBelong Each
+  all-counted count c w e [] h = tt
+  all-counted count c w e (i ∷ is) h = (omega (arith, c, h .0 .made), all-counted count c w e is (h .1))
+
+  pub insert-frame : (count : ℕ) (b : Links) (e e′ k j : ℕ) (is : List ℕ) → e ≢ e′ → Before made (b .words) e k → Belongs made (b .words) e j → OnEdge made b e′ is → OnEdge made (inserted count b e k j) e′ is
   unfolding inserted
-  insert-frame b e e′ k j is ne h g o =
-      with-frame (links (b .edges) (set (b .words) (4 * j + 3) (linkAt b e k))) e e′ ne is k (suc j)
-      (before-set (b .words) e k j (linkAt b e k) h) (set-frame b e e′ ne is j (linkAt b e k) g o)
+  insert-frame count b e e′ k j is ne h g o =
+      let l = linkIn count (linkAt b e k) in
+      with-frame (links (b .edges) (set (b .words) (4 * j + 3) l)) e e′ ne is k (suc j) (before-set (b .words) e k j l h) (set-frame b e e′ ne is j l g o)
 
   -- ---- an insertion
-  pub insert-head : (b : Links) (e j : ℕ) (zs : List ℕ) → 6 * e + 6 ≤ length (b .edges) → Belongs made (b .words) e j → Out j zs → OnEdge made b e zs → OnEdge made (inserted b e 0 j) e (j ∷ zs)
+  pub insert-head : (count : ℕ) → made ≤ count → (b : Links) (e j : ℕ) (zs : List ℕ) → 6 * e + 6 ≤ length (b .edges) → Belongs made (b .words) e j → Out j zs → OnEdge made b e zs → OnEdge made (inserted count b e 0 j) e (j ∷ zs)
   unfolding inserted withLink linkAt Path AllBelong
-  insert-head b e j zs h g out o =
+  insert-head count c b e j zs h g out o =
       let w = b .words in
       let l = headOf (b .edges) e in
-      record {
+      let r : linkIn count l ≡ l = path-in count w l zs (all-counted count c w e zs (o .belong)) (o .path) in
+      rw r
+      (record {
         path = (
           getD-set-same (b .edges) (6 * e + 4) (suc j) 0 (omega arith),
           rw (getD-set-same w (4 * j + 3) l 0 (omega (arith, g .there))) (path-set w l zs j l out (o .path)),
         );
         belong = (belongs-set w e j j l g, all-set w e zs j l (o .belong));
-      }
+      })
 
-  pub insert-after : (b : Links) (e k j : ℕ) (xs zs : List ℕ) → Belongs made (b .words) e j → Out j (xs ++ k ∷ zs) → OnEdge made b e (xs ++ k ∷ zs) → OnEdge made (inserted b e (suc k) j) e (xs ++ k ∷ j ∷ zs)
+  pub insert-after : (count : ℕ) → made ≤ count → (b : Links) (e k j : ℕ) (xs zs : List ℕ) → Belongs made (b .words) e j → Out j (xs ++ k ∷ zs) → OnEdge made b e (xs ++ k ∷ zs) → OnEdge made (inserted count b e (suc k) j) e (xs ++ k ∷ j ∷ zs)
   unfolding inserted withLink linkAt Path Out AllBelong
-  insert-after b e k j xs zs g out o =
+  insert-after count c b e k j xs zs g out o =
       let w = b .words in
       let l = headOf (b .edges) e in
       let v = nextOf w k in
@@ -216,10 +229,12 @@ module _ (made : ℕ) where
       let rest : Path (set w (4 * j + 3) v) (suc j) (j ∷ zs) =
       (refl, rw (getD-set-same w (4 * j + 3) v 0 (omega (arith, g .there))) (path-set w v zs j v (oj .1 .1) (path-drop w l xs k zs (o .path)))) in
       let all : AllBelong made w e (xs ++ k ∷ j ∷ zs) = all-join w e xs (k ∷ j ∷ zs) (m .0) (m .1 .0, (g, m .1 .1)) in
-      record {
+      let r : linkIn count v ≡ v = path-in count w v zs (all-counted count c w e zs (m .1 .1)) (path-drop w l xs k zs (o .path)) in
+      rw r
+      (record {
         path = splice (set w (4 * j + 3) v) l xs k (j ∷ zs) (suc j) bound (f .0) (λ z. oj .1 .0 (sym z), f .1) (front-set w l xs k j v (oj .0) (front-of w l xs k zs (o .path))) rest;
         belong = all-set (set w (4 * j + 3) v) e (xs ++ k ∷ j ∷ zs) k (suc j) (all-set w e (xs ++ k ∷ j ∷ zs) j v all);
-      }
+      })
 
   -- ---- the run ys is taken out
   unlink-all : (is w : List ℕ) (e : ℕ) (ys : List ℕ) → AllBelong made w e is → AllBelong made (unlinked w ys) e is
@@ -227,21 +242,21 @@ module _ (made : ℕ) where
   unlink-all is w e [] h = h
   unlink-all is w e (y ∷ ys) h = unlink-all is (set w (4 * y + 3) 0) e ys (all-set w e is y 0 h)
 
-  pub remove-head : (n : ℕ) (b : Links) (e : ℕ) (ys zs : List ℕ) → length ys ≤ n → 6 * e + 6 ≤ length (b .edges) → OnEdge made b e (ys ++ zs) → OnEdge made (removed n b e 0 (firstLink zs)) e zs
+  pub remove-head : (count : ℕ) → made ≤ count → (n : ℕ) (b : Links) (e : ℕ) (ys zs : List ℕ) → length ys ≤ n → 6 * e + 6 ≤ length (b .edges) → OnEdge made b e (ys ++ zs) → OnEdge made (removed count n b e 0 (firstLink zs)) e zs
   unfolding removed withLink linkAt
-  remove-head n b e ys zs h r o =
+  remove-head count c n b e ys zs h f o =
       let w = b .words in
       let l = headOf (b .edges) e in
-      let c : cleared n w l (firstLink zs) ≡ unlinked w ys = clear-is n w l ys zs h (o .path) in
-      rw c
+      let r : cleared count n w (linkIn count l) (firstLink zs) ≡ unlinked w ys = clear-is count n w l ys zs (all-counted count c w e ys (all-append w e ys zs (o .belong) .0)) h (o .path) in
+      rw r
       (record {
         path = rw (getD-set-same (b .edges) (6 * e + 4) (firstLink zs) 0 (omega arith)) (unlink-path zs w (firstLink zs) ys (apart-rest w l ys zs (o .path)) (path-after w l ys zs (o .path)));
         belong = unlink-all zs w e ys (all-append w e ys zs (o .belong) .1);
       })
 
-  pub remove-after : (n : ℕ) (b : Links) (e k : ℕ) (xs ys zs : List ℕ) → length ys ≤ n → OnEdge made b e (xs ++ k ∷ (ys ++ zs)) → OnEdge made (removed n b e (suc k) (firstLink zs)) e (xs ++ k ∷ zs)
+  pub remove-after : (count : ℕ) → made ≤ count → (n : ℕ) (b : Links) (e k : ℕ) (xs ys zs : List ℕ) → length ys ≤ n → OnEdge made b e (xs ++ k ∷ (ys ++ zs)) → OnEdge made (removed count n b e (suc k) (firstLink zs)) e (xs ++ k ∷ zs)
   unfolding removed withLink linkAt AllBelong
-  remove-after n b e k xs ys zs h o =
+  remove-after count c n b e k xs ys zs h o =
       let w = b .words in
       let l = headOf (b .edges) e in
       let p : Path w l (xs ++ k ∷ (ys ++ zs)) = o .path in
@@ -251,8 +266,9 @@ module _ (made : ℕ) where
       let a : Apart ys (xs ++ (k ∷ [])) = apart-front w l (xs ++ (k ∷ [])) ys zs (rw append-assoc p) in
       let bound : 4 * k + 4 ≤ length (unlinked w ys) = rw (length-unlinked w ys) (m .1 .0 .there) in
       let all : AllBelong made w e (xs ++ k ∷ zs) = all-join w e xs (k ∷ zs) (m .0) (m .1 .0, all-append w e ys zs (m .1 .1) .1) in
-      let c : cleared n w (nextOf w k) (firstLink zs) ≡ unlinked w ys = clear-is n w (nextOf w k) ys zs h q in
-      rw c
+      let r : cleared count n w (linkIn count (nextOf w k)) (firstLink zs) ≡ unlinked w ys =
+      clear-is count n w (nextOf w k) ys zs (all-counted count c w e ys (all-append w e ys zs (m .1 .1) .0)) h q in
+      rw r
       (record {
         path = splice (unlinked w ys) l xs k zs (firstLink zs) bound (f .0) (out-append k ys zs (f .1) .1)
             (unlink-front xs w l k ys (apart-less xs (k ∷ []) ys a) (front-of w l xs k (ys ++ zs) p))
@@ -272,35 +288,54 @@ module _ (made : ℕ) where
   before-unlinked w e k [] h = h
   before-unlinked w e k (y ∷ ys) h = before-unlinked (set w (4 * y + 3) 0) e k ys (before-set w e k y 0 h)
 
-  pub remove-frame : (n : ℕ) (b : Links) (e e′ k : ℕ) (ys zs is : List ℕ) → e ≢ e′ → Before made (b .words) e k → length ys ≤ n
-      → Path (b .words) (linkAt b e k) (ys ++ zs) → AllBelong made (b .words) e ys → OnEdge made b e′ is → OnEdge made (removed n b e k (firstLink zs)) e′ is
+  pub remove-frame : (count : ℕ) → made ≤ count → (n : ℕ) (b : Links) (e e′ k : ℕ) (ys zs is : List ℕ) → e ≢ e′ → Before made (b .words) e k → length ys ≤ n
+      → Path (b .words) (linkAt b e k) (ys ++ zs) → AllBelong made (b .words) e ys → OnEdge made b e′ is → OnEdge made (removed count n b e k (firstLink zs)) e′ is
   unfolding removed
-  remove-frame n b e e′ k ys zs is ne h m p g o =
+  remove-frame count c n b e e′ k ys zs is ne h m p g o =
       let w = b .words in
-      let c : cleared n w (linkAt b e k) (firstLink zs) ≡ unlinked w ys = clear-is n w (linkAt b e k) ys zs m p in
-      rw c
+      let r : cleared count n w (linkIn count (linkAt b e k)) (firstLink zs) ≡ unlinked w ys = clear-is count n w (linkAt b e k) ys zs (all-counted count c w e ys g) m p in
+      rw r
       (with-frame (links (b .edges) (unlinked w ys)) e e′ ne is k (firstLink zs) (before-unlinked w e k ys h) (unlink-frame b e e′ is ys ne g o))
 
   -- ---- a run is replaced by one window: a removal, then an insertion
-  pub belongs-removed : (n : ℕ) (b : Links) (e k stop e′ i : ℕ) → Belongs made (b .words) e′ i → Belongs made (removed n b e k stop .words) e′ i
-  belongs-removed n b e k stop e′ i =
-      let r = removed-links b e k n stop in
-      belongs-same (b .words) (removed n b e k stop .words) e′ i (r .same-length) (r .fields i 0 (omega arith))
+  pub belongs-removed : (count n : ℕ) (b : Links) (e k stop e′ i : ℕ) → Belongs made (b .words) e′ i → Belongs made (removed count n b e k stop .words) e′ i
+  belongs-removed count n b e k stop e′ i =
+      let r = removed-links count b e k n stop in
+      belongs-same (b .words) (removed count n b e k stop .words) e′ i (r .same-length) (r .fields i 0 (omega arith))
 
-  before-removed : (n : ℕ) (b : Links) (e k stop e′ l : ℕ) → Before made (b .words) e′ l → Before made (removed n b e k stop .words) e′ l
+  before-removed : (count n : ℕ) (b : Links) (e k stop e′ l : ℕ) → Before made (b .words) e′ l → Before made (removed count n b e k stop .words) e′ l
   unfolding Before
-  before-removed n b e k stop e′ zero h = tt
-  before-removed n b e k stop e′ (suc l) h = belongs-removed n b e k stop e′ l h
+  before-removed count n b e k stop e′ zero h = tt
+  before-removed count n b e k stop e′ (suc l) h = belongs-removed count n b e k stop e′ l h
 
-  pub replace-head : (n : ℕ) (b : Links) (e j : ℕ) (ys zs : List ℕ) → length ys ≤ n → 6 * e + 6 ≤ length (b .edges) → Belongs made (b .words) e j → Out j zs
-      → OnEdge made b e (ys ++ zs) → OnEdge made (inserted (removed n b e 0 (firstLink zs)) e 0 j) e (j ∷ zs)
-  replace-head n b e j ys zs h r g out o =
-      insert-head (removed n b e 0 (firstLink zs)) e j zs (unfold removed withLink in simp length-set r) (belongs-removed n b e 0 (firstLink zs) e j g) out (remove-head n b e ys zs h r o)
+  pub replace-head : (count : ℕ) → made ≤ count → (n : ℕ) (b : Links) (e j : ℕ) (ys zs : List ℕ) → length ys ≤ n → 6 * e + 6 ≤ length (b .edges) → Belongs made (b .words) e j → Out j zs
+      → OnEdge made b e (ys ++ zs) → OnEdge made (inserted count (removed count n b e 0 (firstLink zs)) e 0 j) e (j ∷ zs)
+  replace-head count c n b e j ys zs h r g out o =
+      insert-head count c (removed count n b e 0 (firstLink zs)) e j zs (unfold removed withLink in simp length-set r) (belongs-removed count n b e 0 (firstLink zs) e j g) out (remove-head count c n b e ys zs h r o)
 
-  pub replace-after : (n : ℕ) (b : Links) (e k j : ℕ) (xs ys zs : List ℕ) → length ys ≤ n → Belongs made (b .words) e j → Out j (xs ++ k ∷ zs)
-      → OnEdge made b e (xs ++ k ∷ (ys ++ zs)) → OnEdge made (inserted (removed n b e (suc k) (firstLink zs)) e (suc k) j) e (xs ++ k ∷ j ∷ zs)
-  replace-after n b e k j xs ys zs h g out o =
-      insert-after (removed n b e (suc k) (firstLink zs)) e k j xs zs (belongs-removed n b e (suc k) (firstLink zs) e j g) out (remove-after n b e k xs ys zs h o)
+  pub replace-after : (count : ℕ) → made ≤ count → (n : ℕ) (b : Links) (e k j : ℕ) (xs ys zs : List ℕ) → length ys ≤ n → Belongs made (b .words) e j → Out j (xs ++ k ∷ zs)
+      → OnEdge made b e (xs ++ k ∷ (ys ++ zs)) → OnEdge made (inserted count (removed count n b e (suc k) (firstLink zs)) e (suc k) j) e (xs ++ k ∷ j ∷ zs)
+  replace-after count c n b e k j xs ys zs h g out o =
+      insert-after count c (removed count n b e (suc k) (firstLink zs)) e k j xs zs (belongs-removed count n b e (suc k) (firstLink zs) e j g) out (remove-after count c n b e k xs ys zs h o)
+
+  -- and the other chains stay
+  pub replace-frame : (count : ℕ) → made ≤ count → (n : ℕ) (b : Links) (e e′ k j : ℕ) (ys zs is : List ℕ) → e ≢ e′ → Before made (b .words) e k → Belongs made (b .words) e j → length ys ≤ n
+      → Path (b .words) (linkAt b e k) (ys ++ zs) → AllBelong made (b .words) e ys → OnEdge made b e′ is → OnEdge made (inserted count (removed count n b e k (firstLink zs)) e k j) e′ is
+  replace-frame count c n b e e′ k j ys zs is ne h g m p a o =
+      let v = firstLink zs in
+      insert-frame count (removed count n b e k v) e e′ k j is ne (before-removed count n b e k v e k h) (belongs-removed count n b e k v e j g) (remove-frame count c n b e e′ k ys zs is ne h m p a o)
+
+  -- ---- a window that was taken out has no link
+  pub removed-none : (count n : ℕ) (b : Links) (e k i : ℕ) (us vs zs : List ℕ) → Each (λ x. x < count) (us ++ i ∷ vs) → length (us ++ i ∷ vs) ≤ n
+      → Path (b .words) (linkAt b e k) ((us ++ i ∷ vs) ++ zs) → 4 * i + 4 ≤ length (b .words) → nextOf (removed count n b e k (firstLink zs) .words) i ≡ 0
+  unfolding removed withLink linkAt Path Out
+  removed-none count n b e zero i us vs zs c m p h = rw (clear-is count n (b .words) (linkAt b e 0) (us ++ i ∷ vs) zs c m p) (unlinked-none (b .words) us i vs h)
+  removed-none count n b e (suc k) i us vs zs c m p h =
+      let w = unlinked (b .words) (us ++ i ∷ vs) in
+      let out : Out k ((us ++ i ∷ vs) ++ zs) = path-once (b .words) (suc k) k ((us ++ i ∷ vs) ++ zs) (refl, p) in
+      let ne : k ≢ i = out-append k us (i ∷ vs) (out-append k (us ++ i ∷ vs) zs out .0) .1 .0 in
+      rw (clear-is count n (b .words) (linkAt b e (suc k)) (us ++ i ∷ vs) zs c m p)
+      (other-slot 4 w k i 3 3 (firstLink zs) 0 ne (omega arith) (omega arith) ∙ unlinked-none (b .words) us i vs h)
 
   -- ---- all chains at once: one becomes another list, and the others stay
   pub chains-after : (m : ℕ) (b b′ : Links) (on : ℕ → List ℕ) (e : ℕ) (new : List ℕ) → Chains made m b on → OnEdge made b′ e new
@@ -315,13 +350,6 @@ module _ (made : ℕ) where
   unfolding AllBelong
   never-meet b e e′ i xs ys xs′ ys′ o o′ =
       sym (all-append (b .words) e xs (i ∷ ys) (o .belong) .1 .0 .edge) ∙ all-append (b .words) e′ xs′ (i ∷ ys′) (o′ .belong) .1 .0 .edge
-
-  -- and the other chains stay
-  pub replace-frame : (n : ℕ) (b : Links) (e e′ k j : ℕ) (ys zs is : List ℕ) → e ≢ e′ → Before made (b .words) e k → Belongs made (b .words) e j → length ys ≤ n
-      → Path (b .words) (linkAt b e k) (ys ++ zs) → AllBelong made (b .words) e ys → OnEdge made b e′ is → OnEdge made (inserted (removed n b e k (firstLink zs)) e k j) e′ is
-  replace-frame n b e e′ k j ys zs is ne h g m p a o =
-      let v = firstLink zs in
-      insert-frame (removed n b e k v) e e′ k j is ne (before-removed n b e k v e k h) (belongs-removed n b e k v e j g) (remove-frame n b e e′ k ys zs is ne h m p a o)
 
   -- ---- at first there is no window
   pub no-windows : (m : ℕ) (b : Links) → ((e : ℕ) → e < m → headOf (b .edges) e ≡ 0) → Chains made m b (λ e. [])
@@ -370,13 +398,3 @@ module _ (made : ℕ) where
 
   pub stored-belongs : (w : List ℕ) (x : WindowRecord) → 4 * made + 4 ≤ length w → Belongs (suc made) (wordsWith w made x) (x .edge .0) made
   stored-belongs w x h = record { edge = stored-edge w made x h; made = omega arith; there = rw (length-stored w made x) h }
-
-  -- ---- a window that was taken out has no link
-  pub removed-none : (n : ℕ) (b : Links) (e k i : ℕ) (us vs zs : List ℕ) → length (us ++ i ∷ vs) ≤ n → Path (b .words) (linkAt b e k) ((us ++ i ∷ vs) ++ zs)
-      → k ≢ suc i → 4 * i + 4 ≤ length (b .words) → nextOf (removed n b e k (firstLink zs) .words) i ≡ 0
-  unfolding removed withLink
-  removed-none n b e zero i us vs zs m p ne h = rw (clear-is n (b .words) (linkAt b e 0) (us ++ i ∷ vs) zs m p) (unlinked-none (b .words) us i vs h)
-  removed-none n b e (suc k) i us vs zs m p ne h =
-      let w = unlinked (b .words) (us ++ i ∷ vs) in
-      rw (clear-is n (b .words) (linkAt b e (suc k)) (us ++ i ∷ vs) zs m p)
-      (other-slot 4 w k i 3 3 (firstLink zs) 0 (λ z. ne (ap suc z)) (omega arith) (omega arith) ∙ unlinked-none (b .words) us i vs h)

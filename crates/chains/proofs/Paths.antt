@@ -1,6 +1,6 @@
 -- Paths of links. A path ends, so no window comes twice on it; a link of a window that is not on it can change freely
 -- (`path-set`), pointing the link after a front at another path exchanges the rest (`splice`), and a run that is taken out loses its links (`unlinked`).
-use Prim.Native.Nat.{ℕ, zero, suc, _+_, _*_, _≤_}
+use Prim.Native.Nat.{ℕ, zero, suc, _+_, _*_, _≤_, _<_}
 use native.Mathlib.Omega.{arith}
 use native.Mathlib.Decide.{ℕ-discrete, decLe}
 use mathlib.Core.Path.{_≡_, refl, sym, ap, subst, _∙_}
@@ -9,24 +9,37 @@ use mathlib.Core.Logic.{_≢_}
 use borrow.Author.Tests.{ne-eqb}
 use lib.ListN.{set, length, length-set, length-append}
 use lib.Seq.{getD-set-same, set-out}
-use Rattle.chains.proofs.Turns.{cleared-stop}
+use Rattle.chains.proofs.Turns.{link-in, link-none, cleared-end, cleared-stop}
 use Rattle.buffers.proofs.Strides.{other-slot}
-use Rattle.chains.specs.Chains.{nextOf, chain, walk, cleared, Each, Path, Out, firstLink}
+use Rattle.chains.specs.Chains.{nextOf, linkIn, chain, walk, cleared, Each, Path, Out, firstLink}
 
 -- ---- a path
--- with limit enough, a path is what `chain` finds
-pub path-chain : (n : ℕ) (w : List ℕ) (l : ℕ) (is : List ℕ) → length is ≤ n → Path w l is → chain n w l ≡ is
-unfolding chain Path
-path-chain zero w l [] h p = refl
-path-chain (suc n) w l [] h p = rw p refl
-path-chain zero w l (i ∷ is) h p = absurd (omega arith)
-path-chain (suc n) w l (i ∷ is) h p = ap (chain (suc n) w) (p .0) ∙ ap (λ t. i ∷ t) (path-chain n w (nextOf w i) is (omega arith) (p .1))
+module _ (count : ℕ) where
+  -- the link at the start of a path below the count is read as it stands
+  pub path-in : (w : List ℕ) (l : ℕ) (is : List ℕ) → Each (λ i. i < count) is → Path w l is → linkIn count l ≡ l
+  unfolding Path Each
+  path-in w l [] c p = link-in count l (omega arith)
+  path-in w l (i ∷ is) c p = link-in count l (omega (arith, c .0, p .0))
 
--- the window at place k of the list is where k steps lead
-pub path-walk : (w : List ℕ) (l : ℕ) (is : List ℕ) (i : ℕ) (js : List ℕ) → Path w l (is ++ i ∷ js) → walk (length is) w l ≡ suc i
-unfolding walk Path
-path-walk w l [] i js p = p .0
-path-walk w l (x ∷ is) i js p = ap (walk (suc (length is)) w) (p .0) ∙ path-walk w (nextOf w x) is i js (p .1)
+  -- with limit enough, a path is what `chain` finds
+  pub path-chain : (n : ℕ) (w : List ℕ) (l : ℕ) (is : List ℕ) → Each (λ i. i < count) is → length is ≤ n → Path w l is → chain count n w l ≡ is
+  unfolding chain Path Each
+  path-chain zero w l [] c h p = refl
+  path-chain (suc n) w l [] c h p = rw p refl
+  path-chain zero w l (i ∷ is) c h p = absurd (omega arith)
+  path-chain (suc n) w l (i ∷ is) c h p =
+      ap (chain count (suc n) w) (p .0)
+      ∙ ap (λ k. i ∷ chain count n w k) (path-in w (nextOf w i) is (c .1) (p .1))
+      ∙ ap (λ t. i ∷ t) (path-chain n w (nextOf w i) is (c .1) (omega arith) (p .1))
+
+  -- the window at place k of the list is where k steps lead
+  pub path-walk : (w : List ℕ) (l : ℕ) (is : List ℕ) (i : ℕ) (js : List ℕ) → Each (λ x. x < count) (is ++ i ∷ js) → Path w l (is ++ i ∷ js) → walk count (length is) w l ≡ suc i
+  unfolding walk Path Each
+  path-walk w l [] i js c p = p .0
+  path-walk w l (x ∷ is) i js c p =
+      ap (walk count (suc (length is)) w) (p .0)
+      ∙ ap (walk count (length is) w) (path-in w (nextOf w x) (is ++ i ∷ js) (c .1) (p .1))
+      ∙ path-walk w (nextOf w x) is i js (c .1) (p .1)
 
 suc-same : {i j : ℕ} → suc i ≡ suc j → i ≡ j
 suc-same e = omega arith
@@ -133,15 +146,20 @@ unfolding firstLink Path
 path-first w l [] p = p
 path-first w l (z ∷ zs) p = p .0
 
-pub clear-is : (n : ℕ) (w : List ℕ) (l : ℕ) (ys zs : List ℕ) → length ys ≤ n → Path w l (ys ++ zs) → cleared n w l (firstLink zs) ≡ unlinked w ys
-unfolding unlinked cleared Path
-clear-is n w l [] zs h p = sym (cleared-stop n w l (firstLink zs) (path-first w l zs p))
-clear-is zero w l (i ∷ ys) zs h p = absurd (omega arith)
-clear-is (suc n) w l (i ∷ ys) zs h p =
+-- a run from the link l on: its windows are below the count, and what follows it may be any
+pub clear-is : (count n : ℕ) (w : List ℕ) (l : ℕ) (ys zs : List ℕ) → Each (λ i. i < count) ys → length ys ≤ n → Path w l (ys ++ zs) → cleared count n w (linkIn count l) (firstLink zs) ≡ unlinked w ys
+unfolding unlinked cleared Path Each
+clear-is count n w l [] zs c h p = go (decLe l count) where
+  go : Dec (l ≤ count) → cleared count n w (linkIn count l) (firstLink zs) ≡ w
+  go (yes d) = sym (cleared-stop count n w (linkIn count l) (firstLink zs) (link-in count l d ∙ path-first w l zs p))
+  go (no d) = sym (cleared-end count n w (linkIn count l) (firstLink zs) (link-none count l (omega arith)))
+clear-is count zero w l (i ∷ ys) zs c h p = absurd (omega arith)
+clear-is count (suc n) w l (i ∷ ys) zs c h p =
     let out = path-once w l i (ys ++ zs) p in
-    ap (λ k. cleared (suc n) w k (firstLink zs)) (p .0)
+    let e : linkIn count l ≡ suc i = link-in count l (omega (arith, c .0, p .0)) ∙ p .0 in
+    ap (λ k. cleared count (suc n) w k (firstLink zs)) e
     ∙ rw (ne-eqb (suc i) (firstLink zs) (first-out i zs (out-append i ys zs out .1)))
-    (clear-is n (set w (4 * i + 3) 0) (nextOf w i) ys zs (omega arith) (path-set w (nextOf w i) (ys ++ zs) i 0 out (p .1)))
+    (clear-is count n (set w (4 * i + 3) 0) (nextOf w i) ys zs (c .1) (omega arith) (path-set w (nextOf w i) (ys ++ zs) i 0 out (p .1)))
 
 pub path-after : (w : List ℕ) (l : ℕ) (ys zs : List ℕ) → Path w l (ys ++ zs) → Path w (firstLink zs) zs
 unfolding Path

@@ -1,18 +1,30 @@
-// Chains of windows: each edge's windows in order, linked through the window buffer.
+// Chains of windows: each edge's windows in order, linked through the window buffer. `count` is how many windows that buffer counts for: a
+// link to one past them is none, so whatever numbers the buffers hold, no window past the count is met.
 use buffers::EdgeId;
 use buffers::WindowId;
 use buffers::read_u32;
 use buffers::write_u32;
 ghost use mathlib.Core.Path.{_≡_};
-ghost use Prim.Native.Nat.{_+_, _-_, _<_};
+ghost use Prim.Native.Nat.{_+_, _-_, _≤_, _<_};
 ghost use lib.ListN.{length};
 ghost use Rattle.buffers.specs.Slots.{slotsOf};
-ghost use Rattle.chains.specs.Chains.{links, chain, linkAt, withLink, inserted, cleared, removed};
+ghost use Rattle.chains.specs.Chains.{links, linkIn, chain, linkAt, withLink, inserted, cleared, removed};
 ghost use Rattle.chains.specs.Chains.{walk as Chains·walk};
 
+// A link that was read.
+pub fn within(link: u32, count: u32) -> u32
+    ensures { λ r. ⌜ r ≡ linkIn count link ⌝ }
+{
+    if link <= count {
+        return link;
+    }
+    0
+}
+
 // How many windows there are from a link on, counted up to a limit.
-pub fn count(words: &[u32], link: u32, limit: u32) -> u32
-    ensures { λ r. ⌜ r ≡ length (chain limit (now (words .entry)) link) ⌝ }
+pub fn count(words: &[u32], count: u32, link: u32, limit: u32) -> u32
+    requires { ⌜ link ≤ count ⌝ }
+    ensures { λ r. ⌜ r ≡ length (chain count limit (now (words .entry)) link) ⌝ }
 {
     let mut n: u32 = 0;
     let mut at = link;
@@ -20,15 +32,17 @@ pub fn count(words: &[u32], link: u32, limit: u32) -> u32
         if at == 0 {
             return n;
         }
-        at = read_u32(words, 4, at - 1, 3);
+        let next = read_u32(words, 4, at - 1, 3);
+        at = within(next, count);
         n += 1;
     }
     n
 }
 
 // The link that so many steps from a link lead to, or 0 where the chain ends before.
-pub fn walk(words: &[u32], link: u32, steps: u32) -> u32
-    ensures { λ r. ⌜ r ≡ Chains·walk steps (now (words .entry)) link ⌝ }
+pub fn walk(words: &[u32], count: u32, link: u32, steps: u32) -> u32
+    requires { ⌜ link ≤ count ⌝ }
+    ensures { λ r. ⌜ r ≡ Chains·walk count steps (now (words .entry)) link ⌝ }
 {
     let mut at = link;
     let mut left = steps;
@@ -36,24 +50,28 @@ pub fn walk(words: &[u32], link: u32, steps: u32) -> u32
         if at == 0 {
             return 0;
         }
-        at = read_u32(words, 4, at - 1, 3);
+        let next = read_u32(words, 4, at - 1, 3);
+        at = within(next, count);
         left -= 1;
     }
     at
 }
 
 // The link after `before` on the chain of an edge; after 0 comes the head.
-pub fn link_at(edges: &[u32], words: &[u32], e: EdgeId, before: u32) -> u32
-    ensures { λ r. ⌜ r ≡ linkAt (links (now (edges .entry)) (now (words .entry))) (e .0) before ⌝ }
+pub fn link_at(edges: &[u32], words: &[u32], count: u32, e: EdgeId, before: u32) -> u32
+    requires { ⌜ (e .0 < slotsOf (length (now edges)) 6) × (before ≤ count) ⌝ }
+    ensures { λ r. ⌜ r ≡ linkIn count (linkAt (links (now (edges .entry)) (now (words .entry))) (e .0) before) ⌝ }
 {
     if before == 0 {
-        return read_u32(edges, 6, e.0, 4);
+        let head = read_u32(edges, 6, e.0, 4);
+        return within(head, count);
     }
-    read_u32(words, 4, before - 1, 3)
+    let next = read_u32(words, 4, before - 1, 3);
+    within(next, count)
 }
 
-pub fn set_link(edges: &mut [u32], words: &mut [u32], e: EdgeId, before: u32, link: u32)
-    requires { ⌜ e .0 < slotsOf (length (now edges)) 6 ⌝ }
+pub fn set_link(edges: &mut [u32], words: &mut [u32], count: u32, e: EdgeId, before: u32, link: u32)
+    requires { ⌜ (e .0 < slotsOf (length (now edges)) 6) × (before ≤ count) ⌝ }
     ensures { λ r. ⌜ links (now (edges .exit)) (now (words .exit)) ≡ withLink (links (now (edges .entry)) (now (words .entry))) (e .0) before link ⌝ }
 {
     if before == 0 {
@@ -64,18 +82,26 @@ pub fn set_link(edges: &mut [u32], words: &mut [u32], e: EdgeId, before: u32, li
 }
 
 // A window is put after `before`, or at the head where that is 0.
-pub fn insert(edges: &mut [u32], words: &mut [u32], e: EdgeId, before: u32, id: WindowId)
-    requires { ⌜ (e .0 < slotsOf (length (now edges)) 6) × (id .0 < slotsOf (length (now words)) 4) ⌝ }
-    ensures { λ r. ⌜ links (now (edges .exit)) (now (words .exit)) ≡ inserted (links (now (edges .entry)) (now (words .entry))) (e .0) before (id .0) ⌝ }
+pub fn insert(
+    edges: &mut [u32],
+    words: &mut [u32],
+    count: u32,
+    e: EdgeId,
+    before: u32,
+    id: WindowId,
+)
+    requires { ⌜ (e .0 < slotsOf (length (now edges)) 6) × (before ≤ count) × (id .0 < count) × (count ≤ slotsOf (length (now words)) 4) ⌝ }
+    ensures { λ r. ⌜ links (now (edges .exit)) (now (words .exit)) ≡ inserted count (links (now (edges .entry)) (now (words .entry))) (e .0) before (id .0) ⌝ }
 {
-    let next = link_at(edges, words, e, before);
+    let next = link_at(edges, words, count, e, before);
     write_u32(words, 4, id.0, 3, next);
-    set_link(edges, words, e, before, id.0 + 1);
+    set_link(edges, words, count, e, before, id.0 + 1);
 }
 
 // The windows from a link up to `stop` lose their links, at most `limit` of them.
-pub fn clear_run(words: &mut [u32], link: u32, stop: u32, limit: u32)
-    ensures { λ r. ⌜ now (words .exit) ≡ cleared limit (now (words .entry)) link stop ⌝ }
+pub fn clear_run(words: &mut [u32], count: u32, link: u32, stop: u32, limit: u32)
+    requires { ⌜ link ≤ count ⌝ }
+    ensures { λ r. ⌜ now (words .exit) ≡ cleared count limit (now (words .entry)) link stop ⌝ }
 {
     let mut at = link;
     let mut left = limit;
@@ -88,7 +114,7 @@ pub fn clear_run(words: &mut [u32], link: u32, stop: u32, limit: u32)
         }
         let next = read_u32(words, 4, at - 1, 3);
         write_u32(words, 4, at - 1, 3, 0);
-        at = next;
+        at = within(next, count);
         left -= 1;
     }
 }
@@ -97,32 +123,34 @@ pub fn clear_run(words: &mut [u32], link: u32, stop: u32, limit: u32)
 pub fn remove_run(
     edges: &mut [u32],
     words: &mut [u32],
+    count: u32,
     e: EdgeId,
     before: u32,
     stop: u32,
     limit: u32,
 )
-    requires { ⌜ e .0 < slotsOf (length (now edges)) 6 ⌝ }
-    ensures { λ r. ⌜ links (now (edges .exit)) (now (words .exit)) ≡ removed limit (links (now (edges .entry)) (now (words .entry))) (e .0) before stop ⌝ }
+    requires { ⌜ (e .0 < slotsOf (length (now edges)) 6) × (before ≤ count) ⌝ }
+    ensures { λ r. ⌜ links (now (edges .exit)) (now (words .exit)) ≡ removed count limit (links (now (edges .entry)) (now (words .entry))) (e .0) before stop ⌝ }
 {
-    let first = link_at(edges, words, e, before);
-    clear_run(words, first, stop, limit);
-    set_link(edges, words, e, before, stop);
+    let first = link_at(edges, words, count, e, before);
+    clear_run(words, count, first, stop, limit);
+    set_link(edges, words, count, e, before, stop);
 }
 
 // The run after `before` and up to `stop` is replaced by one window.
 pub fn replace_run(
     edges: &mut [u32],
     words: &mut [u32],
+    count: u32,
     e: EdgeId,
     before: u32,
     stop: u32,
     limit: u32,
     id: WindowId,
 )
-    requires { ⌜ (e .0 < slotsOf (length (now edges)) 6) × (id .0 < slotsOf (length (now words)) 4) ⌝ }
-    ensures { λ r. ⌜ links (now (edges .exit)) (now (words .exit)) ≡ inserted (removed limit (links (now (edges .entry)) (now (words .entry))) (e .0) before stop) (e .0) before (id .0) ⌝ }
+    requires { ⌜ (e .0 < slotsOf (length (now edges)) 6) × (before ≤ count) × (id .0 < count) × (count ≤ slotsOf (length (now words)) 4) ⌝ }
+    ensures { λ r. ⌜ links (now (edges .exit)) (now (words .exit)) ≡ inserted count (removed count limit (links (now (edges .entry)) (now (words .entry))) (e .0) before stop) (e .0) before (id .0) ⌝ }
 {
-    remove_run(edges, words, e, before, stop, limit);
-    insert(edges, words, e, before, id);
+    remove_run(edges, words, count, e, before, stop, limit);
+    insert(edges, words, count, e, before, id);
 }

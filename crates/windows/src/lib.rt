@@ -14,7 +14,7 @@ ghost use mathlib.Core.Bool.{cond};
 ghost use Prim.Native.Nat.{_+_, _/_, _%_, _<_};
 ghost use mathlib.Core.List.{[], _∷_};
 ghost use lib.ListN.{length};
-ghost use Rattle.buffers.specs.Slots.{slotsOf, fill};
+ghost use Rattle.buffers.specs.Slots.{fill};
 ghost use Rattle.windows.specs.Windows.{isLine, srcOf, realsOf, winAt, windowAt, wordsWith, realsWith, rangeWith, flagsWith, flagsOf, hasFlag, capacityOf};
 
 // A window with what the buffer keeps beside it.
@@ -102,7 +102,9 @@ fn load_win(reals: &[f64], id: WindowId, line: bool) -> Win
     Win { b0, b1, low, src }
 }
 
+// A window is read or written only where the buffer counts for it: each of these functions is lent both slices, since both make the count.
 pub fn load(words: &[u32], reals: &[f64], id: WindowId) -> WindowRecord
+    requires { ⌜ id .0 < capacityOf (length (now words)) (length (now reals)) ⌝ }
     ensures { λ r. ⌜ r ≡ windowAt (now (words .entry)) (now (reals .entry)) (id .0) ⌝ }
 {
     let k = id.0;
@@ -173,8 +175,8 @@ pub fn store(words: &mut [u32], reals: &mut [f64], id: WindowId, x: WindowRecord
 }
 
 // A window is trimmed: its ends and its least value change, and nothing else.
-pub fn store_range(reals: &mut [f64], id: WindowId, b0: f64, b1: f64, low: f64)
-    requires { ⌜ id .0 < slotsOf (length (now reals)) 6 ⌝ }
+pub fn store_range(words: &[u32], reals: &mut [f64], id: WindowId, b0: f64, b1: f64, low: f64)
+    requires { ⌜ id .0 < capacityOf (length (now words)) (length (now reals)) ⌝ }
     ensures { λ r. ⌜ now (reals .exit) ≡ rangeWith (now (reals .entry)) (id .0) b0 b1 low ⌝ }
 {
     let k = id.0;
@@ -184,8 +186,8 @@ pub fn store_range(reals: &mut [f64], id: WindowId, b0: f64, b1: f64, low: f64)
 }
 
 // A window's flags change, and nothing else.
-pub fn store_flags(words: &mut [u32], id: WindowId, alive: bool, queued: bool)
-    requires { ⌜ id .0 < slotsOf (length (now words)) 4 ⌝ }
+pub fn store_flags(words: &mut [u32], reals: &[f64], id: WindowId, alive: bool, queued: bool)
+    requires { ⌜ id .0 < capacityOf (length (now words)) (length (now reals)) ⌝ }
     ensures { λ r. ⌜ now (words .exit) ≡ flagsWith (now (words .entry)) (id .0) alive queued ⌝ }
 {
     let old = read_u32(words, 4, id.0, 2);

@@ -1,5 +1,5 @@
 use Rattle.chains.specs.Chains.{links}
-use Rattle.chains.proofs.Turns.{remove-done}
+use Rattle.chains.proofs.Turns.{link-le, remove-done}
 use borrow.Author.Needs.{needs}
 use Rattle.chains.proofs.remove_run.Statement.{statement}
 use Rattle.chains.proofs.remove_run.Tie as tie
@@ -8,7 +8,7 @@ link-at-requires : tie.Need-link-at-requires
 link-at-requires c κs = search needs
 
 clear-run-requires : tie.Need-clear-run-requires
-clear-run-requires c κs = search needs
+clear-run-requires c κs = link-le _ _ _ (c .before .link-at .ensures)
 
 set-link-requires : tie.Need-set-link-requires
 set-link-requires c κs = search needs
@@ -25,7 +25,7 @@ returns c =
     let cleared = set .before .before .before .before .before in
     let read = cleared .before .before in
     let a = read .before .before .before .before .before .args in
-    remove-done (links (a .edges .now) (a .words .now)) (a .e .0) (a .before) (a .limit) (a .stop) _ _ _ (read .link-at .ensures) (cleared .clear-run .ensures) (set .set-link .ensures)
+    remove-done (a .count) (links (a .edges .now) (a .words .now)) (a .e .0) (a .before) (a .limit) (a .stop) _ _ _ (read .link-at .ensures) (cleared .clear-run .ensures) (set .set-link .ensures)
 
 pub remove-run-spec : {M : Type 1} → statement M
 remove-run-spec =
