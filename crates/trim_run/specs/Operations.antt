@@ -44,9 +44,13 @@ module _ (words : List ℕ) (reals : List Float) where
   operations (suc n) = operations n ++ (operationAt n ∷ [])
 
 -- the candidates among them
+unfoldable pub candidateOf : Operation → List Candidate
+candidateOf (offer c) = c ∷ []
+candidateOf pop = []
+candidateOf (touch v d) = []
+candidateOf unknown = []
+
 unfoldable pub candidates : List Operation → List Candidate
+unfolding candidateOf
 candidates [] = []
-candidates (offer c ∷ ops) = c ∷ candidates ops
-candidates (pop ∷ ops) = candidates ops
-candidates (touch v d ∷ ops) = candidates ops
-candidates (unknown ∷ ops) = candidates ops
+candidates (o ∷ ops) = candidateOf o ++ candidates ops
