@@ -29,7 +29,7 @@ use Rattle.trim_state.specs.Follows.{Follows}
 use Rattle.trim_state.proofs.Follows.{follows-add, follows-skip}
 
 -- how many windows an action makes, and a list of them
-abbrev one : Action → ℕ
+abbrev pub one : Action → ℕ
 one (list n) = 0
 one make = 1
 one (push e) = 0
@@ -40,7 +40,7 @@ makes [] = 0
 makes (a ∷ rest) = one a + makes rest
 
 -- if it went through, m windows are made
-abbrev Made : ℕ → Outcome → Type 0
+abbrev pub Made : ℕ → Outcome → Type 0
 Made m (stopped n) = Unit {0}
 Made m (went s) = s .made ≡ m
 
@@ -55,7 +55,7 @@ then-made m n (stopped k) f h g = tt
 then-made m n (went s) f h g = g s h
 
 module _ (cuts windows : ℕ) (limit : Float) (flags : List ℕ) where
-  act-made : (a : Action) (s : Stock) → Made (s .made + one a) (act cuts windows limit flags a s)
+  pub act-made : (a : Action) (s : Stock) → Made (s .made + one a) (act cuts windows limit flags a s)
   unfolding act
   act-made (list n) s = by-cases (λ (b : Bool). Made (s .made + 0) (cond b (went s) (stopped 14))) (leb n cuts) (λ y. omega arith) (λ n. tt)
   act-made make s = by-cases (λ (b : Bool). Made (s .made + 1) (cond b (went (stock (suc (s .made)) (s .queued) (s .queue) (s .vertex))) (stopped 12))) (ltb (s .made) windows) (λ y. omega arith) (λ n. tt)
@@ -186,11 +186,11 @@ module _ (cuts windows : ℕ) (limit : Float) (flags : List ℕ) where
   keeping-made l a b w n ks k k' h = went-made (keeping l a b w n ks) (k .made + length ks) k k' (ap (λ (m : ℕ). k .made + m) (keeping-makes l a b w n ks)) h
 
   -- what holds of the state, if it went through
-  abbrev After : (State → Type 0) → Result → Type 0
+  abbrev pub After : (State → Type 0) → Result → Type 0
   After P (state.stopped n) = Unit {0}
   After P (state.went s) = P s
 
-  finish-after : (P : State → Type 0) (live : ℕ → List Window) (m : ℕ) (o : Outcome) → Made m o → ((k : Stock) → k .made ≡ m → P (record { live = live; stock = k })) → After P (finish live o)
+  pub finish-after : (P : State → Type 0) (live : ℕ → List Window) (m : ℕ) (o : Outcome) → Made m o → ((k : Stock) → k .made ≡ m → P (record { live = live; stock = k })) → After P (finish live o)
   unfolding finish
   finish-after P live m (stopped n) h f = tt
   finish-after P live m (went k) h f = f k h
@@ -209,7 +209,7 @@ module _ (cuts windows : ℕ) (limit : Float) (flags : List ℕ) where
         finish-after Next live (a .made) (play cuts windows limit flags (adding l (mesh .low e) (mesh .high e) (asWindow c) (s .live e) (s .stock .made)) (s .stock)) (adding-made l (mesh .low e) (mesh .high e) (asWindow c) (s .live e) (s .stock))
         (λ k i. subst (λ (n : ℕ). Follows limit (mesh .len) (cs ++ (c ∷ [])) n live) (sym i) (follows-add F c p y))
 
-    add-after : After Next (addOf cuts windows limit flags mesh c s)
+    pub add-after : After Next (addOf cuts windows limit flags mesh c s)
     unfolding addOf
     add-after = by-cases (λ (b : Bool). (T b → T (admits limit (mesh .len) c)) → (T (not b) → T (not (admits limit (mesh .len) c))) → After Next (cond b (admitOf cuts windows limit flags mesh c s) (state.went s))) (admits limit (mesh .len) c)
         (λ y f g. admit-after (f tt))

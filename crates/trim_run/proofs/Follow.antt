@@ -1,0 +1,127 @@
+-- Each operation keeps the live lists those of the reference model. Assumes nothing.
+use Prim.Native.Nat.{ℕ}
+use mathlib.Core.Bool.{Bool, true, false, cond, _&&_}
+use mathlib.Core.List.{List, [], _∷_, _++_, map}
+use mathlib.Core.Path.{_≡_, refl, sym, ap, _∙_, subst}
+use native.Mathlib.Omega.{arith}
+use lib.Dec.{T, eqb, ltb}
+use lib.Ieee.{Float, binary64, fits, lt, le}
+use lib.Ieee.Scale.{finite}
+use Rattle.float64.specs.Scalar.{zero}
+use Rattle.float_laws.proofs.Order.{finite-between, zero-finite}
+use Rattle.heap.specs.declared.Event.{Event}
+use Rattle.heap.specs.declared.Popped.{Popped}
+use Rattle.heap.specs.declared.Popped.the-variants.{Empty, First}
+use Rattle.heap.specs.Queue.{Queue, popping}
+use Rattle.actions.specs.Actions as actions
+use Rattle.actions.specs.Actions.{Outcome, act}
+use Rattle.better.specs.Claim.{Point}
+use Rattle.trim_model.specs.Windows.{Window, unqueued}
+use Rattle.trim_model.specs.Model.{Candidate}
+use Rattle.trim_model.specs.Claim.{Proper}
+use Rattle.trim_model.proofs.Ranks.{by-cases}
+use Rattle.trim_state.specs.State as state
+use Rattle.trim_state.specs.State.{State, Result, finish, Mesh}
+use Rattle.trim_state.specs.Follows.{Follows}
+use Rattle.trim_state.proofs.Follows.{follows-unqueue, follows-demand3}
+use Rattle.trim_state.proofs.Made.{Made, act-made, After, finish-after, add-after}
+use Rattle.trim_run.specs.Operations.{Operation, offer, pop, touch, unknown, candidateOf, candidates}
+use Rattle.trim_run.specs.Run.{unqueuedIn, taken, popped, hasLength, isOnEdge, offering, operate}
+use Rattle.trim_run.specs.Demand3.{Demand3}
+
+-- the numbers that a list's slices hold are doubles
+pub record Doubles (len : ℕ → Float) (c : Candidate) : Type 0 where
+  pub start : T (fits binary64 (c .b0))
+  pub end : T (fits binary64 (c .b1))
+  pub length : T (fits binary64 (len (c .edge)))
+
+and-left : (a b : Bool) → T (a && b) → T a
+and-left true b h = tt
+and-left false b h = h
+
+and-right : (a b : Bool) → T (a && b) → T b
+and-right true b h = h
+and-right false b h = absurd h
+
+-- a candidate that is not refused
+pub proper : (len : ℕ → Float) (c : Candidate) → Doubles len c → T (hasLength (len (c .edge))) → T (isOnEdge (len (c .edge)) (c .b0)) → T (isOnEdge (len (c .edge)) (c .b1)) → Proper len c
+proper len c d h i j =
+    let l = len (c .edge) in
+    let fl = and-right (lt zero l) (finite l) h in
+    record {
+      start = on (c .b0) (d .start) i fl;
+      end = on (c .b1) (d .end) j fl;
+      length = record { number = fl; double = d .length };
+      positive = and-left (lt zero l) (finite l) h;
+    }
+  where
+    on : (x : Float) → T (fits binary64 x) → T (isOnEdge (len (c .edge)) x) → T (finite (len (c .edge))) → Point x
+    on x f k fl = record { number = finite-between zero x (len (c .edge)) zero-finite fl (and-left (le zero x) (le x (len (c .edge))) k) (and-right (le zero x) (le x (len (c .edge))) k); double = f }
+
+-- ---- a pop clears flags alone
+unqueued-in : (n : ℕ) (us : List Window) → map unqueued (unqueuedIn n us) ≡ map unqueued us
+unfolding unqueuedIn
+unqueued-in n [] = refl
+unqueued-in n (u ∷ us) = by-cases (λ (b : Bool). unqueued (cond b (unqueued u) u) ∷ map unqueued (unqueuedIn n us) ≡ unqueued u ∷ map unqueued us) (eqb (u .num) n) (λ y. ap (λ (l : List Window). unqueued u ∷ l) (unqueued-in n us)) (λ z. ap (λ (l : List Window). unqueued u ∷ l) (unqueued-in n us))
+
+taken-same : (x : Event) (live : ℕ → List Window) (e : ℕ) → map unqueued (taken x live e) ≡ map unqueued (live e)
+unfolding taken
+taken-same x live e = by-cases (λ (b : Bool). map unqueued (cond b (unqueuedIn (x .number) (live e)) (live e)) ≡ map unqueued (live e)) (eqb (x .kind) 0) (λ y. unqueued-in (x .number) (live e)) (λ z. refl)
+
+append-none : {A : Type 0} (l : List A) → l ++ [] ≡ l
+append-none [] = refl
+append-none (x ∷ l) = ap (λ (m : List _). x ∷ m) (append-none l)
+
+-- what is asked of an operation's numbers
+abbrev pub DoublesOf : (ℕ → Float) → Operation → Type 0
+DoublesOf len (offer c) = Doubles len c
+DoublesOf len pop = Unit {0}
+DoublesOf len (touch v d) = Unit {0}
+DoublesOf len unknown = Unit {0}
+
+module _ (cuts windows : ℕ) (limit : Float) (flags : List ℕ) (mesh : Mesh) (edges vertices : ℕ) (cs : List Candidate) (s : State) (F : Follows limit (mesh .len) cs (s .stock .made) (s .live)) where
+  -- the state follows the model with more candidates
+  abbrev Next : List Candidate → State → Type 0
+  Next more t = Follows limit (mesh .len) (cs ++ more) (t .stock .made) (t .live)
+
+  same-list : (t : State) → Follows limit (mesh .len) cs (t .stock .made) (t .live) → Next [] t
+  same-list t k = subst (λ (l : List Candidate). Follows limit (mesh .len) l (t .stock .made) (t .live)) (sym (append-none cs)) k
+
+  pop-after : (x : Popped × Queue) → Next [] (popped s x)
+  unfolding popped
+  pop-after (Empty, q) = same-list s F
+  pop-after (First x n, q) = same-list (record { live = taken x (s .live); stock = actions.stock (s .stock .made) n q (s .stock .vertex) }) (follows-unqueue F (taken x (s .live)) (taken-same x (s .live)))
+
+  abbrev Go : (State → Type 0) → Result → Type 0
+  Go P r = After cuts windows limit flags P r
+
+  offer-after : (c : Candidate) → Doubles (mesh .len) c → Go (Next (c ∷ [])) (offering cuts windows limit flags mesh edges vertices c s)
+  unfolding offering
+  offer-after c d =
+      let l = mesh .len (c .edge) in
+      by-cases (λ (b : Bool). (T b → T (ltb (c .edge) edges && hasLength l)) → Go (Next (c ∷ [])) (cond b (cond (isOnEdge l (c .b0) && isOnEdge l (c .b1)) (state.addOf cuts windows limit flags mesh c s) (state.stopped 42)) (state.stopped 41))) (ltb (c .edge) edges && hasLength l)
+      (λ y f. by-cases (λ (b : Bool). (T b → T (isOnEdge l (c .b0) && isOnEdge l (c .b1))) → Go (Next (c ∷ [])) (cond b (state.addOf cuts windows limit flags mesh c s) (state.stopped 42))) (isOnEdge l (c .b0) && isOnEdge l (c .b1))
+      (λ z g. add-after cuts windows limit flags mesh c s (proper (mesh .len) c d (and-right (ltb (c .edge) edges) (hasLength l) (f tt)) (and-left (isOnEdge l (c .b0)) (isOnEdge l (c .b1)) (g tt)) (and-right (isOnEdge l (c .b0)) (isOnEdge l (c .b1)) (g tt))) F)
+      (λ z g. tt) (λ z. z))
+      (λ y f. tt) (λ z. z)
+
+  touch-after : (v : ℕ) (d : Float) → Go (Next []) (finish (s .live) (act cuts windows limit flags (actions.touch v d) (s .stock)))
+  touch-after v d =
+      finish-after cuts windows limit flags (Next []) (s .live) (s .stock .made) (act cuts windows limit flags (actions.touch v d) (s .stock))
+      (subst (λ (n : ℕ). Made n (act cuts windows limit flags (actions.touch v d) (s .stock))) (omega arith) (act-made cuts windows limit flags (actions.touch v d) (s .stock)))
+      (λ k i. same-list (record { live = s .live; stock = k }) (subst (λ (n : ℕ). Follows limit (mesh .len) cs n (s .live)) (sym i) F))
+
+  operate-after : (o : Operation) → DoublesOf (mesh .len) o → Go (Next (candidateOf o)) (operate cuts windows limit flags mesh edges vertices o s)
+  unfolding operate candidateOf
+  operate-after (offer c) d = offer-after c d
+  operate-after pop d = pop-after (popping (s .stock .queue) (s .stock .queued))
+  operate-after (touch v d) k = by-cases (λ (b : Bool). Go (Next []) (cond b (finish (s .live) (act cuts windows limit flags (actions.touch v d) (s .stock))) (state.stopped 43))) (ltb v vertices) (λ y. touch-after v d) (λ y. tt)
+  operate-after unknown d = tt
+
+  -- an operation that goes through leaves lists that follow the model with its candidate
+  pub operate-follows : (o : Operation) → DoublesOf (mesh .len) o → (t : State) → operate cuts windows limit flags mesh edges vertices o s ≡ state.went t → Follows limit (mesh .len) (cs ++ candidateOf o) (t .stock .made) (t .live)
+  operate-follows o d t h = subst (Go (Next (candidateOf o))) h (operate-after o d)
+
+-- demand 3 for lists that follow the model
+pub demand3-follows : {limit : Float} {len : ℕ → Float} {cs : List Candidate} {made : ℕ} {live : ℕ → List Window} → Follows limit len cs made live → (e : ℕ) → Demand3 limit len cs e (live e)
+demand3-follows F e = record { exact = F .same e; trimmed = follows-demand3 F e }

@@ -1,0 +1,3 @@
+pub mod Operations
+pub mod Run
+pub mod Demand3

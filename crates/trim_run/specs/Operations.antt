@@ -1,0 +1,56 @@
+-- The operations of a list, as they stand in lent slices. Definitions only.
+-- An operation has four u32: its kind, its edge or vertex, the face that a candidate goes into, whether a candidate is queued; and five f64: a candidate's ends and the
+-- three numbers of its source, or the distance of a touch.
+use Prim.Native.Nat.{ℕ, zero, suc, _+_, _*_}
+use mathlib.Core.Bool.{Bool, true, false, not, cond, _&&_}
+use mathlib.Core.List.{List, [], _∷_, _++_}
+use lib.Dec.{eqb, ltb}
+use lib.ListN.{getD}
+use lib.Ieee.{Float, nan, le}
+use Rattle.float64.specs.Scalar.{zero as zeroFloat}
+use Rattle.float64.specs.Notation.{if_then_else_}
+use Rattle.source.specs.declared.Src.{Src}
+use Rattle.source.specs.declared.Src.the-variants.{Point, Line}
+use Rattle.trim_model.specs.Model.{Candidate}
+
+pub data Operation : Type 0 where
+  offer : Candidate → Operation  -- kind 0, from a point, or 1, from a line
+  pop : Operation  -- kind 2
+  touch : ℕ → Float → Operation  -- kind 3
+  unknown : Operation  -- any other
+
+module _ (words : List ℕ) (reals : List Float) where
+  abbrev pub word : ℕ → ℕ → ℕ
+  word k a = getD words (4 * k + a) 0
+
+  abbrev pub real : ℕ → ℕ → Float
+  real k a = getD reals (5 * k + a) nan
+
+  abbrev pub candidateAt : ℕ → Src → Candidate
+  candidateAt k s = record { edge = word k 1; b0 = real k 0; b1 = real k 1; src = s; into = word k 2; queued = eqb (word k 3) 1 }
+
+  unfoldable pub operationAt : ℕ → Operation
+  operationAt k =
+      cond (eqb (word k 0) 0) (offer (candidateAt k (Point (real k 2) (real k 3) (real k 4))))
+      (cond (eqb (word k 0) 1) (offer (candidateAt k (Line (real k 2) (real k 3) (real k 4))))
+      (cond (eqb (word k 0) 2) pop
+      (cond (eqb (word k 0) 3) (touch (word k 1) (real k 0))
+      unknown)))
+
+  -- the first n of them
+  unfoldable pub operations : ℕ → List Operation
+  unfolding operationAt
+  operations zero = []
+  operations (suc n) = operations n ++ (operationAt n ∷ [])
+
+-- the candidates among them
+unfoldable pub candidateOf : Operation → List Candidate
+candidateOf (offer c) = c ∷ []
+candidateOf pop = []
+candidateOf (touch v d) = []
+candidateOf unknown = []
+
+unfoldable pub candidates : List Operation → List Candidate
+unfolding candidateOf
+candidates [] = []
+candidates (o ∷ ops) = candidateOf o ++ candidates ops

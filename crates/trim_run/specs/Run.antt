@@ -1,0 +1,76 @@
+-- A list of operations on values, from empty edges on. Definitions only.
+use Prim.Native.Nat.{ℕ, suc}
+use mathlib.Core.Bool.{Bool, cond, _&&_}
+use mathlib.Core.List.{List, [], _∷_, _++_}
+use lib.Dec.{eqb, ltb}
+use lib.Ieee.{Float, lt, le}
+use lib.Ieee.Scale.{finite}
+use Rattle.float64.specs.Scalar.{zero}
+use Rattle.heap.specs.declared.Event.{Event}
+use Rattle.heap.specs.declared.Popped.{Popped}
+use Rattle.heap.specs.declared.Popped.the-variants.{Empty, First}
+use Rattle.heap.specs.Queue.{Queue, popping}
+use Rattle.actions.specs.Actions as actions
+use Rattle.actions.specs.Actions.{Stock, stock, act}
+use Rattle.trim_model.specs.Windows.{Window, unqueued}
+use Rattle.trim_model.specs.Model.{Candidate}
+use Rattle.trim_state.specs.State.{State, Result, stopped, went, finish, Mesh, addOf}
+use Rattle.trim_run.specs.Operations.{Operation, offer, pop, touch, unknown}
+
+-- ---- a pop: the first event is taken out, and a live window that it names is no longer queued
+unfoldable pub unqueuedIn : ℕ → List Window → List Window
+unqueuedIn n [] = []
+unqueuedIn n (u ∷ us) = cond (eqb (u .num) n) (unqueued u) u ∷ unqueuedIn n us
+
+unfoldable pub taken : Event → (ℕ → List Window) → ℕ → List Window
+unfolding unqueuedIn
+taken x live e = cond (eqb (x .kind) 0) (unqueuedIn (x .number) (live e)) (live e)
+
+unfoldable pub popped : State → Popped × Queue → State
+unfolding taken
+popped s (Empty, q) = s
+popped s (First x n, q) = record { live = taken x (s .live); stock = stock (s .stock .made) n q (s .stock .vertex) }
+
+-- ---- which operations are refused, and by which numbers: 40 for an unknown kind; 41 for a candidate whose edge is missing or has no finite length above zero; 42 for one whose
+-- ends are no numbers from 0 to the length; 43 for a vertex that is missing
+abbrev pub hasLength : Float → Bool
+hasLength l = lt zero l && finite l
+
+abbrev pub isOnEdge : Float → Float → Bool
+isOnEdge l x = le zero x && le x l
+
+module _ (cuts windows : ℕ) (limit : Float) (flags : List ℕ) (mesh : Mesh) (edges vertices : ℕ) where
+  unfoldable pub offering : Candidate → State → Result
+  unfolding addOf
+  offering c s =
+      let l = mesh .len (c .edge) in
+      cond (ltb (c .edge) edges && hasLength l)
+      (cond (isOnEdge l (c .b0) && isOnEdge l (c .b1)) (addOf cuts windows limit flags mesh c s) (stopped 42))
+      (stopped 41)
+
+  unfoldable pub operate : Operation → State → Result
+  unfolding offering popped
+  operate (offer c) s = offering c s
+  operate pop s = went (popped s (popping (s .stock .queue) (s .stock .queued)))
+  operate (touch v d) s = cond (ltb v vertices) (finish (s .live) (act cuts windows limit flags (actions.touch v d) (s .stock))) (stopped 43)
+  operate unknown s = stopped 40
+
+-- a list ends before the operation that is stopped, and its place in the list and the number are told
+pub data Run : Type 0 where
+  ended : ℕ → ℕ → State → Run
+  ran : State → Run
+
+module _ (cuts windows : ℕ) (limit : Float) (flags : List ℕ) (mesh : Mesh) (edges vertices : ℕ) where
+  unfoldable pub onward : ℕ → State → Result → (State → Run) → Run
+  onward k s (stopped n) next = ended k n s
+  onward k s (went t) next = next t
+
+  -- the operations, the first of which is number k of the list
+  unfoldable pub runFrom : ℕ → List Operation → State → Run
+  unfolding operate onward
+  runFrom k [] s = ran s
+  runFrom k (o ∷ ops) s = onward k s (operate cuts windows limit flags mesh edges vertices o s) (runFrom (suc k) ops)
+
+-- at first there are no windows and no events
+abbrev pub start : Queue → List Float → State
+start queue vertex = record { live = λ (e : ℕ). []; stock = stock 0 0 queue vertex }

@@ -1,0 +1,1 @@
+// A list of candidates, pops and touches over lent buffers.
