@@ -1,7 +1,11 @@
 pub mod Checked
+pub mod Chosen
 pub mod Edges
 pub mod Faces
 pub mod Find
 pub mod Frames
 pub mod Growth
+pub mod Other
+pub mod Rows
 pub mod Triangles
+pub mod VertexFaces
