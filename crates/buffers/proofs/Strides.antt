@@ -104,3 +104,10 @@ module _ {A : Type 0} (s : ℕ) where
   fill-other [] l i j a ne h = refl
   fill-other (v ∷ vs) l i j a ne h =
       fill-other vs (set l (s * i + a) v) i j (suc a) ne (omega arith) ∙ slot-set-other s l i j a v ne (omega arith)
+
+  -- slots from n on are as they were where a slot before them is written
+  pub fill-outside : (n : ℕ) (vs l : List A) (i a : ℕ) → i < n → a + length vs ≤ s → drop (s * n) (fill s l i a vs) ≡ drop (s * n) l
+  unfolding fill
+  fill-outside n [] l i a h g = refl
+  fill-outside n (v ∷ vs) l i a h g =
+      fill-outside n vs (set l (s * i + a) v) i (suc a) h (omega arith) ∙ drop-set-lt (s * n) l (s * i + a) v (omega (arith, run-within s h))

@@ -1,5 +1,6 @@
-// Chains of windows: each edge's windows in order, linked through the window buffer. `count` is how many windows that buffer counts for: a
-// link to one past them is none, so whatever numbers the buffers hold, no window past the count is met.
+// Chains of windows: each edge's windows in order, linked through the window buffer. `count` is at most how many windows that buffer counts
+// for, and each function is lent both of its slices, since both make that number. A link to a window past `count` is none, so whatever numbers
+// the buffers hold, no window past the count is met.
 use buffers::EdgeId;
 use buffers::WindowId;
 use buffers::read_u32;
@@ -8,6 +9,7 @@ ghost use mathlib.Core.Path.{_≡_};
 ghost use Prim.Native.Nat.{_+_, _-_, _≤_, _<_};
 ghost use lib.ListN.{length};
 ghost use Rattle.buffers.specs.Slots.{slotsOf};
+ghost use Rattle.windows.specs.Windows.{capacityOf};
 ghost use Rattle.chains.specs.Chains.{links, linkIn, chain, linkAt, withLink, inserted, cleared, removed};
 ghost use Rattle.chains.specs.Chains.{walk as Chains·walk};
 
@@ -22,8 +24,8 @@ pub fn within(link: u32, count: u32) -> u32
 }
 
 // How many windows there are from a link on, counted up to a limit.
-pub fn count(words: &[u32], count: u32, link: u32, limit: u32) -> u32
-    requires { ⌜ link ≤ count ⌝ }
+pub fn count(words: &[u32], reals: &[f64], count: u32, link: u32, limit: u32) -> u32
+    requires { ⌜ (link ≤ count) × (count ≤ capacityOf (length (now words)) (length (now reals))) ⌝ }
     ensures { λ r. ⌜ r ≡ length (chain count limit (now (words .entry)) link) ⌝ }
 {
     let mut n: u32 = 0;
@@ -40,8 +42,8 @@ pub fn count(words: &[u32], count: u32, link: u32, limit: u32) -> u32
 }
 
 // The link that so many steps from a link lead to, or 0 where the chain ends before.
-pub fn walk(words: &[u32], count: u32, link: u32, steps: u32) -> u32
-    requires { ⌜ link ≤ count ⌝ }
+pub fn walk(words: &[u32], reals: &[f64], count: u32, link: u32, steps: u32) -> u32
+    requires { ⌜ (link ≤ count) × (count ≤ capacityOf (length (now words)) (length (now reals))) ⌝ }
     ensures { λ r. ⌜ r ≡ Chains·walk count steps (now (words .entry)) link ⌝ }
 {
     let mut at = link;
@@ -58,8 +60,15 @@ pub fn walk(words: &[u32], count: u32, link: u32, steps: u32) -> u32
 }
 
 // The link after `before` on the chain of an edge; after 0 comes the head.
-pub fn link_at(edges: &[u32], words: &[u32], count: u32, e: EdgeId, before: u32) -> u32
-    requires { ⌜ (e .0 < slotsOf (length (now edges)) 6) × (before ≤ count) ⌝ }
+pub fn link_at(
+    edges: &[u32],
+    words: &[u32],
+    reals: &[f64],
+    count: u32,
+    e: EdgeId,
+    before: u32,
+) -> u32
+    requires { ⌜ (e .0 < slotsOf (length (now edges)) 6) × (before ≤ count) × (count ≤ capacityOf (length (now words)) (length (now reals))) ⌝ }
     ensures { λ r. ⌜ r ≡ linkIn count (linkAt (links (now (edges .entry)) (now (words .entry))) (e .0) before) ⌝ }
 {
     if before == 0 {
@@ -70,8 +79,16 @@ pub fn link_at(edges: &[u32], words: &[u32], count: u32, e: EdgeId, before: u32)
     within(next, count)
 }
 
-pub fn set_link(edges: &mut [u32], words: &mut [u32], count: u32, e: EdgeId, before: u32, link: u32)
-    requires { ⌜ (e .0 < slotsOf (length (now edges)) 6) × (before ≤ count) ⌝ }
+pub fn set_link(
+    edges: &mut [u32],
+    words: &mut [u32],
+    reals: &[f64],
+    count: u32,
+    e: EdgeId,
+    before: u32,
+    link: u32,
+)
+    requires { ⌜ (e .0 < slotsOf (length (now edges)) 6) × (before ≤ count) × (count ≤ capacityOf (length (now words)) (length (now reals))) ⌝ }
     ensures { λ r. ⌜ links (now (edges .exit)) (now (words .exit)) ≡ withLink (links (now (edges .entry)) (now (words .entry))) (e .0) before link ⌝ }
 {
     if before == 0 {
@@ -85,22 +102,23 @@ pub fn set_link(edges: &mut [u32], words: &mut [u32], count: u32, e: EdgeId, bef
 pub fn insert(
     edges: &mut [u32],
     words: &mut [u32],
+    reals: &[f64],
     count: u32,
     e: EdgeId,
     before: u32,
     id: WindowId,
 )
-    requires { ⌜ (e .0 < slotsOf (length (now edges)) 6) × (before ≤ count) × (id .0 < count) × (count ≤ slotsOf (length (now words)) 4) ⌝ }
+    requires { ⌜ (e .0 < slotsOf (length (now edges)) 6) × (before ≤ count) × (id .0 < count) × (count ≤ capacityOf (length (now words)) (length (now reals))) ⌝ }
     ensures { λ r. ⌜ links (now (edges .exit)) (now (words .exit)) ≡ inserted count (links (now (edges .entry)) (now (words .entry))) (e .0) before (id .0) ⌝ }
 {
-    let next = link_at(edges, words, count, e, before);
+    let next = link_at(edges, words, reals, count, e, before);
     write_u32(words, 4, id.0, 3, next);
-    set_link(edges, words, count, e, before, id.0 + 1);
+    set_link(edges, words, reals, count, e, before, id.0 + 1);
 }
 
 // The windows from a link up to `stop` lose their links, at most `limit` of them.
-pub fn clear_run(words: &mut [u32], count: u32, link: u32, stop: u32, limit: u32)
-    requires { ⌜ link ≤ count ⌝ }
+pub fn clear_run(words: &mut [u32], reals: &[f64], count: u32, link: u32, stop: u32, limit: u32)
+    requires { ⌜ (link ≤ count) × (count ≤ capacityOf (length (now words)) (length (now reals))) ⌝ }
     ensures { λ r. ⌜ now (words .exit) ≡ cleared count limit (now (words .entry)) link stop ⌝ }
 {
     let mut at = link;
@@ -123,24 +141,26 @@ pub fn clear_run(words: &mut [u32], count: u32, link: u32, stop: u32, limit: u32
 pub fn remove_run(
     edges: &mut [u32],
     words: &mut [u32],
+    reals: &[f64],
     count: u32,
     e: EdgeId,
     before: u32,
     stop: u32,
     limit: u32,
 )
-    requires { ⌜ (e .0 < slotsOf (length (now edges)) 6) × (before ≤ count) ⌝ }
+    requires { ⌜ (e .0 < slotsOf (length (now edges)) 6) × (before ≤ count) × (count ≤ capacityOf (length (now words)) (length (now reals))) ⌝ }
     ensures { λ r. ⌜ links (now (edges .exit)) (now (words .exit)) ≡ removed count limit (links (now (edges .entry)) (now (words .entry))) (e .0) before stop ⌝ }
 {
-    let first = link_at(edges, words, count, e, before);
-    clear_run(words, count, first, stop, limit);
-    set_link(edges, words, count, e, before, stop);
+    let first = link_at(edges, words, reals, count, e, before);
+    clear_run(words, reals, count, first, stop, limit);
+    set_link(edges, words, reals, count, e, before, stop);
 }
 
 // The run after `before` and up to `stop` is replaced by one window.
 pub fn replace_run(
     edges: &mut [u32],
     words: &mut [u32],
+    reals: &[f64],
     count: u32,
     e: EdgeId,
     before: u32,
@@ -148,9 +168,9 @@ pub fn replace_run(
     limit: u32,
     id: WindowId,
 )
-    requires { ⌜ (e .0 < slotsOf (length (now edges)) 6) × (before ≤ count) × (id .0 < count) × (count ≤ slotsOf (length (now words)) 4) ⌝ }
+    requires { ⌜ (e .0 < slotsOf (length (now edges)) 6) × (before ≤ count) × (id .0 < count) × (count ≤ capacityOf (length (now words)) (length (now reals))) ⌝ }
     ensures { λ r. ⌜ links (now (edges .exit)) (now (words .exit)) ≡ inserted count (removed count limit (links (now (edges .entry)) (now (words .entry))) (e .0) before stop) (e .0) before (id .0) ⌝ }
 {
-    remove_run(edges, words, count, e, before, stop, limit);
-    insert(edges, words, count, e, before, id);
+    remove_run(edges, words, reals, count, e, before, stop, limit);
+    insert(edges, words, reals, count, e, before, id);
 }

@@ -23,7 +23,8 @@ use Rattle.trim_state.specs.State.{put}
 use Rattle.live_windows.specs.Live.{liveOf, nums, Alive, Stands, Holds, bare, winsOf, adjust, popped, ranged, unqueuedIn, Loads, Trims, Unqueues}
 use Rattle.live_windows.proofs.Places.{nums-cons}
 use Rattle.live_windows.proofs.Stored.{Same, same-alive, others, wins-adjust}
-use Rattle.live_windows.proofs.Standing.{at-edge, holds-put, stands-both, around, not-there, fill-outside}
+use Rattle.live_windows.proofs.Standing.{at-edge, holds-put, stands-both, around, not-there}
+use Rattle.buffers.proofs.Strides.{fill-outside}
 
 -- ---- a window is read
 pub loaded : (w : List ℕ) (f : List Float) (i : ℕ) (x : WindowRecord) → x ≡ windowAt w f i → Loads w f i x

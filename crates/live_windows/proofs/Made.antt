@@ -24,7 +24,8 @@ use Rattle.trim_model.proofs.Lists.{all-left, all-right}
 use Rattle.live_windows.specs.Live.{liveOf, nums, lastLink, Alive, Stands, bare, winsOf, windowOf, Makes}
 use Rattle.live_windows.proofs.Places.{nums-cons, next-is, point, before-is}
 use Rattle.live_windows.proofs.Stored.{Same, others, Behind, with-bare, wins-same}
-use Rattle.live_windows.proofs.Standing.{at-edge, holds-put, chain-both, stands-both, behind-is, last-out, with-edges, with-words, fill-outside}
+use Rattle.live_windows.proofs.Standing.{at-edge, holds-put, chain-both, stands-both, behind-is, last-out, with-edges, with-words}
+use Rattle.buffers.proofs.Strides.{fill-outside}
 
 length-realsOf : (s : Src) → length (realsOf s) ≡ 3
 unfolding realsOf

@@ -8,11 +8,9 @@ use mathlib.Core.List.{List, [], _∷_, _++_}
 use mathlib.Core.Logic.{_≢_}
 use borrow.Author.Tests.{eq-eqb, ne-eqb}
 use lib.Dec.{eqb}
-use lib.ListN.{length, getD, set, drop, length-set}
+use lib.ListN.{length, getD, drop, length-set}
 use lib.Seq.{append-snoc, getD-set-other, drop-set-lt}
 use lib.Ieee.{Float}
-use Rattle.buffers.specs.Slots.{fill}
-use Rattle.buffers.proofs.Strides.{before}
 use Rattle.chains.specs.Chains.{Links, headOf, withLink, Path, Out, Belongs, AllBelong, OnEdge}
 use Rattle.chains.proofs.Paths.{front-out}
 use Rattle.chains.proofs.OnEdges.{all-set, all-append, elsewhere, no-windows}
@@ -115,11 +113,6 @@ pub with-belongs : (n : ℕ) (b : Links) (e k v i : ℕ) → Belongs n (b .words
 unfolding withLink AllBelong
 with-belongs n b e zero v i h = h
 with-belongs n b e (suc k) v i h = all-set n (b .words) e (i ∷ []) k v (h, tt) .0
-
-pub fill-outside : {A : Type 0} (s n : ℕ) (vs l : List A) (i a : ℕ) → i < n → a + length vs ≤ s → drop (s * n) (fill s l i a vs) ≡ drop (s * n) l
-unfolding fill
-fill-outside s n [] l i a h g = refl
-fill-outside s n (v ∷ vs) l i a h g = fill-outside s n vs (set l (s * i + a) v) i (suc a) h (omega arith) ∙ drop-set-lt (s * n) l (s * i + a) v (omega (arith, before s h))
 
 -- ---- at first there is none
 pub no-live : (n m : ℕ) (b : Links) (f : List Float) → ((e : ℕ) → e < m → headOf (b .edges) e ≡ 0) → Holds n m b f (λ e. [])

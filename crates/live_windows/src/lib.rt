@@ -22,11 +22,18 @@ ghost use Rattle.trim_model.specs.Add.{passes};
 ghost use Rattle.live_windows.specs.Live.{windowOf, sortsBefore, Follows, Walked, Loads, Makes, Trims, Kills, Unqueues};
 
 // The link that follows `before` on the chain of an edge.
-pub fn next_link(edges: &[u32], words: &[u32], made: u32, e: EdgeId, before: u32) -> u32
-    requires { ⌜ (e .0 < slotsOf (length (now edges)) 6) × (before ≤ made) ⌝ }
+pub fn next_link(
+    edges: &[u32],
+    words: &[u32],
+    reals: &[f64],
+    made: u32,
+    e: EdgeId,
+    before: u32,
+) -> u32
+    requires { ⌜ (made ≤ capacityOf (length (now words)) (length (now reals))) × ((e .0 < slotsOf (length (now edges)) 6) × (before ≤ made)) ⌝ }
     ensures { λ r. ⌜ Follows made (links (now (edges .entry)) (now (words .entry))) (e .0) before r ⌝ }
 {
-    chains::link_at(edges, words, made, e, before)
+    chains::link_at(edges, words, reals, made, e, before)
 }
 
 // Whether a window starts before b0 and ends at or before lo.
@@ -62,14 +69,14 @@ pub fn pass_front(
     b0: f64,
     tiny: f64,
 ) -> u32
-    requires { ⌜ e .0 < slotsOf (length (now edges)) 6 ⌝ }
+    requires { ⌜ (made ≤ capacityOf (length (now words)) (length (now reals))) × (e .0 < slotsOf (length (now edges)) 6) ⌝ }
     ensures { λ r. ⌜ Walked (passes tiny b0) made (links (now (edges .entry)) (now (words .entry))) (now (reals .entry)) (e .0) 0 r ⌝ }
 {
     let lo = b0 - tiny;
     let mut before: u32 = 0;
     let mut left = made;
     while 0 < left {
-        let at = next_link(edges, words, made, e, before);
+        let at = next_link(edges, words, reals, made, e, before);
         if at == 0 {
             return before;
         }
@@ -94,13 +101,13 @@ pub fn seat_from(
     from: u32,
     b0: f64,
 ) -> u32
-    requires { ⌜ (e .0 < slotsOf (length (now edges)) 6) × (from ≤ made) ⌝ }
+    requires { ⌜ (made ≤ capacityOf (length (now words)) (length (now reals))) × ((e .0 < slotsOf (length (now edges)) 6) × (from ≤ made)) ⌝ }
     ensures { λ r. ⌜ Walked (sortsBefore b0) made (links (now (edges .entry)) (now (words .entry))) (now (reals .entry)) (e .0) from r ⌝ }
 {
     let mut before = from;
     let mut left = made;
     while 0 < left {
-        let at = next_link(edges, words, made, e, before);
+        let at = next_link(edges, words, reals, made, e, before);
         if at == 0 {
             return before;
         }
@@ -137,7 +144,7 @@ pub fn make_window(
     requires { ⌜ (made < capacityOf (length (now words)) (length (now reals))) × ((e .0 < slotsOf (length (now edges)) 6) × (before ≤ made)) ⌝ }
     ensures { λ r. ⌜ Makes made (links (now (edges .entry)) (now (words .entry))) (links (now (edges .exit)) (now (words .exit))) (now (reals .entry)) (now (reals .exit)) (e .0) before (windowOf e into queued 0 win) ⌝ }
 {
-    let next = next_link(edges, words, made, e, before);
+    let next = next_link(edges, words, reals, made, e, before);
     let x = WindowRecord {
         edge: e,
         into,
@@ -147,7 +154,7 @@ pub fn make_window(
         win,
     };
     windows::store(words, reals, WindowId(made), x);
-    chains::set_link(edges, words, made, e, before, made + 1);
+    chains::set_link(edges, words, reals, made, e, before, made + 1);
 }
 
 // A window is trimmed.
@@ -175,7 +182,7 @@ pub fn kill_window(
     let next = chains::within(link, made);
     let flags = read_u32(words, 4, id.0, 2);
     let queued = windows::has_flag(flags, 4);
-    chains::set_link(edges, words, made, e, before, next);
+    chains::set_link(edges, words, reals, made, e, before, next);
     write_u32(words, 4, id.0, 3, 0);
     windows::store_flags(words, reals, id, false, queued);
 }

@@ -9,11 +9,11 @@ use Rattle.chains.proofs.clear_run.Statement.{statement}
 use Rattle.chains.proofs.clear_run.Tie as tie
 
 abbrev Inv-loop : tie.InvT-loop
-Inv-loop words₀ count link stop limit at₀ left₀ words at left =
+Inv-loop words₀ reals count link stop limit at₀ left₀ words at left =
     (length words ≡ length words₀) × ((at ≤ count) × (cleared count limit words₀ link stop ≡ cleared count left words at stop))
 
 abbrev μ-loop : tie.MeasureT-loop
-μ-loop words₀ count link stop limit at₀ left₀ words at left = left
+μ-loop words₀ reals count link stop limit at₀ left₀ words at left = left
 
 loop-holds : tie.Need-loop-holds Inv-loop μ-loop
 loop-holds c = (refl, (search needs, refl))
@@ -24,7 +24,7 @@ same-length c = search needs
 returns : tie.Need-returns Inv-loop μ-loop
 returns c =
     let l = c .before .before .loop in
-    let a = c .before .before .before .before .args in
+    let a = c .before .before .before .before .before .args in
     cleared-end (a .count) (l .left) (l .words) (l .at) (a .stop) (c .if1 .taken) ∙ sym (l .inv .1 .1)
 
 same-length-2 : tie.Need-same-length-2 Inv-loop μ-loop
@@ -33,7 +33,7 @@ same-length-2 c = search needs
 returns-2 : tie.Need-returns-2 Inv-loop μ-loop
 returns-2 c =
     let l = c .before .before .before .loop in
-    let a = c .before .before .before .before .before .args in
+    let a = c .before .before .before .before .before .before .args in
     cleared-stop (a .count) (l .left) (l .words) (l .at) (a .stop) (c .if2 .taken) ∙ sym (l .inv .1 .1)
 
 sub-read-u32 : tie.Need-sub-read-u32 Inv-loop μ-loop
@@ -63,7 +63,7 @@ loop-again c =
     let read = written .before .before in
     let tested = read .before .before in
     let l = tested .before .before .before .loop in
-    let a = tested .before .before .before .before .before .args in (
+    let a = tested .before .before .before .before .before .before .args in (
       written .write-u32 .kept .0 ∙ l .inv .0,
       (
         link-le (a .count) (read .read-u32 .result) (c .within .result) (c .within .ensures),
@@ -79,7 +79,7 @@ same-length-3 c = search needs
 returns-3 : tie.Need-returns-3 Inv-loop μ-loop
 returns-3 c =
     let l = c .before .loop in
-    let a = c .before .before .before .args in
+    let a = c .before .before .before .before .args in
     cleared-none (a .count) (l .left) (l .words) (l .at) (a .stop) (omega arith) ∙ sym (l .inv .1 .1)
 
 pub clear-run-spec : {M : Type 1} → statement M

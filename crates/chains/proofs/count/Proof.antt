@@ -9,11 +9,11 @@ use Rattle.chains.proofs.count.Statement.{statement}
 use Rattle.chains.proofs.count.Tie as tie
 
 abbrev Inv-loop : tie.InvT-loop
-Inv-loop words count link limit n₀ at₀ n at =
+Inv-loop words reals count link limit n₀ at₀ n at =
     (n ≤ limit) × ((at ≤ count) × (length (chain count limit words link) ≡ n + length (chain count (limit - n) words at)))
 
 abbrev μ-loop : tie.MeasureT-loop
-μ-loop words count link limit n₀ at₀ n at = limit - n
+μ-loop words reals count link limit n₀ at₀ n at = limit - n
 
 loop-holds : tie.Need-loop-holds Inv-loop μ-loop
 loop-holds c = (search needs, (search needs, count-start _ _ _ _))
@@ -21,7 +21,7 @@ loop-holds c = (search needs, (search needs, count-start _ _ _ _))
 returns : tie.Need-returns Inv-loop μ-loop
 returns c =
     let l = c .before .before .loop in
-    let a = c .before .before .before .before .args in
+    let a = c .before .before .before .before .before .args in
     omega (arith, l .inv, count-end (a .count) (a .limit) (a .words .now) (l .n) (l .at) (c .if1 .taken))
 
 sub-read-u32 : tie.Need-sub-read-u32 Inv-loop μ-loop
@@ -44,7 +44,7 @@ loop-again c =
     let read = c .before in
     let tested = read .before in
     let l = tested .before .before .loop in
-    let a = tested .before .before .before .before .args in
+    let a = tested .before .before .before .before .before .args in
     let v : c .within .result ≡ linkIn (a .count) (nextOf (a .words .now) (l .at - 1)) = c .within .ensures ∙ ap (linkIn (a .count)) (read .read-u32 .ensures) in (
       search needs,
       (
@@ -56,7 +56,7 @@ loop-again c =
 returns-2 : tie.Need-returns-2 Inv-loop μ-loop
 returns-2 c =
     let l = c .before .loop in
-    let a = c .before .before .before .args in
+    let a = c .before .before .before .before .args in
     omega (arith, l .inv, count-full (a .count) (a .limit) (a .words .now) (l .n) (l .at) (c .loop-test .left))
 
 pub count-spec : {M : Type 1} → statement M

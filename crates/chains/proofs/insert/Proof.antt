@@ -28,7 +28,7 @@ returns c =
     let set = c .before .before .before .before in
     let written = set .before .before .before .before .before .before in
     let read = written .before .before in
-    let a = read .before .before .before .before .before .args in
+    let a = read .before .before .before .before .before .before .args in
     insert-done (a .count) (links (a .edges .now) (a .words .now)) (a .e .0) (a .before) (a .id .0) _ _ _ _ (read .link-at .ensures) (written .write-u32 .ensures) (add-one (a .id .0)) (set .set-link .ensures)
 
 pub insert-spec : {M : Type 1} → statement M

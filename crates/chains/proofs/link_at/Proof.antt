@@ -14,7 +14,7 @@ within-requires c κs = search needs
 returns : tie.Need-returns
 returns c =
     let read = c .before in
-    let a = read .before .before .before .before .args in
+    let a = read .before .before .before .before .before .args in
     c .within .ensures ∙ ap (linkIn (a .count)) (read .read-u32 .ensures ∙ link-head (links (a .edges .now) (a .words .now)) (a .e .0) (a .before) (read .before .if1 .taken))
 
 sub-read-u32 : tie.Need-sub-read-u32
@@ -29,7 +29,7 @@ within-requires-2 c κs = search needs
 returns-2 : tie.Need-returns-2
 returns-2 c =
     let read = c .before in
-    let a = read .before .before .before .before .args in
+    let a = read .before .before .before .before .before .args in
     c .within2 .ensures ∙ ap (linkIn (a .count)) (read .read-u322 .ensures ∙ link-next (links (a .edges .now) (a .words .now)) (a .e .0) (a .before) (read .before .if1 .left))
 
 pub link-at-spec : {M : Type 1} → statement M

@@ -20,7 +20,7 @@ returns : tie.Need-returns
 returns c =
     let put = c .before .before .before .before in
     let taken = put .before .before .before .before .before .before .before in
-    let a = taken .before .before .before .before .before .args in
+    let a = taken .before .before .before .before .before .before .args in
     put .insert .ensures ∙ ap (λ b. inserted (a .count) b (a .e .0) (a .before) (a .id .0)) (taken .remove-run .ensures)
 
 pub replace-run-spec : {M : Type 1} → statement M

@@ -15,7 +15,7 @@ returns : tie.Need-returns
 returns c =
     let written = c .before .before in
     let tested = written .before .before in
-    let a = tested .before .before .before .args in
+    let a = tested .before .before .before .before .args in
     (λ t. links (written .write-u32 .ensures t) (a .words .now))
     ∙ with-head (links (a .edges .now) (a .words .now)) (a .e .0) (a .before) (a .link) (tested .if1 .taken)
 
@@ -32,7 +32,7 @@ returns-2 : tie.Need-returns-2
 returns-2 c =
     let written = c .before .before in
     let tested = written .before .before in
-    let a = tested .before .before .before .args in
+    let a = tested .before .before .before .before .args in
     (λ t. links (a .edges .now) (written .write-u322 .ensures t))
     ∙ with-next (links (a .edges .now) (a .words .now)) (a .e .0) (a .before) (a .link) (tested .if1 .left)
 

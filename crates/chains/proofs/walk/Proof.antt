@@ -8,10 +8,10 @@ use Rattle.chains.proofs.walk.Statement.{statement}
 use Rattle.chains.proofs.walk.Tie as tie
 
 abbrev Inv-loop : tie.InvT-loop
-Inv-loop words count link steps at₀ left₀ at left = (at ≤ count) × (walk count steps words link ≡ walk count left words at)
+Inv-loop words reals count link steps at₀ left₀ at left = (at ≤ count) × (walk count steps words link ≡ walk count left words at)
 
 abbrev μ-loop : tie.MeasureT-loop
-μ-loop words count link steps at₀ left₀ at left = left
+μ-loop words reals count link steps at₀ left₀ at left = left
 
 loop-holds : tie.Need-loop-holds Inv-loop μ-loop
 loop-holds c = (search needs, refl)
@@ -19,7 +19,7 @@ loop-holds c = (search needs, refl)
 returns : tie.Need-returns Inv-loop μ-loop
 returns c =
     let l = c .before .before .loop in
-    let a = c .before .before .before .before .args in
+    let a = c .before .before .before .before .before .args in
     walk-end (a .count) (l .left) (a .words .now) (l .at) (c .if1 .taken) ∙ sym (l .inv .1)
 
 sub-read-u32 : tie.Need-sub-read-u32 Inv-loop μ-loop
@@ -42,7 +42,7 @@ loop-again c =
     let read = c .before in
     let tested = read .before in
     let l = tested .before .before .loop in
-    let a = tested .before .before .before .before .args in (
+    let a = tested .before .before .before .before .before .args in (
       link-le (a .count) (read .read-u32 .result) (c .within .result) (c .within .ensures),
       l .inv .1
           ∙ walk-on (a .count) (l .left) (a .words .now) (l .at) (tested .before .loop-test .taken) (tested .if1 .left)
@@ -52,7 +52,7 @@ loop-again c =
 returns-2 : tie.Need-returns-2 Inv-loop μ-loop
 returns-2 c =
     let l = c .before .loop in
-    let a = c .before .before .before .args in
+    let a = c .before .before .before .before .args in
     walk-none (a .count) (l .left) (a .words .now) (l .at) (omega arith) ∙ sym (l .inv .1)
 
 pub walk-spec : {M : Type 1} → statement M

@@ -32,9 +32,9 @@ same-length-3 c = search needs
 returns : tie.Need-returns
 returns c =
     let set = c .before .before .before .before in
-    let stored = set .before .before .before .before .before .before .before in
+    let stored = set .before .before .before .before .before .before .before .before in
     let read = stored .before .before .before in
-    let s = read .before .before .before .before .before .before in
+    let s = read .before .before .before .before .before .before .before in
     let a = s .args in
     let fits = counted (a .made) (length (a .words .now)) (length (a .reals .now)) (s .pre .0) in
     make-after (a .made) (links (a .edges .now) (a .words .now)) (a .reals .now) (a .e) (a .before) (read .next-link .result) (a .into) (a .queued) (a .win)

@@ -9,7 +9,7 @@ link-at-requires c κs = search needs
 
 returns : tie.Need-returns
 returns c =
-    let a = c .before .before .before .args in
+    let a = c .before .before .before .before .args in
     follows (a .made) (links (a .edges .now) (a .words .now)) (a .e .0) (a .before) (c .link-at .result) (c .link-at .ensures)
 
 pub next-link-spec : {M : Type 1} → statement M
