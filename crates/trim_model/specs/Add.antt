@@ -1,6 +1,6 @@
 -- The Rust's `add` of an admitted window to the live windows of its edge, and the slivers that it drops. Definitions only.
 use Prim.Native.Nat.{ℕ, _+_, _*_, pred}
-use mathlib.Core.Bool.{Bool}
+use mathlib.Core.Bool.{Bool, not, _&&_}
 use mathlib.Core.List.{List, [], _∷_, _++_}
 use lib.ListN.{length}
 use lib.Ieee.{Float, lt, le}
@@ -47,6 +47,10 @@ run tiny w list = takeWhile (startsBefore (w .b1 ⊕ tiny)) (onward tiny w list)
 
 abbrev pub behind : Float → Window → List Window → List Window
 behind tiny w list = dropWhile (startsBefore (w .b1 ⊕ tiny)) (onward tiny w list)
+
+-- a walk forward from the head of the list, to a new window that starts at b0, passes u
+abbrev pub passes : Float → Float → Window → Bool
+passes tiny b0 u = startsBefore b0 u && not (endsAfter (b0 ⊖ tiny) u)
 
 -- ---- the loop over the run
 -- (lo, hi): what an existing window u shares with the new one
