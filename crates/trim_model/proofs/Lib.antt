@@ -17,3 +17,4 @@ pub mod Low
 pub mod Forward
 pub mod Insertion
 pub mod InPlace
+pub mod Flags
