@@ -1,6 +1,7 @@
 -- Intervals in a buffer, two numbers each. Assumes nothing.
 --     joined-no      a stretch that does not continue the last is one more
---     pairs-more, pairs-longer  what the buffer holds after it
+--     pairs-push     what the buffer holds after one more pair
+--     pairs-more, pairs-longer  what it holds after a stretch
 --     rest           what the loop over the points comes to from pts[k - 1] on; rest-start, rest-next, rest-end, rest-full
 --     answers        what `better` answers, from what its loop does
 use Prim.Native.Nat.{ℕ, zero, suc, _+_, _*_, _-_, _≤_, _<_}
@@ -68,9 +69,12 @@ module _ (l : List Float) (x0 x1 : Float) where
   pub joined-length : (m : ℕ) → endsAt m l x0 ≡ false → length (joined (pairs m l) x0 x1) ≡ suc m
   joined-length m h = rw (joined-no m h, length-append) (omega (arith, pairs-length m l))
 
+  pub pairs-push : (m e : ℕ) → e ≡ m + m → e + 1 < length l → pairs (m + 1) (set (set l e x0) (e + 1) x1) ≡ pairs m l ++ (interval x0 x1 ∷ [])
+  pairs-push m e i b =
+      rw (add-one m, add-one e, i, pairs-set m (set l (m + m) x0) (suc (m + m)) x1 (omega arith), pairs-set m l (m + m) x0 (omega arith), getD-set-other (set l (m + m) x0) (suc (m + m)) (m + m) x1 nan (omega arith), getD-set-same l (m + m) x0 nan (omega arith), getD-set-same (set l (m + m) x0) (suc (m + m)) x1 nan (rw length-set (omega arith)))
+
   pub pairs-more : (m e : ℕ) → e ≡ m + m → e + 1 < length l → endsAt m l x0 ≡ false → pairs (m + 1) (set (set l e x0) (e + 1) x1) ≡ joined (pairs m l) x0 x1
-  pairs-more m e i b h =
-      rw (joined-no m h, add-one m, add-one e, i, pairs-set m (set l (m + m) x0) (suc (m + m)) x1 (omega arith), pairs-set m l (m + m) x0 (omega arith), getD-set-other (set l (m + m) x0) (suc (m + m)) (m + m) x1 nan (omega arith), getD-set-same l (m + m) x0 nan (omega arith), getD-set-same (set l (m + m) x0) (suc (m + m)) x1 nan (rw length-set (omega arith)))
+  pairs-more m e i b h = rw (joined-no m h) (pairs-push m e i b)
 
   pub pairs-longer : (m i : ℕ) → i + 1 ≡ m + m → i < length l → endsAt m l x0 ≡ true → pairs m (set l i x1) ≡ joined (pairs m l) x0 x1
   pairs-longer zero i e b h = let y : ⊥ = omega arith in absurd y
