@@ -1,0 +1,154 @@
+-- A window is made. Assumes nothing.
+use Prim.Native.Nat.{ℕ, suc, _+_, _*_, _≤_, _<_}
+use native.Mathlib.Omega.{arith}
+use mathlib.Core.Bool.{Bool}
+use mathlib.Core.Path.{_≡_, refl, sym, ap, subst, _∙_}
+use mathlib.Core.List.{List, [], _∷_, _++_}
+use mathlib.Core.Logic.{_≢_}
+use lib.ListN.{length, drop}
+use lib.Ieee.{Float}
+use Rattle.buffers.specs.declared.EdgeId.{EdgeId}
+use Rattle.buffers.specs.declared.FaceId.{FaceId}
+use Rattle.source.specs.declared.Src.{Src}
+use Rattle.source.specs.declared.Src.the-variants.{Point, Line}
+use Rattle.source.specs.declared.Win.{Win}
+use Rattle.windows.specs.declared.WindowRecord.{WindowRecord}
+use Rattle.windows.specs.Windows.{realsOf, windowAt, wordsWith, realsWith, relinked}
+use Rattle.windows.proofs.WindowList.{link-is, load-same, load-other}
+use Rattle.chains.specs.Chains.{Links, links, headOf, nextOf, linkAt, withLink, Path, Out, AllBelong, firstLink, OnEdge}
+use Rattle.chains.proofs.Paths.{path-after}
+use Rattle.chains.proofs.OnEdges.{all-append, with-frame, store-frame, stored-belongs, new-out}
+use Rattle.better.specs.Claim.{All}
+use Rattle.trim_model.specs.Windows.{Window}
+use Rattle.trim_model.proofs.Lists.{all-left, all-right}
+use Rattle.live_windows.specs.Live.{liveOf, nums, lastLink, Alive, Stands, bare, winsOf, windowOf, linkIn, Makes}
+use Rattle.live_windows.proofs.Places.{nums-cons, next-is, point, before-is}
+use Rattle.live_windows.proofs.Stored.{Same, others, Behind, with-bare, wins-same}
+use Rattle.live_windows.proofs.Standing.{at-edge, holds-put, chain-both, stands-both, behind-is, last-out, with-edges, with-words, fill-outside}
+
+length-realsOf : (s : Src) → length (realsOf s) ≡ 3
+unfolding realsOf
+length-realsOf (Point x y s) = refl
+length-realsOf (Line ux uy c) = refl
+
+-- ---- a window is made
+module _ (n : ℕ) (b : Links) (f : List Float) (e : EdgeId) (k v : ℕ) (into : FaceId) (queued : Bool) (win : Win)
+    (p : 4 * n + 4 ≤ length (b .words)) (q : 6 * n + 6 ≤ length f) (r : 6 * e .0 + 6 ≤ length (b .edges)) (kn : k ≤ n) (read : v ≡ linkIn n (linkAt b (e .0) k)) where
+  abbrev x : WindowRecord
+  x = windowOf e into queued v win
+
+  abbrev y : WindowRecord
+  y = windowOf e into queued 0 win
+
+  abbrev mw : List ℕ
+  mw = wordsWith (b .words) n x
+
+  abbrev mf : List Float
+  mf = realsWith f n win
+
+  abbrev mb : Links
+  mb = links (b .edges) mw
+
+  abbrev mb2 : Links
+  mb2 = withLink mb (e .0) k (suc n)
+
+  bare-new : bare x ≡ y
+  unfolding bare relinked
+  bare-new = refl
+
+  make-others : (j : ℕ) → n ≢ j → Same (b .words) f mw mf j
+  make-others j ne = ap bare (load-other (b .words) f n x j ne)
+
+  next-new : nextOf mw n ≡ v
+  next-new = sym (link-is mw mf n) ∙ ap (λ z. z .link) (load-same (b .words) f n x p q)
+
+  module _ (xs zs : List Window) (s : Stands n b f (e .0) (xs ++ zs)) (kq : k ≡ lastLink xs) where
+    o : OnEdge n b (e .0) (nums xs ++ nums zs)
+    o = chain-both n b (e .0) xs zs (s .chain)
+
+    o1 : OnEdge (suc n) mb (e .0) (nums xs ++ nums zs)
+    o1 = store-frame n b x (e .0) (nums xs ++ nums zs) o
+
+    v-is : v ≡ firstLink (nums zs)
+    v-is = read ∙ next-is n b (e .0) k (nums xs) (nums zs) kq o
+
+    new-path : Path mw (suc n) (n ∷ nums zs)
+    unfolding Path
+    new-path = (refl, subst (λ l. Path mw l (nums zs)) (sym (next-new ∙ v-is)) (path-after mw (headOf (b .edges) (e .0)) (nums xs) (nums zs) (o1 .path)))
+
+    new-belong : AllBelong (suc n) mw (e .0) (n ∷ nums zs)
+    unfolding AllBelong
+    new-belong = (stored-belongs n (b .words) x p, all-append (suc n) mw (e .0) (nums xs) (nums zs) (o1 .belong) .1)
+
+    new-apart : (front : List ℕ) (i : ℕ) → nums xs ≡ front ++ (i ∷ []) → Out i (n ∷ nums zs)
+    unfolding Out
+    new-apart front i d =
+        let h = last-out n b (e .0) (nums xs) (nums zs) front i o d in
+        let l = h .0 .made in
+        (λ z. omega (arith, z, l), h .1)
+
+    made-chain : OnEdge (suc n) mb2 (e .0) (nums xs ++ n ∷ nums zs)
+    made-chain = point (suc n) mb (e .0) k (nums xs) (nums zs) (n ∷ nums zs) (suc n) r kq o1 new-path new-belong new-apart
+
+    made-front : All (Alive mw mf) (xs ++ zs)
+    made-front = others (b .words) f mw mf n (xs ++ zs) (new-out n (b .words) (e .0) (nums (xs ++ zs)) (s .chain .belong)) make-others (s .windows)
+
+    made-behind : Behind mw mf k
+    made-behind = behind-is (suc n) mw mf (e .0) k xs (nums zs) kq (o1 .belong) (all-left (Alive mw mf) xs zs made-front)
+
+    made-link : (j : ℕ) → Same mw mf (mb2 .words) mf j
+    made-link j = with-bare mb mf (e .0) k (suc n) j made-behind
+
+    made-same : (j : ℕ) → n ≢ j → Same (b .words) f (mb2 .words) mf j
+    made-same j ne = made-link j ∙ make-others j ne
+
+    made-new : bare (windowAt (mb2 .words) mf n) ≡ y
+    made-new = made-link n ∙ ap bare (load-same (b .words) f n x p q) ∙ bare-new
+
+    new-alive : Alive (mb2 .words) mf (liveOf y n)
+    unfolding bare relinked
+    new-alive = record { alive = ap (λ z. z .alive) made-new; same = ap (λ z. liveOf z n) made-new }
+
+    made-stands : Stands (suc n) mb2 mf (e .0) (xs ++ liveOf y n ∷ zs)
+    made-stands =
+        let w = mb2 .words in
+        let all : All (Alive w mf) (xs ++ zs) = others (b .words) f w mf n (xs ++ zs) (new-out n (b .words) (e .0) (nums (xs ++ zs)) (s .chain .belong)) made-same (s .windows) in
+        stands-both (suc n) mb2 mf (e .0) xs (liveOf y n ∷ zs) (subst (λ l. OnEdge (suc n) mb2 (e .0) (nums xs ++ l)) (sym (nums-cons (liveOf y n) zs)) made-chain)
+        (all-left (Alive w mf) xs zs all) (new-alive, all-right (Alive w mf) xs zs all)
+
+    made-other : (z : ℕ) (us : List Window) → e .0 ≢ z → Stands n b f z us → Stands (suc n) mb2 mf z us
+    made-other z us ne t = record {
+      chain = with-frame (suc n) mb (e .0) z ne (nums us) k (suc n) (before-is (suc n) mb (e .0) k (nums xs) (nums zs) kq o1) (store-frame n b x z (nums us) (t .chain));
+      windows = others (b .words) f (mb2 .words) mf n us (new-out n (b .words) z (nums us) (t .chain .belong)) made-same (t .windows);
+    }
+
+    made-wins : winsOf (suc n) (mb2 .words) mf ≡ winsOf n (b .words) f ++ (y ∷ [])
+    unfolding winsOf
+    made-wins =
+        ap (λ l. l ++ (bare (windowAt (mb2 .words) mf n) ∷ [])) (wins-same n (b .words) f (mb2 .words) mf (λ j l. made-same j (λ z. omega (arith, z, l))))
+        ∙ ap (λ z. winsOf n (b .words) f ++ (z ∷ [])) made-new
+
+  make-words : drop (4 * suc n) (mb2 .words) ≡ drop (4 * suc n) (b .words)
+  unfolding wordsWith
+  make-words = with-words (suc n) mb (e .0) k (suc n) (omega arith) ∙ fill-outside 4 (suc n) _ (b .words) n 0 (omega arith) (omega arith)
+
+  make-reals : drop (6 * suc n) mf ≡ drop (6 * suc n) f
+  unfolding realsWith
+  make-reals = fill-outside 6 (suc n) (win .b0 ∷ win .b1 ∷ win .low ∷ realsOf (win .src)) f n 0 (omega arith) (let h = length-realsOf (win .src) in omega arith)
+
+  make-done : (b′ : Links) (f′ : List Float) → b′ ≡ mb2 → f′ ≡ mf → Makes n b b′ f f′ (e .0) k y
+  make-done b′ f′ hb hf =
+      subst (λ c. Makes n b c f f′ (e .0) k y) (sym hb)
+      (subst (λ g. Makes n b mb2 f g (e .0) k y) (sym hf)
+      (record {
+        outside = record { edges = λ a ne. with-edges mb (e .0) k (suc n) a ne; words = make-words };
+        reals = make-reals;
+        holds = λ m live xs zs l H d kq. let s = at-edge n m b f live (e .0) (xs ++ zs) l H d in (
+          holds-put (suc n) m mb2 mf live (e .0) (xs ++ liveOf y n ∷ zs) (made-stands xs zs s kq) (λ z ne h. made-other xs zs s kq z (live z) ne (H z h)),
+          made-wins xs zs s kq,
+        );
+      }))
+
+  -- as the calls leave it
+  pub make-after : (w1 : List ℕ) (v1 : ℕ) (b′ : Links) (f′ : List Float) → w1 ≡ mw → v1 ≡ suc n → b′ ≡ withLink (links (b .edges) w1) (e .0) k v1 → f′ ≡ mf → Makes n b b′ f f′ (e .0) k y
+  make-after w1 v1 b′ f′ hw hv hb hf = make-done b′ f′ (hb ∙ ap (λ w. withLink (links (b .edges) w) (e .0) k v1) hw ∙ ap (withLink mb (e .0) k) hv) hf

@@ -1,0 +1,195 @@
+-- Chains of numbers, between two places: what is read behind a link, a link that is pointed elsewhere, and how long a chain can be. Assumes nothing.
+use Prim.Native.Nat.{ℕ, zero, suc, _+_, _*_, _≤_, _<_}
+use native.Mathlib.Omega.{arith}
+use native.Mathlib.Decide.{ℕ-discrete, decLe}
+use mathlib.Core.Bool.{Bool, true, false, cond}
+use mathlib.Core.Path.{_≡_, refl, sym, ap, subst, _∙_}
+use mathlib.Core.List.{List, [], _∷_, _++_}
+use mathlib.Core.Logic.{_≢_}
+use borrow.Author.Tests.{eq-eqb, ne-eqb, le-leb, lt-leb}
+use lib.Dec.{eqb}
+use lib.ListN.{length}
+use lib.Seq.{getD-set-same, append-snoc}
+use Rattle.chains.specs.Chains.{Links, links, headOf, nextOf, linkAt, withLink, Each, Path, Out, AllBelong, Before, firstLink, OnEdge}
+use Rattle.chains.proofs.Paths.{path-once, path-first, front-out, front-of, splice}
+use Rattle.chains.proofs.OnEdges.{all-set, all-append}
+use Rattle.trim_model.specs.Windows.{Window}
+use Rattle.live_windows.specs.Live.{nums, endLink, linkIn}
+
+-- ---- numbers and links of lists
+pub nums-append : (xs ys : List Window) → nums (xs ++ ys) ≡ nums xs ++ nums ys
+unfolding nums
+nums-append [] ys = refl
+nums-append (x ∷ xs) ys = ap (λ l. x .num ∷ l) (nums-append xs ys)
+
+pub nums-cons : (u : Window) (us : List Window) → nums (u ∷ us) ≡ u .num ∷ nums us
+unfolding nums
+nums-cons u us = refl
+
+pub end-append : (k : ℕ) (is js : List ℕ) → endLink k (is ++ js) ≡ endLink (endLink k is) js
+unfolding endLink
+end-append k [] js = refl
+end-append k (i ∷ is) js = end-append (suc i) is js
+
+-- the last of a list that has one
+pub record Snoc (is : List ℕ) : Type 0 where
+  pub front : List ℕ
+  pub end : ℕ
+  pub is-it : is ≡ front ++ (end ∷ [])
+  pub link : (k : ℕ) → endLink k is ≡ suc end
+
+pub snoc : (i : ℕ) (is : List ℕ) → Snoc (i ∷ is)
+unfolding endLink
+snoc i [] = record { front = []; end = i; is-it = refl; link = λ k. refl }
+snoc i (j ∷ is) =
+    let s = snoc j is in
+    record { front = i ∷ s .front; end = s .end; is-it = ap (λ l. i ∷ l) (s .is-it); link = λ k. s .link (suc i) }
+
+-- ---- a link as it is read
+pub link-in : (n l : ℕ) → l ≤ n → linkIn n l ≡ l
+unfolding linkIn
+link-in n l h = rw (le-leb l n h) refl
+
+pub link-none : (n l : ℕ) → n < l → linkIn n l ≡ 0
+unfolding linkIn
+link-none n l h = rw (lt-leb l n h) refl
+
+pub link-le : (n l : ℕ) → linkIn n l ≤ n
+link-le n l = go (decLe l n) where
+  go : Dec (l ≤ n) → linkIn n l ≤ n
+  go (yes h) = rw (link-in n l h) h
+  go (no h) = rw (link-none n l (omega arith)) (omega arith)
+
+-- the path behind the last link of xs
+pub path-behind : (b : Links) (e k : ℕ) (xs zs : List ℕ) → Path (b .words) (linkAt b e k) (xs ++ zs) → Path (b .words) (linkAt b e (endLink k xs)) zs
+unfolding endLink Path linkAt
+path-behind b e k [] zs p = p
+path-behind b e k (x ∷ xs) zs p = path-behind b e (suc x) xs zs (p .1)
+
+-- the whole chain is behind 0
+pub head-path : (b : Links) (e : ℕ) (is : List ℕ) → Path (b .words) (headOf (b .edges) e) is → Path (b .words) (linkAt b e 0) is
+unfolding linkAt
+head-path b e is p = p
+
+module _ (made : ℕ) where
+  pub first-in : (w : List ℕ) (e : ℕ) (zs : List ℕ) → AllBelong made w e zs → firstLink zs ≤ made
+  unfolding AllBelong firstLink
+  first-in w e [] h = omega arith
+  first-in w e (z ∷ zs) h = let a = h .0 .made in omega arith
+
+  -- what is read behind the last link of xs
+  pub next-is : (b : Links) (e k : ℕ) (xs zs : List ℕ) → k ≡ endLink 0 xs → OnEdge made b e (xs ++ zs) → linkIn made (linkAt b e k) ≡ firstLink zs
+  next-is b e k xs zs h o =
+      let p : Path (b .words) (linkAt b e 0) (xs ++ zs) = head-path b e (xs ++ zs) (o .path) in
+      let f : linkAt b e k ≡ firstLink zs = ap (linkAt b e) h ∙ path-first (b .words) (linkAt b e (endLink 0 xs)) zs (path-behind b e 0 xs zs p) in
+      ap (linkIn made) f ∙ link-in made (firstLink zs) (first-in (b .words) e zs (all-append made (b .words) e xs zs (o .belong) .1))
+
+  pub all-join : (w : List ℕ) (e : ℕ) (xs ys : List ℕ) → AllBelong made w e xs → AllBelong made w e ys → AllBelong made w e (xs ++ ys)
+  unfolding AllBelong
+  all-join w e [] ys p q = q
+  all-join w e (x ∷ xs) ys p q = (p .0, all-join w e xs ys (p .1) q)
+
+  -- ---- the link behind xs points at another path
+  point-head : (b : Links) (e : ℕ) (vs : List ℕ) (v : ℕ) → 6 * e + 6 ≤ length (b .edges) → Path (b .words) v vs → AllBelong made (b .words) e vs → OnEdge made (withLink b e 0 v) e vs
+  unfolding withLink
+  point-head b e vs v h p a = record { path = rw (getD-set-same (b .edges) (6 * e + 4) v 0 (omega arith)) p; belong = a }
+
+  point-after : (b : Links) (e k : ℕ) (front ys vs : List ℕ) (v : ℕ) → OnEdge made b e (front ++ k ∷ ys) → Path (b .words) v vs → AllBelong made (b .words) e vs → Out k vs
+      → OnEdge made (withLink b e (suc k) v) e (front ++ k ∷ vs)
+  unfolding withLink AllBelong
+  point-after b e k front ys vs v o p a out =
+      let w = b .words in
+      let l = headOf (b .edges) e in
+      let m = all-append made w e front (k ∷ ys) (o .belong) in
+      record {
+        path = splice w l front k vs v (m .1 .0 .there) (front-out w l front k ys (o .path) .0) out (front-of w l front k ys (o .path)) p;
+        belong = all-set made w e (front ++ k ∷ vs) k v (all-join w e front (k ∷ vs) (m .0) (m .1 .0, a));
+      }
+
+  pub point : (b : Links) (e k : ℕ) (xs ys vs : List ℕ) (v : ℕ) → 6 * e + 6 ≤ length (b .edges) → k ≡ endLink 0 xs → OnEdge made b e (xs ++ ys) → Path (b .words) v vs → AllBelong made (b .words) e vs
+      → ((front : List ℕ) (i : ℕ) → xs ≡ front ++ (i ∷ []) → Out i vs) → OnEdge made (withLink b e k v) e (xs ++ vs)
+  unfolding endLink
+  point b e k [] ys vs v h q o p a out = rw q (point-head b e vs v h p a)
+  point b e k (x ∷ xs) ys vs v h q o p a out =
+      let s = snoc x xs in
+      let f = s .front in
+      let i = s .end in
+      let o′ : OnEdge made b e (f ++ i ∷ ys) = subst (OnEdge made b e) (ap (λ l. l ++ ys) (s .is-it) ∙ append-snoc f i ys) o in
+      let r : OnEdge made (withLink b e (suc i) v) e (f ++ i ∷ vs) = point-after b e i f ys vs v o′ p a (out f i (s .is-it)) in
+      rw (q ∙ s .link 0) (subst (OnEdge made (withLink b e (suc i) v) e) (sym (append-snoc f i vs) ∙ ap (λ l. l ++ vs) (sym (s .is-it))) r)
+
+  -- ---- the last of xs is a window of the edge
+  pub before-is : (b : Links) (e k : ℕ) (xs ys : List ℕ) → k ≡ endLink 0 xs → OnEdge made b e (xs ++ ys) → Before made (b .words) e k
+  unfolding endLink Before AllBelong
+  before-is b e k [] ys q o = rw q tt
+  before-is b e k (x ∷ xs) ys q o =
+      let s = snoc x xs in
+      let a : AllBelong made (b .words) e (s .front ++ (s .end ∷ [])) = subst (AllBelong made (b .words) e) (s .is-it) (all-append made (b .words) e (x ∷ xs) ys (o .belong) .0) in
+      rw (q ∙ s .link 0) (all-append made (b .words) e (s .front) (s .end ∷ []) a .1 .0)
+
+-- ---- numbers below n that all differ are at most n
+unfoldable Differ : List ℕ → Type 0
+Differ [] = Unit {0}
+Differ (i ∷ is) = Out i is × Differ is
+
+-- the first i taken out
+unfoldable less : ℕ → List ℕ → List ℕ
+less i [] = []
+less i (j ∷ js) = cond (eqb i j) js (j ∷ less i js)
+
+below-less : (n : ℕ) (is : List ℕ) → Each (λ i. i < suc n) is → Out n is → Each (λ i. i < n) is
+unfolding Each Out
+below-less n [] h o = tt
+below-less n (i ∷ is) h o = let a = h .0 in let d = o .0 in (omega arith, below-less n is (h .1) (o .1))
+
+out-less : (x i : ℕ) (is : List ℕ) → Out x is → Out x (less i is)
+unfolding less Out
+out-less x i [] o = tt
+out-less x i (j ∷ js) o = go (eqb i j) (out-less x i js (o .1)) where
+  go : (c : Bool) → Out x (less i js) → Out x (cond c js (j ∷ less i js))
+  go true r = o .1
+  go false r = (o .0, r)
+
+differ-less : (i : ℕ) (is : List ℕ) → Differ is → Differ (less i is)
+unfolding less Differ
+differ-less i [] d = tt
+differ-less i (j ∷ js) d = go (eqb i j) (differ-less i js (d .1)) where
+  go : (c : Bool) → Differ (less i js) → Differ (cond c js (j ∷ less i js))
+  go true r = d .1
+  go false r = (out-less j i js (d .0), r)
+
+each-less : (n : ℕ) (is : List ℕ) → Each (λ i. i < suc n) is → Differ is → Each (λ i. i < n) (less n is)
+unfolding less Differ Each
+each-less n [] h d = tt
+each-less n (j ∷ js) h d = go (ℕ-discrete n j) (each-less n js (h .1) (d .1)) where
+  go : Dec (n ≡ j) → Each (λ i. i < n) (less n js) → Each (λ i. i < n) (cond (eqb n j) js (j ∷ less n js))
+  go (yes e) r = rw (eq-eqb n j e) (below-less n js (h .1) (subst (λ k. Out k js) (sym e) (d .0)))
+  go (no e) r = rw (ne-eqb n j e) (omega (arith, e, h .0), r)
+
+length-less : (i : ℕ) (is : List ℕ) → length is ≤ suc (length (less i is))
+unfolding less
+length-less i [] = omega arith
+length-less i (j ∷ js) = go (eqb i j) (length-less i js) where
+  go : (c : Bool) → length js ≤ suc (length (less i js)) → suc (length js) ≤ suc (length (cond c js (j ∷ less i js)))
+  go true r = omega arith
+  go false r = omega arith
+
+at-most : (n : ℕ) (is : List ℕ) → Each (λ i. i < n) is → Differ is → length is ≤ n
+unfolding Each
+at-most zero [] h d = omega arith
+at-most zero (i ∷ is) h d = let a = h .0 in absurd (omega arith)
+at-most (suc n) is h d = omega (arith, length-less n is, at-most n (less n is) (each-less n is h d) (differ-less n is d))
+
+differ-path : (w : List ℕ) (l : ℕ) (is : List ℕ) → Path w l is → Differ is
+unfolding Differ Path
+differ-path w l [] p = tt
+differ-path w l (i ∷ is) p = (path-once w l i is p, differ-path w (nextOf w i) is (p .1))
+
+pub below-made : (made : ℕ) (w : List ℕ) (e : ℕ) (is : List ℕ) → AllBelong made w e is → Each (λ i. i < made) is
+unfolding AllBelong Each
+below-made made w e [] h = tt
+below-made made w e (i ∷ is) h = (h .0 .made, below-made made w e is (h .1))
+
+-- a chain has at most as many windows as were made
+pub short : (made : ℕ) (w : List ℕ) (e l : ℕ) (is : List ℕ) → Path w l is → AllBelong made w e is → length is ≤ made
+short made w e l is p a = at-most made is (below-made made w e is a) (differ-path w l is p)

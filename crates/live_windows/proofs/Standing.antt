@@ -1,0 +1,128 @@
+-- The live windows of edges: the parts of a list that stands, what stands behind a link, and what a link that is pointed elsewhere leaves. Assumes nothing.
+use Prim.Native.Nat.{ℕ, zero, suc, _+_, _*_, _≤_, _<_}
+use native.Mathlib.Omega.{arith}
+use native.Mathlib.Decide.{ℕ-discrete}
+use mathlib.Core.Bool.{cond}
+use mathlib.Core.Path.{_≡_, refl, sym, ap, subst, _∙_}
+use mathlib.Core.List.{List, [], _∷_, _++_}
+use mathlib.Core.Logic.{_≢_}
+use borrow.Author.Tests.{eq-eqb, ne-eqb}
+use lib.Dec.{eqb}
+use lib.ListN.{length, getD, set, drop, length-set}
+use lib.Seq.{append-snoc, getD-set-other, drop-set-lt}
+use lib.Ieee.{Float}
+use Rattle.buffers.specs.Slots.{fill}
+use Rattle.buffers.proofs.Strides.{before}
+use Rattle.source.specs.declared.Src.{Src}
+use Rattle.chains.specs.Chains.{Links, headOf, withLink, Path, Out, Belongs, AllBelong, OnEdge}
+use Rattle.chains.proofs.Paths.{front-out}
+use Rattle.chains.proofs.OnEdges.{all-set, all-append, elsewhere, no-windows}
+use Rattle.better.specs.Claim.{All}
+use Rattle.trim_model.specs.Windows.{Window}
+use Rattle.trim_model.proofs.Lists.{all-append as all-both, all-left, all-right}
+use Rattle.trim_state.specs.State.{put}
+use Rattle.live_windows.specs.Live.{nums, endLink, lastLink, Alive, Stands, Holds}
+use Rattle.live_windows.proofs.Places.{nums-append, nums-cons}
+use Rattle.live_windows.proofs.Stored.{Behind}
+
+-- ---- lists that stand
+pub at-edge : (n m : ℕ) (b : Links) (f : List Float) (live : ℕ → List Window) (e : ℕ) (us : List Window) → e < m → Holds n m b f live → live e ≡ us → Stands n b f e us
+at-edge n m b f live e us l H d = subst (Stands n b f e) d (H e l)
+
+pub holds-put : (n m : ℕ) (b : Links) (f : List Float) (live : ℕ → List Window) (e : ℕ) (us : List Window) → Stands n b f e us → ((x : ℕ) → e ≢ x → x < m → Stands n b f x (live x)) → Holds n m b f (put e us live)
+holds-put n m b f live e us s o x l = go (ℕ-discrete x e) where
+  go : Dec (x ≡ e) → Stands n b f x (cond (eqb x e) us (live x))
+  go (yes d) = rw (eq-eqb x e d) (subst (λ y. Stands n b f y us) (sym d) s)
+  go (no d) = rw (ne-eqb x e d) (o x (λ z. d (sym z)) l)
+
+pub chain-both : (n : ℕ) (b : Links) (e : ℕ) (xs zs : List Window) → OnEdge n b e (nums (xs ++ zs)) → OnEdge n b e (nums xs ++ nums zs)
+chain-both n b e xs zs = subst (OnEdge n b e) (nums-append xs zs)
+
+pub stands-both : (n : ℕ) (b : Links) (f : List Float) (e : ℕ) (xs zs : List Window) → OnEdge n b e (nums xs ++ nums zs) → All (Alive (b .words) f) xs → All (Alive (b .words) f) zs → Stands n b f e (xs ++ zs)
+stands-both n b f e xs zs o p q = record { chain = subst (OnEdge n b e) (sym (nums-append xs zs)) o; windows = all-both (Alive (b .words) f) xs zs p q }
+
+-- a list with one window in sight
+pub record Around (n : ℕ) (b : Links) (f : List Float) (e : ℕ) (xs : List Window) (u : Window) (zs : List Window) : Type 0 where
+  pub chain : OnEdge n b e (nums xs ++ u .num ∷ nums zs)
+  pub front : All (Alive (b .words) f) xs
+  pub here : Alive (b .words) f u
+  pub rest : All (Alive (b .words) f) zs
+  pub out-front : Out (u .num) (nums xs)
+  pub out-rest : Out (u .num) (nums zs)
+  pub belongs : Belongs n (b .words) e (u .num)
+  pub belong-rest : AllBelong n (b .words) e (nums zs)
+
+pub around : (n : ℕ) (b : Links) (f : List Float) (e : ℕ) (xs : List Window) (u : Window) (zs : List Window) → Stands n b f e (xs ++ u ∷ zs) → Around n b f e xs u zs
+unfolding AllBelong
+around n b f e xs u zs s =
+    let o : OnEdge n b e (nums xs ++ u .num ∷ nums zs) = subst (OnEdge n b e) (nums-append xs (u ∷ zs) ∙ ap (λ l. nums xs ++ l) (nums-cons u zs)) (s .chain) in
+    let r = all-right (Alive (b .words) f) xs (u ∷ zs) (s .windows) in
+    let out = front-out (b .words) (headOf (b .edges) e) (nums xs) (u .num) (nums zs) (o .path) in
+    let a = all-append n (b .words) e (nums xs) (u .num ∷ nums zs) (o .belong) .1 in
+    record {
+      chain = o;
+      front = all-left (Alive (b .words) f) xs (u ∷ zs) (s .windows);
+      here = r .0;
+      rest = r .1;
+      out-front = out .0;
+      out-rest = out .1;
+      belongs = a .0;
+      belong-rest = a .1;
+    }
+
+-- a window of edge e is on no other chain
+pub not-there : (n : ℕ) (b : Links) (f : List Float) (e x i : ℕ) (us : List Window) → e ≢ x → Belongs n (b .words) e i → Stands n b f x us → Out i (nums us)
+not-there n b f e x i us ne h s = elsewhere n (b .words) x (nums us) i (λ z. ne (sym (h .edge) ∙ z)) (s .chain .belong)
+
+-- the link behind which something stands is 0, or a live window's
+behind-all : (n : ℕ) (w : List ℕ) (f : List Float) (e k : ℕ) (us : List Window) → AllBelong n w e (nums us) → All (Alive w f) us → Behind w f k → Behind w f (endLink k (nums us))
+unfolding nums endLink AllBelong Behind
+behind-all n w f e k [] a h s = s
+behind-all n w f e k (u ∷ us) a h s = behind-all n w f e (suc (u .num)) us (a .1) (h .1) (a .0 .there, h .0 .alive)
+
+pub behind-is : (n : ℕ) (w : List ℕ) (f : List Float) (e k : ℕ) (xs : List Window) (zs : List ℕ) → k ≡ lastLink xs → AllBelong n w e (nums xs ++ zs) → All (Alive w f) xs → Behind w f k
+unfolding Behind
+behind-is n w f e k xs zs q a h = subst (Behind w f) (sym q) (behind-all n w f e 0 xs (all-append n w e (nums xs) zs a .0) h tt)
+
+-- the last window of a front is none of what follows
+pub last-out : (n : ℕ) (b : Links) (e : ℕ) (is zs front : List ℕ) (i : ℕ) → OnEdge n b e (is ++ zs) → is ≡ front ++ (i ∷ []) → Belongs n (b .words) e i × Out i zs
+unfolding AllBelong
+last-out n b e is zs front i o d =
+    let o′ : OnEdge n b e (front ++ i ∷ zs) = subst (OnEdge n b e) (ap (λ l. l ++ zs) d ∙ append-snoc front i zs) o in
+    (all-append n (b .words) e front (i ∷ zs) (o′ .belong) .1 .0, front-out (b .words) (headOf (b .edges) e) front i zs (o′ .path) .1)
+
+pub out-both : (i : ℕ) (is js : List ℕ) → Out i is → Out i js → Out i (is ++ js)
+unfolding Out
+out-both i [] js h g = g
+out-both i (j ∷ is) js h g = (h .0, out-both i is js (h .1) g)
+
+-- ---- what a link that is pointed elsewhere leaves
+pub with-edges : (b : Links) (e k v p : ℕ) → p ≢ 6 * e + 4 → getD (withLink b e k v .edges) p 0 ≡ getD (b .edges) p 0
+unfolding withLink
+with-edges b e zero v p ne = getD-set-other (b .edges) (6 * e + 4) p v 0 ne
+with-edges b e (suc k) v p ne = refl
+
+pub with-words : (n : ℕ) (b : Links) (e k v : ℕ) → k ≤ n → drop (4 * n) (withLink b e k v .words) ≡ drop (4 * n) (b .words)
+unfolding withLink
+with-words n b e zero v h = refl
+with-words n b e (suc k) v h = drop-set-lt (4 * n) (b .words) (4 * k + 3) v (omega arith)
+
+pub with-length : (b : Links) (e k v : ℕ) → length (withLink b e k v .words) ≡ length (b .words)
+unfolding withLink
+with-length b e zero v = refl
+with-length b e (suc k) v = simp length-set
+
+pub with-belongs : (n : ℕ) (b : Links) (e k v i : ℕ) → Belongs n (b .words) e i → Belongs n (withLink b e k v .words) e i
+unfolding withLink AllBelong
+with-belongs n b e zero v i h = h
+with-belongs n b e (suc k) v i h = all-set n (b .words) e (i ∷ []) k v (h, tt) .0
+
+pub fill-outside : {A : Type 0} (s n : ℕ) (vs l : List A) (i a : ℕ) → i < n → a + length vs ≤ s → drop (s * n) (fill s l i a vs) ≡ drop (s * n) l
+unfolding fill
+fill-outside s n [] l i a h g = refl
+fill-outside s n (v ∷ vs) l i a h g = fill-outside s n vs (set l (s * i + a) v) i (suc a) h (omega arith) ∙ drop-set-lt (s * n) l (s * i + a) v (omega (arith, before s h))
+
+-- ---- at first there is none
+pub no-live : (n m : ℕ) (b : Links) (f : List Float) → ((e : ℕ) → e < m → headOf (b .edges) e ≡ 0) → Holds n m b f (λ e. [])
+unfolding nums
+no-live n m b f h e l = record { chain = no-windows n m b h e l; windows = tt }

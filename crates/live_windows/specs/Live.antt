@@ -1,0 +1,142 @@
+-- The live windows of each edge, as the reference model has them, standing in the window buffer and its chains. Definitions only.
+use Prim.Native.Nat.{ℕ, zero, suc, _+_, _*_, _≤_, _<_}
+use mathlib.Core.Bool.{Bool, true, false, cond}
+use mathlib.Core.List.{List, [], _∷_, _++_}
+use mathlib.Core.Logic.{_≢_}
+use mathlib.Core.Path.{_≡_}
+use lib.Dec.{eqb, leb}
+use lib.ListN.{getD, drop}
+use lib.Ieee.{Float}
+use Rattle.float64.specs.TotalOrder.{totalLess}
+use Rattle.float64.specs.Notation.{if_then_else_}
+use Rattle.buffers.specs.declared.EdgeId.{EdgeId}
+use Rattle.buffers.specs.declared.FaceId.{FaceId}
+use Rattle.source.specs.declared.Win.{Win}
+use Rattle.windows.specs.declared.WindowRecord.{WindowRecord}
+use Rattle.windows.specs.Windows.{windowAt, trimmed, reflagged, relinked}
+use Rattle.chains.specs.Chains.{Links, links, linkAt, OnEdge, firstLink}
+use Rattle.better.specs.Claim.{All}
+use Rattle.trim_model.specs.Windows.{Window, unqueued, takeWhile}
+use Rattle.trim_state.specs.State.{put}
+
+-- ---- what stands
+-- a stored window as the model has it, as number n
+abbrev pub liveOf : WindowRecord → ℕ → Window
+liveOf x n = record { b0 = x .win .b0; b1 = x .win .b1; low = x .win .low; src = x .win .src; into = x .into .0; queued = x .queued; num = n }
+
+unfoldable pub nums : List Window → List ℕ
+nums [] = []
+nums (u ∷ us) = u .num ∷ nums us
+
+-- the link of the last of a list of numbers, or k where there is none
+unfoldable pub endLink : ℕ → List ℕ → ℕ
+endLink k [] = k
+endLink k (i ∷ is) = endLink (suc i) is
+
+-- the link after which stands what follows us on their chain: 0 is before the first window
+abbrev pub lastLink : List Window → ℕ
+lastLink us = endLink 0 (nums us)
+
+-- window u stands in the slices, alive
+pub record Alive (w : List ℕ) (f : List Float) (u : Window) : Type 0 where
+  pub alive : windowAt w f (u .num) .alive ≡ true
+  pub same : liveOf (windowAt w f (u .num)) (u .num) ≡ u
+
+-- us are the windows of edge e in order, of the first n
+pub record Stands (n : ℕ) (b : Links) (f : List Float) (e : ℕ) (us : List Window) : Type 0 where
+  pub chain : OnEdge n b e (nums us)
+  pub windows : All (Alive (b .words) f) us
+
+-- the Rust's `on_edge` of m edges
+abbrev pub Holds : ℕ → ℕ → Links → List Float → (ℕ → List Window) → Type 0
+Holds n m b f live = (e : ℕ) → e < m → Stands n b f e (live e)
+
+-- ---- all windows, dead ones too
+-- a window without its link where it is alive: there the chain says it
+unfoldable pub bare : WindowRecord → WindowRecord
+bare x = relinked x (cond (x .alive) 0 (x .link))
+
+-- the Rust's `wins`: the first n windows
+unfoldable pub winsOf : ℕ → List ℕ → List Float → List WindowRecord
+winsOf zero w f = []
+winsOf (suc n) w f = winsOf n w f ++ (bare (windowAt w f n) ∷ [])
+
+-- element k changed
+unfoldable pub adjust : {A : Type 0} → ℕ → (A → A) → List A → List A
+adjust k g [] = []
+adjust zero g (x ∷ l) = g x ∷ l
+adjust (suc k) g (x ∷ l) = x ∷ adjust k g l
+
+-- a window as it is made; taken out; one whose event was popped
+abbrev pub windowOf : EdgeId → FaceId → Bool → ℕ → Win → WindowRecord
+windowOf e into queued link win = record { edge = e; into = into; alive = true; queued = queued; link = link; win = win }
+
+abbrev pub dead : WindowRecord → WindowRecord
+dead x = relinked (reflagged x false (x .queued)) 0
+
+abbrev pub popped : WindowRecord → WindowRecord
+popped x = reflagged x (x .alive) false
+
+-- of the model: u with its ends and lowest value changed; the window of number n, if it is there, whose event was popped
+abbrev pub ranged : Window → Float → Float → Float → Window
+ranged u b0 b1 low = record { b0 = b0; b1 = b1; low = low; src = u .src; into = u .into; queued = u .queued; num = u .num }
+
+unfoldable pub unqueuedIn : ℕ → List Window → List Window
+unqueuedIn n [] = []
+unqueuedIn n (u ∷ us) = (if eqb (u .num) n then unqueued u else u) ∷ unqueuedIn n us
+
+-- v starts before b0, as windows are sorted
+abbrev pub sortsBefore : Float → Window → Bool
+sortsBefore b0 v = totalLess (v .b0) b0
+
+-- ---- the contracts, b and f at entry, b′ and f′ at exit; n is the number of windows made
+-- nothing changes from window n on, and of the edges nothing but the head of e
+pub record Outside (n e : ℕ) (b b′ : Links) : Type 0 where
+  pub edges : (p : ℕ) → p ≢ 6 * e + 4 → getD (b′ .edges) p 0 ≡ getD (b .edges) p 0
+  pub words : drop (4 * n) (b′ .words) ≡ drop (4 * n) (b .words)
+
+-- a link as it is read: one above n is none
+unfoldable pub linkIn : ℕ → ℕ → ℕ
+linkIn n l = cond (leb l n) l 0
+
+-- r is the link that follows k on the chain of edge e
+pub record Follows (n : ℕ) (b : Links) (e k r : ℕ) : Type 0 where
+  pub is : r ≡ linkIn n (linkAt b e k)
+  pub made : r ≤ n
+  pub first : (m : ℕ) (f : List Float) (live : ℕ → List Window) (xs zs : List Window) → e < m → Holds n m b f live → live e ≡ xs ++ zs → k ≡ lastLink xs → r ≡ firstLink (nums zs)
+
+-- r is the last link of those behind k whose windows pass p, as many as stand together, or k
+pub record Walked (p : Window → Bool) (n : ℕ) (b : Links) (f : List Float) (e k r : ℕ) : Type 0 where
+  pub made : r ≤ n
+  pub last : (m : ℕ) (live : ℕ → List Window) (xs zs : List Window) → e < m → Holds n m b f live → live e ≡ xs ++ zs → k ≡ lastLink xs → r ≡ lastLink (xs ++ takeWhile p zs)
+
+-- x is the window of number i
+pub record Loads (w : List ℕ) (f : List Float) (i : ℕ) (x : WindowRecord) : Type 0 where
+  pub is : x ≡ windowAt w f i
+  pub live : (n m : ℕ) (edges : List ℕ) (e : ℕ) (live : ℕ → List Window) (xs : List Window) (u : Window) (zs : List Window) → e < m → Holds n m (links edges w) f live → live e ≡ xs ++ u ∷ zs → i ≡ u .num
+      → (liveOf x i ≡ u) × ((x .edge .0 ≡ e) × (x .alive ≡ true))
+
+-- x is made as window n, behind link k of edge e
+pub record Makes (n : ℕ) (b b′ : Links) (f f′ : List Float) (e k : ℕ) (x : WindowRecord) : Type 0 where
+  pub outside : Outside (suc n) e b b′
+  pub reals : drop (6 * suc n) f′ ≡ drop (6 * suc n) f
+  pub holds : (m : ℕ) (live : ℕ → List Window) (xs zs : List Window) → e < m → Holds n m b f live → live e ≡ xs ++ zs → k ≡ lastLink xs
+      → Holds (suc n) m b′ f′ (put e (xs ++ liveOf x n ∷ zs) live) × (winsOf (suc n) (b′ .words) f′ ≡ winsOf n (b .words) f ++ (x ∷ []))
+
+-- window i has its ends and lowest value changed
+pub record Trims (f f′ : List Float) (i : ℕ) (b0 b1 low : Float) : Type 0 where
+  pub reals : (n : ℕ) → i < n → drop (6 * n) f′ ≡ drop (6 * n) f
+  pub holds : (n m : ℕ) (b : Links) (e : ℕ) (live : ℕ → List Window) (xs : List Window) (u : Window) (zs : List Window) → e < m → Holds n m b f live → live e ≡ xs ++ u ∷ zs → i ≡ u .num
+      → Holds n m b f′ (put e (xs ++ ranged u b0 b1 low ∷ zs) live) × (winsOf n (b .words) f′ ≡ adjust i (λ x. trimmed x b0 b1 low) (winsOf n (b .words) f))
+
+-- window i, behind link k of edge e, is taken out
+pub record Kills (n : ℕ) (b b′ : Links) (e k i : ℕ) : Type 0 where
+  pub outside : Outside n e b b′
+  pub holds : (m : ℕ) (f : List Float) (live : ℕ → List Window) (xs : List Window) (u : Window) (zs : List Window) → e < m → Holds n m b f live → live e ≡ xs ++ u ∷ zs → k ≡ lastLink xs → i ≡ u .num
+      → Holds n m b′ f (put e (xs ++ zs) live) × (winsOf n (b′ .words) f ≡ adjust i dead (winsOf n (b .words) f))
+
+-- window i, on whatever edge or on none, is no more queued
+pub record Unqueues (w w′ : List ℕ) (i : ℕ) : Type 0 where
+  pub words : (n : ℕ) → i < n → drop (4 * n) w′ ≡ drop (4 * n) w
+  pub holds : (n m : ℕ) (edges : List ℕ) (f : List Float) (live : ℕ → List Window) → Holds n m (links edges w) f live
+      → Holds n m (links edges w′) f (λ e. unqueuedIn i (live e)) × (winsOf n w′ f ≡ adjust i popped (winsOf n w f))

@@ -1,0 +1,213 @@
+// The live windows of the edges, in the window buffer and its chains. A link is a window's number plus one, and 0 is none or, where
+// something stands behind a link, the head of the chain. A link that is read counts only where it leads to one of the first `made`
+// windows, so whatever the buffers hold, no other window is touched.
+use buffers::EdgeId;
+use buffers::FaceId;
+use buffers::WindowId;
+use buffers::read_f64;
+use buffers::read_u32;
+use buffers::write_u32;
+use source::Win;
+use windows::WindowRecord;
+ghost use mathlib.Core.Path.{_≡_};
+ghost use mathlib.Core.Bool.{_&&_, not};
+ghost use Prim.Native.Nat.{_+_, _*_, _≤_, _<_};
+ghost use lib.ListN.{getD, length};
+ghost use lib.Ieee.{nan, lt};
+ghost use Rattle.float64.specs.TotalOrder.{totalLess};
+ghost use Rattle.buffers.specs.Slots.{slotsOf};
+ghost use Rattle.windows.specs.Windows.{capacityOf};
+ghost use Rattle.chains.specs.Chains.{links, linkAt, withLink};
+ghost use Rattle.trim_model.specs.Add.{passes};
+ghost use Rattle.live_windows.specs.Live.{linkIn, windowOf, sortsBefore, Follows, Walked, Loads, Makes, Trims, Kills, Unqueues};
+
+fn link_in(made: u32, link: u32) -> u32
+    ensures { λ r. ⌜ r ≡ linkIn made link ⌝ }
+{
+    if link <= made { link } else { 0 }
+}
+
+fn link_at(edges: &[u32], words: &[u32], e: EdgeId, before: u32) -> u32
+    ensures { λ r. ⌜ r ≡ linkAt (links (now (edges .entry)) (now (words .entry))) (e .0) before ⌝ }
+{
+    if before == 0 {
+        return read_u32(edges, 6, e.0, 4);
+    }
+    read_u32(words, 4, before - 1, 3)
+}
+
+fn set_link(edges: &mut [u32], words: &mut [u32], e: EdgeId, before: u32, link: u32)
+    ensures { λ r. ⌜ links (now (edges .exit)) (now (words .exit)) ≡ withLink (links (now (edges .entry)) (now (words .entry))) (e .0) before link ⌝ }
+{
+    if before == 0 {
+        write_u32(edges, 6, e.0, 4, link);
+        return;
+    }
+    write_u32(words, 4, before - 1, 3, link);
+}
+
+// The link that follows `before` on the chain of an edge.
+pub fn next_link(edges: &[u32], words: &[u32], made: u32, e: EdgeId, before: u32) -> u32
+    ensures { λ r. ⌜ Follows made (links (now (edges .entry)) (now (words .entry))) (e .0) before r ⌝ }
+{
+    let link = link_at(edges, words, e, before);
+    link_in(made, link)
+}
+
+// Whether a window starts before b0 and ends at or before lo.
+fn passes_by(reals: &[f64], i: u32, b0: f64, lo: f64) -> bool
+    ensures { λ r. ⌜ r ≡ (lt (getD (now (reals .entry)) (6 * i + 0) nan) b0 && not (lt lo (getD (now (reals .entry)) (6 * i + 1) nan))) ⌝ }
+{
+    let start = read_f64(reals, 6, i, 0);
+    let end = read_f64(reals, 6, i, 1);
+    if start < b0 {
+        if lo < end {
+            return false;
+        }
+        return true;
+    }
+    false
+}
+
+// Whether a window starts before b0, as windows are sorted.
+fn starts_by(reals: &[f64], i: u32, b0: f64) -> bool
+    ensures { λ r. ⌜ r ≡ totalLess (getD (now (reals .entry)) (6 * i + 0) nan) b0 ⌝ }
+{
+    let start = read_f64(reals, 6, i, 0);
+    float64::total_less(start, b0)
+}
+
+// The walk from the head to the first window that a new one, which starts at b0, may share something with: the link of the last window passed.
+pub fn pass_front(
+    edges: &[u32],
+    words: &[u32],
+    reals: &[f64],
+    made: u32,
+    e: EdgeId,
+    b0: f64,
+    tiny: f64,
+) -> u32
+    ensures { λ r. ⌜ Walked (passes tiny b0) made (links (now (edges .entry)) (now (words .entry))) (now (reals .entry)) (e .0) 0 r ⌝ }
+{
+    let lo = b0 - tiny;
+    let mut before: u32 = 0;
+    let mut left = made;
+    while 0 < left {
+        let at = next_link(edges, words, made, e, before);
+        if at == 0 {
+            return before;
+        }
+        let go = passes_by(reals, at - 1, b0, lo);
+        if go {
+            before = at;
+            left -= 1;
+        } else {
+            return before;
+        }
+    }
+    before
+}
+
+// The walk from a link to where a window that starts at b0 is to stand, before those that start there: the link of the last window before it.
+pub fn seat_from(
+    edges: &[u32],
+    words: &[u32],
+    reals: &[f64],
+    made: u32,
+    e: EdgeId,
+    from: u32,
+    b0: f64,
+) -> u32
+    requires { ⌜ from ≤ made ⌝ }
+    ensures { λ r. ⌜ Walked (sortsBefore b0) made (links (now (edges .entry)) (now (words .entry))) (now (reals .entry)) (e .0) from r ⌝ }
+{
+    let mut before = from;
+    let mut left = made;
+    while 0 < left {
+        let at = next_link(edges, words, made, e, before);
+        if at == 0 {
+            return before;
+        }
+        let go = starts_by(reals, at - 1, b0);
+        if go {
+            before = at;
+            left -= 1;
+        } else {
+            return before;
+        }
+    }
+    before
+}
+
+pub fn load(words: &[u32], reals: &[f64], id: WindowId) -> WindowRecord
+    ensures { λ r. ⌜ Loads (now (words .entry)) (now (reals .entry)) (id .0) r ⌝ }
+{
+    windows::load(words, reals, id)
+}
+
+// A window is made, as number `made`, and put behind a link of its edge.
+pub fn make_window(
+    edges: &mut [u32],
+    words: &mut [u32],
+    reals: &mut [f64],
+    made: u32,
+    e: EdgeId,
+    before: u32,
+    into: FaceId,
+    queued: bool,
+    win: Win,
+)
+    requires { ⌜ (made < capacityOf (length (now words)) (length (now reals))) × ((e .0 < slotsOf (length (now edges)) 6) × (before ≤ made)) ⌝ }
+    ensures { λ r. ⌜ Makes made (links (now (edges .entry)) (now (words .entry))) (links (now (edges .exit)) (now (words .exit))) (now (reals .entry)) (now (reals .exit)) (e .0) before (windowOf e into queued 0 win) ⌝ }
+{
+    let next = next_link(edges, words, made, e, before);
+    let x = WindowRecord {
+        edge: e,
+        into,
+        alive: true,
+        queued,
+        link: next,
+        win,
+    };
+    windows::store(words, reals, WindowId(made), x);
+    set_link(edges, words, e, before, made + 1);
+}
+
+// A window is trimmed.
+pub fn trim_window(reals: &mut [f64], id: WindowId, b0: f64, b1: f64, low: f64)
+    requires { ⌜ id .0 < slotsOf (length (now reals)) 6 ⌝ }
+    ensures { λ r. ⌜ Trims (now (reals .entry)) (now (reals .exit)) (id .0) b0 b1 low ⌝ }
+{
+    windows::store_range(reals, id, b0, b1, low);
+}
+
+// A window is taken out from behind a link of its edge. It keeps no link and all else but its flag.
+pub fn kill_window(
+    edges: &mut [u32],
+    words: &mut [u32],
+    made: u32,
+    e: EdgeId,
+    before: u32,
+    id: WindowId,
+)
+    requires { ⌜ (made ≤ slotsOf (length (now words)) 4) × ((e .0 < slotsOf (length (now edges)) 6) × ((before ≤ made) × (id .0 < made))) ⌝ }
+    ensures { λ r. ⌜ Kills made (links (now (edges .entry)) (now (words .entry))) (links (now (edges .exit)) (now (words .exit))) (e .0) before (id .0) ⌝ }
+{
+    let link = read_u32(words, 4, id.0, 3);
+    let next = link_in(made, link);
+    let flags = read_u32(words, 4, id.0, 2);
+    let queued = windows::has_flag(flags, 4);
+    set_link(edges, words, e, before, next);
+    write_u32(words, 4, id.0, 3, 0);
+    windows::store_flags(words, id, false, queued);
+}
+
+// A window's event was popped.
+pub fn unqueue(words: &mut [u32], id: WindowId)
+    requires { ⌜ id .0 < slotsOf (length (now words)) 4 ⌝ }
+    ensures { λ r. ⌜ Unqueues (now (words .entry)) (now (words .exit)) (id .0) ⌝ }
+{
+    let flags = read_u32(words, 4, id.0, 2);
+    let alive = windows::has_flag(flags, 2);
+    windows::store_flags(words, id, alive, false);
+}
