@@ -1,10 +1,11 @@
 -- The total order of keys beside `le` and `lt`: on numbers it refines them, so that what is sorted by it rises. Assumes nothing.
---     total-lt (what is less is less by the total order), total-le, not-total-le (the other way); lt-key, key-le (the same of `totalKey`, of doubles)
+--     total-lt (what is less is less by the total order), total-le, not-total-le (the other way), total-trans; lt-key, key-le (the same of `totalKey`, of doubles)
 use Prim.Native.Nat.{_≤_, _<_}
 use mathlib.Core.Bool.{Bool, not, _&&_, _||_}
 use mathlib.Core.Logic.{inl, inr}
 use mathlib.Core.Path.{sym, subst}
-use lib.Dec.{T, T-not, not-T, ltb→lt}
+use lib.Dec.{T, T-not, not-T, ltb→lt, lt→ltb}
+use native.Mathlib.Omega.{arith}
 use lib.Ieee.{Float, binary64, lt, le, eq, isNan, fits}
 use lib.Ieee.Fits.{and-l, and-r}
 use borrow.Author.Tests.{le-ltb}
@@ -36,3 +37,9 @@ lt-key x y p q h = ltb→lt (totalKey x) (totalKey y) (subst T (sym (totalKey-le
 
 pub key-le : (x y : Float) → T (fits binary64 x) → T (fits binary64 y) → Number x → Number y → totalKey x ≤ totalKey y → T (le x y)
 key-le x y p q a b h = not-total-le y x b a (subst (λ (c : Bool). T (not c)) (totalKey-less y x q p) (subst (λ (c : Bool). T (not c)) (sym (le-ltb (totalKey y) (totalKey x) h)) tt))
+
+pub total-trans : (x y z : Float) → T (fits binary64 x) → T (fits binary64 y) → T (fits binary64 z) → T (totalLess x y) → T (totalLess y z) → T (totalLess x z)
+total-trans x y z p q r h k =
+    let a = ltb→lt (totalKey x) (totalKey y) (subst T (sym (totalKey-less x y p q)) h) in
+    let b = ltb→lt (totalKey y) (totalKey z) (subst T (sym (totalKey-less y z q r)) k) in
+    subst T (totalKey-less x z p r) (lt→ltb (totalKey x) (totalKey z) (omega (arith, a, b)))

@@ -18,3 +18,5 @@ pub mod Forward
 pub mod Insertion
 pub mod InPlace
 pub mod Flags
+pub mod Seat
+pub mod Turns

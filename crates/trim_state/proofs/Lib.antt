@@ -1,1 +1,3 @@
 pub mod Follows
+pub mod Made
+pub mod Turns
