@@ -53,9 +53,9 @@ module _ (limit : Float) (flags : List ℕ) (e : ℕ) (len : Float) (a b : ℕ) 
         fits = inv .fits;
         linked = inv .linked;
         goal = λ cuts j end d. inv .goal cuts j end
-          (subst (λ (l : List Interval). Seats cuts (windowsOf s₀) limit flags e len a b (liveOf x j) (wideOf t l) (placeOf s made queued last vertex) end) (sym here)
-          (seats-skip cuts (windowsOf s₀) limit flags e len a b (liveOf x j) t (record { from = b0; to = b1 }) (drop (suc i) ps) h (placeOf s made queued last vertex) end
-          (subst (λ (n : ℕ). From n s vertex made queued last cuts j end) (add-one i) d)));
+            (subst (λ (l : List Interval). Seats cuts (windowsOf s₀) limit flags e len a b (liveOf x j) (wideOf t l) (placeOf s made queued last vertex) end) (sym here)
+            (seats-skip cuts (windowsOf s₀) limit flags e len a b (liveOf x j) t (record { from = b0; to = b1 }) (drop (suc i) ps) h (placeOf s made queued last vertex) end
+            (subst (λ (n : ℕ). From n s vertex made queued last cuts j end) (add-one i) d)));
       }
 
       module _ (wide : le (width b0 b1) t ≡ false) where
@@ -79,5 +79,5 @@ module _ (limit : Float) (flags : List ℕ) (e : ℕ) (len : Float) (a b : ℕ) 
           fits = subst (λ (n : ℕ). made′ ≤ n) (same-windows s₀ s (inv .same)) (l .0);
           linked = l .1;
           goal = λ cuts j end g. inv .goal cuts j end (as-wide cuts j end (in-first (at (placeOf s′ made′ queued′ last′ vertex′)) d cuts j (wideOf t (drop (suc i) ps)) end
-            (subst (λ (n : ℕ). From n s′ vertex′ made′ queued′ last′ cuts j end) (add-one i) g)));
+              (subst (λ (n : ℕ). From n s′ vertex′ made′ queued′ last′ cuts j end) (add-one i) g)));
         }

@@ -60,7 +60,7 @@ module _ (cuts windows : ℕ) (limit : Float) (flags : List ℕ) (e : ℕ) (len 
 
     -- it is made behind link r, where it belongs
     module _ (r : ℕ) (seated : Walked (sortsBefore (k .from)) (p .made) (p .links) (p .reals) e (p .last) r) (p1 : Place)
-      (ran : Ran cuts windows limit flags e (making w (p .made) k) [] (n ∷ []) (place (p .made) (p .queued) r (p .links) (p .reals) (p .queue) (p .vertex)) p1) where
+        (ran : Ran cuts windows limit flags e (making w (p .made) k) [] (n ∷ []) (place (p .made) (p .queued) r (p .links) (p .reals) (p .queue) (p .vertex)) p1) where
       pub seats-stop : (c : ℕ) → play cuts windows limit flags (touching len a b n) (stockOf p1) ≡ actions.stopped c → Does (k ∷ ks) p (stopped c)
       seats-stop c h m live xs zs i l g =
           ap (λ (todo : List Action). play cuts windows limit flags todo (stockOf p)) actions-are
@@ -86,16 +86,15 @@ module _ (cuts windows : ℕ) (limit : Float) (flags : List ℕ) (e : ℕ) (len 
 
         -- the list once n stands in it
         there : (m : ℕ) (live : ℕ → List Window) (xs zs : List Window) → e < m → p .last ≡ lastLink xs → Holds (p .made) m (p .links) (p .reals) (put e (xs ++ zs) live)
-          → (p1 .last ≡ lastLink (seatFront n xs zs)) × Holds (p1 .made) m (p1 .links) (p1 .reals) (put e (seatFront n xs zs ++ seatRest n zs) live)
+            → (p1 .last ≡ lastLink (seatFront n xs zs)) × Holds (p1 .made) m (p1 .links) (p1 .reals) (put e (seatFront n xs zs ++ seatRest n zs) live)
         there m live xs zs i l h =
             let ys = takeWhile (startsUnder n) zs in
             let rs = dropWhile (startsUnder n) zs in
             let r-is = seated .last m (put e (xs ++ zs) live) xs zs i h (put-there e (xs ++ zs) live) l in
-            let g = ran .holds m live (xs ++ ys) rs i r-is (holds-equal (p .made) m (p .links) (p .reals) e (xs ++ zs) ((xs ++ ys) ++ rs) live (seat-split (startsUnder n) xs zs) h) in
-            (
+            let g = ran .holds m live (xs ++ ys) rs i r-is (holds-equal (p .made) m (p .links) (p .reals) e (xs ++ zs) ((xs ++ ys) ++ rs) live (seat-split (startsUnder n) xs zs) h) in (
               ran .after (xs ++ ys) r-is ∙ ap lastLink (append-assoc xs ys (n ∷ [])),
               holds-equal (p1 .made) m (p1 .links) (p1 .reals) e ((xs ++ ys) ++ (n ∷ rs)) (seatFront n xs zs ++ seatRest n zs) live
-              (append-assoc xs ys (n ∷ rs) ∙ sym (append-assoc xs (ys ++ (n ∷ [])) rs ∙ ap (λ (v : List Window). xs ++ v) (append-assoc ys (n ∷ []) rs))) g,
+                  (append-assoc xs ys (n ∷ rs) ∙ sym (append-assoc xs (ys ++ (n ∷ [])) rs ∙ ap (λ (v : List Window). xs ++ v) (append-assoc ys (n ∷ []) rs))) g,
             )
 
         pub seats-turn : (end : End) → Does ks p2 end → Does (k ∷ ks) p end

@@ -121,11 +121,36 @@ fn keep_part(
     ensures { λ r. ⌜ Bounded (capacityOf (length (now (words .entry))) (length (now (reals .entry)))) r × ((cuts k : ℕ) → KeptOne cuts (capacityOf (length (now (words .entry))) (length (now (reals .entry)))) limit (now (flags .entry)) (e .0) len (a .0) (b .0) (liveOf x k) (interval b0 b1) (place (counts .made) (counts .queued) before (links (now (edges .entry)) (now (words .entry))) (now (reals .entry)) (queue (now (keys .entry)) (now (events .entry))) (now (vertex .entry))) (endOf r (links (now (edges .exit)) (now (words .exit))) (now (reals .exit)) (queue (now (keys .exit)) (now (events .exit))) (now (vertex .exit)))) ⌝ }
 {
     let seat = live_windows::seat_from(edges, words, reals, counts.made, e, before, b0);
-    let part = trim_split::make_part(edges, words, reals, keys, events, counts, e, seat, x, b0, b1);
+    let part = trim_split::make_part(
+        edges,
+        words,
+        reals,
+        keys,
+        events,
+        counts,
+        e,
+        seat,
+        x,
+        b0,
+        b1,
+    );
     match part {
         Made::Stopped(n) => Made::Stopped(n),
         Made::Went(c, last) => {
-            let touched = touch_ends(vertex, flags, keys, events, c.queued, limit, len, a, b, x, b0, b1);
+            let touched = touch_ends(
+                vertex,
+                flags,
+                keys,
+                events,
+                c.queued,
+                limit,
+                len,
+                a,
+                b,
+                x,
+                b0,
+                b1,
+            );
             let Pushed::Queued(m) = touched else {
                 return Made::Stopped(13);
             };
@@ -173,7 +198,25 @@ pub fn keep_parts(
         if b1 - b0 <= tiny {
             i += 1;
         } else {
-            let part = keep_part(edges, words, reals, keys, events, vertex, flags, now, e, last, x, b0, b1, limit, len, a, b);
+            let part = keep_part(
+                edges,
+                words,
+                reals,
+                keys,
+                events,
+                vertex,
+                flags,
+                now,
+                e,
+                last,
+                x,
+                b0,
+                b1,
+                limit,
+                len,
+                a,
+                b,
+            );
             match part {
                 Made::Stopped(n) => return Made::Stopped(n),
                 Made::Went(c, l) => {

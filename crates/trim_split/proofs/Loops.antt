@@ -107,10 +107,10 @@ module _ (e : ℕ) (x : WindowRecord) (ps : List Interval) (s₀ : Slices) (made
             from-one = omega arith;
             count = rw step (counted (inv .count) (ap length here));
             goal = λ cuts limit flags vertex k end g. inv .goal cuts limit flags vertex k end
-              (subst (λ (l : List Interval). Does cuts (windowsOf s₀) limit flags e (makings (liveOf x k) made l) [] (fresh (liveOf x k) made l) (placeOf s made queued last vertex) end) (sym here)
-              (parts-turn cuts (windowsOf s₀) limit flags e (liveOf x k) made (record { from = b0; to = b1 }) (drop (suc i) ps) (placeOf s made queued last vertex) made′ c (placeOf s′ made′ queued′ last′ vertex)
-              (in-first (at (placeOf s′ made′ queued′ last′ vertex)) cuts limit flags vertex k (d cuts limit flags vertex k)) end
-              (subst (λ (n : ℕ). Does cuts (windowsOf s₀) limit flags e (makings (liveOf x k) made′ (drop n ps)) [] (fresh (liveOf x k) made′ (drop n ps)) (placeOf s′ made′ queued′ last′ vertex) end) step g)));
+                (subst (λ (l : List Interval). Does cuts (windowsOf s₀) limit flags e (makings (liveOf x k) made l) [] (fresh (liveOf x k) made l) (placeOf s made queued last vertex) end) (sym here)
+                (parts-turn cuts (windowsOf s₀) limit flags e (liveOf x k) made (record { from = b0; to = b1 }) (drop (suc i) ps) (placeOf s made queued last vertex) made′ c (placeOf s′ made′ queued′ last′ vertex)
+                (in-first (at (placeOf s′ made′ queued′ last′ vertex)) cuts limit flags vertex k (d cuts limit flags vertex k)) end
+                (subst (λ (n : ℕ). Does cuts (windowsOf s₀) limit flags e (makings (liveOf x k) made′ (drop n ps)) [] (fresh (liveOf x k) made′ (drop n ps)) (placeOf s′ made′ queued′ last′ vertex) end) step g)));
           }
         where
           counted : made + length (drop i ps) ≡ made₀ + length (drop 1 ps) → length (drop i ps) ≡ suc (length (drop (suc i) ps)) → made′ + length (drop (suc i) ps) ≡ made₀ + length (drop 1 ps)

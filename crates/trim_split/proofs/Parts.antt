@@ -77,15 +77,15 @@ module _ (cuts windows : ℕ) (limit : Float) (flags : List ℕ) (e : EdgeId) (x
   part-none h = make-none cuts windows limit flags made queued q vertex h (pushIf (x .queued) (push (windowEvent (lowestOf (x .win .src) b0 b1) made)))
 
   module _ (room : made < windows) (low : Float) (isLow : low ≡ lowestOf (x .win .src) b0 b1) (b′ : Links) (f′ : List Float)
-    (makes : Makes made b b′ f f′ (e .0) last (windowOf e (x .into) (x .queued) 0 (record { b0 = b0; b1 = b1; low = low; src = x .win .src }))) where
+      (makes : Makes made b b′ f f′ (e .0) last (windowOf e (x .into) (x .queued) 0 (record { b0 = b0; b1 = b1; low = low; src = x .win .src }))) where
     ran : (n : ℕ) (q′ : Queue) → play cuts windows limit flags todo (stock made queued q vertex) ≡ actions.went (stock (suc made) n q′ vertex) → DoesPart (at (place (suc made) n (suc made) b′ f′ q′ vertex))
     ran n q′ h = record {
       fits = room;
       linked = omega arith;
       plays = h;
       holds = λ m live xs zs i l hs.
-        let g = makes .holds m (put (e .0) (xs ++ zs) live) xs zs i hs (put-there (e .0) (xs ++ zs) live) l .0 in
-        subst (λ (u : Window). Holds (suc made) m b′ f′ (put (e .0) (xs ++ (u ∷ zs)) live)) (made-is e x k made b0 b1 low isLow) (holds-again (suc made) m b′ f′ (e .0) (xs ++ (liveOf (windowOf e (x .into) (x .queued) 0 (record { b0 = b0; b1 = b1; low = low; src = x .win .src })) made ∷ zs)) (xs ++ zs) live g);
+          let g = makes .holds m (put (e .0) (xs ++ zs) live) xs zs i hs (put-there (e .0) (xs ++ zs) live) l .0 in
+          subst (λ (u : Window). Holds (suc made) m b′ f′ (put (e .0) (xs ++ (u ∷ zs)) live)) (made-is e x k made b0 b1 low isLow) (holds-again (suc made) m b′ f′ (e .0) (xs ++ (liveOf (windowOf e (x .into) (x .queued) 0 (record { b0 = b0; b1 = b1; low = low; src = x .win .src })) made ∷ zs)) (xs ++ zs) live g);
       after = λ xs l. sym (last-link xs (part (liveOf x k) b0 b1 made));
     }
 
@@ -139,8 +139,8 @@ module _ (cuts windows : ℕ) (limit : Float) (flags : List ℕ) (e : ℕ) (x : 
     linked = l;
     plays = play-nil cuts windows limit flags (stock made queued q vertex);
     holds = λ m live xs zs j k h.
-      holds-again made m b′ f e (xs ++ zs) (xs ++ (liveOf x id ∷ zs)) live
-      (kills .holds m f (put e (xs ++ (liveOf x id ∷ zs)) live) xs (liveOf x id) zs j h (put-there e (xs ++ (liveOf x id ∷ zs)) live) k refl .0);
+        holds-again made m b′ f e (xs ++ zs) (xs ++ (liveOf x id ∷ zs)) live
+        (kills .holds m f (put e (xs ++ (liveOf x id ∷ zs)) live) xs (liveOf x id) zs j h (put-there e (xs ++ (liveOf x id ∷ zs)) live) k refl .0);
     after = λ xs k. k ∙ ap lastLink (sym (append-nil xs));
   }
 
@@ -158,9 +158,9 @@ module _ (cuts windows : ℕ) (limit : Float) (flags : List ℕ) (e : ℕ) (x : 
       linked = in-made;
       plays = play-nil cuts windows limit flags (stock made queued q vertex);
       holds = λ m live xs zs j k h.
-        let g = trims .holds made m b e (put e (xs ++ (liveOf x id ∷ zs)) live) xs (liveOf x id) zs j h (put-there e (xs ++ (liveOf x id ∷ zs)) live) refl .0 in
-        subst (λ (y : Float). Holds made m b f′ (put e (xs ++ (ranged (liveOf x id) (p0 .from) (p0 .to) y ∷ zs)) live)) isLow
-        (holds-again made m b f′ e (xs ++ (ranged (liveOf x id) (p0 .from) (p0 .to) low ∷ zs)) (xs ++ (liveOf x id ∷ zs)) live g);
+          let g = trims .holds made m b e (put e (xs ++ (liveOf x id ∷ zs)) live) xs (liveOf x id) zs j h (put-there e (xs ++ (liveOf x id ∷ zs)) live) refl .0 in
+          subst (λ (y : Float). Holds made m b f′ (put e (xs ++ (ranged (liveOf x id) (p0 .from) (p0 .to) y ∷ zs)) live)) isLow
+          (holds-again made m b f′ e (xs ++ (ranged (liveOf x id) (p0 .from) (p0 .to) low ∷ zs)) (xs ++ (liveOf x id ∷ zs)) live g);
       after = λ xs k. sym (last-link xs first);
     }
 

@@ -35,10 +35,10 @@ module _ (cuts windows : ℕ) (limit : Float) (flags : List ℕ) (e : ℕ) where
       linked = second .linked;
       plays = play-go-append cuts windows limit flags us vs (stockOf p) (stockOf p1) (first .plays) ∙ second .plays;
       holds = λ m live xs zs j k h.
-        let a = holds-equal (p .made) m (p .links) (p .reals) e (xs ++ ((o1 ++ o2) ++ zs)) (xs ++ (o1 ++ (o2 ++ zs))) live (ap (λ (l : List Window). xs ++ l) (append-assoc o1 o2 zs)) h in
-        let b = holds-equal (p1 .made) m (p1 .links) (p1 .reals) e (xs ++ (n1 ++ (o2 ++ zs))) ((xs ++ n1) ++ (o2 ++ zs)) live (regroup xs n1 o2 zs) (first .holds m live xs (o2 ++ zs) j k a) in
-        holds-equal (p2 .made) m (p2 .links) (p2 .reals) e ((xs ++ n1) ++ (n2 ++ zs)) (xs ++ ((n1 ++ n2) ++ zs)) live (append-assoc xs n1 (n2 ++ zs) ∙ ap (λ (l : List Window). xs ++ l) (sym (append-assoc n1 n2 zs)))
-        (second .holds m live (xs ++ n1) zs j (first .after xs k) b);
+          let a = holds-equal (p .made) m (p .links) (p .reals) e (xs ++ ((o1 ++ o2) ++ zs)) (xs ++ (o1 ++ (o2 ++ zs))) live (ap (λ (l : List Window). xs ++ l) (append-assoc o1 o2 zs)) h in
+          let b = holds-equal (p1 .made) m (p1 .links) (p1 .reals) e (xs ++ (n1 ++ (o2 ++ zs))) ((xs ++ n1) ++ (o2 ++ zs)) live (regroup xs n1 o2 zs) (first .holds m live xs (o2 ++ zs) j k a) in
+          holds-equal (p2 .made) m (p2 .links) (p2 .reals) e ((xs ++ n1) ++ (n2 ++ zs)) (xs ++ ((n1 ++ n2) ++ zs)) live (append-assoc xs n1 (n2 ++ zs) ∙ ap (λ (l : List Window). xs ++ l) (sym (append-assoc n1 n2 zs)))
+          (second .holds m live (xs ++ n1) zs j (first .after xs k) b);
       after = λ xs k. second .after (xs ++ n1) (first .after xs k) ∙ ap lastLink (append-assoc xs n1 n2);
     }
 

@@ -146,5 +146,17 @@ pub fn split_window(
     let b1 = cut_lists::to_of(pieces, 0);
     let low = source::lowest(src, b0, b1);
     live_windows::trim_window(reals, id, b0, b1, low);
-    make_parts(edges, words, reals, keys, events, counts, e, id.0 + 1, x, pieces, n)
+    make_parts(
+        edges,
+        words,
+        reals,
+        keys,
+        events,
+        counts,
+        e,
+        id.0 + 1,
+        x,
+        pieces,
+        n,
+    )
 }

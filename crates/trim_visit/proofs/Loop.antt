@@ -150,6 +150,6 @@ module _ (e : ℕ) (t : Float) (w : Window) (s₀ : Slices) (c₀ : Cuts) (made�
                 few = subst (λ (n : ℕ). k′ ≤ n) (inv .same-cuts .pts) (kept .few);
                 grown = le-trans (inv .grown) (subst (λ (n : ℕ). made ≤ n) (sym (kept .count)) (visit-grows t w (liveOf x i) (pairs k (c .keep)) made));
                 goal = λ limit flags vertex r end keep′ g. inv .goal limit flags vertex r end keep′
-                  (all-turn size (windowsOf s₀) limit flags e t w (pairs k (c .keep)) (placeOf s made queued last vertex) left link follows i is x loads b
-                  (placeOf s′ (now′ .made) (now′ .queued) last′ vertex) (in-first (λ vertex. at (placeOf s′ (now′ .made) (now′ .queued) last′ vertex)) d limit flags vertex) (kept .count) (pairs k′ (c′ .keep)) (kept .keep) left′ (omega (arith, z, isLeft)) r end keep′ g);
+                    (all-turn size (windowsOf s₀) limit flags e t w (pairs k (c .keep)) (placeOf s made queued last vertex) left link follows i is x loads b
+                    (placeOf s′ (now′ .made) (now′ .queued) last′ vertex) (in-first (λ vertex. at (placeOf s′ (now′ .made) (now′ .queued) last′ vertex)) d limit flags vertex) (kept .count) (pairs k′ (c′ .keep)) (kept .keep) left′ (omega (arith, z, isLeft)) r end keep′ g);
               }

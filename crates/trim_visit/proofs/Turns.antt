@@ -99,9 +99,9 @@ module _ (cuts windows : ℕ) (limit : Float) (flags : List ℕ) (e : ℕ) (t : 
 
     -- it goes on from there
     module _ (p1 : Place) (ran : Ran cuts windows limit flags e (visiting t w u (from keep (p .made))) (u ∷ []) (turned .survivors) p p1) (isMade : p1 .made ≡ turned .made) (keep1 : List Interval) (isKeep : keep1 ≡ turned .keep)
-      (left1 : ℕ) (less : left ≡ suc left1) (r′ : Visited) (end : End) (keep′ : List Float) (rest : VisitsAll cuts windows limit flags e t w (λ zs. length zs ≤ left1) keep1 p1 r′ end keep′) where
+        (left1 : ℕ) (less : left ≡ suc left1) (r′ : Visited) (end : End) (keep′ : List Float) (rest : VisitsAll cuts windows limit flags e t w (λ zs. length zs ≤ left1) keep1 p1 r′ end keep′) where
       restart : (zs : List Window) → Does cuts windows limit flags e (visitings t w (run t w zs) (from keep1 (p1 .made))) (run t w zs) (walked t w keep1 (p1 .made) zs .survivors) p1 end × Keeps cuts r′ keep′ (walked t w keep1 (p1 .made) zs)
-        → Does cuts windows limit flags e (visitings t w (run t w zs) (from (turned .keep) (turned .made))) (run t w zs) (walked t w (turned .keep) (turned .made) zs .survivors) p1 end × Keeps cuts r′ keep′ (walked t w (turned .keep) (turned .made) zs)
+          → Does cuts windows limit flags e (visitings t w (run t w zs) (from (turned .keep) (turned .made))) (run t w zs) (walked t w (turned .keep) (turned .made) zs .survivors) p1 end × Keeps cuts r′ keep′ (walked t w (turned .keep) (turned .made) zs)
       restart zs = subst (λ (s : Walk). Does cuts windows limit flags e (visitings t w (run t w zs) (from keep1 (p1 .made))) (run t w zs) (walked t w keep1 (p1 .made) zs .survivors) p1 end × Keeps cuts r′ keep′ (walked t w keep1 (p1 .made) zs) → Does cuts windows limit flags e (visitings t w (run t w zs) s) (run t w zs) (visits betterOf t w (run t w zs) s .survivors) p1 end × Keeps cuts r′ keep′ (visits betterOf t w (run t w zs) s)) same (λ d. d)
         where
           same : from keep1 (p1 .made) ≡ from (turned .keep) (turned .made)
@@ -117,10 +117,11 @@ module _ (cuts windows : ℕ) (limit : Float) (flags : List ℕ) (e : ℕ) (t : 
       joined : (zs : List Window) → Does cuts windows limit flags e (visitings t w (run t w zs) (from (turned .keep) (turned .made))) (run t w zs) (walked t w (turned .keep) (turned .made) zs .survivors) p1 end × Keeps cuts r′ keep′ (walked t w (turned .keep) (turned .made) zs) → Goal (u ∷ zs) r′ end keep′
       joined zs d =
           let us = run t w zs in
-          subst (λ (l : List Window). Does cuts windows limit flags e (visitings t w l (from keep (p .made))) l (visits betterOf t w l (from keep (p .made)) .survivors) p end × Keeps cuts r′ keep′ (visits betterOf t w l (from keep (p .made)))) (sym (first-of zs))
-          (does-as cuts windows limit flags e p end (sym (turn-actions t w u us keep (p .made))) refl (sym (turn-survivors t w u us keep (p .made)))
-          (does-then cuts windows limit flags e (visiting t w u (from keep (p .made))) (visitings t w us (from (turned .keep) (turned .made))) (u ∷ []) us (turned .survivors) (walked t w (turned .keep) (turned .made) zs .survivors) p p1 ran end (d .0)),
-          keeps-on us (d .1))
+          subst (λ (l : List Window). Does cuts windows limit flags e (visitings t w l (from keep (p .made))) l (visits betterOf t w l (from keep (p .made)) .survivors) p end × Keeps cuts r′ keep′ (visits betterOf t w l (from keep (p .made)))) (sym (first-of zs)) (
+            does-as cuts windows limit flags e p end (sym (turn-actions t w u us keep (p .made))) refl (sym (turn-survivors t w u us keep (p .made)))
+                (does-then cuts windows limit flags e (visiting t w u (from keep (p .made))) (visitings t w us (from (turned .keep) (turned .made))) (u ∷ []) us (turned .survivors) (walked t w (turned .keep) (turned .made) zs .survivors) p p1 ran end (d .0)),
+            keeps-on us (d .1),
+          )
 
       pub all-turn : VisitsAll cuts windows limit flags e t w (λ zs. length zs ≤ left) keep p r′ end keep′
       all-turn = all-there r′ end keep′

@@ -67,7 +67,20 @@ fn visit(
     if lost == 0 {
         return Visited::Went(counts, id.0 + 1, kept);
     }
-    let left = trim_split::split_window(edges, words, reals, keys, events, counts, e, before, id, x, next, pieces);
+    let left = trim_split::split_window(
+        edges,
+        words,
+        reals,
+        keys,
+        events,
+        counts,
+        e,
+        before,
+        id,
+        x,
+        next,
+        pieces,
+    );
     match left {
         Made::Stopped(n) => Visited::Stopped(n),
         Made::Went(c, last) => Visited::Went(c, last, kept),
@@ -110,7 +123,25 @@ pub fn visits(
         let x = live_windows::load(words, reals, id);
         let old = x.win;
         if old.b0 < end {
-            let visited = visit(edges, words, reals, keys, events, keep, pts, out, next, now, e, last, id, x, kept, w, tiny);
+            let visited = visit(
+                edges,
+                words,
+                reals,
+                keys,
+                events,
+                keep,
+                pts,
+                out,
+                next,
+                now,
+                e,
+                last,
+                id,
+                x,
+                kept,
+                w,
+                tiny,
+            );
             match visited {
                 Visited::Stopped(n) => return Visited::Stopped(n),
                 Visited::Went(c, l, j) => {

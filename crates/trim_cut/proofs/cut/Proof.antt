@@ -23,12 +23,12 @@ same-length-2 : tie.Need-same-length-2
 same-length-2 c = search needs
 
 returns : tie.Need-returns
-returns c = 
+returns c =
     let a = c .before .before .before .before .before .before .before .before .before .before .before .before .before .args in
     full-better (a .p) (a .q) (a .lo) (a .hi) (a .b0) (a .b1) (a .tiny) (length (a .pts .now)) (pairs (a .k) (a .keep .now)) (c .before .before .before .before .before .before .better .last .1 .1 .1 .1 .1 .0) (omega (arith, c .before .before .before .before .before .before .better .kept .1 .1 .1 .1 .1 .0, c .before .before .before .before .before .before .before .before .before .before .before .before .before .pre .0 .outs)) (rw (c .enum-told .given .1) at (c .before .before .before .before .before .before .better .ensures))
 
 next-requires : tie.Need-next-requires
-next-requires c κs = 
+next-requires c κs =
     let a = c .before .before .before .before .before .before .before .before .before .before .before .before .before .before .before .before .before .args in
     let h = (rw (c .before .before .before .before .better2 .given .1) at (c .before .before .before .before .before .before .before .before .before .before .better .ensures)) in
     (omega (arith, c .before .before .before .before .before .before .before .before .before .before .before .before .before .before .before .before .before .pre .0 .keeps, c .before .before .before .before .before .before .before .before .before .before .before .before .before .before .before .before .before .pre .1), h .1 .0)
@@ -52,12 +52,12 @@ same-length-6 : tie.Need-same-length-6
 same-length-6 c = search needs
 
 returns-2 : tie.Need-returns-2
-returns-2 c = 
+returns-2 c =
     let a = c .before .before .before .before .before .before .before .before .before .before .before .before .before .before .before .before .before .before .before .before .before .before .args in
     full-next (a .p) (a .q) (a .lo) (a .hi) (a .b0) (a .b1) (a .tiny) (length (a .pts .now)) (pairs (a .k) (a .keep .now)) (c .before .before .before .before .before .before .before .before .before .before .before .before .before .before .before .better .last .1 .1 .1 .1 .1 .0) (c .before .before .before .before .before .before .before .before .before .better2 .given .0 .0) (rw (c .before .before .before .before .before .before .before .before .before .better2 .given .1) at (c .before .before .before .before .before .before .before .before .before .before .before .before .before .before .before .better .ensures)) (c .before .before .before .before .next .last .1 .1 .1 .1 .1 .1 .0) (omega (arith, c .before .before .before .before .next .kept .1 .1 .1 .1 .1 .1 .0, c .before .before .before .before .before .before .before .before .before .before .before .before .before .before .before .before .before .before .before .before .before .before .pre .0 .nexts)) (rw (c .enum-told2 .given .1) at (c .before .before .before .before .next .ensures))
 
 copy-requires : tie.Need-copy-requires
-copy-requires c κs = 
+copy-requires c κs =
     let h = (rw (c .before .before .before .left .given .1) at (c .before .before .before .before .before .before .before .next .ensures)) in
     let g = h .0 in
     (g, omega (arith, g, c .before .before .before .before .before .before .before .next .kept .1 .1 .1 .1 .1 .1 .0, c .before .before .before .before .before .before .before .before .before .before .before .before .before .before .before .before .before .before .before .before .before .before .before .before .before .pre .0 .nexts, c .before .before .before .before .before .before .before .before .before .before .before .before .before .before .before .before .before .before .before .before .before .before .before .before .before .pre .0 .keeps))
@@ -75,12 +75,12 @@ same-length-10 : tie.Need-same-length-10
 same-length-10 c = search needs
 
 returns-3 : tie.Need-returns-3
-returns-3 c = 
+returns-3 c =
     let a = c .before .before .before .before .before .before .before .before .before .before .before .before .before .before .before .before .before .before .before .before .before .before .before .before .before .before .before .before .before .args in
     none-lost (a .p) (a .q) (a .lo) (a .hi) (a .b0) (a .b1) (a .tiny) (length (a .pts .now)) (pairs (a .k) (a .keep .now)) (c .before .before .before .before .before .before .before .before .before .before .before .before .before .before .before .before .before .before .before .before .before .before .better .last .1 .1 .1 .1 .1 .0) (c .before .before .before .before .before .before .before .before .before .before .before .before .before .before .before .before .better2 .given .0 .0) (rw (c .before .before .before .before .before .before .before .before .before .before .before .before .before .before .before .before .better2 .given .1) at (c .before .before .before .before .before .before .before .before .before .before .before .before .before .before .before .before .before .before .before .before .before .before .better .ensures)) (omega (arith, c .before .before .before .before .before .before .before .before .before .before .before .before .before .before .before .before .before .before .before .before .before .before .better .kept .1 .1 .1 .1 .1 .0, c .before .before .before .before .before .before .before .before .before .before .before .before .before .before .before .before .before .before .before .before .before .before .before .before .before .before .before .before .before .pre .0 .outs)) (c .before .before .before .before .before .before .before .before .before .before .before .next .last .1 .1 .1 .1 .1 .1 .0) (c .before .before .before .copy .last .1 .1 .0) (omega (arith, c .before .before .before .before .before .before .before .before .before .before .before .next .kept .1 .1 .1 .1 .1 .1 .0, c .before .before .before .before .before .before .before .before .before .before .before .before .before .before .before .before .before .before .before .before .before .before .before .before .before .before .before .before .before .pre .0 .nexts)) (c .before .before .before .before .before .before .before .left .given .0 .0) (rw (c .before .before .before .before .before .before .before .left .given .1) at (c .before .before .before .before .before .before .before .before .before .before .before .next .ensures)) (c .before .before .before .copy .ensures) (c .if1 .taken) (c .before .before .before .before .before .before .before .before .before .before .before .next .last .1 .1 .1 .1 .1 .1 .0)
 
 pieces-requires : tie.Need-pieces-requires
-pieces-requires c κs = 
+pieces-requires c κs =
     let h = (rw (c .before .before .before .before .before .before .before .before .before .before .before .before .before .before .before .before .before .before .better2 .given .1) at (c .before .before .before .before .before .before .before .before .before .before .before .before .before .before .before .before .before .before .before .before .before .before .before .before .better .ensures)) in
     h .1 .0
 
@@ -103,7 +103,7 @@ same-length-14 : tie.Need-same-length-14
 same-length-14 c = search needs
 
 returns-4 : tie.Need-returns-4
-returns-4 c = 
+returns-4 c =
     let a = c .before .before .before .before .before .before .before .before .before .before .before .before .before .before .before .before .before .before .before .before .before .before .before .before .before .before .before .before .before .before .before .before .before .before .before .before .args in
     full-pieces (a .p) (a .q) (a .lo) (a .hi) (a .b0) (a .b1) (a .tiny) (length (a .pts .now)) (pairs (a .k) (a .keep .now)) (c .before .before .before .before .before .before .before .before .before .before .before .before .before .before .before .before .before .before .before .before .before .before .before .before .before .before .before .before .before .better .last .1 .1 .1 .1 .1 .0) (c .before .before .before .before .before .before .before .before .before .before .before .before .before .before .before .before .before .before .before .before .before .before .before .better2 .given .0 .0) (rw (c .before .before .before .before .before .before .before .before .before .before .before .before .before .before .before .before .before .before .before .before .before .before .before .better2 .given .1) at (c .before .before .before .before .before .before .before .before .before .before .before .before .before .before .before .before .before .before .before .before .before .before .before .before .before .before .before .before .before .better .ensures)) (c .before .before .before .before .pieces .last .1 .1 .1 .1 .1 .0) (omega (arith, c .before .before .before .before .pieces .kept .1 .1 .1 .1 .1 .0, c .before .before .before .before .before .before .before .before .before .before .before .before .before .before .before .before .before .before .next .kept .1 .1 .1 .1 .1 .1 .0, c .before .before .before .before .before .before .before .before .before .before .before .before .before .before .before .before .before .before .before .before .before .before .before .before .before .before .before .before .before .before .before .before .before .before .before .before .pre .0 .nexts)) (omega (arith, c .before .before .before .before .before .before .before .if1 .left)) (rw (c .enum-told3 .given .1) at (c .before .before .before .before .pieces .ensures))
 
@@ -120,7 +120,7 @@ same-length-18 : tie.Need-same-length-18
 same-length-18 c = search needs
 
 returns-5 : tie.Need-returns-5
-returns-5 c = 
+returns-5 c =
     let a = c .before .before .before .before .before .before .before .before .before .before .before .before .before .before .before .before .before .before .before .before .before .before .before .before .before .before .before .before .before .before .before .before .before .before .before .before .before .args in
     some-lost (a .p) (a .q) (a .lo) (a .hi) (a .b0) (a .b1) (a .tiny) (length (a .pts .now)) (pairs (a .k) (a .keep .now)) (c .before .before .before .before .before .before .before .before .before .before .before .before .before .before .before .before .before .before .before .before .before .before .before .before .before .before .before .before .before .before .better .last .1 .1 .1 .1 .1 .0) (c .before .before .before .before .before .before .before .before .before .before .before .before .before .before .before .before .before .before .before .before .before .before .before .before .better2 .given .0 .0) (rw (c .before .before .before .before .before .before .before .before .before .before .before .before .before .before .before .before .before .before .before .before .before .before .before .before .better2 .given .1) at (c .before .before .before .before .before .before .before .before .before .before .before .before .before .before .before .before .before .before .before .before .before .before .before .before .before .before .before .before .before .before .better .ensures)) (omega (arith, c .before .before .before .before .before .before .before .before .before .before .before .before .before .before .before .before .before .before .before .before .before .before .before .before .before .before .before .before .before .before .better .kept .1 .1 .1 .1 .1 .0, c .before .before .before .before .before .before .before .before .before .before .before .before .before .before .before .before .before .before .before .before .before .before .before .before .before .before .before .before .before .before .before .before .before .before .before .before .before .pre .0 .outs)) (c .before .before .before .before .before .before .before .before .before .before .before .before .before .before .before .before .before .before .before .next .last .1 .1 .1 .1 .1 .1 .0) (c .before .before .before .before .before .before .before .before .before .before .before .copy .last .1 .1 .0) (omega (arith, c .before .before .before .before .before .before .before .before .before .before .before .before .before .before .before .before .before .before .before .next .kept .1 .1 .1 .1 .1 .1 .0, c .before .before .before .before .before .before .before .before .before .before .before .before .before .before .before .before .before .before .before .before .before .before .before .before .before .before .before .before .before .before .before .before .before .before .before .before .before .pre .0 .nexts)) (c .before .before .before .before .before .before .before .before .before .before .before .before .before .before .before .left .given .0 .0) (rw (c .before .before .before .before .before .before .before .before .before .before .before .before .before .before .before .left .given .1) at (c .before .before .before .before .before .before .before .before .before .before .before .before .before .before .before .before .before .before .before .next .ensures)) (c .before .before .before .before .before .before .before .before .before .before .before .copy .ensures) (c .before .before .before .before .before .pieces .last .1 .1 .1 .1 .1 .0) (omega (arith, c .before .before .before .before .before .pieces .kept .1 .1 .1 .1 .1 .0, c .before .before .before .before .before .before .before .before .before .before .before .before .before .before .before .before .before .before .before .next .kept .1 .1 .1 .1 .1 .1 .0, c .before .before .before .before .before .before .before .before .before .before .before .before .before .before .before .before .before .before .before .before .before .before .before .before .before .before .before .before .before .before .before .before .before .before .before .before .before .pre .0 .nexts)) (c .before .rest .given .0 .0) (rw (c .before .rest .given .1) at (c .before .before .before .before .before .pieces .ensures))
 
@@ -161,4 +161,3 @@ cut-spec =
     same-length-17
     same-length-18
     returns-5)
-

@@ -51,7 +51,7 @@ same-length-6 : tie.Need-same-length-6
 same-length-6 c = search needs
 
 returns : tie.Need-returns
-returns c = 
+returns c =
     let a = c .before .before .before .before .before .before .before .before .before .before .before .before .before .before .before .before .before .before .before .before .before .before .before .before .before .before .before .before .before .before .before .before .before .before .before .before .before .before .before .before .before .before .args in
     (tt, λ cuts k ks. seats-stop cuts (windowsOf (slices (a .edges .now) (a .words .now) (a .reals .now) (a .keys .now) (a .events .now))) (a .limit) (a .flags .now) (a .e .0) (a .len) (a .a .0) (a .b .0) (liveOf (a .x) k) (interval (a .b0) (a .b1)) ks (placeOf (slices (a .edges .now) (a .words .now) (a .reals .now) (a .keys .now) (a .events .now)) (a .counts .made) (a .counts .queued) (a .before) (a .vertex .now)) (c .before .before .before .before .before .before .before .before .before .before .before .before .before .before .before .before .before .before .before .before .before .before .before .before .before .before .before .before .before .before .before .seat-from .result) (c .before .before .before .before .before .before .before .before .before .before .before .before .before .before .before .before .before .before .before .before .before .before .before .before .before .before .before .before .before .before .before .seat-from .ensures) (placeOf (slices (c .before .before .before .before .before .before .before .before .before .before .before .before .before .before .before .before .before .before .before .before .before .before .before .before .before .make-part .last .0) (c .before .before .before .before .before .before .before .before .before .before .before .before .before .before .before .before .before .before .before .before .before .before .before .before .before .make-part .last .1 .0) (c .before .before .before .before .before .before .before .before .before .before .before .before .before .before .before .before .before .before .before .before .before .before .before .before .before .make-part .last .1 .1 .0) (c .before .before .before .before .before .before .before .before .before .before .before .before .before .before .before .before .before .before .before .before .before .before .before .before .before .make-part .last .1 .1 .1 .0) (c .before .before .before .before .before .before .before .before .before .before .before .before .before .before .before .before .before .before .before .before .before .before .before .before .before .make-part .last .1 .1 .1 .1 .0)) ((c .before .before .before .before .before .before .before .before .before .before .before .before .before .part2 .given .0 .0) .made) ((c .before .before .before .before .before .before .before .before .before .before .before .before .before .part2 .given .0 .0) .queued) (c .before .before .before .before .before .before .before .before .before .before .before .before .before .part2 .given .0 .1 .0) (a .vertex .now)) ((rw (c .before .before .before .before .before .before .before .before .before .before .before .before .before .part2 .given .1) at (c .before .before .before .before .before .before .before .before .before .before .before .before .before .before .before .before .before .before .before .before .before .before .before .before .before .make-part .ensures .1)) cuts (a .limit) (a .flags .now) (a .vertex .now) k) 13 (((rw (c .enum-told .given .1) at (c .before .before .before .before .before .before .before .before .touch-ends .ensures)) cuts (windowsOf (slices (a .edges .now) (a .words .now) (a .reals .now) (a .keys .now) (a .events .now))) ((c .before .before .before .before .before .before .before .before .before .before .before .before .before .part2 .given .0 .0) .made) k (a .counts .made)) ∙ queue-full ((c .before .before .before .before .before .before .before .before .before .before .before .before .before .part2 .given .0 .0) .made) (c .before .before .before .before .before .before .before .before .touch-ends .last .0) (queue (c .before .before .before .before .before .before .before .before .touch-ends .last .1 .1 .0) (c .before .before .before .before .before .before .before .before .touch-ends .last .1 .1 .1 .0))))
 
@@ -71,7 +71,7 @@ same-length-11 : tie.Need-same-length-11
 same-length-11 c = search needs
 
 returns-2 : tie.Need-returns-2
-returns-2 c = 
+returns-2 c =
     let a = c .before .before .before .before .before .before .before .before .before .before .before .before .before .before .before .before .before .before .before .before .before .before .before .before .before .before .before .before .before .before .args in
     (tt, λ cuts k ks. seats-full cuts (windowsOf (slices (a .edges .now) (a .words .now) (a .reals .now) (a .keys .now) (a .events .now))) (a .limit) (a .flags .now) (a .e .0) (a .len) (a .a .0) (a .b .0) (liveOf (a .x) k) (interval (a .b0) (a .b1)) ks (placeOf (slices (a .edges .now) (a .words .now) (a .reals .now) (a .keys .now) (a .events .now)) (a .counts .made) (a .counts .queued) (a .before) (a .vertex .now)) (c .before .part .given .0 .0) ((rw (c .before .part .given .1) at (c .before .before .before .before .before .before .before .before .before .before .before .before .before .make-part .ensures .1)) cuts (a .limit) (a .flags .now) (a .vertex .now) k))
 
@@ -94,7 +94,7 @@ same-length-17 : tie.Need-same-length-17
 same-length-17 c = search needs
 
 returns-3 : tie.Need-returns-3
-returns-3 c = 
+returns-3 c =
     let a = c .before .before .before .before .before .before .before .before .before .before .before .before .before .before .before .before .before .before .before .before .before .before .before .before .before .before .before .before .before .before .before .before .before .before .before .before .before .before .before .before .before .before .before .args in
     let r = (rw (c .before .before .before .before .before .before .before .before .before .before .before .before .before .before .part2 .given .1) at (c .before .before .before .before .before .before .before .before .before .before .before .before .before .before .before .before .before .before .before .before .before .before .before .before .before .before .make-part .ensures .1)) 0 (a .limit) (a .flags .now) (a .vertex .now) 0 in
     ((r .fits, r .linked), λ cuts k ks end d. seats-turn cuts (windowsOf (slices (a .edges .now) (a .words .now) (a .reals .now) (a .keys .now) (a .events .now))) (a .limit) (a .flags .now) (a .e .0) (a .len) (a .a .0) (a .b .0) (liveOf (a .x) k) (interval (a .b0) (a .b1)) ks (placeOf (slices (a .edges .now) (a .words .now) (a .reals .now) (a .keys .now) (a .events .now)) (a .counts .made) (a .counts .queued) (a .before) (a .vertex .now)) (c .before .before .before .before .before .before .before .before .before .before .before .before .before .before .before .before .before .before .before .before .before .before .before .before .before .before .before .before .before .before .before .before .seat-from .result) (c .before .before .before .before .before .before .before .before .before .before .before .before .before .before .before .before .before .before .before .before .before .before .before .before .before .before .before .before .before .before .before .before .seat-from .ensures) (placeOf (slices (c .before .before .before .before .before .before .before .before .before .before .before .before .before .before .before .before .before .before .before .before .before .before .before .before .before .before .make-part .last .0) (c .before .before .before .before .before .before .before .before .before .before .before .before .before .before .before .before .before .before .before .before .before .before .before .before .before .before .make-part .last .1 .0) (c .before .before .before .before .before .before .before .before .before .before .before .before .before .before .before .before .before .before .before .before .before .before .before .before .before .before .make-part .last .1 .1 .0) (c .before .before .before .before .before .before .before .before .before .before .before .before .before .before .before .before .before .before .before .before .before .before .before .before .before .before .make-part .last .1 .1 .1 .0) (c .before .before .before .before .before .before .before .before .before .before .before .before .before .before .before .before .before .before .before .before .before .before .before .before .before .before .make-part .last .1 .1 .1 .1 .0)) ((c .before .before .before .before .before .before .before .before .before .before .before .before .before .before .part2 .given .0 .0) .made) ((c .before .before .before .before .before .before .before .before .before .before .before .before .before .before .part2 .given .0 .0) .queued) (c .before .before .before .before .before .before .before .before .before .before .before .before .before .before .part2 .given .0 .1 .0) (a .vertex .now)) ((rw (c .before .before .before .before .before .before .before .before .before .before .before .before .before .before .part2 .given .1) at (c .before .before .before .before .before .before .before .before .before .before .before .before .before .before .before .before .before .before .before .before .before .before .before .before .before .before .make-part .ensures .1)) cuts (a .limit) (a .flags .now) (a .vertex .now) k) (c .before .touched .given .0 .0) (queue (c .before .before .before .before .before .before .before .before .before .touch-ends .last .1 .1 .0) (c .before .before .before .before .before .before .before .before .before .touch-ends .last .1 .1 .1 .0)) (c .before .before .before .before .before .before .before .before .before .touch-ends .last .0) (((rw (c .before .touched .given .1) at (c .before .before .before .before .before .before .before .before .before .touch-ends .ensures)) cuts (windowsOf (slices (a .edges .now) (a .words .now) (a .reals .now) (a .keys .now) (a .events .now))) ((c .before .before .before .before .before .before .before .before .before .before .before .before .before .before .part2 .given .0 .0) .made) k (a .counts .made)) ∙ queue-more ((c .before .before .before .before .before .before .before .before .before .before .before .before .before .before .part2 .given .0 .0) .made) (c .before .touched .given .0 .0) (c .before .before .before .before .before .before .before .before .before .touch-ends .last .0) (queue (c .before .before .before .before .before .before .before .before .before .touch-ends .last .1 .1 .0) (c .before .before .before .before .before .before .before .before .before .touch-ends .last .1 .1 .1 .0))) (rw (c .before .before .before .before .before .before .before .before .before .before .before .before .before .before .part2 .given .1) at (c .before .before .before .before .before .before .before .before .before .before .before .before .before .before .before .before .before .before .before .before .before .before .before .before .before .before .make-part .ensures .0)) end d)
@@ -130,4 +130,3 @@ keep-part-spec =
     same-length-16
     same-length-17
     returns-3)
-

@@ -140,4 +140,3 @@ keep-parts-spec =
     same-length-11
     same-length-12
     returns-2)
-

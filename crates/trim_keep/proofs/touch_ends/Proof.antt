@@ -28,7 +28,7 @@ same-length-3 : tie.Need-same-length-3
 same-length-3 c = search needs
 
 returns : tie.Need-returns
-returns c =  λ cuts windows made k j.
+returns c = λ cuts windows made k j.
     let a = c .before .before .before .before .before .before .before .before .before .before .before .before .before .before .before .before .before .before .args in
     touching-full cuts windows (a .limit) (a .flags .now) (a .len) (a .a .0) (a .b .0) (a .x) (a .b0) (a .b1) (c .before .before .before .before .before .before .before .before .before .before .before .before .lowest .result) (c .before .before .before .before .before .before .before .before .before .before .before .before .lowest .ensures) k j made (a .n) (queue (a .keys .now) (a .events .now)) (a .vertex .now) (c .before .before .before .before .before .before .before .before .touch-low .last .0) (queue (c .before .before .before .before .before .before .before .before .touch-low .last .1 .1 .0) (c .before .before .before .before .before .before .before .before .touch-low .last .1 .1 .1 .0)) (rw (c .enum-told .given .1) at (c .before .before .before .before .before .before .before .before .touch-low .ensures cuts windows made))
 
@@ -45,7 +45,7 @@ same-length-6 : tie.Need-same-length-6
 same-length-6 c = search needs
 
 returns-2 : tie.Need-returns-2
-returns-2 c =  λ cuts windows made k j.
+returns-2 c = λ cuts windows made k j.
     let a = c .before .before .before .before .before .before .before .before .before .before .before .before .before .before .before .before .before .before .before .before .before .before .before .before .before .before .before .before .before .args in
     touching-on cuts windows (a .limit) (a .flags .now) (a .len) (a .a .0) (a .b .0) (a .x) (a .b0) (a .b1) (c .before .before .before .before .before .before .before .before .before .before .before .before .before .before .before .before .before .before .before .before .before .before .before .lowest .result) (c .before .before .before .before .before .before .before .before .before .before .before .before .before .before .before .before .before .before .before .before .before .before .before .lowest .ensures) k j made (a .n) (queue (a .keys .now) (a .events .now)) (a .vertex .now) (c .before .before .before .before .before .before .before .before .before .before .before .first .given .0 .0) (c .before .before .before .before .before .before .before .before .before .before .before .before .before .before .before .before .before .before .before .touch-low .last .0) (queue (c .before .before .before .before .before .before .before .before .before .before .before .before .before .before .before .before .before .before .before .touch-low .last .1 .1 .0) (c .before .before .before .before .before .before .before .before .before .before .before .before .before .before .before .before .before .before .before .touch-low .last .1 .1 .1 .0)) (rw (c .before .before .before .before .before .before .before .before .before .before .before .first .given .1) at (c .before .before .before .before .before .before .before .before .before .before .before .before .before .before .before .before .before .before .before .touch-low .ensures cuts windows made)) (queueing made (c .before .before .before .before .before .before .touch-high .last .0) (c .before .before .before .before .before .before .touch-high .result, queue (c .before .before .before .before .before .before .touch-high .last .1 .1 .0) (c .before .before .before .before .before .before .touch-high .last .1 .1 .1 .0))) (c .before .before .before .before .before .before .touch-high .ensures cuts windows made)
 
@@ -66,4 +66,3 @@ touch-ends-spec =
     same-length-5
     same-length-6
     returns-2)
-

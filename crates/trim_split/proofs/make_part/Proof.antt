@@ -21,7 +21,7 @@ same-length-2 : tie.Need-same-length-2
 same-length-2 c = search needs
 
 returns : tie.Need-returns
-returns c = 
+returns c =
     let a = c .before .before .before .before .before .before .before .before .before .before .args in
     (tt, λ cuts limit flags vertex k. part-none cuts (capacityOf (length (a .words .now)) (length (a .reals .now))) limit flags (a .e) (a .x) k (a .b0) (a .b1) (a .counts .made) (a .counts .queued) (a .before) (links (a .edges .now) (a .words .now)) (a .reals .now) (queue (a .keys .now) (a .events .now)) vertex (omega (arith, c .before .capacity .ensures, c .if1 .taken)))
 
@@ -59,7 +59,7 @@ same-length-7 : tie.Need-same-length-7
 same-length-7 c = search needs
 
 returns-2 : tie.Need-returns-2
-returns-2 c = 
+returns-2 c =
     let a = c .before .before .before .before .before .before .before .before .before .before .before .before .before .before .before .before .before .before .before .before .before .before .before .before .before .before .before .before .before .before .before .before .args in
     (tt, λ cuts limit flags vertex k. part-full cuts (capacityOf (length (a .words .now)) (length (a .reals .now))) limit flags (a .e) (a .x) k (a .b0) (a .b1) (a .counts .made) (a .counts .queued) (a .before) (links (a .edges .now) (a .words .now)) (a .reals .now) (queue (a .keys .now) (a .events .now)) vertex (omega (arith, c .before .before .before .before .before .before .before .before .before .before .before .before .before .before .before .before .before .before .before .before .before .before .before .capacity .ensures, c .before .before .before .before .before .before .before .before .before .before .before .before .before .before .before .before .before .before .before .before .before .before .if1 .left)) (c .before .before .before .before .before .before .before .before .before .before .before .before .before .before .before .before .before .before .before .before .before .lowest .result) (c .before .before .before .before .before .before .before .before .before .before .before .before .before .before .before .before .before .before .before .before .before .lowest .ensures) (links (c .before .before .before .before .before .before .before .before .before .before .before .before .before .before .before .before .before .make-window .last .0) (c .before .before .before .before .before .before .before .before .before .before .before .before .before .before .before .before .before .make-window .last .1 .0)) (c .before .before .before .before .before .before .before .before .before .before .before .before .before .before .before .before .before .make-window .last .1 .1 .0) (c .before .before .before .before .before .before .before .before .before .before .before .before .before .before .before .before .before .make-window .ensures) (c .before .before .before .before .before .before .before .before .before .before .if2 .taken) (c .before .before .before .before .before .before .before .before .before .window-event .result) (c .before .before .before .before .before .before .before .before .before .window-event .ensures) (queue (c .before .before .before .before .before .before .push .last .0) (c .before .before .before .before .before .before .push .last .1 .0)) (rw (c .enum-told .given .1) at (c .before .before .before .before .before .before .push .ensures)))
 
@@ -85,7 +85,7 @@ same-length-12 : tie.Need-same-length-12
 same-length-12 c = search needs
 
 returns-3 : tie.Need-returns-3
-returns-3 c = 
+returns-3 c =
     let a = c .before .before .before .before .before .before .before .before .before .before .before .before .before .before .before .before .before .before .before .before .before .before .before .before .before .before .before .before .before .before .before .before .before .args in
     (add-one (a .counts .made), λ cuts limit flags vertex k. part-queued cuts (capacityOf (length (a .words .now)) (length (a .reals .now))) limit flags (a .e) (a .x) k (a .b0) (a .b1) (a .counts .made) (a .counts .queued) (a .before) (links (a .edges .now) (a .words .now)) (a .reals .now) (queue (a .keys .now) (a .events .now)) vertex (omega (arith, c .before .before .before .before .before .before .before .before .before .before .before .before .before .before .before .before .before .before .before .before .before .before .before .before .capacity .ensures, c .before .before .before .before .before .before .before .before .before .before .before .before .before .before .before .before .before .before .before .before .before .before .before .if1 .left)) (c .before .before .before .before .before .before .before .before .before .before .before .before .before .before .before .before .before .before .before .before .before .before .lowest .result) (c .before .before .before .before .before .before .before .before .before .before .before .before .before .before .before .before .before .before .before .before .before .before .lowest .ensures) (links (c .before .before .before .before .before .before .before .before .before .before .before .before .before .before .before .before .before .before .make-window .last .0) (c .before .before .before .before .before .before .before .before .before .before .before .before .before .before .before .before .before .before .make-window .last .1 .0)) (c .before .before .before .before .before .before .before .before .before .before .before .before .before .before .before .before .before .before .make-window .last .1 .1 .0) (c .before .before .before .before .before .before .before .before .before .before .before .before .before .before .before .before .before .before .make-window .ensures) (c .before .before .before .before .before .before .before .before .before .before .before .if2 .taken) (c .before .before .before .before .before .before .before .before .before .before .window-event .result) (c .before .before .before .before .before .before .before .before .before .before .window-event .ensures) (queue (c .before .before .before .before .before .before .before .push .last .0) (c .before .before .before .before .before .before .before .push .last .1 .0)) (a .counts .made + 1) (add-one (a .counts .made)) (c .before .pushed .given .0 .0) (rw (c .before .pushed .given .1) at (c .before .before .before .before .before .before .before .push .ensures)))
 
@@ -105,7 +105,7 @@ same-length-15 : tie.Need-same-length-15
 same-length-15 c = search needs
 
 returns-4 : tie.Need-returns-4
-returns-4 c = 
+returns-4 c =
     let a = c .before .before .before .before .before .before .before .before .before .before .before .before .before .before .before .before .before .before .before .before .before .before .args in
     (add-one (a .counts .made), λ cuts limit flags vertex k. part-quiet cuts (capacityOf (length (a .words .now)) (length (a .reals .now))) limit flags (a .e) (a .x) k (a .b0) (a .b1) (a .counts .made) (a .counts .queued) (a .before) (links (a .edges .now) (a .words .now)) (a .reals .now) (queue (a .keys .now) (a .events .now)) vertex (omega (arith, c .before .before .before .before .before .before .before .before .before .before .before .before .before .capacity .ensures, c .before .before .before .before .before .before .before .before .before .before .before .before .if1 .left)) (c .before .before .before .before .before .before .before .before .before .before .before .lowest .result) (c .before .before .before .before .before .before .before .before .before .before .before .lowest .ensures) (links (c .before .before .before .before .before .before .before .make-window .last .0) (c .before .before .before .before .before .before .before .make-window .last .1 .0)) (c .before .before .before .before .before .before .before .make-window .last .1 .1 .0) (c .before .before .before .before .before .before .before .make-window .ensures) (a .counts .made + 1) (add-one (a .counts .made)) (c .if2 .left))
 
@@ -143,4 +143,3 @@ make-part-spec =
     same-length-14
     same-length-15
     returns-4)
-

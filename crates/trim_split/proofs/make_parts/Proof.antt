@@ -118,4 +118,3 @@ make-parts-spec =
     same-length-9
     same-length-10
     returns-2)
-

@@ -91,4 +91,3 @@ split-window-spec =
     same-length-6
     same-length-7
     returns-2)
-

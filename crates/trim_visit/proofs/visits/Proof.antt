@@ -236,4 +236,3 @@ visits-spec =
     same-length-35
     same-length-36
     returns-4)
-
