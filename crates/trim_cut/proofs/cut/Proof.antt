@@ -1,0 +1,163 @@
+-- `trim_cut::cut` meets its contract. Assumes nothing.
+use native.Mathlib.Omega.{arith}
+use lib.ListN.{length}
+use Rattle.better.specs.Buffers.{pairs}
+use Rattle.trim_cut.proofs.Cutting.{full-better, full-next, full-pieces, none-lost, some-lost}
+use borrow.Author.Needs.{needs}
+use Rattle.trim_cut.proofs.cut.Statement.{statement}
+use Rattle.trim_cut.proofs.cut.Tie as tie
+
+better-requires : tie.Need-better-requires
+better-requires c κs = search needs
+
+enum-known-better : tie.Need-enum-known-better
+enum-known-better c = search needs
+
+enum-told : tie.Need-enum-told
+enum-told c = search needs
+
+same-length : tie.Need-same-length
+same-length c = search needs
+
+same-length-2 : tie.Need-same-length-2
+same-length-2 c = search needs
+
+returns : tie.Need-returns
+returns c =
+    let a = c .before .before .before .before .before .before .before .before .before .before .before .before .before .args in
+    full-better (a .p) (a .q) (a .lo) (a .hi) (a .b0) (a .b1) (a .tiny) (length (a .pts .now)) (pairs (a .k) (a .keep .now)) (c .before .before .before .before .before .before .better .last .1 .1 .1 .1 .1 .0) (omega (arith, c .before .before .before .before .before .before .better .kept .1 .1 .1 .1 .1 .0, c .before .before .before .before .before .before .before .before .before .before .before .before .before .pre .0 .outs)) (rw (c .enum-told .given .1) at (c .before .before .before .before .before .before .better .ensures))
+
+next-requires : tie.Need-next-requires
+next-requires c κs =
+    let a = c .before .before .before .before .before .before .before .before .before .before .before .before .before .before .before .before .before .args in
+    let h = (rw (c .before .before .before .before .better2 .given .1) at (c .before .before .before .before .before .before .before .before .before .before .better .ensures)) in
+    (omega (arith, c .before .before .before .before .before .before .before .before .before .before .before .before .before .before .before .before .before .pre .0 .keeps, c .before .before .before .before .before .before .before .before .before .before .before .before .before .before .before .before .before .pre .1), h .1 .0)
+
+enum-known-left : tie.Need-enum-known-left
+enum-known-left c = search needs
+
+enum-told-2 : tie.Need-enum-told-2
+enum-told-2 c = search needs
+
+same-length-3 : tie.Need-same-length-3
+same-length-3 c = search needs
+
+same-length-4 : tie.Need-same-length-4
+same-length-4 c = search needs
+
+same-length-5 : tie.Need-same-length-5
+same-length-5 c = search needs
+
+same-length-6 : tie.Need-same-length-6
+same-length-6 c = search needs
+
+returns-2 : tie.Need-returns-2
+returns-2 c =
+    let a = c .before .before .before .before .before .before .before .before .before .before .before .before .before .before .before .before .before .before .before .before .before .before .args in
+    full-next (a .p) (a .q) (a .lo) (a .hi) (a .b0) (a .b1) (a .tiny) (length (a .pts .now)) (pairs (a .k) (a .keep .now)) (c .before .before .before .before .before .before .before .before .before .before .before .before .before .before .before .better .last .1 .1 .1 .1 .1 .0) (c .before .before .before .before .before .before .before .before .before .better2 .given .0 .0) (rw (c .before .before .before .before .before .before .before .before .before .better2 .given .1) at (c .before .before .before .before .before .before .before .before .before .before .before .before .before .before .before .better .ensures)) (c .before .before .before .before .next .last .1 .1 .1 .1 .1 .1 .0) (omega (arith, c .before .before .before .before .next .kept .1 .1 .1 .1 .1 .1 .0, c .before .before .before .before .before .before .before .before .before .before .before .before .before .before .before .before .before .before .before .before .before .before .pre .0 .nexts)) (rw (c .enum-told2 .given .1) at (c .before .before .before .before .next .ensures))
+
+copy-requires : tie.Need-copy-requires
+copy-requires c κs =
+    let h = (rw (c .before .before .before .left .given .1) at (c .before .before .before .before .before .before .before .next .ensures)) in
+    let g = h .0 in
+    (g, omega (arith, g, c .before .before .before .before .before .before .before .next .kept .1 .1 .1 .1 .1 .1 .0, c .before .before .before .before .before .before .before .before .before .before .before .before .before .before .before .before .before .before .before .before .before .before .before .before .before .pre .0 .nexts, c .before .before .before .before .before .before .before .before .before .before .before .before .before .before .before .before .before .before .before .before .before .before .before .before .before .pre .0 .keeps))
+
+same-length-7 : tie.Need-same-length-7
+same-length-7 c = search needs
+
+same-length-8 : tie.Need-same-length-8
+same-length-8 c = search needs
+
+same-length-9 : tie.Need-same-length-9
+same-length-9 c = search needs
+
+same-length-10 : tie.Need-same-length-10
+same-length-10 c = search needs
+
+returns-3 : tie.Need-returns-3
+returns-3 c =
+    let a = c .before .before .before .before .before .before .before .before .before .before .before .before .before .before .before .before .before .before .before .before .before .before .before .before .before .before .before .before .before .args in
+    none-lost (a .p) (a .q) (a .lo) (a .hi) (a .b0) (a .b1) (a .tiny) (length (a .pts .now)) (pairs (a .k) (a .keep .now)) (c .before .before .before .before .before .before .before .before .before .before .before .before .before .before .before .before .before .before .before .before .before .before .better .last .1 .1 .1 .1 .1 .0) (c .before .before .before .before .before .before .before .before .before .before .before .before .before .before .before .before .better2 .given .0 .0) (rw (c .before .before .before .before .before .before .before .before .before .before .before .before .before .before .before .before .better2 .given .1) at (c .before .before .before .before .before .before .before .before .before .before .before .before .before .before .before .before .before .before .before .before .before .before .better .ensures)) (omega (arith, c .before .before .before .before .before .before .before .before .before .before .before .before .before .before .before .before .before .before .before .before .before .before .better .kept .1 .1 .1 .1 .1 .0, c .before .before .before .before .before .before .before .before .before .before .before .before .before .before .before .before .before .before .before .before .before .before .before .before .before .before .before .before .before .pre .0 .outs)) (c .before .before .before .before .before .before .before .before .before .before .before .next .last .1 .1 .1 .1 .1 .1 .0) (c .before .before .before .copy .last .1 .1 .0) (omega (arith, c .before .before .before .before .before .before .before .before .before .before .before .next .kept .1 .1 .1 .1 .1 .1 .0, c .before .before .before .before .before .before .before .before .before .before .before .before .before .before .before .before .before .before .before .before .before .before .before .before .before .before .before .before .before .pre .0 .nexts)) (c .before .before .before .before .before .before .before .left .given .0 .0) (rw (c .before .before .before .before .before .before .before .left .given .1) at (c .before .before .before .before .before .before .before .before .before .before .before .next .ensures)) (c .before .before .before .copy .ensures) (c .if1 .taken) (c .before .before .before .before .before .before .before .before .before .before .before .next .last .1 .1 .1 .1 .1 .1 .0)
+
+pieces-requires : tie.Need-pieces-requires
+pieces-requires c κs =
+    let h = (rw (c .before .before .before .before .before .before .before .before .before .before .before .before .before .before .before .before .before .before .better2 .given .1) at (c .before .before .before .before .before .before .before .before .before .before .before .before .before .before .before .before .before .before .before .before .before .before .before .before .better .ensures)) in
+    h .1 .0
+
+enum-known-rest : tie.Need-enum-known-rest
+enum-known-rest c = search needs
+
+enum-told-3 : tie.Need-enum-told-3
+enum-told-3 c = search needs
+
+same-length-11 : tie.Need-same-length-11
+same-length-11 c = search needs
+
+same-length-12 : tie.Need-same-length-12
+same-length-12 c = search needs
+
+same-length-13 : tie.Need-same-length-13
+same-length-13 c = search needs
+
+same-length-14 : tie.Need-same-length-14
+same-length-14 c = search needs
+
+returns-4 : tie.Need-returns-4
+returns-4 c =
+    let a = c .before .before .before .before .before .before .before .before .before .before .before .before .before .before .before .before .before .before .before .before .before .before .before .before .before .before .before .before .before .before .before .before .before .before .before .before .args in
+    full-pieces (a .p) (a .q) (a .lo) (a .hi) (a .b0) (a .b1) (a .tiny) (length (a .pts .now)) (pairs (a .k) (a .keep .now)) (c .before .before .before .before .before .before .before .before .before .before .before .before .before .before .before .before .before .before .before .before .before .before .before .before .before .before .before .before .before .better .last .1 .1 .1 .1 .1 .0) (c .before .before .before .before .before .before .before .before .before .before .before .before .before .before .before .before .before .before .before .before .before .before .before .better2 .given .0 .0) (rw (c .before .before .before .before .before .before .before .before .before .before .before .before .before .before .before .before .before .before .before .before .before .before .before .better2 .given .1) at (c .before .before .before .before .before .before .before .before .before .before .before .before .before .before .before .before .before .before .before .before .before .before .before .before .before .before .before .before .before .better .ensures)) (c .before .before .before .before .pieces .last .1 .1 .1 .1 .1 .0) (omega (arith, c .before .before .before .before .pieces .kept .1 .1 .1 .1 .1 .0, c .before .before .before .before .before .before .before .before .before .before .before .before .before .before .before .before .before .before .next .kept .1 .1 .1 .1 .1 .1 .0, c .before .before .before .before .before .before .before .before .before .before .before .before .before .before .before .before .before .before .before .before .before .before .before .before .before .before .before .before .before .before .before .before .before .before .before .before .pre .0 .nexts)) (omega (arith, c .before .before .before .before .before .before .before .if1 .left)) (rw (c .enum-told3 .given .1) at (c .before .before .before .before .pieces .ensures))
+
+same-length-15 : tie.Need-same-length-15
+same-length-15 c = search needs
+
+same-length-16 : tie.Need-same-length-16
+same-length-16 c = search needs
+
+same-length-17 : tie.Need-same-length-17
+same-length-17 c = search needs
+
+same-length-18 : tie.Need-same-length-18
+same-length-18 c = search needs
+
+returns-5 : tie.Need-returns-5
+returns-5 c =
+    let a = c .before .before .before .before .before .before .before .before .before .before .before .before .before .before .before .before .before .before .before .before .before .before .before .before .before .before .before .before .before .before .before .before .before .before .before .before .before .args in
+    some-lost (a .p) (a .q) (a .lo) (a .hi) (a .b0) (a .b1) (a .tiny) (length (a .pts .now)) (pairs (a .k) (a .keep .now)) (c .before .before .before .before .before .before .before .before .before .before .before .before .before .before .before .before .before .before .before .before .before .before .before .before .before .before .before .before .before .before .better .last .1 .1 .1 .1 .1 .0) (c .before .before .before .before .before .before .before .before .before .before .before .before .before .before .before .before .before .before .before .before .before .before .before .before .better2 .given .0 .0) (rw (c .before .before .before .before .before .before .before .before .before .before .before .before .before .before .before .before .before .before .before .before .before .before .before .before .better2 .given .1) at (c .before .before .before .before .before .before .before .before .before .before .before .before .before .before .before .before .before .before .before .before .before .before .before .before .before .before .before .before .before .before .better .ensures)) (omega (arith, c .before .before .before .before .before .before .before .before .before .before .before .before .before .before .before .before .before .before .before .before .before .before .before .before .before .before .before .before .before .before .better .kept .1 .1 .1 .1 .1 .0, c .before .before .before .before .before .before .before .before .before .before .before .before .before .before .before .before .before .before .before .before .before .before .before .before .before .before .before .before .before .before .before .before .before .before .before .before .before .pre .0 .outs)) (c .before .before .before .before .before .before .before .before .before .before .before .before .before .before .before .before .before .before .before .next .last .1 .1 .1 .1 .1 .1 .0) (c .before .before .before .before .before .before .before .before .before .before .before .copy .last .1 .1 .0) (omega (arith, c .before .before .before .before .before .before .before .before .before .before .before .before .before .before .before .before .before .before .before .next .kept .1 .1 .1 .1 .1 .1 .0, c .before .before .before .before .before .before .before .before .before .before .before .before .before .before .before .before .before .before .before .before .before .before .before .before .before .before .before .before .before .before .before .before .before .before .before .before .before .pre .0 .nexts)) (c .before .before .before .before .before .before .before .before .before .before .before .before .before .before .before .left .given .0 .0) (rw (c .before .before .before .before .before .before .before .before .before .before .before .before .before .before .before .left .given .1) at (c .before .before .before .before .before .before .before .before .before .before .before .before .before .before .before .before .before .before .before .next .ensures)) (c .before .before .before .before .before .before .before .before .before .before .before .copy .ensures) (c .before .before .before .before .before .pieces .last .1 .1 .1 .1 .1 .0) (omega (arith, c .before .before .before .before .before .pieces .kept .1 .1 .1 .1 .1 .0, c .before .before .before .before .before .before .before .before .before .before .before .before .before .before .before .before .before .before .before .next .kept .1 .1 .1 .1 .1 .1 .0, c .before .before .before .before .before .before .before .before .before .before .before .before .before .before .before .before .before .before .before .before .before .before .before .before .before .before .before .before .before .before .before .before .before .before .before .before .before .pre .0 .nexts)) (c .before .rest .given .0 .0) (rw (c .before .rest .given .1) at (c .before .before .before .before .before .pieces .ensures))
+
+pub cut-spec : {M : Type 1} → statement M
+cut-spec =
+    tie.close
+    (tie.spec
+    better-requires
+    enum-known-better
+    enum-told
+    same-length
+    same-length-2
+    returns
+    next-requires
+    enum-known-left
+    enum-told-2
+    same-length-3
+    same-length-4
+    same-length-5
+    same-length-6
+    returns-2
+    copy-requires
+    same-length-7
+    same-length-8
+    same-length-9
+    same-length-10
+    returns-3
+    pieces-requires
+    enum-known-rest
+    enum-told-3
+    same-length-11
+    same-length-12
+    same-length-13
+    same-length-14
+    returns-4
+    same-length-15
+    same-length-16
+    same-length-17
+    same-length-18
+    returns-5)

@@ -1,0 +1,3 @@
+pub mod Touching
+pub mod Seating
+pub mod Loop

@@ -1,0 +1,142 @@
+-- `trim_keep::keep_parts` meets its contract. The invariant: what the intervals from here on come to is what they come to at first. Assumes nothing.
+use Prim.Native.Nat.{suc, _+_, _-_}
+use mathlib.Core.Path.{_∙_}
+use native.Mathlib.Omega.{arith}
+use lib.ListN.{drop, getD}
+use lib.Ieee.{nan}
+use Rattle.better.specs.Buffers.{pairs}
+use Rattle.cut_lists.proofs.Entries.{pairs-from, pairs-past}
+use Rattle.trim_split.proofs.Loops.{slices, here-is}
+use Rattle.trim_keep.proofs.Loop.{KeepInv, keep-start, keep-ready, keep-over, keep-skip, keep-stopped, keep-next}
+use borrow.Author.Needs.{needs}
+use Rattle.trim_keep.proofs.keep_parts.Statement.{statement}
+use Rattle.trim_keep.proofs.keep_parts.Tie as tie
+
+abbrev Inv-loop : tie.InvT-loop
+Inv-loop edges₀ words₀ reals₀ keys₀ events₀ vertex₀ flags keep k e before x tiny limit len a b now₀ last₀ i₀ edges words reals keys events vertex now last i = KeepInv limit flags (e .0) len (a .0) (b .0) x tiny (pairs k keep) (slices edges₀ words₀ reals₀ keys₀ events₀) vertex₀ (now₀ .made) (now₀ .queued) last₀ (slices edges words reals keys events) vertex (now .made) (now .queued) last i
+
+abbrev μ-loop : tie.MeasureT-loop
+μ-loop edges₀ words₀ reals₀ keys₀ events₀ vertex₀ flags keep k e before x tiny limit len a b now₀ last₀ i₀ edges words reals keys events vertex now last i = k - i
+
+loop-holds : tie.Need-loop-holds Inv-loop μ-loop
+loop-holds c =
+    let a = c .before .before .before .before .before .before .before .before .args in
+    keep-start (a .limit) (a .flags .now) (a .e .0) (a .len) (a .a .0) (a .b .0) (a .x) (a .tiny) (pairs (a .k) (a .keep .now)) (slices (a .edges .now) (a .words .now) (a .reals .now) (a .keys .now) (a .events .now)) (a .vertex .now) (a .counts .made) (a .counts .queued) (a .before) (c .before .before .before .before .before .before .before .before .pre .0)
+
+from-of-requires : tie.Need-from-of-requires Inv-loop μ-loop
+from-of-requires c κs = omega (arith, c .before .before .before .before .before .before .before .before .before .before .pre .1, c .loop-test .taken)
+
+to-of-requires : tie.Need-to-of-requires Inv-loop μ-loop
+to-of-requires c κs = omega (arith, c .before .before .before .before .before .before .before .before .before .before .before .pre .1, c .before .loop-test .taken)
+
+add-i : tie.Need-add-i Inv-loop μ-loop
+add-i c = omega (arith, c .before .before .before .loop-test .taken, c .before .before .before .before .before .before .before .before .before .before .before .before .before .fits .k)
+
+loop-less : tie.Need-loop-less Inv-loop μ-loop
+loop-less c = omega (arith, c .before .before .before .loop-test .taken)
+
+loop-again : tie.Need-loop-again Inv-loop μ-loop
+loop-again c =
+    let a = c .before .before .before .before .before .before .before .before .before .before .before .before .before .args in
+    keep-skip (a .limit) (a .flags .now) (a .e .0) (a .len) (a .a .0) (a .b .0) (a .x) (a .tiny) (pairs (a .k) (a .keep .now)) (slices (a .edges .now) (a .words .now) (a .reals .now) (a .keys .now) (a .events .now)) (a .vertex .now) (a .counts .made) (a .counts .queued) (a .before) (slices (c .before .before .before .before .loop .edges) (c .before .before .before .before .loop .words) (c .before .before .before .before .loop .reals) (c .before .before .before .before .loop .keys) (c .before .before .before .before .loop .events)) (c .before .before .before .before .loop .vertex) (c .before .before .before .before .loop .now .made) (c .before .before .before .before .loop .now .queued) (c .before .before .before .before .loop .last) (c .before .before .before .before .loop .i) (c .before .before .before .before .loop .inv) (c .before .before .from-of .result) (c .before .to-of .result) (here-is (drop (c .before .before .before .before .loop .i) (pairs (a .k) (a .keep .now))) (drop (suc (c .before .before .before .before .loop .i)) (pairs (a .k) (a .keep .now))) (c .before .before .from-of .result) (c .before .to-of .result) (getD (a .keep .now) (c .before .before .before .before .loop .i + c .before .before .before .before .loop .i) nan) (getD (a .keep .now) (suc (c .before .before .before .before .loop .i + c .before .before .before .before .loop .i)) nan) (pairs-from (a .keep .now) (a .k) (c .before .before .before .before .loop .i) (c .before .before .before .loop-test .taken)) (c .before .before .from-of .ensures) (c .before .to-of .ensures)) (c .if1 .taken)
+
+keep-part-requires : tie.Need-keep-part-requires Inv-loop μ-loop
+keep-part-requires c κs =
+    let a = c .before .before .before .before .before .before .before .before .before .before .before .before .before .before .before .before .before .before .before .args in
+    keep-ready (a .limit) (a .flags .now) (a .e .0) (a .len) (a .a .0) (a .b .0) (a .x) (a .tiny) (pairs (a .k) (a .keep .now)) (slices (a .edges .now) (a .words .now) (a .reals .now) (a .keys .now) (a .events .now)) (a .vertex .now) (a .counts .made) (a .counts .queued) (a .before) (slices (c .before .before .before .before .before .before .before .before .before .before .loop .edges) (c .before .before .before .before .before .before .before .before .before .before .loop .words) (c .before .before .before .before .before .before .before .before .before .before .loop .reals) (c .before .before .before .before .before .before .before .before .before .before .loop .keys) (c .before .before .before .before .before .before .before .before .before .before .loop .events)) (c .before .before .before .before .before .before .before .before .before .before .loop .vertex) (c .before .before .before .before .before .before .before .before .before .before .loop .now .made) (c .before .before .before .before .before .before .before .before .before .before .loop .now .queued) (c .before .before .before .before .before .before .before .before .before .before .loop .last) (c .before .before .before .before .before .before .before .before .before .before .loop .i) (c .before .before .before .before .before .before .before .before .before .before .loop .inv)
+
+enum-known-part : tie.Need-enum-known-part Inv-loop μ-loop
+enum-known-part c = search needs
+
+same-length : tie.Need-same-length Inv-loop μ-loop
+same-length c = c .before .before .before .before .before .before .before .before .before .before .before .before .before .before .before .keep-part .kept .0 ∙ c .before .before .before .before .before .before .before .before .before .before .before .before .before .before .before .before .before .before .before .before .before .before .before .before .before .before .loop .inv .same .edges
+
+same-length-2 : tie.Need-same-length-2 Inv-loop μ-loop
+same-length-2 c = c .before .before .before .before .before .before .before .before .before .before .before .before .before .before .before .keep-part .kept .1 .0 ∙ c .before .before .before .before .before .before .before .before .before .before .before .before .before .before .before .before .before .before .before .before .before .before .before .before .before .before .loop .inv .same .words
+
+same-length-3 : tie.Need-same-length-3 Inv-loop μ-loop
+same-length-3 c = c .before .before .before .before .before .before .before .before .before .before .before .before .before .before .before .keep-part .kept .1 .1 .0 ∙ c .before .before .before .before .before .before .before .before .before .before .before .before .before .before .before .before .before .before .before .before .before .before .before .before .before .before .loop .inv .same .reals
+
+same-length-4 : tie.Need-same-length-4 Inv-loop μ-loop
+same-length-4 c = c .before .before .before .before .before .before .before .before .before .before .before .before .before .before .before .keep-part .kept .1 .1 .1 .0 ∙ c .before .before .before .before .before .before .before .before .before .before .before .before .before .before .before .before .before .before .before .before .before .before .before .before .before .before .loop .inv .same .keys
+
+same-length-5 : tie.Need-same-length-5 Inv-loop μ-loop
+same-length-5 c = c .before .before .before .before .before .before .before .before .before .before .before .before .before .before .before .keep-part .kept .1 .1 .1 .1 .0 ∙ c .before .before .before .before .before .before .before .before .before .before .before .before .before .before .before .before .before .before .before .before .before .before .before .before .before .before .loop .inv .same .events
+
+same-length-6 : tie.Need-same-length-6 Inv-loop μ-loop
+same-length-6 c = c .before .before .before .before .before .before .before .before .before .before .before .before .before .before .before .keep-part .kept .1 .1 .1 .1 .1 .0 ∙ c .before .before .before .before .before .before .before .before .before .before .before .before .before .before .before .before .before .before .before .before .before .before .before .before .before .before .loop .inv .same-vertex
+
+returns : tie.Need-returns Inv-loop μ-loop
+returns c =
+    let a = c .before .before .before .before .before .before .before .before .before .before .before .before .before .before .before .before .before .before .before .before .before .before .before .before .before .before .before .before .before .before .before .before .before .before .before .args in
+    (tt, keep-stopped (a .limit) (a .flags .now) (a .e .0) (a .len) (a .a .0) (a .b .0) (a .x) (a .tiny) (pairs (a .k) (a .keep .now)) (slices (a .edges .now) (a .words .now) (a .reals .now) (a .keys .now) (a .events .now)) (a .vertex .now) (a .counts .made) (a .counts .queued) (a .before) (slices (c .before .before .before .before .before .before .before .before .before .before .before .before .before .before .before .before .before .before .before .before .before .before .before .before .before .before .loop .edges) (c .before .before .before .before .before .before .before .before .before .before .before .before .before .before .before .before .before .before .before .before .before .before .before .before .before .before .loop .words) (c .before .before .before .before .before .before .before .before .before .before .before .before .before .before .before .before .before .before .before .before .before .before .before .before .before .before .loop .reals) (c .before .before .before .before .before .before .before .before .before .before .before .before .before .before .before .before .before .before .before .before .before .before .before .before .before .before .loop .keys) (c .before .before .before .before .before .before .before .before .before .before .before .before .before .before .before .before .before .before .before .before .before .before .before .before .before .before .loop .events)) (c .before .before .before .before .before .before .before .before .before .before .before .before .before .before .before .before .before .before .before .before .before .before .before .before .before .before .loop .vertex) (c .before .before .before .before .before .before .before .before .before .before .before .before .before .before .before .before .before .before .before .before .before .before .before .before .before .before .loop .now .made) (c .before .before .before .before .before .before .before .before .before .before .before .before .before .before .before .before .before .before .before .before .before .before .before .before .before .before .loop .now .queued) (c .before .before .before .before .before .before .before .before .before .before .before .before .before .before .before .before .before .before .before .before .before .before .before .before .before .before .loop .last) (c .before .before .before .before .before .before .before .before .before .before .before .before .before .before .before .before .before .before .before .before .before .before .before .before .before .before .loop .i) (c .before .before .before .before .before .before .before .before .before .before .before .before .before .before .before .before .before .before .before .before .before .before .before .before .before .before .loop .inv) (c .before .before .before .before .before .before .before .before .before .before .before .before .before .before .before .before .before .before .before .before .before .before .before .before .from-of .result) (c .before .before .before .before .before .before .before .before .before .before .before .before .before .before .before .before .before .before .before .before .before .before .before .to-of .result) (here-is (drop (c .before .before .before .before .before .before .before .before .before .before .before .before .before .before .before .before .before .before .before .before .before .before .before .before .before .before .loop .i) (pairs (a .k) (a .keep .now))) (drop (suc (c .before .before .before .before .before .before .before .before .before .before .before .before .before .before .before .before .before .before .before .before .before .before .before .before .before .before .loop .i)) (pairs (a .k) (a .keep .now))) (c .before .before .before .before .before .before .before .before .before .before .before .before .before .before .before .before .before .before .before .before .before .before .before .before .from-of .result) (c .before .before .before .before .before .before .before .before .before .before .before .before .before .before .before .before .before .before .before .before .before .before .before .to-of .result) (getD (a .keep .now) (c .before .before .before .before .before .before .before .before .before .before .before .before .before .before .before .before .before .before .before .before .before .before .before .before .before .before .loop .i + c .before .before .before .before .before .before .before .before .before .before .before .before .before .before .before .before .before .before .before .before .before .before .before .before .before .before .loop .i) nan) (getD (a .keep .now) (suc (c .before .before .before .before .before .before .before .before .before .before .before .before .before .before .before .before .before .before .before .before .before .before .before .before .before .before .loop .i + c .before .before .before .before .before .before .before .before .before .before .before .before .before .before .before .before .before .before .before .before .before .before .before .before .before .before .loop .i)) nan) (pairs-from (a .keep .now) (a .k) (c .before .before .before .before .before .before .before .before .before .before .before .before .before .before .before .before .before .before .before .before .before .before .before .before .before .before .loop .i) (c .before .before .before .before .before .before .before .before .before .before .before .before .before .before .before .before .before .before .before .before .before .before .before .before .before .loop-test .taken)) (c .before .before .before .before .before .before .before .before .before .before .before .before .before .before .before .before .before .before .before .before .before .before .before .before .from-of .ensures) (c .before .before .before .before .before .before .before .before .before .before .before .before .before .before .before .before .before .before .before .before .before .before .before .to-of .ensures)) (c .before .before .before .before .before .before .before .before .before .before .before .before .before .before .before .before .before .before .before .before .before .before .if1 .left) (c .before .part .given .0 .0) (rw (c .before .part .given .1) at (c .before .before .before .before .before .before .before .before .before .before .before .before .before .before .before .keep-part .ensures .1)))
+
+enum-known-part-2 : tie.Need-enum-known-part-2 Inv-loop μ-loop
+enum-known-part-2 c = search needs
+
+add-i-2 : tie.Need-add-i-2 Inv-loop μ-loop
+add-i-2 c = omega (arith, c .before .before .before .before .before .before .before .before .before .before .before .before .before .before .before .before .before .before .before .before .before .before .before .before .before .loop-test .taken, c .before .before .before .before .before .before .before .before .before .before .before .before .before .before .before .before .before .before .before .before .before .before .before .before .before .before .before .before .before .before .before .before .before .before .before .fits .k)
+
+loop-less-2 : tie.Need-loop-less-2 Inv-loop μ-loop
+loop-less-2 c = omega (arith, c .before .before .before .before .before .before .before .before .before .before .before .before .before .before .before .before .before .before .before .before .before .before .before .before .before .loop-test .taken)
+
+loop-again-2 : tie.Need-loop-again-2 Inv-loop μ-loop
+loop-again-2 c =
+    let a = c .before .before .before .before .before .before .before .before .before .before .before .before .before .before .before .before .before .before .before .before .before .before .before .before .before .before .before .before .before .before .before .before .before .before .before .args in
+    keep-next (a .limit) (a .flags .now) (a .e .0) (a .len) (a .a .0) (a .b .0) (a .x) (a .tiny) (pairs (a .k) (a .keep .now)) (slices (a .edges .now) (a .words .now) (a .reals .now) (a .keys .now) (a .events .now)) (a .vertex .now) (a .counts .made) (a .counts .queued) (a .before) (slices (c .before .before .before .before .before .before .before .before .before .before .before .before .before .before .before .before .before .before .before .before .before .before .before .before .before .before .loop .edges) (c .before .before .before .before .before .before .before .before .before .before .before .before .before .before .before .before .before .before .before .before .before .before .before .before .before .before .loop .words) (c .before .before .before .before .before .before .before .before .before .before .before .before .before .before .before .before .before .before .before .before .before .before .before .before .before .before .loop .reals) (c .before .before .before .before .before .before .before .before .before .before .before .before .before .before .before .before .before .before .before .before .before .before .before .before .before .before .loop .keys) (c .before .before .before .before .before .before .before .before .before .before .before .before .before .before .before .before .before .before .before .before .before .before .before .before .before .before .loop .events)) (c .before .before .before .before .before .before .before .before .before .before .before .before .before .before .before .before .before .before .before .before .before .before .before .before .before .before .loop .vertex) (c .before .before .before .before .before .before .before .before .before .before .before .before .before .before .before .before .before .before .before .before .before .before .before .before .before .before .loop .now .made) (c .before .before .before .before .before .before .before .before .before .before .before .before .before .before .before .before .before .before .before .before .before .before .before .before .before .before .loop .now .queued) (c .before .before .before .before .before .before .before .before .before .before .before .before .before .before .before .before .before .before .before .before .before .before .before .before .before .before .loop .last) (c .before .before .before .before .before .before .before .before .before .before .before .before .before .before .before .before .before .before .before .before .before .before .before .before .before .before .loop .i) (c .before .before .before .before .before .before .before .before .before .before .before .before .before .before .before .before .before .before .before .before .before .before .before .before .before .before .loop .inv) (c .before .before .before .before .before .before .before .before .before .before .before .before .before .before .before .before .before .before .before .before .before .before .before .before .from-of .result) (c .before .before .before .before .before .before .before .before .before .before .before .before .before .before .before .before .before .before .before .before .before .before .before .to-of .result) (here-is (drop (c .before .before .before .before .before .before .before .before .before .before .before .before .before .before .before .before .before .before .before .before .before .before .before .before .before .before .loop .i) (pairs (a .k) (a .keep .now))) (drop (suc (c .before .before .before .before .before .before .before .before .before .before .before .before .before .before .before .before .before .before .before .before .before .before .before .before .before .before .loop .i)) (pairs (a .k) (a .keep .now))) (c .before .before .before .before .before .before .before .before .before .before .before .before .before .before .before .before .before .before .before .before .before .before .before .before .from-of .result) (c .before .before .before .before .before .before .before .before .before .before .before .before .before .before .before .before .before .before .before .before .before .before .before .to-of .result) (getD (a .keep .now) (c .before .before .before .before .before .before .before .before .before .before .before .before .before .before .before .before .before .before .before .before .before .before .before .before .before .before .loop .i + c .before .before .before .before .before .before .before .before .before .before .before .before .before .before .before .before .before .before .before .before .before .before .before .before .before .before .loop .i) nan) (getD (a .keep .now) (suc (c .before .before .before .before .before .before .before .before .before .before .before .before .before .before .before .before .before .before .before .before .before .before .before .before .before .before .loop .i + c .before .before .before .before .before .before .before .before .before .before .before .before .before .before .before .before .before .before .before .before .before .before .before .before .before .before .loop .i)) nan) (pairs-from (a .keep .now) (a .k) (c .before .before .before .before .before .before .before .before .before .before .before .before .before .before .before .before .before .before .before .before .before .before .before .before .before .before .loop .i) (c .before .before .before .before .before .before .before .before .before .before .before .before .before .before .before .before .before .before .before .before .before .before .before .before .before .loop-test .taken)) (c .before .before .before .before .before .before .before .before .before .before .before .before .before .before .before .before .before .before .before .before .before .before .before .before .from-of .ensures) (c .before .before .before .before .before .before .before .before .before .before .before .before .before .before .before .before .before .before .before .before .before .before .before .to-of .ensures)) (c .before .before .before .before .before .before .before .before .before .before .before .before .before .before .before .before .before .before .before .before .before .before .if1 .left) (slices (c .before .before .before .before .before .before .before .before .before .before .before .before .before .before .before .keep-part .last .0) (c .before .before .before .before .before .before .before .before .before .before .before .before .before .before .before .keep-part .last .1 .0) (c .before .before .before .before .before .before .before .before .before .before .before .before .before .before .before .keep-part .last .1 .1 .0) (c .before .before .before .before .before .before .before .before .before .before .before .before .before .before .before .keep-part .last .1 .1 .1 .0) (c .before .before .before .before .before .before .before .before .before .before .before .before .before .before .before .keep-part .last .1 .1 .1 .1 .0)) (c .before .before .before .before .before .before .before .before .before .before .before .before .before .before .before .keep-part .last .1 .1 .1 .1 .1 .0) (c .before .part2 .given .0 .0 .made) (c .before .part2 .given .0 .0 .queued) (c .before .part2 .given .0 .1 .0) (record { edges = c .before .before .before .before .before .before .before .before .before .before .before .before .before .before .before .keep-part .kept .0; words = c .before .before .before .before .before .before .before .before .before .before .before .before .before .before .before .keep-part .kept .1 .0; reals = c .before .before .before .before .before .before .before .before .before .before .before .before .before .before .before .keep-part .kept .1 .1 .0; keys = c .before .before .before .before .before .before .before .before .before .before .before .before .before .before .before .keep-part .kept .1 .1 .1 .0; events = c .before .before .before .before .before .before .before .before .before .before .before .before .before .before .before .keep-part .kept .1 .1 .1 .1 .0 }) (c .before .before .before .before .before .before .before .before .before .before .before .before .before .before .before .keep-part .kept .1 .1 .1 .1 .1 .0) (rw (c .before .part2 .given .1) at (c .before .before .before .before .before .before .before .before .before .before .before .before .before .before .before .keep-part .ensures .0)) (rw (c .before .part2 .given .1) at (c .before .before .before .before .before .before .before .before .before .before .before .before .before .before .before .keep-part .ensures .1))
+
+same-length-7 : tie.Need-same-length-7 Inv-loop μ-loop
+same-length-7 c = c .before .loop .inv .same .edges
+
+same-length-8 : tie.Need-same-length-8 Inv-loop μ-loop
+same-length-8 c = c .before .loop .inv .same .words
+
+same-length-9 : tie.Need-same-length-9 Inv-loop μ-loop
+same-length-9 c = c .before .loop .inv .same .reals
+
+same-length-10 : tie.Need-same-length-10 Inv-loop μ-loop
+same-length-10 c = c .before .loop .inv .same .keys
+
+same-length-11 : tie.Need-same-length-11 Inv-loop μ-loop
+same-length-11 c = c .before .loop .inv .same .events
+
+same-length-12 : tie.Need-same-length-12 Inv-loop μ-loop
+same-length-12 c = c .before .loop .inv .same-vertex
+
+returns-2 : tie.Need-returns-2 Inv-loop μ-loop
+returns-2 c =
+    let a = c .before .before .before .before .before .before .before .before .before .before .args in
+    ((c .before .loop .inv .fits, c .before .loop .inv .linked), keep-over (a .limit) (a .flags .now) (a .e .0) (a .len) (a .a .0) (a .b .0) (a .x) (a .tiny) (pairs (a .k) (a .keep .now)) (slices (a .edges .now) (a .words .now) (a .reals .now) (a .keys .now) (a .events .now)) (a .vertex .now) (a .counts .made) (a .counts .queued) (a .before) (slices (c .before .loop .edges) (c .before .loop .words) (c .before .loop .reals) (c .before .loop .keys) (c .before .loop .events)) (c .before .loop .vertex) (c .before .loop .now .made) (c .before .loop .now .queued) (c .before .loop .last) (c .before .loop .i) (c .before .loop .inv) (pairs-past (a .keep .now) (a .k) (c .before .loop .i) (c .loop-test .left)))
+
+pub keep-parts-spec : {M : Type 1} → statement M
+keep-parts-spec =
+    tie.close
+    (tie.spec
+    Inv-loop
+    μ-loop
+    loop-holds
+    from-of-requires
+    to-of-requires
+    add-i
+    loop-less
+    loop-again
+    keep-part-requires
+    enum-known-part
+    same-length
+    same-length-2
+    same-length-3
+    same-length-4
+    same-length-5
+    same-length-6
+    returns
+    enum-known-part-2
+    add-i-2
+    loop-less-2
+    loop-again-2
+    same-length-7
+    same-length-8
+    same-length-9
+    same-length-10
+    same-length-11
+    same-length-12
+    returns-2)

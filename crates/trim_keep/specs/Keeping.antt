@@ -1,0 +1,41 @@
+-- The loop of `add` over the intervals that the new window keeps: those that are wide become windows, each seated by its start. Definitions only.
+use Prim.Native.Nat.{ℕ, _≤_, _<_}
+use mathlib.Core.List.{List, _∷_, _++_}
+use mathlib.Core.Path.{_≡_}
+use lib.Ieee.{Float}
+use Rattle.better.specs.Stretches.{Interval}
+use Rattle.actions.specs.Actions as actions
+use Rattle.actions.specs.Actions.{play}
+use Rattle.trim_model.specs.Windows.{Window, fresh}
+use Rattle.trim_model.proofs.Seat.{seatAll}
+use Rattle.trim_state.specs.State.{put}
+use Rattle.trim_state.specs.Trace.{keeping}
+use Rattle.live_windows.specs.Live.{Holds, lastLink}
+use Rattle.trim_split.specs.declared.Made.{Made}
+use Rattle.trim_split.specs.declared.Made.the-variants.{Stopped, Went}
+use Rattle.trim_split.specs.Running.{Place, stockOf, End, stopped, at}
+
+-- if it was not stopped, the counts are within the buffers
+abbrev pub Bounded : ℕ → Made → Type 0
+Bounded windows (Stopped n) = Unit {0}
+Bounded windows (Went c last) = (c .made ≤ windows) × (last ≤ c .made)
+
+-- the counts of the cut buffer and the window buffer, the limit, the flags of the vertices; the edge, its length and its ends; and the new window
+module _ (cuts windows : ℕ) (limit : Float) (flags : List ℕ) (e : ℕ) (len : Float) (a b : ℕ) (w : Window) where
+  -- from p to p′ the intervals became windows, seated behind xs among zs
+  pub record Seated (m : ℕ) (live : ℕ → List Window) (xs zs : List Window) (ks : List Interval) (p p′ : Place) : Type 0 where
+    pub plays : play cuts windows limit flags (keeping len a b w (p .made) ks) (stockOf p) ≡ actions.went (stockOf p′)
+    pub holds : Holds (p′ .made) m (p′ .links) (p′ .reals) (put e (seatAll (fresh w (p .made) ks) xs zs) live)
+
+  abbrev pub SeatsAmong : (m : ℕ) (live : ℕ → List Window) (xs zs : List Window) → List Interval → Place → End → Type 0
+  SeatsAmong m live xs zs ks p (stopped n) = play cuts windows limit flags (keeping len a b w (p .made) ks) (stockOf p) ≡ actions.stopped n
+  SeatsAmong m live xs zs ks p (at p′) = Seated m live xs zs ks p p′
+
+  -- behind the link of p, whatever stands there
+  abbrev pub Seats : List Interval → Place → End → Type 0
+  Seats ks p end = (m : ℕ) (live : ℕ → List Window) (xs zs : List Window) → e < m → p .last ≡ lastLink xs → Holds (p .made) m (p .links) (p .reals) (put e (xs ++ zs) live) → SeatsAmong m live xs zs ks p end
+
+  -- one interval: it is stopped, or what the others do from there all do from p
+  abbrev pub KeptOne : Interval → Place → End → Type 0
+  KeptOne k p (stopped n) = (ks : List Interval) → Seats (k ∷ ks) p (stopped n)
+  KeptOne k p (at p′) = (ks : List Interval) (end : End) → Seats ks p′ end → Seats (k ∷ ks) p end

@@ -1,0 +1,231 @@
+// The intervals that a new window keeps become windows, and the ends of the edge that they reach are touched.
+use buffers::EdgeId;
+use buffers::VertexId;
+use heap::Pushed;
+use source::Win;
+use trim_split::Counts;
+use trim_split::Made;
+use windows::WindowRecord;
+ghost use mathlib.Core.Path.{_≡_};
+ghost use mathlib.Core.List.{List, [], _∷_};
+ghost use Prim.Native.Nat.{ℕ, _+_, _≤_, _<_};
+ghost use lib.ListN.{length};
+ghost use lib.Ieee.{Float, le};
+ghost use Rattle.float64.specs.Scalar.{zero as zero64};
+ghost use Rattle.float64.specs.Notation.{_⊖_, _⊗_};
+ghost use Rattle.source.specs.Distance.{evalOf};
+ghost use Rattle.better.specs.Stretches.{interval};
+ghost use Rattle.better.specs.Buffers.{pairs};
+ghost use Rattle.heap.specs.Queue.{queue};
+ghost use Rattle.windows.specs.Windows.{capacityOf};
+ghost use Rattle.chains.specs.Chains.{links};
+ghost use Rattle.actions.specs.Actions.{touch, stock, play, queueing};
+ghost use Rattle.trim_model.specs.Intervals.{pushIf, wideOf};
+ghost use Rattle.trim_model.specs.Windows.{part};
+ghost use Rattle.trim_state.specs.Trace.{near, touching};
+ghost use Rattle.live_windows.specs.Live.{liveOf};
+ghost use Rattle.trim_split.specs.Running.{Ready, place, endOf};
+ghost use Rattle.trim_keep.specs.Keeping.{Bounded, Seats, KeptOne};
+
+// The first end of an edge of length len, a, is touched if the window reaches it.
+fn touch_low(
+    vertex: &mut [f64],
+    flags: &[u8],
+    keys: &mut [f64],
+    events: &mut [u32],
+    n: u32,
+    limit: f64,
+    len: f64,
+    a: VertexId,
+    win: Win,
+) -> Pushed
+    ensures { λ r. ⌜ ((cuts windows made : ℕ) → play cuts windows limit (now (flags .entry)) (pushIf (le (win .b0) (near ⊗ len)) (touch (a .0) (evalOf win zero64 zero64))) (stock made n (queue (now (keys .entry)) (now (events .entry))) (now (vertex .entry))) ≡ queueing made (now (vertex .exit)) (r, queue (now (keys .exit)) (now (events .exit)))) ⌝ }
+{
+    if win.b0 <= 1e-9 * len {
+        let d = source::eval(win, 0.0, 0.0);
+        return actions::touch(vertex, flags, keys, events, n, limit, a, d);
+    }
+    Pushed::Queued(n)
+}
+
+// The other end, b.
+fn touch_high(
+    vertex: &mut [f64],
+    flags: &[u8],
+    keys: &mut [f64],
+    events: &mut [u32],
+    n: u32,
+    limit: f64,
+    len: f64,
+    b: VertexId,
+    win: Win,
+) -> Pushed
+    ensures { λ r. ⌜ ((cuts windows made : ℕ) → play cuts windows limit (now (flags .entry)) (pushIf (le (len ⊖ near ⊗ len) (win .b1)) (touch (b .0) (evalOf win len zero64))) (stock made n (queue (now (keys .entry)) (now (events .entry))) (now (vertex .entry))) ≡ queueing made (now (vertex .exit)) (r, queue (now (keys .exit)) (now (events .exit)))) ⌝ }
+{
+    if win.b1 >= len - 1e-9 * len {
+        let d = source::eval(win, len, 0.0);
+        return actions::touch(vertex, flags, keys, events, n, limit, b, d);
+    }
+    Pushed::Queued(n)
+}
+
+// Both, one after the other. The part of window x from b0 to b1 is the new window.
+fn touch_ends(
+    vertex: &mut [f64],
+    flags: &[u8],
+    keys: &mut [f64],
+    events: &mut [u32],
+    n: u32,
+    limit: f64,
+    len: f64,
+    a: VertexId,
+    b: VertexId,
+    x: WindowRecord,
+    b0: f64,
+    b1: f64,
+) -> Pushed
+    ensures { λ r. ⌜ ((cuts windows made k j : ℕ) → play cuts windows limit (now (flags .entry)) (touching len (a .0) (b .0) (part (liveOf x k) b0 b1 j)) (stock made n (queue (now (keys .entry)) (now (events .entry))) (now (vertex .entry))) ≡ queueing made (now (vertex .exit)) (r, queue (now (keys .exit)) (now (events .exit)))) ⌝ }
+{
+    let old = x.win;
+    let src = old.src;
+    let low = source::lowest(src, b0, b1);
+    let win = Win { b0, b1, low, src };
+    let first = touch_low(vertex, flags, keys, events, n, limit, len, a, win);
+    let Pushed::Queued(m) = first else {
+        return Pushed::Full;
+    };
+    touch_high(vertex, flags, keys, events, m, limit, len, b, win)
+}
+
+// The part of window x from b0 to b1 becomes a window of edge e, seated by its start behind a link.
+fn keep_part(
+    edges: &mut [u32],
+    words: &mut [u32],
+    reals: &mut [f64],
+    keys: &mut [f64],
+    events: &mut [u32],
+    vertex: &mut [f64],
+    flags: &[u8],
+    counts: Counts,
+    e: EdgeId,
+    before: u32,
+    x: WindowRecord,
+    b0: f64,
+    b1: f64,
+    limit: f64,
+    len: f64,
+    a: VertexId,
+    b: VertexId,
+) -> Made
+    requires { ⌜ Ready (e .0) (counts .made) before (now edges) (now words) (now reals) ⌝ }
+    ensures { λ r. ⌜ Bounded (capacityOf (length (now (words .entry))) (length (now (reals .entry)))) r × ((cuts k : ℕ) → KeptOne cuts (capacityOf (length (now (words .entry))) (length (now (reals .entry)))) limit (now (flags .entry)) (e .0) len (a .0) (b .0) (liveOf x k) (interval b0 b1) (place (counts .made) (counts .queued) before (links (now (edges .entry)) (now (words .entry))) (now (reals .entry)) (queue (now (keys .entry)) (now (events .entry))) (now (vertex .entry))) (endOf r (links (now (edges .exit)) (now (words .exit))) (now (reals .exit)) (queue (now (keys .exit)) (now (events .exit))) (now (vertex .exit)))) ⌝ }
+{
+    let seat = live_windows::seat_from(edges, words, reals, counts.made, e, before, b0);
+    let part = trim_split::make_part(
+        edges,
+        words,
+        reals,
+        keys,
+        events,
+        counts,
+        e,
+        seat,
+        x,
+        b0,
+        b1,
+    );
+    match part {
+        Made::Stopped(n) => Made::Stopped(n),
+        Made::Went(c, last) => {
+            let touched = touch_ends(
+                vertex,
+                flags,
+                keys,
+                events,
+                c.queued,
+                limit,
+                len,
+                a,
+                b,
+                x,
+                b0,
+                b1,
+            );
+            let Pushed::Queued(m) = touched else {
+                return Made::Stopped(13);
+            };
+            Made::Went(
+                Counts {
+                    made: c.made,
+                    queued: m,
+                },
+                last,
+            )
+        }
+    }
+}
+
+// Each of the k intervals that is wider than tiny becomes a window, behind a link of edge e.
+pub fn keep_parts(
+    edges: &mut [u32],
+    words: &mut [u32],
+    reals: &mut [f64],
+    keys: &mut [f64],
+    events: &mut [u32],
+    vertex: &mut [f64],
+    flags: &[u8],
+    keep: &[f64],
+    k: usize,
+    counts: Counts,
+    e: EdgeId,
+    before: u32,
+    x: WindowRecord,
+    tiny: f64,
+    limit: f64,
+    len: f64,
+    a: VertexId,
+    b: VertexId,
+) -> Made
+    requires { ⌜ Ready (e .0) (counts .made) before (now edges) (now words) (now reals) × (k + k ≤ length (now keep)) ⌝ }
+    ensures { λ r. ⌜ Bounded (capacityOf (length (now (words .entry))) (length (now (reals .entry)))) r × ((cuts j : ℕ) → Seats cuts (capacityOf (length (now (words .entry))) (length (now (reals .entry)))) limit (now (flags .entry)) (e .0) len (a .0) (b .0) (liveOf x j) (wideOf tiny (pairs k (now (keep .entry)))) (place (counts .made) (counts .queued) before (links (now (edges .entry)) (now (words .entry))) (now (reals .entry)) (queue (now (keys .entry)) (now (events .entry))) (now (vertex .entry))) (endOf r (links (now (edges .exit)) (now (words .exit))) (now (reals .exit)) (queue (now (keys .exit)) (now (events .exit))) (now (vertex .exit)))) ⌝ }
+{
+    let mut now = counts;
+    let mut last = before;
+    let mut i = 0;
+    while i < k {
+        let b0 = cut_lists::from_of(keep, i);
+        let b1 = cut_lists::to_of(keep, i);
+        if b1 - b0 <= tiny {
+            i += 1;
+        } else {
+            let part = keep_part(
+                edges,
+                words,
+                reals,
+                keys,
+                events,
+                vertex,
+                flags,
+                now,
+                e,
+                last,
+                x,
+                b0,
+                b1,
+                limit,
+                len,
+                a,
+                b,
+            );
+            match part {
+                Made::Stopped(n) => return Made::Stopped(n),
+                Made::Went(c, l) => {
+                    now = c;
+                    last = l;
+                    i += 1;
+                }
+            }
+        }
+    }
+    Made::Went(now, last)
+}

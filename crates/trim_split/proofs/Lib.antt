@@ -1,0 +1,4 @@
+pub mod Edges
+pub mod Running
+pub mod Parts
+pub mod Loops

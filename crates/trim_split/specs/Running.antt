@@ -1,0 +1,68 @@
+-- What a part of `add` does to the buffers: its actions, and the windows that it puts in the place of others on the chain of the edge. Definitions only.
+use Prim.Native.Nat.{ℕ, _≤_, _<_}
+use mathlib.Core.List.{List, _++_}
+use mathlib.Core.Path.{_≡_}
+use lib.ListN.{length}
+use lib.Ieee.{Float}
+use Rattle.buffers.specs.Slots.{slotsOf}
+use Rattle.windows.specs.Windows.{capacityOf}
+use Rattle.heap.specs.Queue.{Queue}
+use Rattle.chains.specs.Chains.{Links}
+use Rattle.actions.specs.Actions as actions
+use Rattle.actions.specs.Actions.{Action, Stock, play}
+use Rattle.trim_model.specs.Windows.{Window}
+use Rattle.trim_state.specs.State.{put}
+use Rattle.live_windows.specs.Live.{Holds, lastLink}
+use Rattle.trim_split.specs.declared.Made.{Made}
+use Rattle.trim_split.specs.declared.Made.the-variants.{Stopped, Went}
+
+-- what the buffers hold, how many windows and events there are, and the link behind which the chain goes on
+pub record Place : Type 0 where
+  pub made : ℕ
+  pub queued : ℕ
+  pub last : ℕ
+  pub links : Links
+  pub reals : List Float
+  pub queue : Queue
+  pub vertex : List Float
+
+abbrev pub place : ℕ → ℕ → ℕ → Links → List Float → Queue → List Float → Place
+place made queued last b f q vertex = record { made = made; queued = queued; last = last; links = b; reals = f; queue = q; vertex = vertex }
+
+abbrev pub stockOf : Place → Stock
+stockOf p = actions.stock (p .made) (p .queued) (p .queue) (p .vertex)
+
+-- a refusal by its number in 01, or where it ends
+pub data End : Type 0 where
+  stopped : ℕ → End
+  at : Place → End
+
+-- what an answer says, with what the buffers hold then
+abbrev pub endOf : Made → Links → List Float → Queue → List Float → End
+endOf (Stopped n) b f q vertex = stopped n
+endOf (Went c last) b f q vertex = at (place (c .made) (c .queued) last b f q vertex)
+
+-- so many windows are made, if it was not stopped
+abbrev pub Counted : Made → ℕ → Type 0
+Counted (Stopped n) made = Unit {0}
+Counted (Went c last) made = c .made ≡ made
+
+-- a window of edge e can be made behind a link
+pub record Ready (e made last : ℕ) (edges words : List ℕ) (reals : List Float) : Type 0 where
+  pub fits : made ≤ capacityOf (length words) (length reals)
+  pub linked : last ≤ made
+  pub edge : e < slotsOf (length edges) 6
+
+-- the counts of the cut buffer and the window buffer, the limit, the flags of the vertices, and the edge
+module _ (cuts windows : ℕ) (limit : Float) (flags : List ℕ) (e : ℕ) where
+  -- from p to p′ the actions are done, and behind p's link the windows `new` stand for `old`
+  pub record Ran (todo : List Action) (old new : List Window) (p p′ : Place) : Type 0 where
+    pub fits : p′ .made ≤ windows
+    pub linked : p′ .last ≤ p′ .made
+    pub plays : play cuts windows limit flags todo (stockOf p) ≡ actions.went (stockOf p′)
+    pub holds : (m : ℕ) (live : ℕ → List Window) (xs zs : List Window) → e < m → p .last ≡ lastLink xs → Holds (p .made) m (p .links) (p .reals) (put e (xs ++ (old ++ zs)) live) → Holds (p′ .made) m (p′ .links) (p′ .reals) (put e (xs ++ (new ++ zs)) live)
+    pub after : (xs : List Window) → p .last ≡ lastLink xs → p′ .last ≡ lastLink (xs ++ new)
+
+  abbrev pub Does : List Action → List Window → List Window → Place → End → Type 0
+  Does todo old new p (stopped n) = play cuts windows limit flags todo (stockOf p) ≡ actions.stopped n
+  Does todo old new p (at p′) = Ran todo old new p p′

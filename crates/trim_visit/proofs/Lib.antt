@@ -1,0 +1,5 @@
+pub mod Walks
+pub mod Lists
+pub mod Turns
+pub mod Loop
+pub mod Meeting

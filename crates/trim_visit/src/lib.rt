@@ -1,0 +1,159 @@
+// The windows that a new one meets, visited one after the other along the chain of their edge.
+use buffers::EdgeId;
+use buffers::WindowId;
+use trim_cut::Met;
+use trim_split::Counts;
+use trim_split::Made;
+use windows::WindowRecord;
+ghost use Prim.Native.Nat.{ℕ, _≤_, _<_};
+ghost use mathlib.Core.List.{List};
+ghost use lib.ListN.{length};
+ghost use lib.Ieee.{Float};
+ghost use Rattle.better.specs.Stretches.{betterOf};
+ghost use Rattle.better.specs.Buffers.{pairs};
+ghost use Rattle.heap.specs.Queue.{queue};
+ghost use Rattle.windows.specs.Windows.{capacityOf};
+ghost use Rattle.chains.specs.Chains.{links};
+ghost use Rattle.trim_model.specs.Windows.{Window};
+ghost use Rattle.trim_model.specs.Add.{visit as Add·visit};
+ghost use Rattle.live_windows.specs.Live.{liveOf};
+ghost use Rattle.trim_cut.specs.Cut.{Sizes};
+ghost use Rattle.trim_split.specs.Running.{Ready, place};
+ghost use Rattle.trim_visit.specs.Visiting.{from, endOf, Keeps, Bounded, Visits1, VisitsAll};
+
+// A refusal by its number in 01; or how many windows and events there are now, the link of the last window that survived, and how many intervals the new
+// window keeps.
+pub enum Visited {
+    Stopped(u32),
+    Went(Counts, u32, usize),
+}
+
+// The new window w, which keeps k intervals, meets window x, of number id.
+fn visit(
+    edges: &mut [u32],
+    words: &mut [u32],
+    reals: &mut [f64],
+    keys: &mut [f64],
+    events: &mut [u32],
+    keep: &mut [f64],
+    pts: &mut [f64],
+    out: &mut [f64],
+    next: &mut [f64],
+    counts: Counts,
+    e: EdgeId,
+    before: u32,
+    id: WindowId,
+    x: WindowRecord,
+    k: usize,
+    w: WindowRecord,
+    tiny: f64,
+) -> Visited
+    requires { ⌜ Ready (e .0) (counts .made) before (now edges) (now words) (now reals) × ((id .0 < counts .made) × (Sizes (length (now pts)) (now keep) (now out) (now next) × (k ≤ length (now pts)))) ⌝ }
+    ensures { λ r. ⌜ Keeps (length (now (pts .entry))) r (now (keep .exit)) (Add·visit betterOf tiny (liveOf w 0) (liveOf x (id .0)) (from (pairs k (now (keep .entry))) (counts .made))) × ((limit : Float) (flags : List ℕ) (vertex : List Float) → Visits1 (length (now (pts .entry))) (capacityOf (length (now (words .entry))) (length (now (reals .entry)))) limit flags (e .0) tiny (liveOf w 0) (pairs k (now (keep .entry))) (liveOf x (id .0)) (place (counts .made) (counts .queued) before (links (now (edges .entry)) (now (words .entry))) (now (reals .entry)) (queue (now (keys .entry)) (now (events .entry))) vertex) (endOf r (links (now (edges .exit)) (now (words .exit))) (now (reals .exit)) (queue (now (keys .exit)) (now (events .exit))) vertex)) ⌝ }
+{
+    let new = w.win;
+    let old = x.win;
+    let lo = float64::max(old.b0, new.b0);
+    let hi = float64::min(old.b1, new.b1);
+    if hi - lo <= tiny {
+        return Visited::Went(counts, id.0 + 1, k);
+    }
+    let p = new.src;
+    let q = old.src;
+    let met = trim_cut::cut(p, q, lo, hi, old.b0, old.b1, tiny, keep, k, pts, out, next);
+    let Met::Left { kept, lost, pieces } = met else {
+        return Visited::Stopped(14);
+    };
+    if lost == 0 {
+        return Visited::Went(counts, id.0 + 1, kept);
+    }
+    let left = trim_split::split_window(
+        edges,
+        words,
+        reals,
+        keys,
+        events,
+        counts,
+        e,
+        before,
+        id,
+        x,
+        next,
+        pieces,
+    );
+    match left {
+        Made::Stopped(n) => Visited::Stopped(n),
+        Made::Went(c, last) => Visited::Went(c, last, kept),
+    }
+}
+
+// The windows behind a link that start before the new one's end are visited. As many turns as windows are made are enough, whatever the buffers hold.
+pub fn visits(
+    edges: &mut [u32],
+    words: &mut [u32],
+    reals: &mut [f64],
+    keys: &mut [f64],
+    events: &mut [u32],
+    keep: &mut [f64],
+    pts: &mut [f64],
+    out: &mut [f64],
+    next: &mut [f64],
+    counts: Counts,
+    e: EdgeId,
+    before: u32,
+    k: usize,
+    w: WindowRecord,
+    tiny: f64,
+) -> Visited
+    requires { ⌜ Ready (e .0) (counts .made) before (now edges) (now words) (now reals) × (Sizes (length (now pts)) (now keep) (now out) (now next) × (k ≤ length (now pts))) ⌝ }
+    ensures { λ r. ⌜ Bounded (length (now (pts .entry))) (capacityOf (length (now (words .entry))) (length (now (reals .entry)))) (counts .made) r × ((limit : Float) (flags : List ℕ) (vertex : List Float) → VisitsAll (length (now (pts .entry))) (capacityOf (length (now (words .entry))) (length (now (reals .entry)))) limit flags (e .0) tiny (liveOf w 0) (λ zs. length zs ≤ counts .made) (pairs k (now (keep .entry))) (place (counts .made) (counts .queued) before (links (now (edges .entry)) (now (words .entry))) (now (reals .entry)) (queue (now (keys .entry)) (now (events .entry))) vertex) r (endOf r (links (now (edges .exit)) (now (words .exit))) (now (reals .exit)) (queue (now (keys .exit)) (now (events .exit))) vertex) (now (keep .exit))) ⌝ }
+{
+    let new = w.win;
+    let end = new.b1 + tiny;
+    let mut now = counts;
+    let mut last = before;
+    let mut kept = k;
+    let mut left = counts.made;
+    while 0 < left {
+        let link = live_windows::next_link(edges, words, now.made, e, last);
+        if link == 0 {
+            return Visited::Went(now, last, kept);
+        }
+        let id = WindowId(link - 1);
+        let x = live_windows::load(words, reals, id);
+        let old = x.win;
+        if old.b0 < end {
+            let visited = visit(
+                edges,
+                words,
+                reals,
+                keys,
+                events,
+                keep,
+                pts,
+                out,
+                next,
+                now,
+                e,
+                last,
+                id,
+                x,
+                kept,
+                w,
+                tiny,
+            );
+            match visited {
+                Visited::Stopped(n) => return Visited::Stopped(n),
+                Visited::Went(c, l, j) => {
+                    now = c;
+                    last = l;
+                    kept = j;
+                    left -= 1;
+                }
+            }
+        } else {
+            return Visited::Went(now, last, kept);
+        }
+    }
+    Visited::Went(now, last, kept)
+}
