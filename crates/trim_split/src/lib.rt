@@ -139,13 +139,13 @@ pub fn split_window(
     let old = x.win;
     let src = old.src;
     if n == 0 {
-        live_windows::kill_window(edges, words, made, e, before, id);
+        live_windows::kill_window(edges, words, reals, made, e, before, id);
         return Made::Went(counts, before);
     }
     let b0 = cut_lists::from_of(pieces, 0);
     let b1 = cut_lists::to_of(pieces, 0);
     let low = source::lowest(src, b0, b1);
-    live_windows::trim_window(reals, id, b0, b1, low);
+    live_windows::trim_window(words, reals, id, b0, b1, low);
     make_parts(
         edges,
         words,

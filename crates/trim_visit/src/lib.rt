@@ -115,7 +115,7 @@ pub fn visits(
     let mut kept = k;
     let mut left = counts.made;
     while 0 < left {
-        let link = live_windows::next_link(edges, words, now.made, e, last);
+        let link = live_windows::next_link(edges, words, reals, now.made, e, last);
         if link == 0 {
             return Visited::Went(now, last, kept);
         }

@@ -17,7 +17,7 @@ use Rattle.trim_split.proofs.split_window.Statement.{statement}
 use Rattle.trim_split.proofs.split_window.Tie as tie
 
 kill-window-requires : tie.Need-kill-window-requires
-kill-window-requires c κs = (omega (arith, c .before .before .before .before .before .before .before .before .before .before .pre .0 .fits), (c .before .before .before .before .before .before .before .before .before .before .pre .0 .edge, (c .before .before .before .before .before .before .before .before .before .before .pre .0 .linked, c .before .before .before .before .before .before .before .before .before .before .pre .1 .0)))
+kill-window-requires c κs = (omega (arith, c .before .before .before .before .before .before .before .before .before .before .before .pre .0 .fits), (c .before .before .before .before .before .before .before .before .before .before .before .pre .0 .edge, (c .before .before .before .before .before .before .before .before .before .before .before .pre .0 .linked, c .before .before .before .before .before .before .before .before .before .before .before .pre .1 .0)))
 
 same-length : tie.Need-same-length
 same-length c = search needs
@@ -27,8 +27,8 @@ same-length-2 c = search needs
 
 returns : tie.Need-returns
 returns c =
-    let a = c .before .before .before .before .before .before .before .before .before .before .before .before .before .before .before .args in
-    (omega (arith, pairs-length (a .n) (a .pieces .now), c .before .before .before .before .before .before .before .if1 .taken), split-killed (a .e .0) (a .x) (a .id .0) (a .counts .made) (a .counts .queued) (a .before) (slices (a .edges .now) (a .words .now) (a .reals .now) (a .keys .now) (a .events .now)) (c .before .before .before .before .before .before .before .before .before .before .before .before .before .before .before .pre .0 .fits) (pairs (a .n) (a .pieces .now)) (c .before .before .before .before .before .before .before .before .before .before .before .before .before .before .before .pre .0 .linked) (none-of (a .n) (a .pieces .now) (c .before .before .before .before .before .before .before .if1 .taken)) (c .before .before .before .before .kill-window .last .0) (c .before .before .before .before .kill-window .last .1 .0) (c .before .before .before .before .kill-window .ensures))
+    let a = c .before .before .before .before .before .before .before .before .before .before .before .before .before .before .before .before .args in
+    (omega (arith, pairs-length (a .n) (a .pieces .now), c .before .before .before .before .before .before .before .before .if1 .taken), split-killed (a .e .0) (a .x) (a .id .0) (a .counts .made) (a .counts .queued) (a .before) (slices (a .edges .now) (a .words .now) (a .reals .now) (a .keys .now) (a .events .now)) (c .before .before .before .before .before .before .before .before .before .before .before .before .before .before .before .before .pre .0 .fits) (pairs (a .n) (a .pieces .now)) (c .before .before .before .before .before .before .before .before .before .before .before .before .before .before .before .before .pre .0 .linked) (none-of (a .n) (a .pieces .now) (c .before .before .before .before .before .before .before .before .if1 .taken)) (c .before .before .before .before .kill-window .last .0) (c .before .before .before .before .kill-window .last .1 .0) (c .before .before .before .before .kill-window .ensures))
 
 from-of-requires : tie.Need-from-of-requires
 from-of-requires c κs = omega (arith, c .before .before .before .before .before .before .before .before .pre .1 .1, c .if1 .left)
@@ -40,15 +40,15 @@ lowest-requires : tie.Need-lowest-requires
 lowest-requires c κs = search needs
 
 trim-window-requires : tie.Need-trim-window-requires
-trim-window-requires c κs = omega (arith, c .before .before .before .before .before .before .before .before .before .before .before .before .pre .0 .fits, c .before .before .before .before .before .before .before .before .before .before .before .before .pre .1 .0)
+trim-window-requires c κs = omega (arith, c .before .before .before .before .before .before .before .before .before .before .before .before .before .pre .0 .fits, c .before .before .before .before .before .before .before .before .before .before .before .before .before .pre .1 .0)
 
 add-make-parts : tie.Need-add-make-parts
-add-make-parts c = omega (arith, c .before .before .before .before .before .before .before .before .before .before .before .before .before .before .before .before .before .before .before .before .before .pre .0 .fits, c .before .before .before .before .before .before .before .before .before .before .before .before .before .before .before .before .before .before .before .before .before .pre .1 .0)
+add-make-parts c = omega (arith, c .before .before .before .before .before .before .before .before .before .before .before .before .before .before .before .before .before .before .before .before .before .before .pre .0 .fits, c .before .before .before .before .before .before .before .before .before .before .before .before .before .before .before .before .before .before .before .before .before .before .pre .1 .0)
 
 make-parts-requires : tie.Need-make-parts-requires
 make-parts-requires c κs =
-    let a = c .before .before .before .before .before .before .before .before .before .before .before .before .before .before .before .before .before .before .before .before .before .args in
-    (trimmed-ready (a .e .0) (a .x) (a .id .0) (a .counts .made) (a .counts .queued) (a .before) (slices (a .edges .now) (a .words .now) (a .reals .now) (a .keys .now) (a .events .now)) (c .before .before .before .before .before .before .before .before .before .before .before .before .before .before .before .before .before .before .before .before .before .pre .0 .fits) (pairs (a .n) (a .pieces .now)) (c .before .before .before .before .before .before .before .before .before .before .before .before .before .before .before .before .before .before .before .before .before .pre .1 .0) (c .before .before .before .before .before .before .before .before .before .before .before .before .from-of .result) (c .before .before .before .before .before .before .before .before .before .before .before .to-of .result) (c .before .before .before .before .before .before .before .before .before .before .lowest .result) (c .before .before .before .before .before .before .before .before .before .before .lowest .ensures) (c .before .before .before .before .before .before .before .before .trim-window .last .0) (c .before .before .before .before .before .before .before .before .trim-window .ensures) (c .before .before .before .before .before .before .before .before .trim-window .kept .0) (here-is (pairs (a .n) (a .pieces .now)) (drop 1 (pairs (a .n) (a .pieces .now))) (c .before .before .before .before .before .before .before .before .before .before .before .before .from-of .result) (c .before .before .before .before .before .before .before .before .before .before .before .to-of .result) (getD (a .pieces .now) 0 nan) (getD (a .pieces .now) 1 nan) (pairs-from (a .pieces .now) (a .n) 0 (omega (arith, c .before .before .before .before .before .before .before .before .before .before .before .before .before .if1 .left))) (c .before .before .before .before .before .before .before .before .before .before .before .before .from-of .ensures) (c .before .before .before .before .before .before .before .before .before .before .before .to-of .ensures)) (c .before .before .before .before .before .before .before .before .before .before .before .before .before .before .before .before .before .before .before .before .before .pre .0 .edge) (a .id .0 + 1) (add-one (a .id .0)), c .before .before .before .before .before .before .before .before .before .before .before .before .before .before .before .before .before .before .before .before .before .pre .1 .1)
+    let a = c .before .before .before .before .before .before .before .before .before .before .before .before .before .before .before .before .before .before .before .before .before .before .args in
+    (trimmed-ready (a .e .0) (a .x) (a .id .0) (a .counts .made) (a .counts .queued) (a .before) (slices (a .edges .now) (a .words .now) (a .reals .now) (a .keys .now) (a .events .now)) (c .before .before .before .before .before .before .before .before .before .before .before .before .before .before .before .before .before .before .before .before .before .before .pre .0 .fits) (pairs (a .n) (a .pieces .now)) (c .before .before .before .before .before .before .before .before .before .before .before .before .before .before .before .before .before .before .before .before .before .before .pre .1 .0) (c .before .before .before .before .before .before .before .before .before .before .before .before .before .from-of .result) (c .before .before .before .before .before .before .before .before .before .before .before .before .to-of .result) (c .before .before .before .before .before .before .before .before .before .before .before .lowest .result) (c .before .before .before .before .before .before .before .before .before .before .before .lowest .ensures) (c .before .before .before .before .before .before .before .before .trim-window .last .1 .0) (c .before .before .before .before .before .before .before .before .trim-window .ensures) (c .before .before .before .before .before .before .before .before .trim-window .kept .1 .0) (here-is (pairs (a .n) (a .pieces .now)) (drop 1 (pairs (a .n) (a .pieces .now))) (c .before .before .before .before .before .before .before .before .before .before .before .before .before .from-of .result) (c .before .before .before .before .before .before .before .before .before .before .before .before .to-of .result) (getD (a .pieces .now) 0 nan) (getD (a .pieces .now) 1 nan) (pairs-from (a .pieces .now) (a .n) 0 (omega (arith, c .before .before .before .before .before .before .before .before .before .before .before .before .before .before .if1 .left))) (c .before .before .before .before .before .before .before .before .before .before .before .before .before .from-of .ensures) (c .before .before .before .before .before .before .before .before .before .before .before .before .to-of .ensures)) (c .before .before .before .before .before .before .before .before .before .before .before .before .before .before .before .before .before .before .before .before .before .before .pre .0 .edge) (a .id .0 + 1) (add-one (a .id .0)), c .before .before .before .before .before .before .before .before .before .before .before .before .before .before .before .before .before .before .before .before .before .before .pre .1 .1)
 
 same-length-3 : tie.Need-same-length-3
 same-length-3 c = search needs
@@ -67,9 +67,12 @@ same-length-7 c = search needs
 
 returns-2 : tie.Need-returns-2
 returns-2 c =
-    let a = c .before .before .before .before .before .before .before .before .before .before .before .before .before .before .before .before .before .before .before .before .before .before .before .before .before .before .before .before .before .before .before .before .args in
+    let a = c .before .before .before .before .before .before .before .before .before .before .before .before .before .before .before .before .before .before .before .before .before .before .before .before .before .before .before .before .before .before .before .before .before .args in
     let r = c .before .before .before .before .before .before .before .before .before .before .make-parts .result in
-    (counted-as r (a .counts .made + length (drop 1 (pairs (a .n) (a .pieces .now)))) (a .counts .made + pred (length (pairs (a .n) (a .pieces .now)))) (ap (λ (j : ℕ). a .counts .made + j) (but-first (pairs (a .n) (a .pieces .now)))) (c .before .before .before .before .before .before .before .before .before .before .make-parts .ensures .0), split-made (a .e .0) (a .x) (a .id .0) (a .counts .made) (a .counts .queued) (a .before) (slices (a .edges .now) (a .words .now) (a .reals .now) (a .keys .now) (a .events .now)) (c .before .before .before .before .before .before .before .before .before .before .before .before .before .before .before .before .before .before .before .before .before .before .before .before .before .before .before .before .before .before .before .before .pre .0 .fits) (pairs (a .n) (a .pieces .now)) (c .before .before .before .before .before .before .before .before .before .before .before .before .before .before .before .before .before .before .before .before .before .before .before .before .before .before .before .before .before .before .before .before .pre .1 .0) (c .before .before .before .before .before .before .before .before .before .before .before .before .before .before .before .before .before .before .before .before .before .before .before .from-of .result) (c .before .before .before .before .before .before .before .before .before .before .before .before .before .before .before .before .before .before .before .before .before .before .to-of .result) (c .before .before .before .before .before .before .before .before .before .before .before .before .before .before .before .before .before .before .before .before .before .lowest .result) (c .before .before .before .before .before .before .before .before .before .before .before .before .before .before .before .before .before .before .before .before .before .lowest .ensures) (c .before .before .before .before .before .before .before .before .before .before .before .before .before .before .before .before .before .before .before .trim-window .last .0) (c .before .before .before .before .before .before .before .before .before .before .before .before .before .before .before .before .before .before .before .trim-window .ensures) (c .before .before .before .before .before .before .before .before .before .before .before .before .before .before .before .before .before .before .before .trim-window .kept .0) (here-is (pairs (a .n) (a .pieces .now)) (drop 1 (pairs (a .n) (a .pieces .now))) (c .before .before .before .before .before .before .before .before .before .before .before .before .before .before .before .before .before .before .before .before .before .before .before .from-of .result) (c .before .before .before .before .before .before .before .before .before .before .before .before .before .before .before .before .before .before .before .before .before .before .to-of .result) (getD (a .pieces .now) 0 nan) (getD (a .pieces .now) 1 nan) (pairs-from (a .pieces .now) (a .n) 0 (omega (arith, c .before .before .before .before .before .before .before .before .before .before .before .before .before .before .before .before .before .before .before .before .before .before .before .before .if1 .left))) (c .before .before .before .before .before .before .before .before .before .before .before .before .before .before .before .before .before .before .before .before .before .before .before .from-of .ensures) (c .before .before .before .before .before .before .before .before .before .before .before .before .before .before .before .before .before .before .before .before .before .before .to-of .ensures)) (a .id .0 + 1) (add-one (a .id .0)) (endOf r (links (c .before .before .before .before .before .before .before .before .before .before .make-parts .last .0) (c .before .before .before .before .before .before .before .before .before .before .make-parts .last .1 .0)) (c .before .before .before .before .before .before .before .before .before .before .make-parts .last .1 .1 .0) (queue (c .before .before .before .before .before .before .before .before .before .before .make-parts .last .1 .1 .1 .0) (c .before .before .before .before .before .before .before .before .before .before .make-parts .last .1 .1 .1 .1 .0))) (c .before .before .before .before .before .before .before .before .before .before .make-parts .ensures .1))
+    (counted-as r (a .counts .made + length (drop 1 (pairs (a .n) (a .pieces .now)))) (a .counts .made + pred (length (pairs (a .n) (a .pieces .now)))) (ap (λ (j : ℕ). a .counts .made + j) (but-first (pairs (a .n) (a .pieces .now)))) (c .before .before .before .before .before .before .before .before .before .before .make-parts .ensures .0), split-made (a .e .0) (a .x) (a .id .0) (a .counts .made) (a .counts .queued) (a .before) (slices (a .edges .now) (a .words .now) (a .reals .now) (a .keys .now) (a .events .now)) (c .before .before .before .before .before .before .before .before .before .before .before .before .before .before .before .before .before .before .before .before .before .before .before .before .before .before .before .before .before .before .before .before .before .pre .0 .fits) (pairs (a .n) (a .pieces .now)) (c .before .before .before .before .before .before .before .before .before .before .before .before .before .before .before .before .before .before .before .before .before .before .before .before .before .before .before .before .before .before .before .before .before .pre .1 .0) (c .before .before .before .before .before .before .before .before .before .before .before .before .before .before .before .before .before .before .before .before .before .before .before .before .from-of .result) (c .before .before .before .before .before .before .before .before .before .before .before .before .before .before .before .before .before .before .before .before .before .before .before .to-of .result) (c .before .before .before .before .before .before .before .before .before .before .before .before .before .before .before .before .before .before .before .before .before .before .lowest .result) (c .before .before .before .before .before .before .before .before .before .before .before .before .before .before .before .before .before .before .before .before .before .before .lowest .ensures) (c .before .before .before .before .before .before .before .before .before .before .before .before .before .before .before .before .before .before .before .trim-window .last .1 .0) (c .before .before .before .before .before .before .before .before .before .before .before .before .before .before .before .before .before .before .before .trim-window .ensures) (c .before .before .before .before .before .before .before .before .before .before .before .before .before .before .before .before .before .before .before .trim-window .kept .1 .0) (here-is (pairs (a .n) (a .pieces .now)) (drop 1 (pairs (a .n) (a .pieces .now))) (c .before .before .before .before .before .before .before .before .before .before .before .before .before .before .before .before .before .before .before .before .before .before .before .before .from-of .result) (c .before .before .before .before .before .before .before .before .before .before .before .before .before .before .before .before .before .before .before .before .before .before .before .to-of .result) (getD (a .pieces .now) 0 nan) (getD (a .pieces .now) 1 nan) (pairs-from (a .pieces .now) (a .n) 0 (omega (arith, c .before .before .before .before .before .before .before .before .before .before .before .before .before .before .before .before .before .before .before .before .before .before .before .before .before .if1 .left))) (c .before .before .before .before .before .before .before .before .before .before .before .before .before .before .before .before .before .before .before .before .before .before .before .before .from-of .ensures) (c .before .before .before .before .before .before .before .before .before .before .before .before .before .before .before .before .before .before .before .before .before .before .before .to-of .ensures)) (a .id .0 + 1) (add-one (a .id .0)) (endOf r (links (c .before .before .before .before .before .before .before .before .before .before .make-parts .last .0) (c .before .before .before .before .before .before .before .before .before .before .make-parts .last .1 .0)) (c .before .before .before .before .before .before .before .before .before .before .make-parts .last .1 .1 .0) (queue (c .before .before .before .before .before .before .before .before .before .before .make-parts .last .1 .1 .1 .0) (c .before .before .before .before .before .before .before .before .before .before .make-parts .last .1 .1 .1 .1 .0))) (c .before .before .before .before .before .before .before .before .before .before .make-parts .ensures .1))
+
+same-length-8 : tie.Need-same-length-8
+same-length-8 c = search needs
 
 pub split-window-spec : {M : Type 1} → statement M
 split-window-spec =
@@ -78,6 +81,7 @@ split-window-spec =
     kill-window-requires
     same-length
     same-length-2
+    same-length-3
     returns
     from-of-requires
     to-of-requires
@@ -85,9 +89,9 @@ split-window-spec =
     trim-window-requires
     add-make-parts
     make-parts-requires
-    same-length-3
     same-length-4
     same-length-5
     same-length-6
     same-length-7
+    same-length-8
     returns-2)
