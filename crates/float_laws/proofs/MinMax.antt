@@ -18,7 +18,7 @@ use Rattle.float_laws.proofs.Signed.{unsigned, signed-refl}
 use Rattle.float_laws.proofs.Order.{Number, le-refl, le-trans, lt-le, lt-le-trans, not-lt-le, lt-not-le, le-or-lt, le-number-l, le-number-r, neg-le, neg-neg, neg-number}
 use Rattle.float_laws.proofs.Rank.{Held, rank, le-rank, lt-rank}
 
-by-cases : (P : Bool → Type 0) (b : Bool) → (T b → P true) → (T (not b) → P false) → P b
+pub by-cases : (P : Bool → Type 0) (b : Bool) → (T b → P true) → (T (not b) → P false) → P b
 by-cases P true f g = f tt
 by-cases P false f g = g tt
 

@@ -31,7 +31,7 @@ unfolding isLine realsOf
 source-same (Point x y s) = refl
 source-same (Line ux uy c) = refl
 
-length-realsOf : (s : Src) → length (realsOf s) ≡ 3
+pub length-realsOf : (s : Src) → length (realsOf s) ≡ 3
 unfolding realsOf
 length-realsOf (Point x y s) = refl
 length-realsOf (Line ux uy c) = refl
