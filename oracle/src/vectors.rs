@@ -79,6 +79,7 @@ pub fn make(leaf: &str, seed: u64, count: u32) -> Result<Vec<u8>, String> {
             "events" => events::run(&mut rng, &mut out),
             "topology" => topology::small(seed + u64::from(k), &mut out),
             "topology-large" => topology::large(seed + u64::from(k), &mut out),
+            "topology-huge" => topology::huge(seed + u64::from(k), &mut out),
             "jobs" => jobs::job(&mut rng, &mut out),
             "slips" => jobs::slip(&mut rng, &mut out),
             _ => return Err(format!("no such leaf: {leaf}")),
