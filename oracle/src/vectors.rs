@@ -76,6 +76,7 @@ pub fn make(leaf: &str, seed: u64, count: u32) -> Result<Vec<u8>, String> {
             "better" => leaves::better(&mut rng, &mut out),
             "add" => candidates::list(&mut rng, &mut out, 40, true),
             "add-long" => candidates::list(&mut rng, &mut out, 3_000, false),
+            "add-scope" => candidates::example(k as usize, &mut out),
             "events" => events::run(&mut rng, &mut out),
             "topology" => topology::small(seed + u64::from(k), &mut out),
             "topology-large" => topology::large(seed + u64::from(k), &mut out),
