@@ -8,10 +8,9 @@ numbers of 4 bytes, the least significant first; a double is two, the low half f
     lengths of vertices, triangles, flags, kinds, faces, coords
     slots of the buffers: vertices, edges, faces round vertices, triangles, pieces, windows, scratch, the other scratch
     limit (a double), the six lists
-    detail 1: the edges' count; each edge's two vertices, two faces, length and unit vector; each triangle's three edges and nine numbers of its
-        normals; each vertex's count of faces, and they
-    detail 2: the edges' count, and check sums of the edges' vertices and faces, of their lengths and unit vectors, of the triangles' edges, of their
-        normals, and of the vertices' faces, count first, all in the order of detail 1
+    detail 1: the edges' count; each edge's two vertices and two faces; each edge's length and unit vector; each triangle's three edges; each triangle's
+        three normals; each vertex's count of faces, and they
+    detail 2: the edges' count, and of these five lists a check sum each
 
 A check sum s of numbers n1, n2, .. of 4 bytes begins at 0 and becomes (s * 65,599 + n) % 4,294,967,291 at each.
 
@@ -45,8 +44,8 @@ def check_sum(values):
     return s
 
 
-def sums(job, topology):
-    """Five check sums of a topology's numbers."""
+def parts(job, topology):
+    """The edges' count and the five lists of a topology."""
     edges, at = topology[0], 1
     words, reals, sides, normals = [], [], [], []
     for _ in range(edges):
@@ -57,7 +56,17 @@ def sums(job, topology):
         sides += topology[at : at + 3]
         normals += topology[at + 3 : at + 21]
         at += 21
-    return [edges] + [check_sum(part) for part in (words, reals, sides, normals, topology[at:])]
+    return edges, [words, reals, sides, normals, topology[at:]]
+
+
+def in_full(job, topology):
+    edges, lists = parts(job, topology)
+    return [edges] + sum(lists, [])
+
+
+def sums(job, topology):
+    edges, lists = parts(job, topology)
+    return [edges] + [check_sum(one) for one in lists]
 
 
 def record(refusal, job, detail, answer):
@@ -89,6 +98,19 @@ def jobs():
             yield r1, make_jobs.applied(seconds[k % len(seconds)], firsts[k % len(firsts)])
 
 
+def small_enough(job, topology):
+    return len(topology) <= LARGEST and len(job.triangles) <= 96 and len(job.vertices) <= 96
+
+
+def answered(meshes, detail, form):
+    """Meshes of the oracle, with their topology in a form where they have one."""
+    for refusal, job, topology in meshes:
+        if refusal:
+            yield record(refusal, job, 0, [])
+        else:
+            yield record(0, job, detail, form(job, numbers(topology)))
+
+
 def write(path, records):
     records = list(records)
     with open(path, "wb") as out:
@@ -99,13 +121,10 @@ def write(path, records):
 def main():
     directory, small, large = sys.argv[1], sys.argv[2], sys.argv[3:]
     write(directory + "/jobs", (record(refusal, job, 0, []) for refusal, job in jobs()))
-    meshes = make_jobs.oracle_meshes(small)
-    write(
-        directory + "/meshes",
-        (record(r, job, 0 if r else 1, numbers(t)) for r, job, t in meshes if len(t) <= LARGEST and len(job.triangles) <= 96 and len(job.vertices) <= 96),
-    )
+    meshes = (one for one in make_jobs.oracle_meshes(small) if small_enough(one[1], one[2]))
+    write(directory + "/meshes", answered(meshes, 1, in_full))
     meshes = itertools.chain(*map(make_jobs.oracle_meshes, large))
-    write(directory + "/large", (record(r, job, 0, []) if r else record(r, job, 2, sums(job, numbers(t))) for r, job, t in meshes))
+    write(directory + "/large", answered(meshes, 2, sums))
 
 
 if __name__ == "__main__":
