@@ -1,63 +1,44 @@
 -- Laws of the faces of an edge: they are the triangles of the sides that have the edge; where no edge lies in more than two triangles a side's face is one of
 -- its edge's two. Assumes nothing.
 use Prim.Native.Nat.{ℕ, zero, suc, _+_, _*_, _/_, _<_, _≤_}
-use mathlib.Core.Path.{_≡_, sym, ap, subst, _∙_}
-use mathlib.Core.Bool.{true, false}
+use mathlib.Core.Path.{_≡_, refl, subst, _∙_}
+use mathlib.Core.Bool.{Bool, true, false, cond}
 use mathlib.Core.List.{List, [], _∷_, _++_}
 use mathlib.Core.Logic.{⊎-elim, _⊎_, inl, inr}
-use native.Mathlib.Nat.{le-of-suc-le-suc, not-suc-le-zero, eq-or-lt-of-le}
+use native.Mathlib.Nat.{le-of-suc-le-suc, not-suc-le-zero}
 use native.Mathlib.Omega.{arith}
 use borrow.Author.Tests.{ltb-false}
-use lib.ListN.{length, getD, length-append, List·getD-append}
-use lib.Seq.{getD-append-seam}
+use lib.ListN.{length, getD}
 use Rattle.job_checks.proofs.Any.{none-below}
 use Rattle.topology.specs.Edges.{Edge, noEdge, noFace, sameEdge, sideEdge, edges, triEdge, facesAmong, edgeFaces, overfull, sharedByThree, face}
-use Rattle.topology.proofs.Find.{either, same-self}
+use Rattle.topology.proofs.Find.{same-self}
+use Rattle.topology.proofs.Chosen.{Listed, chosen, chosen-listed, listed-chosen, chosen-pairs}
 use Rattle.topology.proofs.Edges.{FromSide, edge-is-side, tri-edge-there, tri-edge-is}
 
--- Number f stands in a list.
-abbrev pub Listed : ℕ → List ℕ → Type 0
-Listed f fs = (i : ℕ) × ((i < length fs) × (getD fs i noFace ≡ f))
-
-listed-append : (f x : ℕ) (fs : List ℕ) → Listed f fs → Listed f (fs ++ (x ∷ []))
-listed-append f x fs r = (r .0, (omega (arith, length-append fs (x ∷ []), r .1 .0), List·getD-append fs (x ∷ []) noFace (r .0) (r .1 .0) ∙ r .1 .1))
-
-listed-last : (f : ℕ) (fs : List ℕ) → Listed f (fs ++ (f ∷ []))
-listed-last f fs = (length fs, (omega (arith, length-append fs (f ∷ [])), getD-append-seam fs f [] noFace))
-
 module _ (triangles : List ℕ) (e : Edge) where
+  -- the sides that have the edge
+  abbrev sides : ℕ → Bool
+  sides h = sameEdge (sideEdge triangles h) e
+
+  among-chosen : (n : ℕ) → chosen sides n ≡ facesAmong triangles e n
+  unfolding facesAmong chosen
+  among-chosen zero = refl
+  among-chosen (suc n) = λ i. cond (sameEdge (sideEdge triangles n) e) (among-chosen n i ++ (n / 3 ∷ [])) (among-chosen n i)
+
   -- the triangle of each side that has the edge is listed
   pub face-listed : (n h : ℕ) → h < n → sameEdge (sideEdge triangles h) e ≡ true → Listed (h / 3) (facesAmong triangles e n)
-  unfolding facesAmong
-  face-listed zero h l q = absurd (not-suc-le-zero l)
-  face-listed (suc n) h l q =
-      ⊎-elim (λ r. rw (subst (λ (k : ℕ). sameEdge (sideEdge triangles k) e ≡ true) r q) (subst (λ (k : ℕ). Listed (k / 3) (facesAmong triangles e n ++ (n / 3 ∷ []))) (sym r) (listed-last (n / 3) (facesAmong triangles e n))))
-      (λ l′. ⊎-elim (λ s. rw s (listed-append (h / 3) (n / 3) (facesAmong triangles e n) (face-listed n h l′ q))) (λ s. rw s (face-listed n h l′ q)) (either (sameEdge (sideEdge triangles n) e)))
-      (eq-or-lt-of-le (le-of-suc-le-suc l))
+  face-listed n h l q = subst (Listed (h / 3)) (among-chosen n) (chosen-listed sides n h l q)
 
   -- and no other
   abbrev pub OfSide : ℕ → ℕ → Type 0
   OfSide n f = (h : ℕ) × ((h < n) × ((sameEdge (sideEdge triangles h) e ≡ true) × (f ≡ h / 3)))
 
-  wider : (n f : ℕ) → OfSide n f → OfSide (suc n) f
-  wider n f r = (r .0, (omega (arith, r .1 .0), r .1 .1))
-
-  -- one more side that has the edge
-  module _ (n : ℕ) (s : sameEdge (sideEdge triangles n) e ≡ true) (fs : List ℕ) (each : (i : ℕ) → i < length fs → OfSide n (getD fs i noFace)) where
-    of-append : (i : ℕ) → i < length (fs ++ (n / 3 ∷ [])) → OfSide (suc n) (getD (fs ++ (n / 3 ∷ [])) i noFace)
-    of-append i l =
-        let l′ : i < suc (length fs) = omega (arith, length-append fs (n / 3 ∷ []), l) in
-        ⊎-elim (λ q. (n, (omega arith, (s, ap (λ (k : ℕ). getD (fs ++ (n / 3 ∷ [])) k noFace) q ∙ getD-append-seam fs (n / 3) [] noFace))))
-        (λ m. subst (OfSide (suc n)) (sym (List·getD-append fs (n / 3 ∷ []) noFace i m)) (wider n (getD fs i noFace) (each i m)))
-        (eq-or-lt-of-le (le-of-suc-le-suc l′))
-
   pub listed-face : (n i : ℕ) → i < length (facesAmong triangles e n) → OfSide n (getD (facesAmong triangles e n) i noFace)
-  unfolding facesAmong
-  listed-face zero i l = absurd (not-suc-le-zero l)
-  listed-face (suc n) i l =
-      ⊎-elim (λ s. rw s (of-append n s (facesAmong triangles e n) (listed-face n) i (rw s at l)))
-      (λ s. rw s (wider n (getD (facesAmong triangles e n) i noFace) (listed-face n i (rw s at l))))
-      (either (sameEdge (sideEdge triangles n) e))
+  listed-face n = subst (λ (fs : List ℕ). (i : ℕ) → i < length fs → OfSide n (getD fs i noFace)) (among-chosen n) (listed-chosen sides n)
+
+  -- what holds of the triangles of each two sides that have the edge holds of each two of its faces
+  pub face-pairs : (R : ℕ → ℕ → Type 0) (n : ℕ) → ((a b : ℕ) → a < b → b < n → sameEdge (sideEdge triangles a) e ≡ true → sameEdge (sideEdge triangles b) e ≡ true → R (a / 3) (b / 3)) → (i j : ℕ) → i < j → j < length (facesAmong triangles e n) → R (getD (facesAmong triangles e n) i noFace) (getD (facesAmong triangles e n) j noFace)
+  face-pairs R n all = subst (λ (fs : List ℕ). (i j : ℕ) → i < j → j < length fs → R (getD fs i noFace) (getD fs j noFace)) (among-chosen n) (chosen-pairs sides R n all)
 
 -- the faces of a side's edge hold the side's own
 side-listed : (triangles : List ℕ) (h : ℕ) → h < length triangles → Listed (h / 3) (edgeFaces triangles (triEdge triangles h))
@@ -87,7 +68,7 @@ module _ (triangles : List ℕ) (sound : sharedByThree triangles ≡ false) wher
   two-faces e l = ltb-false 2 (length (edgeFaces triangles e)) (none-below _ _ sound e l)
 
   -- at a place below two stands the first or the second
-  first-or-second : (f : ℕ) (fs : List ℕ) → length fs ≤ 2 → Listed f fs → (getD fs 0 noFace ≡ f) ⊎ (getD fs 1 noFace ≡ f)
+  pub first-or-second : (f : ℕ) (fs : List ℕ) → length fs ≤ 2 → Listed f fs → (getD fs 0 noFace ≡ f) ⊎ (getD fs 1 noFace ≡ f)
   first-or-second f fs l r = place (r .0) (omega (arith, r .1 .0)) (r .1 .1)
     where
       place : (i : ℕ) → i < 2 → getD fs i noFace ≡ f → (getD fs 0 noFace ≡ f) ⊎ (getD fs 1 noFace ≡ f)

@@ -1,6 +1,10 @@
 pub mod Checked
+pub mod Chosen
 pub mod Edges
 pub mod Faces
 pub mod Find
 pub mod Frames
+pub mod Other
+pub mod Rows
 pub mod Triangles
+pub mod VertexFaces

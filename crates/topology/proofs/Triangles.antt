@@ -1,6 +1,6 @@
 -- Laws of the triangles of a checked mesh: each has three different edges, `local` and `third` answer, and each of its edges has it among its faces.
 -- Assumes nothing.
-use Prim.Native.Nat.{ℕ, _+_, _*_, _/_, _%_, _<_, _≤_}
+use Prim.Native.Nat.{ℕ, zero, suc, _+_, _*_, _/_, _%_, _<_, _≤_}
 use mathlib.Core.Path.{_≡_, refl, sym, ap, _∙_}
 use mathlib.Core.Bool.{true, false, not, and-false}
 use mathlib.Core.List.{List}
@@ -17,6 +17,27 @@ use Rattle.topology.proofs.Edges.{tri-edge-is}
 
 pub turn : {a b c : ℕ} → Distinct a b c → Distinct b c a
 turn d = record { first-second = d .second-third; second-third = d .third-first; third-first = d .first-second }
+
+zero-or-one : (n : ℕ) → n < 2 → (n ≡ 0) ⊎ (n ≡ 1)
+zero-or-one zero l = inl refl
+zero-or-one (suc zero) l = inr refl
+zero-or-one (suc (suc n)) l = absurd (omega arith)
+
+one-or-two : (n : ℕ) → 0 < n → n < 3 → (n ≡ 1) ⊎ (n ≡ 2)
+one-or-two zero p l = absurd (omega arith)
+one-or-two (suc zero) p l = inl refl
+one-or-two (suc (suc zero)) p l = inr refl
+one-or-two (suc (suc (suc n))) p l = absurd (omega arith)
+
+-- what has three different values for the three sides of triangle f has different ones for two of its sides
+module _ (g : ℕ → ℕ) (f : ℕ) (d : Distinct (g (3 * f)) (g (3 * f + 1)) (g (3 * f + 2))) where
+  pub sides-apart : (a b : ℕ) → a < b → a / 3 ≡ f → b / 3 ≡ f → g a ≡ g b → ⊥
+  sides-apart a b l p q e =
+      ⊎-elim
+      (λ x. ⊎-elim (λ y. d .first-second (ap g (omega arith) ∙ (e ∙ ap g (omega arith))))
+      (λ y. d .third-first (ap g (omega arith) ∙ (sym e ∙ ap g (omega arith)))) (one-or-two (b % 3) (omega arith) (omega arith)))
+      (λ x. d .second-third (ap g (omega arith) ∙ (e ∙ ap g (omega arith))))
+      (zero-or-one (a % 3) (omega arith))
 
 -- the ends of an edge are its two vertices, in one order or the other
 pub ends : (a b : ℕ) → ((a < b) × ((between a b .low ≡ a) × (between a b .high ≡ b))) ⊎ ((b ≤ a) × ((between a b .low ≡ b) × (between a b .high ≡ a)))
