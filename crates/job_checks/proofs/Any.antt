@@ -40,6 +40,11 @@ module _ (p : ℕ → Bool) where
   pub none-at-all : (i n : ℕ) → i ≤ n → n ≤ i → anyBelow p i ≡ false → anyBelow p n ≡ false
   none-at-all i n l m e = subst (λ (k : ℕ). anyBelow p k ≡ false) (le-antisymm l m) e
 
+  pub none-all : (n : ℕ) → ((i : ℕ) → i < n → p i ≡ false) → anyBelow p n ≡ false
+  unfolding anyBelow
+  none-all zero each = refl
+  none-all (suc n) each = or-none (none-all n (λ i l. each i (omega arith))) (each n (omega arith))
+
   -- What the answers mean.
   pub none-below : (n : ℕ) → anyBelow p n ≡ false → (i : ℕ) → i < n → p i ≡ false
   unfolding anyBelow

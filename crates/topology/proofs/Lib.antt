@@ -6,5 +6,6 @@ pub mod Find
 pub mod Frames
 pub mod Other
 pub mod Rows
+pub mod Growth
 pub mod Triangles
 pub mod VertexFaces

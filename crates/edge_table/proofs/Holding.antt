@@ -1,0 +1,76 @@
+-- Laws of buffers read field by field: what a write leaves, and the list that the fields make. Assumes nothing.
+use Prim.Native.Nat.{ℕ, zero, suc, _+_, _*_, _/_, _%_, _<_, _≤_}
+use mathlib.Core.Path.{_≡_, refl, sym, ap, _∙_}
+use mathlib.Core.List.{List, [], _∷_, _++_}
+use mathlib.Core.Logic.{⊎-elim}
+use native.Mathlib.Decide.{ℕ-discrete}
+use native.Mathlib.Nat.{le-of-suc-le-suc, not-suc-le-zero, eq-or-lt-of-le, mod-lt, div-add-mod, mul-add-div, mul-add-mod-self-left, div-eq-of-lt, mod-eq-of-lt}
+use native.Mathlib.Omega.{arith}
+use lib.ListN.{length, getD, set, replicate, length-append, List·getD-append}
+use lib.Seq.{ext-getD, getD-at, getD-set-same, getD-set-other}
+use Rattle.buffers.specs.Slots.{slot, fill}
+use Rattle.buffers.proofs.Strides.{apart, slot-at, fill-same, fill-other}
+use Rattle.edge_table.specs.Words.{listOf, wordsOf}
+use Rattle.edge_table.specs.Table.{Holds}
+
+pub length-listOf : (n : ℕ) (f : ℕ → ℕ) → length (listOf n f) ≡ n
+unfolding listOf
+length-listOf zero f = refl
+length-listOf (suc n) f = length-append (listOf n f) (f n ∷ []) ∙ omega (arith, length-listOf n f)
+
+pub getD-listOf : (n : ℕ) (f : ℕ → ℕ) (p : ℕ) → p < n → getD (listOf n f) p 0 ≡ f p
+unfolding listOf
+getD-listOf zero f p l = absurd (not-suc-le-zero l)
+getD-listOf (suc n) f p l =
+    ⊎-elim (λ q. getD-at (listOf n f) (f n) [] 0 p (length-listOf n f ∙ sym q) ∙ ap f (sym q))
+    (λ m. List·getD-append (listOf n f) (f n ∷ []) 0 p (omega (arith, length-listOf n f)) ∙ getD-listOf n f p m)
+    (eq-or-lt-of-le (le-of-suc-le-suc l))
+
+module _ (n s : ℕ) (word : ℕ → ℕ → ℕ) where
+  pub length-words : length (wordsOf n s word) ≡ n
+  unfolding wordsOf
+  length-words = length-listOf n (λ (p : ℕ). word (p / s) (p % s))
+
+  -- a field of the list that the fields make
+  pub words-at : (i a : ℕ) → a < s → s * i + a < n → getD (wordsOf n s word) (s * i + a) 0 ≡ word i a
+  unfolding wordsOf
+  words-at i a l m =
+      let k : 0 < s = omega arith in
+      let d : (s * i + a) / s ≡ i = mul-add-div k i a ∙ omega (arith, div-eq-of-lt l) in
+      let r : (s * i + a) % s ≡ a = mul-add-mod-self-left s i a ∙ mod-eq-of-lt l in
+      getD-listOf n (λ (p : ℕ). word (p / s) (p % s)) (s * i + a) m ∙ (ap (λ (z : ℕ). word z ((s * i + a) % s)) d ∙ ap (word i) r)
+
+  -- a buffer that holds the fields is that list
+  pub words-are : (l : List ℕ) → 0 < s → length l ≡ n → Holds s l word → l ≡ wordsOf n s word
+  unfolding wordsOf
+  words-are l k e holds =
+      ext-getD 0 l (wordsOf n s word) (e ∙ sym length-words) (λ p m.
+      ap (λ (z : ℕ). getD l z 0) (sym (div-add-mod p s)) ∙ (holds (p / s) (p % s) (mod-lt p k) ∙ sym (getD-listOf n (λ (q : ℕ). word (q / s) (q % s)) p (omega arith))))
+
+-- a zeroed buffer
+pub zero-at : (n p : ℕ) → getD {A = ℕ} (replicate n 0) p 0 ≡ 0
+zero-at zero p = refl
+zero-at (suc n) zero = refl
+zero-at (suc n) (suc p) = zero-at n p
+
+module _ (s : ℕ) (l : List ℕ) (F G : ℕ → ℕ → ℕ) (holds : Holds s l F) (i : ℕ) where
+  -- one field is written
+  pub holds-set : (a x : ℕ) → a < s → s * i + a < length l → G i a ≡ x → ((j b : ℕ) → b < s → (j ≡ i → b ≡ a → ⊥) → G j b ≡ F j b) → Holds s (set l (s * i + a) x) G
+  holds-set a x la m e rest j b lb = go (ℕ-discrete j i) (ℕ-discrete b a) where
+    off : j ≡ i → s * j + b ≡ s * i + a → b ≡ a
+    off p z = let y : s * j ≡ s * i = ap (λ (k : ℕ). s * k) p in omega arith
+
+    go : Dec (j ≡ i) → Dec (b ≡ a) → getD (set l (s * i + a) x) (s * j + b) 0 ≡ G j b
+    go (yes p) (yes q) = rw (p, q) (getD-set-same l (s * i + a) x 0 m ∙ sym e)
+    go (yes p) (no q) = getD-set-other l (s * i + a) (s * j + b) x 0 (λ z. q (off p z)) ∙ (holds j b lb ∙ sym (rest j b lb (λ _ z. q z)))
+    go (no p) q = getD-set-other l (s * i + a) (s * j + b) x 0 (apart s j i b a p lb la) ∙ (holds j b lb ∙ sym (rest j b lb (λ z _. p z)))
+
+  -- a whole slot is written
+  pub holds-fill : (vs : List ℕ) → length vs ≡ s → s * i + s ≤ length l → ((a : ℕ) → a < s → G i a ≡ getD vs a 0) → ((j b : ℕ) → b < s → (j ≡ i → ⊥) → G j b ≡ F j b) → Holds s (fill s l i 0 vs) G
+  holds-fill vs e m here rest j b lb = go (ℕ-discrete j i) where
+    go : Dec (j ≡ i) → getD (fill s l i 0 vs) (s * j + b) 0 ≡ G j b
+    go (yes p) = rw p (sym (slot-at s (fill s l i 0 vs) i b 0 lb) ∙ (ap (λ (r : List ℕ). getD r b 0) (fill-same s l i vs e m) ∙ sym (here b lb)))
+    go (no p) =
+        sym (slot-at s (fill s l i 0 vs) j b 0 lb)
+        ∙ (ap (λ (r : List ℕ). getD r b 0) (fill-other s vs l i j 0 (λ z. p (sym z)) (omega arith))
+        ∙ (slot-at s l j b 0 lb ∙ (holds j b lb ∙ sym (rest j b lb p))))

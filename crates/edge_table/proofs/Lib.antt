@@ -1,0 +1,6 @@
+pub mod Buckets
+pub mod Holding
+pub mod Reading
+pub mod Seeking
+pub mod Turns
+pub mod Whole

@@ -1,0 +1,381 @@
+-- The ways that a side can go: its edge is new, it is there with one face, or it is there with two. Assumes nothing.
+use Prim.Native.Nat.{ℕ, zero, suc, _+_, _*_, _-_, _/_, _%_, _<_, _≤_}
+use mathlib.Core.Path.{_≡_, refl, sym, ap, subst, _∙_}
+use mathlib.Core.Bool.{true, cond, _&&_, and-false}
+use mathlib.Core.List.{List, [], _∷_, _++_}
+use mathlib.Core.Logic.{⊎-elim, _≢_}
+use native.Mathlib.Decide.{ℕ-discrete, decLe}
+use native.Mathlib.Nat.{eq-or-lt-of-le}
+use native.Mathlib.Numerals.{add-one}
+use native.Mathlib.Omega.{arith}
+use borrow.Author.Tests.{lt-ltb, le-ltb, ne-eqb}
+use lib.Dec.{ltb, eqb}
+use lib.ListN.{length, getD, set, length-append, List·getD-append, List·getD-eq-default}
+use lib.Seq.{getD-append-seam, getD-at}
+use Rattle.buffers.specs.Slots.{fill}
+use Rattle.job_checks.specs.Edge.{lower, higher}
+use Rattle.topology.specs.Edges.{Edge, noEdge, noFace, between, corner, sideEdge, find, edgesOf, facesAmong, sharedByThree}
+use Rattle.topology.proofs.Find.{either, entered, find-at, find-last}
+use Rattle.topology.proofs.Edges.{numbered, few-edges, number-kept}
+use Rattle.topology.proofs.Faces.{OfSide, listed-face}
+use Rattle.topology.proofs.Growth.{other-edge, faces-more, faces-same, faces-none, faces-some, third-face}
+use Rattle.edge_table.specs.declared.Table.{Table}
+use Rattle.edge_table.specs.declared.Table.the-variants.{Edges, ThirdFace}
+use Rattle.edge_table.specs.Words.{bucketOf, lastIn, vertexWord, edgeRow, edgeWord, triangleWord}
+use Rattle.edge_table.specs.Table.{Mesh, LongEnough, Holds, Partial, Turned, Falling, facesSoFar, numberSoFar, seek}
+use Rattle.edge_table.proofs.Buckets.{bucket-below, last-le, last-append, last-new, last-kept}
+use Rattle.edge_table.proofs.Holding.{holds-set, holds-fill}
+use Rattle.edge_table.proofs.Seeking.{Linked, seek-missing, seek-found}
+
+-- a row is stored field by field
+pub stored : (l₀ l₁ l₂ l₃ l₄ l₅ l₆ : List ℕ) (e a b f n next k : ℕ) → next ≡ k → l₁ ≡ set l₀ (6 * e + 0) a → l₂ ≡ set l₁ (6 * e + 1) b → l₃ ≡ set l₂ (6 * e + 2) f → l₄ ≡ set l₃ (6 * e + 3) n → l₅ ≡ set l₄ (6 * e + 4) 0 → l₆ ≡ set l₅ (6 * e + 5) next → l₆ ≡ fill 6 l₀ e 0 (a ∷ b ∷ f ∷ n ∷ 0 ∷ k ∷ [])
+unfolding fill
+stored l₀ l₁ l₂ l₃ l₄ l₅ l₆ e a b f n next k p e₁ e₂ e₃ e₄ e₅ e₆ = rw (e₆, e₅, e₄, e₃, e₂, e₁, p) refl
+
+-- A slot that has an edge, and one that has none.
+module _ (v : ℕ) (es : List Edge) (faces : ℕ → List ℕ) (e a : ℕ) where
+  pub edge-live : e < length es → edgeWord v es faces e a ≡ getD (edgeRow v es e (faces e)) a 0
+  unfolding edgeWord
+  edge-live l = rw (lt-ltb e (length es) l) refl
+
+  pub edge-none : length es ≤ e → edgeWord v es faces e a ≡ 0
+  unfolding edgeWord
+  edge-none l = rw (le-ltb e (length es) l) refl
+
+-- The row of an edge: its faces count, and of the list the edges up to it.
+module _ (v : ℕ) (es : List Edge) (e : ℕ) where
+  row-faces : (fs gs : List ℕ) (a : ℕ) → a ≢ 3 → getD fs 0 noFace ≡ getD gs 0 noFace → getD (edgeRow v es e fs) a 0 ≡ getD (edgeRow v es e gs) a 0
+  unfolding edgeRow
+  row-faces fs gs zero n q = refl
+  row-faces fs gs (suc zero) n q = refl
+  row-faces fs gs (suc (suc zero)) n q = q
+  row-faces fs gs (suc (suc (suc zero))) n q = absurd (n refl)
+  row-faces fs gs (suc (suc (suc (suc zero)))) n q = refl
+  row-faces fs gs (suc (suc (suc (suc (suc a))))) n q = refl
+
+  row-second : (fs : List ℕ) → getD (edgeRow v es e fs) 3 0 ≡ getD fs 1 noFace
+  unfolding edgeRow
+  row-second fs = refl
+
+  row-append : (xs : List Edge) (fs : List ℕ) → e < length es → edgeRow v (es ++ xs) e fs ≡ edgeRow v es e fs
+  unfolding edgeRow
+  row-append xs fs l = rw (List·getD-append es xs noEdge e l, last-append v es (bucketOf v (getD es e noEdge)) xs e (omega arith)) refl
+
+  row-last : (x : Edge) (f : ℕ) → e ≡ length es → edgeRow v (es ++ (x ∷ [])) e (f ∷ []) ≡ x .low ∷ x .high ∷ f ∷ noFace ∷ 0 ∷ lastIn v es (bucketOf v x) (length es) ∷ []
+  unfolding edgeRow
+  row-last x f q = rw (q, getD-append-seam es x [] noEdge, last-append v es (bucketOf v x) (x ∷ []) (length es) (omega arith)) refl
+
+past : (n j : ℕ) → n ≤ j → (j ≡ n → ⊥) → n < j
+past n j l ne = ⊎-elim (λ q. absurd (ne (sym q))) (λ q. q) (eq-or-lt-of-le l)
+
+-- one face, and one more
+second-face : (fs : List ℕ) (f : ℕ) → length fs ≡ 1 → (getD (fs ++ (f ∷ [])) 0 noFace ≡ getD fs 0 noFace) × ((getD (fs ++ (f ∷ [])) 1 noFace ≡ f) × (length (fs ++ (f ∷ [])) ≡ 2))
+second-face fs f q = (List·getD-append fs (f ∷ []) noFace 0 (omega arith), (getD-at fs f [] noFace 1 q, length-append fs (f ∷ []) ∙ omega arith))
+
+-- A side's edge from its triangle's numbers.
+module _ (triangles : List ℕ) (h : ℕ) where
+  module _ (a b : ℕ) (ea : a ≡ getD triangles (3 * (h / 3) + h % 3) 0) (eb : b ≡ getD triangles (3 * (h / 3) + (h % 3 + 1) % 3) 0) where
+    pub side-is : (low high : ℕ) → low ≡ lower a b → high ≡ higher a b → record { low = low; high = high } ≡ sideEdge triangles h
+    unfolding sideEdge between corner
+    side-is low high p q =
+        let z : (h % 3 + 0) % 3 ≡ h % 3 = omega arith in
+        rw (p, q, z, ea, eb) refl
+
+  lower-below : (a b v : ℕ) → a < v → b < v → (lower a b < v) × (higher a b < v)
+  lower-below a b v p q = ⊎-elim (λ s. rw s (p, q)) (λ s. rw s (q, p)) (either (ltb a b))
+
+  module _ (v : ℕ) (m : Mesh triangles v) (l : h < length triangles) where
+    pub side-below : (sideEdge triangles h .low < v) × (sideEdge triangles h .high < v)
+    unfolding sideEdge between corner
+    side-below =
+        lower-below (corner triangles h 0) (corner triangles h 1) v
+        (m .there (3 * (h / 3) + (h % 3 + 0) % 3) (omega (arith, m .whole)))
+        (m .there (3 * (h / 3) + (h % 3 + 1) % 3) (omega (arith, m .whole)))
+
+    pub ends-below : (low high : ℕ) → record { low = low; high = high } ≡ sideEdge triangles h → (low < v) × ((high < v) × (v ≤ 65535))
+    ends-below low high q =
+        let lo : low ≡ sideEdge triangles h .low = ap (λ (x : Edge). x .low) q in
+        let hi : high ≡ sideEdge triangles h .high = ap (λ (x : Edge). x .high) q in
+        omega (arith, side-below .0, side-below .1, m .few-vertices)
+
+-- the numbers of the sides
+module _ (triangles : List ℕ) (h k : ℕ) (number : find (sideEdge triangles h) (edgesOf triangles (suc h)) ≡ k) (words : List ℕ) (fits : 6 * (h / 3) + h % 3 < length words)
+    (holds : Holds 6 words (triangleWord h (numberSoFar triangles h)))
+  where
+    new-number : triangleWord (suc h) (numberSoFar triangles (suc h)) (h / 3) (h % 3) ≡ k
+    unfolding triangleWord numberSoFar
+    new-number =
+        let z : 3 * (h / 3) + h % 3 ≡ h = omega arith in
+        rw (z, lt-ltb (h % 3) 3 (omega arith), lt-ltb h (suc h) (omega arith)) number
+
+    old-number : (j b : ℕ) → b < 6 → (j ≡ h / 3 → b ≡ h % 3 → ⊥) → triangleWord (suc h) (numberSoFar triangles (suc h)) j b ≡ triangleWord h (numberSoFar triangles h) j b
+    unfolding triangleWord numberSoFar
+    old-number j b l ne = go (decLe 3 b) (decLe (3 * j + b) h) (decLe h (3 * j + b)) where
+      go : Dec (3 ≤ b) → Dec (3 * j + b ≤ h) → Dec (h ≤ 3 * j + b) → cond (ltb b 3 && ltb (3 * j + b) (suc h)) (find (sideEdge triangles (3 * j + b)) (edgesOf triangles (suc h))) 0 ≡ cond (ltb b 3 && ltb (3 * j + b) h) (find (sideEdge triangles (3 * j + b)) (edgesOf triangles h)) 0
+      go (yes p) q r = rw (le-ltb b 3 p) refl
+      go (no p) (no q) r = rw (le-ltb (3 * j + b) (suc h) (omega arith), le-ltb (3 * j + b) h (omega arith), and-false (ltb b 3)) refl
+      go (no p) (yes q) (yes r) = absurd (ne (omega arith) (omega arith))
+      go (no p) (yes q) (no r) = rw (lt-ltb b 3 (omega arith), lt-ltb (3 * j + b) (suc h) (omega arith), lt-ltb (3 * j + b) h (omega arith)) (number-kept triangles h (3 * j + b) (omega arith))
+
+    pub numbers-turn : Holds 6 (set words (6 * (h / 3) + h % 3) k) (triangleWord (suc h) (numberSoFar triangles (suc h)))
+    numbers-turn =
+        holds-set 6 words (triangleWord h (numberSoFar triangles h)) (triangleWord (suc h) (numberSoFar triangles (suc h))) holds (h / 3) (h % 3) k (omega arith) fits new-number old-number
+
+-- The buffers after h sides, read.
+module _ (triangles : List ℕ) (v h : ℕ) (vertex edge triangle : List ℕ) (p : Partial triangles v h vertex edge triangle) where
+  pub links-fall : Falling edge
+  unfolding edgeRow
+  links-fall e = go (decLe (length (edgesOf triangles h)) e) where
+    go : Dec (length (edgesOf triangles h) ≤ e) → getD edge (6 * e + 5) 0 ≤ e
+    go (yes l) = omega (arith, p .edge-words e 5 (omega arith) ∙ edge-none v (edgesOf triangles h) (facesSoFar triangles h) e 5 l)
+    go (no l) = omega (arith, p .edge-words e 5 (omega arith) ∙ edge-live v (edgesOf triangles h) (facesSoFar triangles h) e 5 (omega arith), last-le v (edgesOf triangles h) (bucketOf v (getD (edgesOf triangles h) e noEdge)) e)
+
+  linked : Linked v (edgesOf triangles h) edge
+  unfolding edgeRow
+  linked =
+      record {
+        low-at = λ e l. p .edge-words e 0 (omega arith) ∙ edge-live v (edgesOf triangles h) (facesSoFar triangles h) e 0 l;
+        high-at = λ e l. p .edge-words e 1 (omega arith) ∙ edge-live v (edgesOf triangles h) (facesSoFar triangles h) e 1 l;
+        next-at = λ e l. p .edge-words e 5 (omega arith) ∙ edge-live v (edgesOf triangles h) (facesSoFar triangles h) e 5 l;
+      }
+
+  head-at : (b : ℕ) → getD vertex (3 * b + 2) 0 ≡ lastIn v (edgesOf triangles h) b (length (edgesOf triangles h))
+  unfolding vertexWord
+  head-at b = p .vertex-words b 2 (omega arith)
+
+  second-at : (e : ℕ) → e < length (edgesOf triangles h) → getD edge (6 * e + 3) 0 ≡ getD (facesSoFar triangles h e) 1 noFace
+  second-at e l = p .edge-words e 3 (omega arith) ∙ (edge-live v (edgesOf triangles h) (facesSoFar triangles h) e 3 l ∙ row-second v (edgesOf triangles h) e (facesSoFar triangles h e))
+
+  -- the look-up
+  module _ (x : Edge) (bucket head r : ℕ) (eb : bucket ≡ bucketOf v x) (eh : head ≡ getD vertex (3 * bucket + 2) 0) (er : r ≡ seek edge (x .low) (x .high) head head) where
+    from-head : head ≡ lastIn v (edgesOf triangles h) (bucketOf v x) (length (edgesOf triangles h))
+    from-head = eh ∙ (head-at bucket ∙ ap (λ (b : ℕ). lastIn v (edgesOf triangles h) b (length (edgesOf triangles h))) eb)
+
+    pub look-missing : r ≡ 0 → length (edgesOf triangles h) ≤ find x (edgesOf triangles h)
+    look-missing = seek-missing v (edgesOf triangles h) edge (numbered triangles h) linked x links-fall head r from-head er
+
+    pub look-found : r ≢ 0 → (find x (edgesOf triangles h) < length (edgesOf triangles h)) × (r - 1 ≡ find x (edgesOf triangles h))
+    look-found = seek-found v (edgesOf triangles h) edge (numbered triangles h) linked x links-fall head r from-head er
+
+  -- the same for a side whose ends were computed
+  module _ (low high bucket head r : ℕ) (q : record { low = low; high = high } ≡ sideEdge triangles h) (eb : bucket ≡ bucketOf v (record { low = low; high = high })) (eh : head ≡ getD vertex (3 * bucket + 2) 0) (er : r ≡ seek edge low high head head) where
+    pub side-missing : r ≡ 0 → length (edgesOf triangles h) ≤ find (sideEdge triangles h) (edgesOf triangles h)
+    side-missing z = subst (λ (x : Edge). length (edgesOf triangles h) ≤ find x (edgesOf triangles h)) q (look-missing (record { low = low; high = high }) bucket head r eb eh er z)
+
+    pub side-found : r ≢ 0 → (find (sideEdge triangles h) (edgesOf triangles h) < length (edgesOf triangles h)) × (r - 1 ≡ find (sideEdge triangles h) (edgesOf triangles h))
+    side-found z = subst (λ (x : Edge). (find x (edgesOf triangles h) < length (edgesOf triangles h)) × (r - 1 ≡ find x (edgesOf triangles h))) q (look-found (record { low = low; high = high }) bucket head r eb eh er z)
+
+-- the faces among the first n sides of edge j of a list
+abbrev facesIn : List ℕ → List Edge → ℕ → ℕ → List ℕ
+facesIn triangles es n j = facesAmong triangles (getD es j noEdge) n
+
+-- The buffers after one more side, whose edges are es.
+module _ (triangles : List ℕ) (v h : ℕ) (es : List Edge) (e : edgesOf triangles (suc h) ≡ es) where
+  partial : (vertex edge triangle : List ℕ) → Holds 3 vertex (vertexWord v es) → Holds 6 edge (edgeWord v es (facesIn triangles es (suc h))) → Holds 6 triangle (triangleWord (suc h) (numberSoFar triangles (suc h))) → ((j : ℕ) → j < length es → length (facesIn triangles es (suc h) j) ≤ 2) → Partial triangles v (suc h) vertex edge triangle
+  unfolding facesSoFar
+  partial vertex edge triangle a b c d =
+      record {
+        vertex-words = subst (λ (z : List Edge). Holds 3 vertex (vertexWord v z)) (sym e) a;
+        edge-words = subst (λ (z : List Edge). Holds 6 edge (edgeWord v z (facesIn triangles z (suc h)))) (sym e) b;
+        triangle-words = c;
+        two-faces = subst (λ (z : List Edge). (j : ℕ) → j < length z → length (facesIn triangles z (suc h) j) ≤ 2) (sym e) d;
+      }
+
+module _ (triangles : List ℕ) (v h : ℕ) (vertex edge triangle : List ℕ) (m : Mesh triangles v) (long : LongEnough triangles v (length vertex) (length edge) (length triangle)) (l : h < length triangles) (p : Partial triangles v h vertex edge triangle) where
+  edge-fits : (e : ℕ) → e ≤ length (edgesOf triangles h) → 6 * e + 6 ≤ length edge
+  edge-fits e k = omega (arith, few-edges triangles h, long .edges-fit)
+
+  number-fits : 6 * (h / 3) + h % 3 < length triangle
+  number-fits = omega (arith, m .whole, long .triangles-fit)
+
+  -- a face is a triangle's number
+  face-small : (x : Edge) (i : ℕ) → i < length (facesAmong triangles x h) → getD (facesAmong triangles x h) i noFace ≢ noFace
+  face-small x i k q =
+      let r : OfSide triangles x h (getD (facesAmong triangles x h) i noFace) = listed-face triangles x h i k in
+      omega (arith, r .1 .0, r .1 .1 .1, m .whole, m .few-triangles)
+
+  -- the faces of another edge are as they were
+  faces-kept : (j : ℕ) → j < length (edgesOf triangles h) → find (sideEdge triangles h) (edgesOf triangles h) ≢ j → facesIn triangles (edgesOf triangles h) (suc h) j ≡ facesSoFar triangles h j
+  unfolding facesSoFar
+  faces-kept j k ne = faces-same triangles h (getD (edgesOf triangles h) j noEdge) (other-edge (edgesOf triangles h) (sideEdge triangles h) j (numbered triangles h) k ne)
+
+  -- The edge is there, under number e.
+  module _ (e : ℕ) (number : find (sideEdge triangles h) (edgesOf triangles h) ≡ e) (there : e < length (edgesOf triangles h)) where
+    edge-is : getD (edgesOf triangles h) e noEdge ≡ sideEdge triangles h
+    edge-is = subst (λ (k : ℕ). getD (edgesOf triangles h) k noEdge ≡ sideEdge triangles h) number (find-at (sideEdge triangles h) (edgesOf triangles h) (omega arith))
+
+    same-edges : edgesOf triangles (suc h) ≡ edgesOf triangles h
+    unfolding edgesOf
+    same-edges = ⊎-elim (λ w. w .1) (λ w. absurd (omega (arith, w .0))) (entered (edgesOf triangles h) (sideEdge triangles h))
+
+    same-number : find (sideEdge triangles h) (edgesOf triangles (suc h)) ≡ e
+    same-number = rw same-edges number
+
+    faces-before : facesSoFar triangles h e ≡ facesAmong triangles (sideEdge triangles h) h
+    unfolding facesSoFar
+    faces-before = ap (λ (x : Edge). facesAmong triangles x h) edge-is
+
+    faces-after : facesIn triangles (edgesOf triangles h) (suc h) e ≡ facesSoFar triangles h e ++ (h / 3 ∷ [])
+    faces-after = ap (λ (x : Edge). facesAmong triangles x (suc h)) edge-is ∙ (faces-more triangles h ∙ ap (λ (fs : List ℕ). fs ++ (h / 3 ∷ [])) (sym faces-before))
+
+    some : 0 < length (facesSoFar triangles h e)
+    unfolding facesSoFar
+    some = faces-some triangles h e there
+
+    pub third-turn : getD edge (6 * e + 3) 0 ≢ noFace → sharedByThree triangles ≡ true
+    third-turn ne =
+        let two : 1 < length (facesSoFar triangles h e) = go (decLe (length (facesSoFar triangles h e)) 1) in
+        third-face triangles h (suc h) l l (rw (faces-more triangles h) (omega (arith, length-append (facesAmong triangles (sideEdge triangles h) h) (h / 3 ∷ []), ap length faces-before)))
+      where
+        go : Dec (length (facesSoFar triangles h e) ≤ 1) → 1 < length (facesSoFar triangles h e)
+        go (yes k) = absurd (ne (second-at triangles v h vertex edge triangle p e there ∙ List·getD-eq-default (facesSoFar triangles h e) noFace k))
+        go (no k) = omega arith
+
+    module _ (vacant : getD edge (6 * e + 3) 0 ≡ noFace) where
+      one-face : length (facesSoFar triangles h e) ≡ 1
+      one-face = go (decLe (length (facesSoFar triangles h e)) 1) where
+        go : Dec (length (facesSoFar triangles h e) ≤ 1) → length (facesSoFar triangles h e) ≡ 1
+        go (yes k) = omega (arith, some)
+        go (no k) =
+            let n : 1 < length (facesAmong triangles (sideEdge triangles h) h) = omega (arith, ap length faces-before) in
+            absurd (face-small (sideEdge triangles h) 1 n (ap (λ (fs : List ℕ). getD fs 1 noFace) (sym faces-before) ∙ (sym (second-at triangles v h vertex edge triangle p e there) ∙ vacant)))
+
+      second-here : edgeWord v (edgesOf triangles h) (facesIn triangles (edgesOf triangles h) (suc h)) e 3 ≡ h / 3
+      second-here =
+          edge-live v (edgesOf triangles h) (facesIn triangles (edgesOf triangles h) (suc h)) e 3 there
+          ∙ (row-second v (edgesOf triangles h) e (facesIn triangles (edgesOf triangles h) (suc h) e)
+          ∙ (ap (λ (fs : List ℕ). getD fs 1 noFace) faces-after ∙ second-face (facesSoFar triangles h e) (h / 3) one-face .1 .0))
+
+      others : (j b : ℕ) → b < 6 → (j ≡ e → b ≡ 3 → ⊥) → edgeWord v (edgesOf triangles h) (facesIn triangles (edgesOf triangles h) (suc h)) j b ≡ edgeWord v (edgesOf triangles h) (facesSoFar triangles h) j b
+      others j b k ne = go (decLe (length (edgesOf triangles h)) j) (ℕ-discrete j e) where
+        go : Dec (length (edgesOf triangles h) ≤ j) → Dec (j ≡ e) → edgeWord v (edgesOf triangles h) (facesIn triangles (edgesOf triangles h) (suc h)) j b ≡ edgeWord v (edgesOf triangles h) (facesSoFar triangles h) j b
+        go (yes n) q = edge-none v (edgesOf triangles h) (facesIn triangles (edgesOf triangles h) (suc h)) j b n ∙ sym (edge-none v (edgesOf triangles h) (facesSoFar triangles h) j b n)
+        go (no n) (yes q) =
+            edge-live v (edgesOf triangles h) (facesIn triangles (edgesOf triangles h) (suc h)) j b (omega arith)
+            ∙ (row-faces v (edgesOf triangles h) j (facesIn triangles (edgesOf triangles h) (suc h) j) (facesSoFar triangles h j) b (ne q)
+            (subst (λ (i : ℕ). getD (facesIn triangles (edgesOf triangles h) (suc h) i) 0 noFace ≡ getD (facesSoFar triangles h i) 0 noFace) (sym q) (ap (λ (fs : List ℕ). getD fs 0 noFace) faces-after ∙ second-face (facesSoFar triangles h e) (h / 3) one-face .0))
+            ∙ sym (edge-live v (edgesOf triangles h) (facesSoFar triangles h) j b (omega arith)))
+        go (no n) (no q) =
+            edge-live v (edgesOf triangles h) (facesIn triangles (edgesOf triangles h) (suc h)) j b (omega arith)
+            ∙ (ap (λ (fs : List ℕ). getD (edgeRow v (edgesOf triangles h) j fs) b 0) (faces-kept j (omega arith) (λ z. q (sym z ∙ number)))
+            ∙ sym (edge-live v (edgesOf triangles h) (facesSoFar triangles h) j b (omega arith)))
+
+      still-two : (j : ℕ) → j < length (edgesOf triangles h) → length (facesIn triangles (edgesOf triangles h) (suc h) j) ≤ 2
+      still-two j k = go (ℕ-discrete j e) where
+        go : Dec (j ≡ e) → length (facesIn triangles (edgesOf triangles h) (suc h) j) ≤ 2
+        go (yes q) = rw (q, faces-after, second-face (facesSoFar triangles h e) (h / 3) one-face .1 .1) (omega arith)
+        go (no q) = rw (faces-kept j k (λ z. q (sym z ∙ number))) (p .two-faces j k)
+
+      pub found-turn : Partial triangles v (suc h) vertex (set edge (6 * e + 3) (h / 3)) (set triangle (6 * (h / 3) + h % 3) e)
+      found-turn =
+          partial triangles v h (edgesOf triangles h) same-edges vertex (set edge (6 * e + 3) (h / 3)) (set triangle (6 * (h / 3) + h % 3) e)
+          (p .vertex-words)
+          (holds-set 6 edge (edgeWord v (edgesOf triangles h) (facesSoFar triangles h)) (edgeWord v (edgesOf triangles h) (facesIn triangles (edgesOf triangles h) (suc h))) (p .edge-words) e 3 (h / 3) (omega arith) (omega (arith, edge-fits e (omega arith))) second-here others)
+          (numbers-turn triangles h e same-number triangle number-fits (p .triangle-words))
+          still-two
+
+  -- The edge is new.
+  module _ (fresh : length (edgesOf triangles h) ≤ find (sideEdge triangles h) (edgesOf triangles h)) where
+    abbrev grown : List Edge
+    grown = edgesOf triangles h ++ (sideEdge triangles h ∷ [])
+
+    more-edges : edgesOf triangles (suc h) ≡ grown
+    unfolding edgesOf
+    more-edges = ⊎-elim (λ w. absurd (omega (arith, w .0))) (λ w. w .1) (entered (edgesOf triangles h) (sideEdge triangles h))
+
+    one-more : length grown ≡ suc (length (edgesOf triangles h))
+    one-more = length-append (edgesOf triangles h) (sideEdge triangles h ∷ []) ∙ omega arith
+
+    new-last : find (sideEdge triangles h) (edgesOf triangles (suc h)) ≡ length (edgesOf triangles h)
+    new-last = rw more-edges (find-last (sideEdge triangles h) (edgesOf triangles h) fresh)
+
+    -- the heads of the buckets
+    head-here : vertexWord v grown (bucketOf v (sideEdge triangles h)) 2 ≡ suc (length (edgesOf triangles h))
+    unfolding vertexWord
+    head-here = rw one-more (last-new v (edgesOf triangles h) (bucketOf v (sideEdge triangles h)) (sideEdge triangles h) refl)
+
+    heads-kept : (j b : ℕ) → b < 3 → (j ≡ bucketOf v (sideEdge triangles h) → b ≡ 2 → ⊥) → vertexWord v grown j b ≡ vertexWord v (edgesOf triangles h) j b
+    unfolding vertexWord
+    heads-kept j b k ne = go (ℕ-discrete b 2) where
+      go : Dec (b ≡ 2) → cond (eqb b 2) (lastIn v grown j (length grown)) 0 ≡ cond (eqb b 2) (lastIn v (edgesOf triangles h) j (length (edgesOf triangles h))) 0
+      go (yes q) = ap (λ (n : ℕ). cond (eqb b 2) n 0) (ap (lastIn v grown j) one-more ∙ last-kept v (edgesOf triangles h) j (sideEdge triangles h) (λ z. ne (sym z) q))
+      go (no q) = rw (ne-eqb b 2 q) refl
+
+    bucket-fits : 3 * bucketOf v (sideEdge triangles h) + 2 < length vertex
+    bucket-fits = omega (arith, bucket-below v (sideEdge triangles h) (omega (arith, side-below triangles h v m l .0)), long .vertices-fit)
+
+    -- the faces of the new edge, and of those before it
+    new-faces : facesIn triangles grown (suc h) (length (edgesOf triangles h)) ≡ h / 3 ∷ []
+    new-faces =
+        ap (λ (x : Edge). facesAmong triangles x (suc h)) (getD-append-seam (edgesOf triangles h) (sideEdge triangles h) [] noEdge)
+        ∙ (faces-more triangles h ∙ ap (λ (fs : List ℕ). fs ++ (h / 3 ∷ [])) (faces-none triangles h (sideEdge triangles h) fresh))
+
+    old-faces : (j : ℕ) → j < length (edgesOf triangles h) → facesIn triangles grown (suc h) j ≡ facesSoFar triangles h j
+    old-faces j k =
+        ap (λ (x : Edge). facesAmong triangles x (suc h)) (List·getD-append (edgesOf triangles h) (sideEdge triangles h ∷ []) noEdge j k) ∙ faces-kept j k (omega arith)
+
+    new-row : (a : ℕ) → a < 6 → edgeWord v grown (facesIn triangles grown (suc h)) (length (edgesOf triangles h)) a ≡ getD (sideEdge triangles h .low ∷ sideEdge triangles h .high ∷ h / 3 ∷ noFace ∷ 0 ∷ lastIn v (edgesOf triangles h) (bucketOf v (sideEdge triangles h)) (length (edgesOf triangles h)) ∷ []) a 0
+    new-row a k =
+        edge-live v grown (facesIn triangles grown (suc h)) (length (edgesOf triangles h)) a (omega (arith, one-more))
+        ∙ (ap (λ (fs : List ℕ). getD (edgeRow v grown (length (edgesOf triangles h)) fs) a 0) new-faces
+        ∙ ap (λ (r : List ℕ). getD r a 0) (row-last v (edgesOf triangles h) (length (edgesOf triangles h)) (sideEdge triangles h) (h / 3) refl))
+
+    rows-kept : (j b : ℕ) → b < 6 → (j ≡ length (edgesOf triangles h) → ⊥) → edgeWord v grown (facesIn triangles grown (suc h)) j b ≡ edgeWord v (edgesOf triangles h) (facesSoFar triangles h) j b
+    rows-kept j b k ne = go (decLe (length (edgesOf triangles h)) j) where
+      go : Dec (length (edgesOf triangles h) ≤ j) → edgeWord v grown (facesIn triangles grown (suc h)) j b ≡ edgeWord v (edgesOf triangles h) (facesSoFar triangles h) j b
+      go (yes n) =
+          let n′ : length (edgesOf triangles h) < j = past (length (edgesOf triangles h)) j n ne in
+          edge-none v grown (facesIn triangles grown (suc h)) j b (omega (arith, one-more)) ∙ sym (edge-none v (edgesOf triangles h) (facesSoFar triangles h) j b n)
+      go (no n) =
+          edge-live v grown (facesIn triangles grown (suc h)) j b (omega (arith, one-more))
+          ∙ (ap (λ (fs : List ℕ). getD (edgeRow v grown j fs) b 0) (old-faces j (omega arith))
+          ∙ (ap (λ (r : List ℕ). getD r b 0) (row-append v (edgesOf triangles h) j (sideEdge triangles h ∷ []) (facesSoFar triangles h j) (omega arith))
+          ∙ sym (edge-live v (edgesOf triangles h) (facesSoFar triangles h) j b (omega arith))))
+
+    all-two : (j : ℕ) → j < length grown → length (facesIn triangles grown (suc h) j) ≤ 2
+    all-two j k = go (decLe (length (edgesOf triangles h)) j) where
+      go : Dec (length (edgesOf triangles h) ≤ j) → length (facesIn triangles grown (suc h) j) ≤ 2
+      go (yes n) =
+          let q : j ≡ length (edgesOf triangles h) = omega (arith, one-more) in
+          rw (q, new-faces) (omega arith)
+      go (no n) = rw (old-faces j (omega arith)) (p .two-faces j (omega arith))
+
+    pub new-turn : Partial triangles v (suc h)
+        (set vertex (3 * bucketOf v (sideEdge triangles h) + 2) (suc (length (edgesOf triangles h))))
+        (fill 6 edge (length (edgesOf triangles h)) 0 (sideEdge triangles h .low ∷ sideEdge triangles h .high ∷ h / 3 ∷ noFace ∷ 0 ∷ lastIn v (edgesOf triangles h) (bucketOf v (sideEdge triangles h)) (length (edgesOf triangles h)) ∷ []))
+        (set triangle (6 * (h / 3) + h % 3) (length (edgesOf triangles h)))
+    new-turn =
+        partial triangles v h grown more-edges _ _ _
+        (holds-set 3 vertex (vertexWord v (edgesOf triangles h)) (vertexWord v grown) (p .vertex-words) (bucketOf v (sideEdge triangles h)) 2 (suc (length (edgesOf triangles h))) (omega arith) bucket-fits head-here heads-kept)
+        (holds-fill 6 edge (edgeWord v (edgesOf triangles h) (facesSoFar triangles h)) (edgeWord v grown (facesIn triangles grown (suc h))) (p .edge-words) (length (edgesOf triangles h)) _ refl (edge-fits (length (edgesOf triangles h)) (omega arith)) new-row rows-kept)
+        (numbers-turn triangles h (length (edgesOf triangles h)) new-last triangle number-fits (p .triangle-words))
+        all-two
+
+  -- the count fits
+  pub few : length (edgesOf triangles h) < 393210
+  few = omega (arith, few-edges triangles h, m .whole, m .few-triangles)
+
+  -- What the code stores.
+  module _ (vertex′ edge′ triangle′ : List ℕ) where
+    pub new-done : (low high bucket count : ℕ) → length (edgesOf triangles h) ≤ find (sideEdge triangles h) (edgesOf triangles h) → record { low = low; high = high } ≡ sideEdge triangles h → bucket ≡ bucketOf v (record { low = low; high = high }) → count ≡ length (edgesOf triangles h)
+        → vertex′ ≡ set vertex (3 * bucket + 2) (count + 1) → edge′ ≡ fill 6 edge count 0 (low ∷ high ∷ h / 3 ∷ noFace ∷ 0 ∷ getD vertex (3 * bucket + 2) 0 ∷ []) → triangle′ ≡ set triangle (6 * (h / 3) + h % 3) count
+        → Turned triangles v (h + 1) vertex′ edge′ triangle′ (Edges (count + 1))
+    unfolding Turned
+    new-done low high bucket count fresh q eb ec ev ee et =
+        let b : bucket ≡ bucketOf v (sideEdge triangles h) = eb ∙ ap (bucketOf v) q in
+        let lo : low ≡ sideEdge triangles h .low = ap (λ (x : Edge). x .low) q in
+        let hi : high ≡ sideEdge triangles h .high = ap (λ (x : Edge). x .high) q in
+        let n : length (edgesOf triangles (suc h)) ≡ suc (length (edgesOf triangles h)) = ap length (more-edges fresh) ∙ one-more fresh in
+        rw (add-one h, ev, ee, et, head-at triangles v h vertex edge triangle p bucket, b, lo, hi, ec, add-one (length (edgesOf triangles h))) (sym n, new-turn fresh)
+
+    pub found-done : (e count : ℕ) → (find (sideEdge triangles h) (edgesOf triangles h) < length (edgesOf triangles h)) × (e ≡ find (sideEdge triangles h) (edgesOf triangles h)) → count ≡ length (edgesOf triangles h) → (s : ℕ) → s ≡ getD edge (6 * e + 3) 0 → s ≡ noFace
+        → vertex′ ≡ vertex → edge′ ≡ set edge (6 * e + 3) (h / 3) → triangle′ ≡ set triangle (6 * (h / 3) + h % 3) e
+        → Turned triangles v (h + 1) vertex′ edge′ triangle′ (Edges count)
+    unfolding Turned
+    found-done e count f ec s es vacant ev ee et =
+        let k : e < length (edgesOf triangles h) = omega arith in
+        rw (add-one h, ev, ee, et) (ec ∙ ap length (sym (same-edges e (sym (f .1)) k)), found-turn e (sym (f .1)) k (sym es ∙ vacant))
+
+    pub third-done : (e : ℕ) → (find (sideEdge triangles h) (edgesOf triangles h) < length (edgesOf triangles h)) × (e ≡ find (sideEdge triangles h) (edgesOf triangles h)) → (s : ℕ) → s ≡ getD edge (6 * e + 3) 0 → s ≢ noFace → Turned triangles v (h + 1) vertex′ edge′ triangle′ ThirdFace
+    unfolding Turned
+    third-done e f s es ne = third-turn e (sym (f .1)) (omega arith) (λ z. ne (es ∙ z))

@@ -1,0 +1,69 @@
+-- `edge_table::add_edge` meets its contract: the six stores make a row. Assumes nothing.
+use Rattle.edge_table.proofs.Turns.{stored}
+use borrow.Author.Needs.{needs}
+use Rattle.edge_table.proofs.add_edge.Statement.{statement}
+use Rattle.edge_table.proofs.add_edge.Tie as tie
+
+read-u32-requires : tie.Need-read-u32-requires
+read-u32-requires c κs = search needs
+
+write-u32-requires : tie.Need-write-u32-requires
+write-u32-requires c κs = search needs
+
+write-u32-requires-2 : tie.Need-write-u32-requires-2
+write-u32-requires-2 c κs = search needs
+
+write-u32-requires-3 : tie.Need-write-u32-requires-3
+write-u32-requires-3 c κs = search needs
+
+write-u32-requires-4 : tie.Need-write-u32-requires-4
+write-u32-requires-4 c κs = search needs
+
+write-u32-requires-5 : tie.Need-write-u32-requires-5
+write-u32-requires-5 c κs = search needs
+
+write-u32-requires-6 : tie.Need-write-u32-requires-6
+write-u32-requires-6 c κs = search needs
+
+add-write-u32 : tie.Need-add-write-u32
+add-write-u32 c = search needs
+
+write-u32-requires-7 : tie.Need-write-u32-requires-7
+write-u32-requires-7 c κs = search needs
+
+same-length : tie.Need-same-length
+same-length c = search needs
+
+same-length-2 : tie.Need-same-length-2
+same-length-2 c = search needs
+
+returns : tie.Need-returns
+returns c =
+    let w₇ = c .before .before in
+    let w₆ = w₇ .before .before .before .before in
+    let w₅ = w₆ .before .before .before .before in
+    let w₄ = w₅ .before .before .before .before in
+    let w₃ = w₄ .before .before .before .before in
+    let w₂ = w₃ .before .before .before .before in
+    let w₁ = w₂ .before .before .before .before in
+    let read = w₁ .before .before in (
+      w₇ .write-u327 .ensures,
+      stored _ _ _ _ _ _ _ _ _ _ _ _ _ _ (read .read-u32 .ensures) (w₁ .write-u32 .ensures) (w₂ .write-u322 .ensures) (w₃ .write-u323 .ensures) (w₄ .write-u324 .ensures) (w₅ .write-u325 .ensures) (w₆ .write-u326 .ensures),
+    )
+
+pub add-edge-spec : {M : Type 1} → statement M
+add-edge-spec =
+    tie.close
+    (tie.spec
+    read-u32-requires
+    write-u32-requires
+    write-u32-requires-2
+    write-u32-requires-3
+    write-u32-requires-4
+    write-u32-requires-5
+    write-u32-requires-6
+    add-write-u32
+    write-u32-requires-7
+    same-length
+    same-length-2
+    returns)

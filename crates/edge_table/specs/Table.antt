@@ -1,0 +1,91 @@
+-- The edge table of a mesh: the answer and the three buffers. Definitions only.
+use Prim.Native.Nat.{ℕ, zero, suc, _+_, _*_, _/_, _<_, _≤_}
+use mathlib.Core.Path.{_≡_}
+use mathlib.Core.Bool.{true, false, cond, _&&_}
+use mathlib.Core.List.{List}
+use lib.Dec.{eqb}
+use lib.ListN.{length, getD}
+use Rattle.topology.specs.Edges.{noEdge, sideEdge, find, edgesOf, edges, triEdge, facesAmong, edgeFaces, sharedByThree}
+use Rattle.edge_table.specs.declared.Table.{Table}
+use Rattle.edge_table.specs.declared.Table.the-variants.{Edges, ThirdFace}
+use Rattle.edge_table.specs.Words.{wordsOf, vertexWord, edgeWord, triangleWord}
+
+-- What is asked of a mesh: three vertex numbers for each triangle, each below v, and no more of both than document 01 allows.
+pub record Mesh (triangles : List ℕ) (v : ℕ) : Type 0 where
+  pub whole : length triangles ≡ 3 * (length triangles / 3)
+  pub few-triangles : length triangles / 3 ≤ 131070
+  pub few-vertices : v ≤ 65535
+  pub there : (i : ℕ) → i < length triangles → getD triangles i 0 < v
+
+-- Buffers of so many words: a slot for each vertex, one for each side, which is what the edges can come to, and one for each triangle.
+pub record LongEnough (triangles : List ℕ) (v vertex edge triangle : ℕ) : Type 0 where
+  pub vertices-fit : 3 * v ≤ vertex
+  pub edges-fit : 6 * length triangles ≤ edge
+  pub triangles-fit : 2 * length triangles ≤ triangle
+
+module _ (triangles : List ℕ) (v : ℕ) where
+  unfoldable pub tableOf : Table
+  tableOf = cond (sharedByThree triangles) ThirdFace (Edges (length (edges triangles)))
+
+  -- The three buffers, of n words each.
+  unfoldable pub vertexWords : ℕ → List ℕ
+  vertexWords n = wordsOf n 3 (vertexWord v (edges triangles))
+
+  unfoldable pub edgeWords : ℕ → List ℕ
+  edgeWords n = wordsOf n 6 (edgeWord v (edges triangles) (edgeFaces triangles))
+
+  unfoldable pub triangleWords : ℕ → List ℕ
+  triangleWords n = wordsOf n 6 (triangleWord (length triangles) (triEdge triangles))
+
+  -- What the buffers hold where no edge lies in more than two triangles, against what they held before, which counts by its length alone.
+  pub record Filled (vertex₀ edge₀ triangle₀ vertex edge triangle : List ℕ) : Type 0 where
+    pub vertex-words : vertex ≡ vertexWords (length vertex₀)
+    pub edge-words : edge ≡ edgeWords (length edge₀)
+    pub triangle-words : triangle ≡ triangleWords (length triangle₀)
+
+  pub record Built (r : Table) (vertex₀ edge₀ triangle₀ vertex edge triangle : List ℕ) : Type 0 where
+    pub answer : r ≡ tableOf
+    pub words : sharedByThree triangles ≡ false → Filled vertex₀ edge₀ triangle₀ vertex edge triangle
+
+-- Every field a of every slot i of a buffer, whether or not it has the slot.
+abbrev pub Holds : ℕ → List ℕ → (ℕ → ℕ → ℕ) → Type 0
+Holds s words word = (i a : ℕ) → a < s → getD words (s * i + a) 0 ≡ word i a
+
+-- The buffers after the first h sides.
+module _ (triangles : List ℕ) (h : ℕ) where
+  -- the faces of edge e so far
+  unfoldable pub facesSoFar : ℕ → List ℕ
+  facesSoFar e = facesAmong triangles (getD (edgesOf triangles h) e noEdge) h
+
+  unfoldable pub numberSoFar : ℕ → ℕ
+  numberSoFar s = find (sideEdge triangles s) (edgesOf triangles h)
+
+pub record Partial (triangles : List ℕ) (v h : ℕ) (vertex edge triangle : List ℕ) : Type 0 where
+  pub vertex-words : Holds 3 vertex (vertexWord v (edgesOf triangles h))
+  pub edge-words : Holds 6 edge (edgeWord v (edgesOf triangles h) (facesSoFar triangles h))
+  pub triangle-words : Holds 6 triangle (triangleWord h (numberSoFar triangles h))
+  pub two-faces : (e : ℕ) → e < length (edgesOf triangles h) → length (facesSoFar triangles h e) ≤ 2
+
+-- What side h is entered into: the buffers after h sides, with so many edges.
+pub record Ready (triangles : List ℕ) (v h count : ℕ) (vertex edge triangle : List ℕ) : Type 0 where
+  pub mesh : Mesh triangles v
+  pub long : LongEnough triangles v (length vertex) (length edge) (length triangle)
+  pub side : h < length triangles
+  pub counted : count ≡ length (edgesOf triangles h)
+  pub words : Partial triangles v h vertex edge triangle
+
+-- The answer after h sides.
+unfoldable pub Turned : List ℕ → ℕ → ℕ → List ℕ → List ℕ → List ℕ → Table → Type 0
+Turned triangles v h vertex edge triangle (Edges n) = (n ≡ length (edgesOf triangles h)) × Partial triangles v h vertex edge triangle
+Turned triangles v h vertex edge triangle ThirdFace = sharedByThree triangles ≡ true
+
+-- The links of edges fall: each leads to an earlier edge.
+abbrev pub Falling : List ℕ → Type 0
+Falling words = (e : ℕ) → getD words (6 * e + 5) 0 ≤ e
+
+-- the link to the edge with these ends on the chain from a link on, or 0; the first number is how many links are followed at most
+unfoldable pub seek : List ℕ → ℕ → ℕ → ℕ → ℕ → ℕ
+seek words low high zero at = 0
+seek words low high (suc n) zero = 0
+seek words low high (suc n) (suc e) =
+    cond (eqb (getD words (6 * e + 0) 0) low && eqb (getD words (6 * e + 1) 0) high) (suc e) (seek words low high n (getD words (6 * e + 5) 0))

@@ -1,0 +1,167 @@
+// The edges of a mesh, numbered by first appearance, in buffers that a caller lends. An edge is looked up through buckets: as many
+// as there are vertices, each a chain of edges through the edge buffer, the newest first. `bucketOf` in specs/ mixes both ends of an edge,
+// and a chain is as long as the edges that share its bucket: where all of them did, a look-up would take as many steps as there are edges.
+use buffers::read_u32;
+use buffers::write_u32;
+use buffers::zero_u32;
+ghost use mathlib.Core.Path.{_≡_};
+ghost use mathlib.Core.List.{[], _∷_};
+ghost use Prim.Native.Nat.{ℕ, _+_, _*_, _/_, _<_, _≤_};
+ghost use lib.ListN.{length, getD, set};
+ghost use Rattle.buffers.specs.Slots.{fill};
+ghost use Rattle.job_checks.specs.Edge.{lower, higher};
+ghost use Rattle.topology.specs.Edges.{edgesOf};
+ghost use Rattle.edge_table.specs.Words.{bucketOf};
+ghost use Rattle.edge_table.specs.Table.{Mesh, LongEnough, Built, Ready, Turned, Falling, seek};
+
+// How many edges there are, or document 01's refusal 10: an edge lies in more than two triangles.
+pub enum Table {
+    Edges(u32),
+    ThirdFace,
+}
+
+fn lower_of(a: u32, b: u32) -> u32
+    ensures { λ r. ⌜ r ≡ lower a b ⌝ }
+{
+    if a < b {
+        return a;
+    }
+    b
+}
+
+fn higher_of(a: u32, b: u32) -> u32
+    ensures { λ r. ⌜ r ≡ higher a b ⌝ }
+{
+    if a < b {
+        return b;
+    }
+    a
+}
+
+fn bucket_of(low: u32, high: u32, vertex_count: u32) -> u32
+    requires { ⌜ (low < «vertex_count») × ((high < «vertex_count») × («vertex_count» ≤ 65535)) ⌝ }
+    ensures { λ r. ⌜ r ≡ bucketOf «vertex_count» (record { low = low; high = high }) ⌝ }
+{
+    let mixed = ((low as u64) * 2654435761 + (high as u64) * 2246822519) % 4294967296;
+    (mixed * (vertex_count as u64) / 4294967296) as u32
+}
+
+// The link to the edge with these ends on the chain from a link on, or 0. Links fall, so the chain ends.
+fn find_in_bucket(edge_words: &[u32], head: u32, low: u32, high: u32) -> u32
+    requires { ⌜ Falling (now «edge_words») ⌝ }
+    ensures { λ r. ⌜ r ≡ seek (now («edge_words» .entry)) low high head head ⌝ }
+{
+    let mut at = head;
+    while at != 0 {
+        let e = at - 1;
+        if read_u32(edge_words, 6, e, 0) == low {
+            if read_u32(edge_words, 6, e, 1) == high {
+                return at;
+            }
+        }
+        at = read_u32(edge_words, 6, e, 5);
+    }
+    0
+}
+
+// A new edge, with its first face, at the head of its bucket.
+fn add_edge(
+    vertex_words: &mut [u32],
+    edge_words: &mut [u32],
+    bucket: u32,
+    e: u32,
+    low: u32,
+    high: u32,
+    f: u32,
+)
+    requires { ⌜ e < 4294967295 ⌝ }
+    ensures { λ r. ⌜ (now («vertex_words» .exit) ≡ set (now («vertex_words» .entry)) (3 * bucket + 2) (e + 1))
+        × (now («edge_words» .exit) ≡ fill 6 (now («edge_words» .entry)) e 0 (low ∷ high ∷ f ∷ 4294967295 ∷ 0 ∷ getD (now («vertex_words» .entry)) (3 * bucket + 2) 0 ∷ [])) ⌝ }
+{
+    let next = read_u32(vertex_words, 3, bucket, 2);
+    write_u32(edge_words, 6, e, 0, low);
+    write_u32(edge_words, 6, e, 1, high);
+    write_u32(edge_words, 6, e, 2, f);
+    write_u32(edge_words, 6, e, 3, 4294967295);
+    write_u32(edge_words, 6, e, 4, 0);
+    write_u32(edge_words, 6, e, 5, next);
+    write_u32(vertex_words, 3, bucket, 2, e + 1);
+}
+
+// Side h: its edge is found or entered, and has the side's triangle as its next face. `count` is how many edges there are.
+fn enter_side(
+    triangles: &[u32],
+    vertex_count: u32,
+    vertex_words: &mut [u32],
+    edge_words: &mut [u32],
+    triangle_words: &mut [u32],
+    h: u32,
+    count: u32,
+) -> Table
+    requires { ⌜ Ready (now triangles) «vertex_count» h count (now «vertex_words») (now «edge_words») (now «triangle_words») ⌝ }
+    ensures { λ r. ⌜ Turned (now (triangles .entry)) «vertex_count» (h + 1) (now («vertex_words» .exit)) (now («edge_words» .exit)) (now («triangle_words» .exit)) r ⌝ }
+{
+    let f = h / 3;
+    let k = h % 3;
+    let a = read_u32(triangles, 3, f, k);
+    let b = read_u32(triangles, 3, f, (k + 1) % 3);
+    let low = lower_of(a, b);
+    let high = higher_of(a, b);
+    let bucket = bucket_of(low, high, vertex_count);
+    let head = read_u32(vertex_words, 3, bucket, 2);
+    let link = find_in_bucket(edge_words, head, low, high);
+    if link == 0 {
+        add_edge(vertex_words, edge_words, bucket, count, low, high, f);
+        write_u32(triangle_words, 6, f, k, count);
+        return Table::Edges(count + 1);
+    }
+    let e = link - 1;
+    if read_u32(edge_words, 6, e, 3) != 4294967295 {
+        return Table::ThirdFace;
+    }
+    write_u32(edge_words, 6, e, 3, f);
+    write_u32(triangle_words, 6, f, k, e);
+    Table::Edges(count)
+}
+
+// The table of a mesh whose triangles were checked. Where an edge lies in more than two triangles the buffers are left as they are then.
+pub fn build(
+    triangles: &[u32],
+    vertex_count: u32,
+    vertex_words: &mut [u32],
+    edge_words: &mut [u32],
+    triangle_words: &mut [u32],
+) -> Table
+    requires { ⌜ Mesh (now triangles) «vertex_count»
+        × LongEnough (now triangles) «vertex_count» (length (now «vertex_words»)) (length (now «edge_words»)) (length (now «triangle_words»)) ⌝ }
+    ensures { λ r. ⌜ Built (now (triangles .entry)) «vertex_count» r
+        (now («vertex_words» .entry)) (now («edge_words» .entry)) (now («triangle_words» .entry))
+        (now («vertex_words» .exit)) (now («edge_words» .exit)) (now («triangle_words» .exit)) ⌝ }
+{
+    zero_u32(vertex_words);
+    zero_u32(edge_words);
+    zero_u32(triangle_words);
+    let sides = triangles.len() as u32;
+    let mut count: u32 = 0;
+    let mut h: u32 = 0;
+    while h < sides {
+        match enter_side(
+            triangles,
+            vertex_count,
+            vertex_words,
+            edge_words,
+            triangle_words,
+            h,
+            count,
+        ) {
+            Table::Edges(n) => {
+                count = n;
+            }
+            Table::ThirdFace => {
+                return Table::ThirdFace;
+            }
+        }
+        h += 1;
+    }
+    Table::Edges(count)
+}
