@@ -80,6 +80,24 @@ fn fan(triangles: usize) -> Mesh {
     (v, t.collect())
 }
 
+/// Few vertices, each joined with every other: triangles whose three numbers add up to nothing, round the number of vertices.
+fn dense(triangles: usize) -> Mesh {
+    let n = (6. * triangles as f64).sqrt() as usize;
+    let mut rng = Rng::new(2);
+    let v = (0..n).map(|_| [0; 3].map(|_| rng.between(-100., 100.)));
+    let v = v.collect();
+    let mut t = vec![];
+    for a in 0..n {
+        for b in a + 1..n {
+            let c = (2 * n - a - b) % n;
+            if b < c {
+                t.push([a as u32, b as u32, c as u32]);
+            }
+        }
+    }
+    (v, t)
+}
+
 /// The same mesh with its vertices renumbered and its triangles in another order.
 fn shuffled((v, t): Mesh) -> Mesh {
     let mut rng = Rng::new(1);
@@ -269,11 +287,12 @@ fn main() {
     // 104 by 104 squares a side at most: the next larger one passes the bound on triangles.
     let sphere = |n: usize| workshop::mesh(Shape::Sphere, n.min(129_792), &mut Rng::new(1));
     type Make<'a> = (&'a str, &'a dyn Fn(usize) -> Mesh);
-    let meshes: [Make; 4] = [
+    let meshes: [Make; 5] = [
         ("terrain", &terrain),
         ("sphere", &sphere),
         ("two fans", &fan),
         ("sphere, shuffled", &|n| shuffled(sphere(n))),
+        ("all vertices joined", &dense),
     ];
     let mut growth = vec![];
     for (name, make) in meshes {
