@@ -1,0 +1,136 @@
+-- The numbers as the code computes them, and the turns of the loops. Assumes nothing.
+use Prim.Native.Nat.{ℕ, _+_, _*_, _/_, _%_, _<_, _≤_}
+use mathlib.Core.Path.{_≡_, refl, sym, ap, _∙_}
+use mathlib.Core.Bool.{Bool, true, false, cond}
+use mathlib.Core.List.{List, [], _∷_}
+use mathlib.Core.Logic.{⊎-elim}
+use native.Mathlib.Omega.{arith}
+use native.Mathlib.Numerals.{add-one}
+use borrow.Author.Tests.{eq-eqb, ne-eqb}
+use lib.Dec.{eqb}
+use lib.ListN.{getD}
+use lib.Ieee.{Float, nan, neg}
+use Rattle.float64.specs.Scalar.{one}
+use Rattle.float64.specs.Notation.{_⊘_}
+use Rattle.vec3.specs.declared.Vec3.{Vec3}
+use Rattle.vec3.specs.Vec.{scaleOf, axpyOf, subOf, dotOf, normOf}
+use Rattle.job_checks.specs.Edge.{vertexAt, lenOf, xhatOf}
+use Rattle.buffers.specs.declared.FaceId.{FaceId}
+use Rattle.buffers.specs.declared.VertexId.{VertexId}
+use Rattle.buffers.specs.Slots.{fill}
+use Rattle.topology.specs.Edges.{Edge, offEnds, corner}
+use Rattle.frames.specs.Stored.{lowAt, highAt, faceAt, sideAt, vectorAt, unitAt, inward, originAt, endAt, withLengths, normalOf, withNormals, xOf, otherAt, localAt, thirdAt, yOf}
+
+pub vector-of : (r : Vec3) (a b c x y z : Float) → r ≡ record { x = a; y = b; z = c } → a ≡ x → b ≡ y → c ≡ z → r ≡ record { x = x; y = y; z = z }
+vector-of r a b c x y z e p q s = e ∙ (λ i. record { x = p i; y = q i; z = s i })
+
+pub vertex-is : (v : List Float) (k : ℕ) → vectorAt 3 v k 0 ≡ vertexAt v k
+vertex-is v k =
+    let e : 3 * k + 0 ≡ 3 * k = omega arith in
+    λ i. record { x = getD v (e i) nan; y = getD v (3 * k + 1) nan; z = getD v (3 * k + 2) nan }
+
+pub inward-steps : (o xhat third w p r : Vec3) (k n : Float) → w ≡ subOf third o → k ≡ dotOf w xhat → p ≡ axpyOf w (neg k) xhat → n ≡ normOf p → r ≡ scaleOf p (one ⊘ n) → r ≡ inward o xhat third
+unfolding inward
+inward-steps o xhat third w p r k n up along across high unit = rw (← up, ← along, ← across, ← high) unit
+
+pub length-steps : (o b d x : Vec3) (len : Float) (r r′ : List Float) (e : ℕ) → d ≡ subOf b o → len ≡ normOf d → x ≡ scaleOf d (one ⊘ len) → r′ ≡ fill 4 r e 0 (len ∷ x .x ∷ x .y ∷ x .z ∷ []) → r′ ≡ fill 4 r e 0 (lenOf o b ∷ xhatOf o b .x ∷ xhatOf o b .y ∷ xhatOf o b .z ∷ [])
+unfolding lenOf xhatOf
+length-steps o b d x len r r′ e from long unit h = rw (← from, ← long, ← unit) h
+
+module _ (v : List Float) (edgeWords : List ℕ) where
+  pub lengths-start : (r : List Float) → r ≡ withLengths v edgeWords 0 r
+  unfolding withLengths
+  lengths-start r = refl
+
+  pub lengths-turn : (r₀ r r′ : List Float) (e : ℕ) (o b : Vec3) → r ≡ withLengths v edgeWords e r₀ → o ≡ originAt v edgeWords e → b ≡ endAt v edgeWords e → r′ ≡ fill 4 r e 0 (lenOf o b ∷ xhatOf o b .x ∷ xhatOf o b .y ∷ xhatOf o b .z ∷ []) → r′ ≡ withLengths v edgeWords (e + 1) r₀
+  unfolding withLengths
+  lengths-turn r₀ r r′ e o b so-far p q h = rw (add-one e) (h ∙ (λ i. fill 4 (so-far i) e 0 (lenOf (p i) (q i) ∷ xhatOf (p i) (q i) .x ∷ xhatOf (p i) (q i) .y ∷ xhatOf (p i) (q i) .z ∷ [])))
+
+  pub lengths-done : (r₀ r : List Float) (e n : ℕ) → r ≡ withLengths v edgeWords e r₀ → e ≤ n → n ≤ e → r ≡ withLengths v edgeWords n r₀
+  lengths-done r₀ r e n p l m = p ∙ ap (λ (k : ℕ). withLengths v edgeWords k r₀) (let g : e ≡ n = omega arith in g)
+
+  pub x-steps : (reals : List Float) (e : ℕ) (p o d u : Vec3) (r : Float) → o ≡ originAt v edgeWords e → u ≡ unitAt reals e → d ≡ subOf p o → r ≡ dotOf d u → r ≡ xOf v edgeWords reals e p
+  unfolding xOf
+  x-steps reals e p o d u r a b c h = h ∙ (λ i. dotOf ((c ∙ (λ j. subOf p (a j))) i) (b i))
+
+  pub y-steps : (triangleWords : List ℕ) (reals : List Float) (e f k : ℕ) (p o d u : Vec3) (r : Float) → k ≡ localAt triangleWords f e → o ≡ originAt v edgeWords e → u ≡ vectorAt 9 reals f (3 * k) → d ≡ subOf p o → r ≡ dotOf d u → r ≡ yOf v edgeWords triangleWords reals e f p
+  unfolding yOf
+  y-steps triangleWords reals e f k p o d u r g a b c h = h ∙ (λ i. dotOf ((c ∙ (λ j. subOf p (a j))) i) ((b ∙ (λ j. vectorAt 9 reals f (3 * g j))) i))
+
+  module _ (triangles triangleWords : List ℕ) (edgeReals : List Float) where
+    pub normal-steps : (h e k : ℕ) (o u t r : Vec3) → e ≡ sideAt triangleWords h → k ≡ getD triangles (3 * (h / 3) + (h % 3 + 2) % 3) 0 → o ≡ originAt v edgeWords e → u ≡ unitAt edgeReals e → t ≡ vertexAt v k → r ≡ inward o u t → r ≡ normalOf v edgeWords triangles triangleWords edgeReals h
+    unfolding normalOf corner
+    normal-steps h e k o u t r a b c d g z =
+        z ∙ (λ i. inward ((c ∙ (λ j. originAt v edgeWords (a j))) i) ((d ∙ (λ j. unitAt edgeReals (a j))) i) ((g ∙ (λ j. vertexAt v (b j))) i))
+
+    pub normals-start : (r : List Float) → r ≡ withNormals v edgeWords triangles triangleWords edgeReals 0 r
+    unfolding withNormals
+    normals-start r = refl
+
+    pub normals-turn : (r₀ r r′ : List Float) (h : ℕ) (n : Vec3) → r ≡ withNormals v edgeWords triangles triangleWords edgeReals h r₀ → n ≡ normalOf v edgeWords triangles triangleWords edgeReals h → r′ ≡ fill 3 r h 0 (n .x ∷ n .y ∷ n .z ∷ []) → r′ ≡ withNormals v edgeWords triangles triangleWords edgeReals (h + 1) r₀
+    unfolding withNormals
+    normals-turn r₀ r r′ h n so-far p q = rw (add-one h) (q ∙ (λ i. fill 3 (so-far i) h 0 (p i .x ∷ p i .y ∷ p i .z ∷ [])))
+
+    pub normals-done : (r₀ r : List Float) (h n : ℕ) → r ≡ withNormals v edgeWords triangles triangleWords edgeReals h r₀ → h ≤ n → n ≤ h → r ≡ withNormals v edgeWords triangles triangleWords edgeReals n r₀
+    normals-done r₀ r h n p l m = p ∙ ap (λ (k : ℕ). withNormals v edgeWords triangles triangleWords edgeReals k r₀) (let g : h ≡ n = omega arith in g)
+
+pub other-here : (w : List ℕ) (e f a b : ℕ) → a ≡ faceAt w e 0 → b ≡ faceAt w e 1 → a ≡ f → b ≡ otherAt w e f
+unfolding otherAt
+other-here w e f a b p q r = rw (eq-eqb (faceAt w e 0) f (sym p ∙ r)) q
+
+pub other-there : (w : List ℕ) (e f a : ℕ) → a ≡ faceAt w e 0 → (a ≡ f → ⊥) → a ≡ otherAt w e f
+unfolding otherAt
+other-there w e f a p r = rw (ne-eqb (faceAt w e 0) f (λ q. r (p ∙ q))) p
+
+module _ (w : List ℕ) (f e a : ℕ) (p : a ≡ getD w (6 * f + 0) 0) where
+  pub local-first : a ≡ e → 0 ≡ localAt w f e
+  unfolding localAt
+  local-first r = rw (eq-eqb (getD w (6 * f + 0) 0) e (sym p ∙ r))
+
+  module _ (n : a ≡ e → ⊥) (b : ℕ) (q : b ≡ getD w (6 * f + 1) 0) where
+    pub local-second : b ≡ e → 1 ≡ localAt w f e
+    unfolding localAt
+    local-second r = rw (ne-eqb (getD w (6 * f + 0) 0) e (λ s. n (p ∙ s)), eq-eqb (getD w (6 * f + 1) 0) e (sym q ∙ r))
+
+    pub local-third : (b ≡ e → ⊥) → 2 ≡ localAt w f e
+    unfolding localAt
+    local-third m = rw (ne-eqb (getD w (6 * f + 0) 0) e (λ s. n (p ∙ s)), ne-eqb (getD w (6 * f + 1) 0) e (λ s. m (q ∙ s)))
+
+small : (a b : Bool) → cond a 0 (cond b 1 2) ≤ 2
+small true b = omega arith
+small false true = omega arith
+small false false = omega arith
+
+local-small : (w : List ℕ) (f e : ℕ) → localAt w f e ≤ 2
+unfolding localAt
+local-small w f e = small (eqb (getD w (6 * f + 0) 0) e) (eqb (getD w (6 * f + 1) 0) e)
+
+pub local-below : (w : List ℕ) (f e k : ℕ) → k ≡ localAt w f e → k ≤ 2
+local-below w f e k q = rw q (local-small w f e)
+
+pub vertex-id : (a b : ℕ) → a ≡ b → _≡_ {A = VertexId} (record { 0 = a }) (record { 0 = b })
+vertex-id a b q i = record { 0 = q i }
+
+pub face-id : (a b : ℕ) → a ≡ b → _≡_ {A = FaceId} (record { 0 = a }) (record { 0 = b })
+face-id a b q i = record { 0 = q i }
+
+pub off-both : (k low high : ℕ) → (k ≡ low → ⊥) → (k ≡ high → ⊥) → offEnds k (record { low = low; high = high }) ≡ true
+unfolding offEnds
+off-both k low high p q = rw (ne-eqb k low p, ne-eqb k high q)
+
+module _ (t w : List ℕ) (e f low high a : ℕ) (p : low ≡ lowAt w e) (q : high ≡ highAt w e) (r : a ≡ getD t (3 * f + 0) 0) where
+  edge-is : (x : ℕ) (y : ℕ) → x ≡ y → offEnds x (record { low = low; high = high }) ≡ offEnds y (record { low = lowAt w e; high = highAt w e })
+  edge-is x y z i = offEnds (z i) (record { low = p i; high = q i })
+
+  pub third-first : (o : Bool) → o ≡ offEnds a (record { low = low; high = high }) → o ≡ true → a ≡ thirdAt t w e f
+  unfolding thirdAt
+  third-first o g h = rw (sym (edge-is a (getD t (3 * f + 0) 0) r) ∙ (sym g ∙ h)) r
+
+  module _ (o : Bool) (g : o ≡ offEnds a (record { low = low; high = high })) (h : o ≡ false) (b : ℕ) (s : b ≡ getD t (3 * f + 1) 0) (n : Bool) (k : n ≡ offEnds b (record { low = low; high = high })) where
+    pub third-second : n ≡ true → b ≡ thirdAt t w e f
+    unfolding thirdAt
+    third-second m = rw (sym (edge-is a (getD t (3 * f + 0) 0) r) ∙ (sym g ∙ h), sym (edge-is b (getD t (3 * f + 1) 0) s) ∙ (sym k ∙ m)) s
+
+    pub third-last : n ≡ false → (c : ℕ) → c ≡ getD t (3 * f + 2) 0 → c ≡ thirdAt t w e f
+    unfolding thirdAt
+    third-last m c z = rw (sym (edge-is a (getD t (3 * f + 0) 0) r) ∙ (sym g ∙ h), sym (edge-is b (getD t (3 * f + 1) 0) s) ∙ (sym k ∙ m)) z

@@ -1,0 +1,43 @@
+use Rattle.frames.proofs.Turns.{normal-steps}
+use borrow.Author.Needs.{needs}
+use Rattle.frames.proofs.normal.Statement.{statement}
+use Rattle.frames.proofs.normal.Tie as tie
+
+read-u32-requires : tie.Need-read-u32-requires
+read-u32-requires c κs = search needs
+
+add-read-u32 : tie.Need-add-read-u32
+add-read-u32 c = search needs
+
+read-u32-requires-2 : tie.Need-read-u32-requires-2
+read-u32-requires-2 c κs = search needs
+
+origin-requires : tie.Need-origin-requires
+origin-requires c κs = search needs
+
+vector-requires : tie.Need-vector-requires
+vector-requires c κs = search needs
+
+vertex-requires : tie.Need-vertex-requires
+vertex-requires c κs = search needs
+
+inward-requires : tie.Need-inward-requires
+inward-requires c κs = search needs
+
+returns : tie.Need-returns
+returns c =
+    let o = c .before .before .before in
+    normal-steps _ _ _ _ _ _ _ _ _ _ _ _ (o .before .before .read-u32 .ensures) (o .before .read-u322 .ensures) (o .origin .ensures) (c .before .before .vector .ensures) (c .before .vertex .ensures) (c .inward .ensures)
+
+pub normal-spec : {M : Type 1} → statement M
+normal-spec =
+    tie.close
+    (tie.spec
+    read-u32-requires
+    add-read-u32
+    read-u32-requires-2
+    origin-requires
+    vector-requires
+    vertex-requires
+    inward-requires
+    returns)

@@ -1,0 +1,103 @@
+-- What the topology's buffers hold, read and written. Definitions only.
+-- An edge has six words (its two vertices, its two faces, and two of other functions) and four reals (its length and its unit vector); a triangle has six
+-- words, of which the first three are its edges, and nine reals, the inward normals of its sides.
+use Prim.Native.Nat.{ℕ, zero, suc, _+_, _*_, _/_, _%_}
+use mathlib.Core.Bool.{cond}
+use mathlib.Core.List.{List, [], _∷_}
+use lib.Dec.{eqb}
+use lib.ListN.{getD}
+use lib.Ieee.{Float, nan, neg}
+use Rattle.float64.specs.Scalar.{one}
+use Rattle.float64.specs.Notation.{_⊘_}
+use Rattle.vec3.specs.declared.Vec3.{Vec3}
+use Rattle.vec3.specs.Vec.{scaleOf, axpyOf, subOf, dotOf, normOf}
+use Rattle.job_checks.specs.Edge.{vertexAt, lenOf, xhatOf}
+use Rattle.buffers.specs.Slots.{fill}
+use Rattle.topology.specs.Edges.{Edge, offEnds, corner}
+
+-- the ends of edge e, and its first and second face
+abbrev pub lowAt : List ℕ → ℕ → ℕ
+lowAt words e = getD words (6 * e + 0) 0
+
+abbrev pub highAt : List ℕ → ℕ → ℕ
+highAt words e = getD words (6 * e + 1) 0
+
+abbrev pub faceAt : List ℕ → ℕ → ℕ → ℕ
+faceAt words e i = getD words (6 * e + (2 + i)) 0
+
+-- the edge of side h
+abbrev pub sideAt : List ℕ → ℕ → ℕ
+sideAt words h = getD words (6 * (h / 3) + h % 3) 0
+
+-- three reals of slot i from field a on
+abbrev pub vectorAt : ℕ → List Float → ℕ → ℕ → Vec3
+vectorAt s reals i a = record { x = getD reals (s * i + a) nan; y = getD reals (s * i + (a + 1)) nan; z = getD reals (s * i + (a + 2)) nan }
+
+abbrev pub lengthAt : List Float → ℕ → Float
+lengthAt reals e = getD reals (4 * e + 0) nan
+
+abbrev pub unitAt : List Float → ℕ → Vec3
+unitAt reals e = vectorAt 4 reals e 1
+
+-- the normal of side h: three reals for each side are nine for each triangle
+abbrev pub normalAt : List Float → ℕ → Vec3
+normalAt reals h = vectorAt 3 reals h 0
+
+-- from the lower end of an edge with a unit vector into the face with the third vertex, of length one
+unfoldable pub inward : Vec3 → Vec3 → Vec3 → Vec3
+inward o xhat third =
+    let w : Vec3 = subOf third o in
+    let p : Vec3 = axpyOf w (neg (dotOf w xhat)) xhat in
+    scaleOf p (one ⊘ normOf p)
+
+module _ (v : List Float) (edgeWords : List ℕ) where
+  abbrev pub originAt : ℕ → Vec3
+  originAt e = vertexAt v (lowAt edgeWords e)
+
+  abbrev pub endAt : ℕ → Vec3
+  endAt e = vertexAt v (highAt edgeWords e)
+
+  -- the reals with the lengths and unit vectors of the first n edges written
+  unfoldable pub withLengths : ℕ → List Float → List Float
+  withLengths zero reals = reals
+  withLengths (suc e) reals =
+      let xhat : Vec3 = xhatOf (originAt e) (endAt e) in
+      fill 4 (withLengths e reals) e 0 (lenOf (originAt e) (endAt e) ∷ xhat .x ∷ xhat .y ∷ xhat .z ∷ [])
+
+  -- p along edge e from its lower end
+  unfoldable pub xOf : List Float → ℕ → Vec3 → Float
+  xOf edgeReals e p = dotOf (subOf p (originAt e)) (unitAt edgeReals e)
+
+  module _ (triangles triangleWords : List ℕ) (edgeReals : List Float) where
+    -- the normal of side h, from its edge's stored unit vector and the vertex that is not on it
+    unfoldable pub normalOf : ℕ → Vec3
+    normalOf h =
+        let e : ℕ = sideAt triangleWords h in
+        inward (originAt e) (unitAt edgeReals e) (vertexAt v (corner triangles h 2))
+
+    -- the reals with the normals of the first n sides written
+    unfoldable pub withNormals : ℕ → List Float → List Float
+    withNormals zero reals = reals
+    withNormals (suc h) reals =
+        let n : Vec3 = normalOf h in
+        fill 3 (withNormals h reals) h 0 (n .x ∷ n .y ∷ n .z ∷ [])
+
+-- the face of edge e that is not f
+unfoldable pub otherAt : List ℕ → ℕ → ℕ → ℕ
+otherAt edgeWords e f = cond (eqb (faceAt edgeWords e 0) f) (faceAt edgeWords e 1) (faceAt edgeWords e 0)
+
+-- which side of face f edge e is
+unfoldable pub localAt : List ℕ → ℕ → ℕ → ℕ
+localAt triangleWords f e = cond (eqb (getD triangleWords (6 * f + 0) 0) e) 0 (cond (eqb (getD triangleWords (6 * f + 1) 0) e) 1 2)
+
+-- the vertex of face f that is not on edge e
+unfoldable pub thirdAt : List ℕ → List ℕ → ℕ → ℕ → ℕ
+thirdAt triangles edgeWords e f =
+    let ends : Edge = record { low = lowAt edgeWords e; high = highAt edgeWords e } in
+    cond (offEnds (getD triangles (3 * f + 0) 0) ends) (getD triangles (3 * f + 0) 0)
+    (cond (offEnds (getD triangles (3 * f + 1) 0) ends) (getD triangles (3 * f + 1) 0)
+    (getD triangles (3 * f + 2) 0))
+
+-- p across edge e, into face f
+unfoldable pub yOf : List Float → List ℕ → List ℕ → List Float → ℕ → ℕ → Vec3 → Float
+yOf v edgeWords triangleWords triangleReals e f p = dotOf (subOf p (originAt v edgeWords e)) (vectorAt 9 triangleReals f (3 * localAt triangleWords f e))
