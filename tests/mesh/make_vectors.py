@@ -93,6 +93,9 @@ def jobs():
     for r1, r2 in itertools.combinations(range(1, 11), 2):
         firsts = [c for r, c in defects if r == r1]
         seconds = [c for r, c in defects if r == r2]
+        if (r1, r2) == (6, 10):
+            # there are five triangles then, and the first missing face is 5
+            firsts = [make_jobs.put("faces", 0, 5), firsts[1]]
         for k in range(3):
             # the defect that is tried first is made last, so that nothing undoes it
             yield r1, make_jobs.applied(seconds[k % len(seconds)], firsts[k % len(firsts)])
