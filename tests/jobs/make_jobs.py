@@ -7,6 +7,7 @@
 Without an argument: small jobs with every defect that document 01's refusals 1 to 9 name, alone and in pairs, and sound jobs. The refusal of each defect is
 written down here by hand; of two defects document 01 tries the one with the lower number first.
 With a file of the oracle's `vectors topology`: its meshes with the oracle's refusals. 10 is found after these checks, so here it counts as none.
+tests/mesh/make_vectors.py adds the defects of refusal 10 and their pairs with these.
 """
 import copy
 import itertools
@@ -134,6 +135,25 @@ DEFECTS = [
     (9, put("buffers", 7, 4)),
 ]
 
+
+
+def shared(*triangle):
+    """A triangle three times more, and slots for them: its edges lie in three triangles and more, whatever becomes of the first two."""
+
+    def change(job):
+        job.triangles += 3 * list(triangle)
+        for at, needed in (1, 15), (2, 15), (3, 5):
+            job.buffers[at] = needed
+
+    return change
+
+
+# 10, which the checks of a job do not find: an edge in a third triangle
+THIRD_FACE = [
+    (10, shared(2, 1, 0)),
+    (10, shared(3, 1, 2)),
+]
+
 # What is no defect.
 SOUND = [
     lambda job: None,
@@ -173,6 +193,7 @@ def applied(*changes):
 
 
 def oracle_meshes(path):
+    """The oracle's meshes with their refusals, and where none, the numbers of their topology as bytes of the file."""
     data = open(path, "rb").read()
     at = 0
 
@@ -193,6 +214,7 @@ def oracle_meshes(path):
         (n,) = take("I")
         job.flags = take("%dB" % n)
         (refusal,) = take("I")
+        start = at
         if refusal == 0:
             (edges,) = take("I")
             for _ in range(edges):
@@ -204,6 +226,11 @@ def oracle_meshes(path):
                 take("%dI" % faces)
         triangles = len(job.triangles) // 3
         job.buffers = [len(job.flags), 3 * triangles, 3 * triangles, triangles, 0, 0, 0, 0]
+        yield refusal, job, data[start:at]
+
+
+def checked_meshes(path):
+    for refusal, job, _ in oracle_meshes(path):
         if len(job.vertices) <= 3 * MAX_VERTICES and len(job.triangles) <= 96 and len(job.flags) <= 64:
             yield (0 if refusal == 10 else refusal), job
 
@@ -229,7 +256,7 @@ def written_jobs():
 
 
 def main():
-    jobs = list(oracle_meshes(sys.argv[1])) if len(sys.argv) > 1 else written_jobs()
+    jobs = list(checked_meshes(sys.argv[1])) if len(sys.argv) > 1 else written_jobs()
     sys.stdout.buffer.write(b"".join(words(*job) for job in jobs))
     print(len(jobs), "jobs", file=sys.stderr)
 

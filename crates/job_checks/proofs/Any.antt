@@ -1,13 +1,13 @@
 -- Laws of `anyBelow`, `anyOf` and `firstOf`: what they mean, and how a loop or a row of tests finds them. Assumes nothing.
 use Prim.Native.Nat.{ℕ, zero, suc, _+_, _<_, _≤_}
-use mathlib.Core.Path.{_≡_, refl, sym, subst, _∙_}
+use mathlib.Core.Path.{_≡_, refl, sym, ap, subst, _∙_}
 use mathlib.Core.Bool.{Bool, true, false, _||_, or-true}
-use mathlib.Core.List.{List, [], _∷_}
+use mathlib.Core.List.{List, [], _∷_, _++_}
 use mathlib.Core.Logic.{⊎-elim}
 use native.Mathlib.Nat.{le-of-suc-le-suc, not-suc-le-zero, eq-or-lt-of-le, le-antisymm}
 use native.Mathlib.Numerals.{add-one}
 use native.Mathlib.Omega.{arith}
-use lib.ListN.{getD}
+use lib.ListN.{length, getD}
 use Rattle.job_checks.specs.Any.{anyBelow, anyOf, firstOf}
 
 -- a disjunction is false where both sides are
@@ -97,6 +97,26 @@ none-of = refl
 pub first-none : (n : ℕ) → firstOf n [] ≡ 0
 unfolding firstOf
 first-none n = refl
+
+-- A row of tests and another: the first one's answer where it has one, else the second's, counted on.
+module _ (cs : List Bool) where
+  pub first-within : (bs : List Bool) (n : ℕ) → 0 < firstOf n bs → firstOf n (bs ++ cs) ≡ firstOf n bs
+  unfolding firstOf
+  first-within [] n l = absurd (not-suc-le-zero l)
+  first-within (true ∷ bs) n l = refl
+  first-within (false ∷ bs) n l = first-within bs (suc n) l
+
+  pub first-past : (bs : List Bool) (n : ℕ) → firstOf (suc n) bs ≡ 0 → firstOf (suc n) (bs ++ cs) ≡ firstOf (suc n + length bs) cs
+  unfolding firstOf
+  first-past [] n e = ap (λ (k : ℕ). firstOf k cs) (omega arith)
+  first-past (true ∷ bs) n e = absurd (omega arith)
+  first-past (false ∷ bs) n e = first-past bs (suc n) e ∙ ap (λ (k : ℕ). firstOf k cs) (omega arith)
+
+  pub past-none : (bs : List Bool) (n : ℕ) → firstOf n (bs ++ cs) ≡ 0 → firstOf n bs ≡ 0
+  unfolding firstOf
+  past-none [] n e = refl
+  past-none (true ∷ bs) n e = e
+  past-none (false ∷ bs) n e = past-none bs (suc n) e
 
 -- What `firstOf` means: where test k is the first that holds, it answers n + k.
 pub first-is : (bs : List Bool) (n k : ℕ) → getD bs k false ≡ true → ((i : ℕ) → i < k → getD bs i false ≡ false) → firstOf n bs ≡ n + k

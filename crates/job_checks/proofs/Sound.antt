@@ -1,6 +1,6 @@
 -- What the checks found, as facts on numbers: a job that passed is sound, so later layers need no test of their own. Assumes nothing.
 use Prim.Native.Nat.{ℕ, _%_, _<_, _≤_}
-use mathlib.Core.Path.{_≡_}
+use mathlib.Core.Path.{_≡_, sym, _∙_}
 use mathlib.Core.Bool.{false}
 use mathlib.Core.List.{List}
 use native.Mathlib.Omega.{arith}
@@ -8,9 +8,9 @@ use borrow.Author.Tests.{ltb-false, eqb-true, eqb-false, not-false}
 use lib.ListN.{length, getD}
 use Rattle.job_checks.specs.declared.BufferCounts.{BufferCounts}
 use Rattle.job_checks.specs.Job.{Job}
-use Rattle.job_checks.specs.Refusals.{wrongCounts, malformed, repeated, tooShort, refusalOf}
+use Rattle.job_checks.specs.Refusals.{wrongCounts, malformed, repeated, tooShort, meshTests, pieceTests, refusalOf}
 use Rattle.job_checks.specs.Sound.{WholeRecords, Distinct, LongEnough, Sound}
-use Rattle.job_checks.proofs.Any.{none-below, head-none, tail-none, passed-here, passed-on}
+use Rattle.job_checks.proofs.Any.{none-below, head-none, tail-none, passed-here, passed-on, first-past, past-none}
 use Rattle.job_checks.proofs.Tests.{at-most-one, present}
 
 whole-records : (vertices triangles flags kinds faces coords : ℕ) → wrongCounts vertices triangles flags kinds faces coords ≡ false → WholeRecords vertices triangles flags kinds faces coords
@@ -80,13 +80,14 @@ long-enough vertices triangles pieces b e1 =
 -- A job that passed.
 module _ (j : Job) (b : BufferCounts) where
   pub sound : refusalOf j b ≡ 0 → Sound j b
-  unfolding refusalOf
+  unfolding refusalOf meshTests pieceTests
   sound p1 =
-      let p2 = passed-on _ _ _ p1 in
+      let rest = passed-on _ _ _ p1 in
+      let p2 = past-none _ (meshTests (j .vertices) (j .triangles)) _ rest in
       let p3 = passed-on _ _ _ p2 in
       let p4 = passed-on _ _ _ p3 in
       let p5 = passed-on _ _ _ p4 in
-      let p6 = passed-on _ _ _ p5 in
+      let p6 = sym (first-past _ (meshTests (j .vertices) (j .triangles)) _ p2) ∙ rest in
       let p7 = passed-on _ _ _ p6 in
       let p8 = passed-on _ _ _ p7 in
       let p9 = passed-on _ _ _ p8 in

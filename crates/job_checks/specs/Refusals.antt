@@ -2,7 +2,7 @@
 -- A comparison with a NaN is false, so each bound on a float is written as what must hold.
 use Prim.Native.Nat.{ℕ, _+_, _*_, _/_, _%_}
 use mathlib.Core.Bool.{Bool, not, _&&_, _||_}
-use mathlib.Core.List.{List, [], _∷_}
+use mathlib.Core.List.{List, [], _∷_, _++_}
 use lib.Dec.{ltb, leb, eqb}
 use lib.ListN.{length, getD}
 use lib.Ieee.{Float, nan, binary64, ofBits, le, neg}
@@ -13,7 +13,7 @@ use Rattle.job_checks.specs.declared.Checked.{Checked}
 use Rattle.job_checks.specs.declared.Checked.the-variants.{Passed, Malformed, MissingVertex, RepeatedVertex, VertexOutOfRange, DegenerateTriangle, MissingFace, PieceOutOfRange, LimitOutOfRange, ShortBuffer}
 use Rattle.job_checks.specs.Any.{anyBelow, anyOf, firstOf}
 use Rattle.job_checks.specs.Edge.{vertexAt, lower, higher, lenOf, altitudeOf}
-use Rattle.job_checks.specs.Job.{Job, vertexCount, triangleCount, pieceCount}
+use Rattle.job_checks.specs.Job.{Job, vertexCount, triangleCount}
 
 -- each answer's number in document 01; 0 is no refusal
 abbrev pub refusalNumber : Checked → ℕ
@@ -82,8 +82,8 @@ unfoldable pub missing : ℕ → List ℕ → ℕ → Bool
 missing count numbers i = leb count (getD numbers i 0)
 
 -- 2: a triangle names a missing vertex
-abbrev pub missingVertex : Job → Bool
-missingVertex j = anyBelow (missing (vertexCount j) (j .triangles)) (length (j .triangles))
+abbrev pub missingVertex : List Float → List ℕ → Bool
+missingVertex v t = anyBelow (missing (length v / 3) t) (length t)
 
 unfoldable pub repeated : ℕ → ℕ → ℕ → Bool
 repeated a b c = anyOf (eqb a b ∷ eqb b c ∷ eqb c a ∷ [])
@@ -92,8 +92,8 @@ abbrev pub repeatedIn : List ℕ → ℕ → Bool
 repeatedIn triangles t = repeated (getD triangles (3 * t) 0) (getD triangles (3 * t + 1) 0) (getD triangles (3 * t + 2) 0)
 
 -- 3: a triangle names a vertex twice
-abbrev pub repeatedVertex : Job → Bool
-repeatedVertex j = anyBelow (repeatedIn (j .triangles)) (triangleCount j)
+abbrev pub repeatedVertex : List ℕ → Bool
+repeatedVertex t = anyBelow (repeatedIn t) (length t / 3)
 
 unfoldable pub outOfRange : Float → Bool
 outOfRange x = not (le (neg maxCoordinate) x && le x maxCoordinate)
@@ -102,8 +102,8 @@ abbrev pub outOfRangeAt : List Float → ℕ → Bool
 outOfRangeAt coords i = outOfRange (getD coords i nan)
 
 -- 4: a vertex's coordinate is out of range
-abbrev pub vertexOutOfRange : Job → Bool
-vertexOutOfRange j = anyBelow (outOfRangeAt (j .vertices)) (length (j .vertices))
+abbrev pub vertexOutOfRange : List Float → Bool
+vertexOutOfRange v = anyBelow (outOfRangeAt v) (length v)
 
 -- the edge from o to b is too short, or the altitude of the third vertex over it too small
 unfoldable pub degenerate : Vec3 → Vec3 → Vec3 → Bool
@@ -121,28 +121,26 @@ abbrev pub degenerateAt : List Float → List ℕ → ℕ → Bool
 degenerateAt v triangles t = degenerateIn v (getD triangles (3 * t) 0) (getD triangles (3 * t + 1) 0) (getD triangles (3 * t + 2) 0)
 
 -- 5: an edge too short or an altitude too small
-abbrev pub degenerateTriangle : Job → Bool
-degenerateTriangle j = anyBelow (degenerateAt (j .vertices) (j .triangles)) (triangleCount j)
+abbrev pub degenerateTriangle : List Float → List ℕ → Bool
+degenerateTriangle v t = anyBelow (degenerateAt v t) (length t / 3)
 
 -- 6: a piece names a missing face
-abbrev pub missingFace : Job → Bool
-missingFace j = anyBelow (missing (triangleCount j) (j .faces)) (length (j .faces))
+abbrev pub missingFace : ℕ → List ℕ → Bool
+missingFace triangles faces = anyBelow (missing triangles faces) (length faces)
 
 -- coordinate i is out of range and its piece uses it: a point, of kind 0, has only the first three of six
 unfoldable pub usedOutOfRange : List ℕ → List Float → ℕ → Bool
 usedOutOfRange kinds coords i = outOfRangeAt coords i && (ltb (i % 6) 3 || not (eqb (getD kinds (i / 6) 0) 0))
 
 -- 7: a piece's coordinate is out of range
-abbrev pub pieceOutOfRange : Job → Bool
-pieceOutOfRange j = anyBelow (usedOutOfRange (j .kinds) (j .coords)) (length (j .coords))
+abbrev pub pieceOutOfRange : List ℕ → List Float → Bool
+pieceOutOfRange kinds coords = anyBelow (usedOutOfRange kinds coords) (length coords)
 
+-- 8: the limit is out of range or NaN
 unfoldable pub limitOutside : Float → Bool
 limitOutside x = not (le zero x && le x maxLimit)
 
--- 8: the limit is out of range or NaN
-abbrev pub limitOutOfRange : Job → Bool
-limitOutOfRange j = limitOutside (j .limit)
-
+-- 9: a buffer of a fixed size is too short
 unfoldable pub tooShort : ℕ → ℕ → ℕ → BufferCounts → Bool
 tooShort vertices triangles pieces b = anyOf (
     ltb (b .edges) (3 * triangles) ∷
@@ -153,19 +151,18 @@ tooShort vertices triangles pieces b = anyOf (
     ltb (b .scratch) (b .windows) ∷
     ltb (b .«other_scratch») (b .windows) ∷ [])
 
--- 9: a buffer of a fixed size is too short
-abbrev pub shortBuffer : Job → BufferCounts → Bool
-shortBuffer j b = tooShort (vertexCount j) (triangleCount j) (pieceCount j) b
+-- 2 to 5: what is tried of the mesh alone
+unfoldable pub meshTests : List Float → List ℕ → List Bool
+meshTests v t = missingVertex v t ∷ repeatedVertex t ∷ vertexOutOfRange v ∷ degenerateTriangle v t ∷ []
+
+-- 6 to 9: what is tried of the pieces, the limit and the buffers, at so many vertices and triangles
+unfoldable pub pieceTests : ℕ → ℕ → List ℕ → List ℕ → List Float → Float → BufferCounts → List Bool
+pieceTests vertices triangles kinds faces coords limit b =
+    missingFace triangles faces ∷ pieceOutOfRange kinds coords ∷ limitOutside limit ∷ tooShort vertices triangles (length kinds) b ∷ []
 
 -- the first of 1 to 9 that holds, or 0
 unfoldable pub refusalOf : Job → BufferCounts → ℕ
 refusalOf j b = firstOf 1 (
     malformed (length (j .vertices)) (length (j .triangles)) (j .flags) (j .kinds) (length (j .faces)) (length (j .coords)) ∷
-    missingVertex j ∷
-    repeatedVertex j ∷
-    vertexOutOfRange j ∷
-    degenerateTriangle j ∷
-    missingFace j ∷
-    pieceOutOfRange j ∷
-    limitOutOfRange j ∷
-    shortBuffer j b ∷ [])
+    (meshTests (j .vertices) (j .triangles) ++
+    pieceTests (vertexCount j) (triangleCount j) (j .kinds) (j .faces) (j .coords) (j .limit) b))

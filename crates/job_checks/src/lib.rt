@@ -5,7 +5,7 @@ ghost use mathlib.Core.Path.{_≡_};
 ghost use mathlib.Core.Bool.{false};
 ghost use Prim.Native.Nat.{_*_, _/_, _<_, _≤_};
 ghost use lib.ListN.{length};
-ghost use Rattle.job_checks.specs.Any.{anyBelow};
+ghost use Rattle.job_checks.specs.Any.{anyBelow, firstOf};
 ghost use Rattle.job_checks.specs.Edge.{vertexAt};
 ghost use Rattle.job_checks.specs.Job.{job};
 ghost use Rattle.job_checks.specs.Refusals.{
@@ -26,6 +26,8 @@ ghost use Rattle.job_checks.specs.Refusals.{
   usedOutOfRange,
   limitOutside,
   tooShort,
+  meshTests,
+  pieceTests,
 };
 use vec3::Vec3;
 
@@ -370,6 +372,54 @@ fn is_malformed(
     false
 }
 
+// The first of the refusals 2 to 5 that holds, if any.
+pub fn check_mesh(vertices: &[f64], triangles: &[u32]) -> Checked
+    ensures { λ r. ⌜ refusalNumber r ≡ firstOf 2 (meshTests (now (vertices .entry)) (now (triangles .entry))) ⌝ }
+{
+    if any_missing(triangles, vertices.len() / 3) {
+        return Checked::MissingVertex;
+    }
+    if any_repeated(triangles) {
+        return Checked::RepeatedVertex;
+    }
+    if any_out_of_range(vertices) {
+        return Checked::VertexOutOfRange;
+    }
+    if any_degenerate(vertices, triangles) {
+        return Checked::DegenerateTriangle;
+    }
+    Checked::Passed
+}
+
+// The first of the refusals 6 to 9 that holds, if any, of a job with so many vertices and triangles.
+fn check_pieces(
+    vertices: usize,
+    triangles: usize,
+    kinds: &[u8],
+    faces: &[u32],
+    coords: &[f64],
+    limit: f64,
+    buffers: BufferCounts,
+) -> Checked
+    requires { ⌜ (triangles ≤ 131_070) × (length (now coords) ≤ 6 * length (now kinds)) ⌝ }
+    ensures { λ r. ⌜ refusalNumber r ≡ firstOf 6
+        (pieceTests vertices triangles (now (kinds .entry)) (now (faces .entry)) (now (coords .entry)) limit buffers) ⌝ }
+{
+    if any_missing(faces, triangles) {
+        return Checked::MissingFace;
+    }
+    if any_piece_out_of_range(kinds, coords) {
+        return Checked::PieceOutOfRange;
+    }
+    if limit_out_of_range(limit) {
+        return Checked::LimitOutOfRange;
+    }
+    if short_buffer(vertices, triangles, kinds.len(), buffers) {
+        return Checked::ShortBuffer;
+    }
+    Checked::Passed
+}
+
 // The first of the refusals 1 to 9 that holds, if any.
 pub fn check(
     vertices: &[f64],
@@ -385,44 +435,14 @@ pub fn check(
         (job (now (vertices .entry)) (now (triangles .entry)) (now (flags .entry)) (now (kinds .entry)) (now (faces .entry)) (now (coords .entry)) limit)
         buffers ⌝ }
 {
-    if is_malformed(
-        vertices.len(),
-        triangles.len(),
-        flags,
-        kinds,
-        faces.len(),
-        coords.len(),
-    ) {
+    let v = vertices.len();
+    let t = triangles.len();
+    if is_malformed(v, t, flags, kinds, faces.len(), coords.len()) {
         return Checked::Malformed;
     }
-    if any_missing(triangles, vertices.len() / 3) {
-        return Checked::MissingVertex;
+    let mesh = check_mesh(vertices, triangles);
+    if refusal_number(mesh) > 0 {
+        return mesh;
     }
-    if any_repeated(triangles) {
-        return Checked::RepeatedVertex;
-    }
-    if any_out_of_range(vertices) {
-        return Checked::VertexOutOfRange;
-    }
-    if any_degenerate(vertices, triangles) {
-        return Checked::DegenerateTriangle;
-    }
-    if any_missing(faces, triangles.len() / 3) {
-        return Checked::MissingFace;
-    }
-    if any_piece_out_of_range(kinds, coords) {
-        return Checked::PieceOutOfRange;
-    }
-    if limit_out_of_range(limit) {
-        return Checked::LimitOutOfRange;
-    }
-    if short_buffer(
-        vertices.len() / 3,
-        triangles.len() / 3,
-        kinds.len(),
-        buffers,
-    ) {
-        return Checked::ShortBuffer;
-    }
-    Checked::Passed
+    check_pieces(v / 3, t / 3, kinds, faces, coords, limit, buffers)
 }

@@ -12,7 +12,8 @@ use Rattle.job_checks.proofs.Any.{found, none-all}
 use Rattle.topology.specs.Edges.{Edge, noEdge, noFace, sameEdge, find, sideEdge, edgesOf, edges, triEdge, facesAmong, edgeFaces, overfull, sharedByThree}
 use Rattle.topology.proofs.Find.{either, same-edge, same-self, Numbered}
 use Rattle.topology.proofs.Edges.{FromSide, edge-from-side, side-there, tri-edge-there, tri-edge-is}
-use Rattle.topology.proofs.Faces.{Listed, OfSide, face-listed, listed-face}
+use Rattle.topology.proofs.Chosen.{Listed}
+use Rattle.topology.proofs.Faces.{OfSide, face-listed, listed-face}
 
 empty : (fs : List ℕ) → (0 < length fs → ⊥) → fs ≡ []
 empty [] none = refl

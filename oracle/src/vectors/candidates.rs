@@ -297,6 +297,41 @@ pub fn list(rng: &mut Rng, out: &mut Out, most: usize, detail: bool) {
     }
 }
 
+/// The scope's example: on an edge of length 4, limit 10, a candidate 0 to 4
+/// from (0, -1), then one from (4, -1), then that once more, as far as `steps`.
+pub fn example(steps: usize, out: &mut Out) {
+    let topo = Topology {
+        edges: vec![[0, 1]],
+        len: vec![4.],
+        pseudo: vec![false, true],
+        ..Topology::default()
+    };
+    let capacity = Buffers {
+        windows: 100,
+        events: 100,
+        cuts: 100,
+        face_entries: 0,
+    };
+    start(out, &topo, 10., capacity, true);
+    let mut field = field(&topo, 10., capacity);
+    out.count(steps);
+    for x in [0., 4., 4.].into_iter().take(steps) {
+        let w = Win {
+            edge: 0,
+            into: NONE,
+            b0: 0.,
+            b1: 4.,
+            src: Src::Point { x, y: -1., s: 0. },
+            alive: true,
+            queued: false,
+            low: 0.,
+        };
+        add(out, &mut field, w, true).expect("the buffers suffice");
+    }
+    out.u8(1);
+    state(out, &mut field, &topo);
+}
+
 /// The candidates and pops of a whole field, in the format of a list.
 pub fn stream(job: &Job, out: &mut Out) -> Result<(), Refusal> {
     let mesh = Mesh::new(job)?;

@@ -56,6 +56,12 @@ pub fn small(seed: u64, out: &mut Out) {
     write(&job, out);
 }
 
+/// About 8,000 triangles, without a defect.
+pub fn huge(seed: u64, out: &mut Out) {
+    let shape = Shape::ALL[(seed % 6) as usize];
+    write(&workshop::job(shape, 8_000, 0, 1., seed), out);
+}
+
 pub fn large(seed: u64, out: &mut Out) {
     let shape = Shape::ALL[(seed % 6) as usize];
     let mut job = workshop::job(shape, 2_000, 0, 1., seed);

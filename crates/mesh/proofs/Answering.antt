@@ -1,0 +1,104 @@
+-- The job's answer: refused by the checks, by the table, or with a topology; and what a job that passed hands on. Assumes nothing.
+use Prim.Native.Nat.{ℕ, zero, suc, _*_, _/_, _<_, _≤_}
+use mathlib.Core.Path.{_≡_, refl, sym, ap, _∙_}
+use mathlib.Core.Bool.{Bool, true, false, cond}
+use native.Mathlib.Nat.{not-suc-le-zero}
+use native.Mathlib.Omega.{arith}
+use lib.ListN.{length}
+use Rattle.job_checks.specs.declared.BufferCounts.{BufferCounts}
+use Rattle.job_checks.specs.declared.Checked.{Checked}
+use Rattle.job_checks.specs.Job.{Job}
+use Rattle.job_checks.specs.Refusals.{refusalNumber, refusalOf}
+use Rattle.job_checks.specs.Sound.{Sound}
+use Rattle.job_checks.proofs.Sound.{sound}
+use Rattle.topology.specs.Edges.{edges, sharedByThree}
+use Rattle.edge_table.specs.declared.Table.{Table}
+use Rattle.edge_table.specs.declared.Table.the-variants.{Edges as Table·Edges, ThirdFace as Table·ThirdFace}
+use Rattle.edge_table.proofs.Reading.{mesh-of}
+use Rattle.mesh.specs.declared.OtherCounts.{OtherCounts}
+use Rattle.mesh.specs.declared.Meshed.the-variants.{Edges, Refused, ThirdFace}
+use Rattle.mesh.specs.Topology.{MeshBuffers, Fits, topologyOf, Made}
+use Rattle.mesh.specs.Answer.{countsIn, orElse, meshRefusal, afterwards, Answered}
+use Rattle.mesh.proofs.Making.{is-third, has-edges}
+
+or-first : (k x : ℕ) → 0 < k → orElse k x ≡ k
+unfolding orElse
+or-first zero x l = absurd (not-suc-le-zero l)
+or-first (suc k) x l = refl
+
+stays : (k : ℕ) (m t : MeshBuffers) → 0 < k → m ≡ afterwards k m t
+unfolding afterwards
+stays zero m t l = absurd (not-suc-le-zero l)
+stays (suc k) m t l = refl
+
+changes : (k : ℕ) (m t : MeshBuffers) → k ≡ 0 → t ≡ afterwards k m t
+unfolding afterwards
+changes k m t e = rw e
+
+module _ (j : Job) (others : OtherCounts) (before : MeshBuffers) where
+  -- refused by the checks, with nothing changed
+  pub answer-refused : (c : Checked) (n : ℕ) → refusalNumber c ≡ refusalOf j (countsIn before others) → n ≡ refusalNumber c → 0 < n → Answered j others (Refused c) before before
+  unfolding meshRefusal
+  answer-refused c n e f l =
+      let k : 0 < refusalOf j (countsIn before others) = omega (arith, ap (λ (x : ℕ). x) (f ∙ e)) in
+      record {
+        number = e ∙ sym (or-first (refusalOf j (countsIn before others)) _ k);
+        edge-count = λ z. absurd (omega (arith, sym (or-first (refusalOf j (countsIn before others)) _ k) ∙ z));
+        buffers = stays (refusalOf j (countsIn before others)) before _ k;
+      }
+
+  -- passed
+  module _ (passed : refusalOf j (countsIn before others) ≡ 0) where
+    -- the refusal is that of the table
+    then : (b : Bool) → sharedByThree (j .triangles) ≡ b → meshRefusal j (countsIn before others) ≡ orElse 0 (cond b 10 0)
+    unfolding meshRefusal
+    then b e = rw (passed, e)
+
+    module _ (after : MeshBuffers) (t : Table) (made : Made (j .vertices) (j .triangles) t before after) where
+      same : after ≡ afterwards (refusalOf j (countsIn before others)) before (topologyOf (j .vertices) (j .triangles) before)
+      same = made .buffers ∙ changes (refusalOf j (countsIn before others)) before (topologyOf (j .vertices) (j .triangles) before) passed
+
+      pub answer-edges : (n : ℕ) → t ≡ Table·Edges n → Answered j others (Edges n) before after
+      unfolding orElse
+      answer-edges n e =
+          let k = has-edges (j .triangles) (length (j .vertices) / 3) t (made .answer) n e in
+          record {
+            number = sym (then false (k .0));
+            edge-count = λ z. ap Edges (k .1);
+            buffers = same;
+          }
+
+      pub answer-third : t ≡ Table·ThirdFace → Answered j others ThirdFace before after
+      unfolding orElse
+      answer-third e =
+          let k = is-third (j .triangles) (length (j .vertices) / 3) t (made .answer) e in
+          record {
+            number = sym (then true k);
+            edge-count = λ z. absurd (omega (arith, sym (then true k) ∙ z));
+            buffers = same;
+          }
+
+    -- the mesh and its buffers fit
+    pub fits : Fits (j .vertices) (j .triangles) (length (before .vertex-words)) (length (before .edge-words)) (length (before .edge-reals)) (length (before .round)) (length (before .triangle-words)) (length (before .triangle-reals))
+    fits =
+        let s : Sound j (countsIn before others) = sound j (countsIn before others) passed in
+        record {
+          mesh = mesh-of j (countsIn before others) s;
+          vertices-fit = omega (arith, s .buffers .vertices-fit);
+          edges-fit = omega (arith, s .buffers .edges-fit, s .whole .whole-triangles);
+          edge-reals-fit = omega (arith, s .buffers .edges-fit, s .whole .whole-triangles);
+          round-fits = omega (arith, s .buffers .vertex-faces-fit, s .whole .whole-triangles);
+          triangles-fit = omega (arith, s .buffers .triangles-fit, s .whole .whole-triangles);
+          triangle-reals-fit = omega (arith, s .buffers .triangles-fit, s .whole .whole-triangles);
+        }
+
+-- the checks' answer, at the counts of the buffers
+pub counted : (j : Job) (b b′ : BufferCounts) (k : ℕ) → k ≡ refusalOf j b → b ≡ b′ → k ≡ refusalOf j b′
+counted j b b′ k e q = e ∙ ap (refusalOf j) q
+
+pub passed-of : (j : Job) (b b′ : BufferCounts) (k n : ℕ) → k ≡ refusalOf j b → n ≡ k → n ≤ 0 → b ≡ b′ → refusalOf j b′ ≡ 0
+passed-of j b b′ k n e f l q = sym (counted j b b′ k e q) ∙ (sym f ∙ omega arith)
+
+-- four equal counts make equal counts
+pub same-counts : {a a′ b b′ d d′ e e′ : ℕ} (o : OtherCounts) → a ≡ a′ → b ≡ b′ → d ≡ d′ → e ≡ e′ → _≡_ {A = BufferCounts} (record { vertices = a; edges = b; «vertex_faces» = d; triangles = e; pieces = o .pieces; windows = o .windows; scratch = o .scratch; «other_scratch» = o .«other_scratch» }) (record { vertices = a′; edges = b′; «vertex_faces» = d′; triangles = e′; pieces = o .pieces; windows = o .windows; scratch = o .scratch; «other_scratch» = o .«other_scratch» })
+same-counts o p q r s = λ i. record { vertices = p i; edges = q i; «vertex_faces» = r i; triangles = s i; pieces = o .pieces; windows = o .windows; scratch = o .scratch; «other_scratch» = o .«other_scratch» }

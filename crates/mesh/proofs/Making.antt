@@ -1,0 +1,87 @@
+-- How the buffers come to hold a topology: what each way through `topology` leaves. Assumes nothing.
+use Prim.Native.Nat.{ℕ, _/_}
+use mathlib.Core.Path.{_≡_, refl, sym, ap, _∙_}
+use mathlib.Core.Bool.{Bool, true, false, cond}
+use mathlib.Core.List.{List}
+use native.Mathlib.Omega.{arith}
+use lib.ListN.{length, replicate}
+use lib.Ieee.{Float}
+use Rattle.float64.specs.Scalar.{zero}
+use Rattle.topology.specs.Edges.{edges, sharedByThree}
+use Rattle.edge_table.specs.declared.Table.{Table}
+use Rattle.edge_table.specs.declared.Table.the-variants.{Edges, ThirdFace}
+use Rattle.edge_table.specs.Table.{Mesh, tableOf, edgeWords, Built, Filled}
+use Rattle.vertex_faces.specs.Ranges.{withRanges, startOf, endOf, roundOf, InRange}
+use Rattle.frames.specs.Stored.{withLengths, withNormals}
+use Rattle.mesh.specs.Topology.{MeshBuffers, meshBuffers, zeroed, Completed, filled, topologyOf, Made}
+
+pub in-range : (triangles : List ℕ) (n : ℕ) → Mesh triangles n → InRange triangles n
+in-range triangles n m = record { there = m .there; few = omega (arith, m .whole, m .few-triangles) }
+
+-- six equal lists make equal buffers
+pub same-buffers : {a a′ b b′ : List ℕ} {c c′ : List Float} {d d′ e e′ : List ℕ} {f f′ : List Float} → a ≡ a′ → b ≡ b′ → c ≡ c′ → d ≡ d′ → e ≡ e′ → f ≡ f′ → meshBuffers a b c d e f ≡ meshBuffers a′ b′ c′ d′ e′ f′
+same-buffers p q r s t u = λ i. record { vertex-words = p i; edge-words = q i; edge-reals = r i; round = s i; triangle-words = t i; triangle-reals = u i }
+
+-- what is added to the table, one callee after the other
+pub completed : (v : List Float) (triangles : List ℕ) (n : ℕ) (ew tw vw : List ℕ) (er : List Float) (r : List ℕ) (tr : List Float) (vw′ : List ℕ) (er₁ er′ : List Float) (r′ : List ℕ) (tr₁ tr′ : List Float) → vw′ ≡ withRanges (startOf triangles) (endOf triangles) (length v / 3) vw → r′ ≡ roundOf triangles (length v / 3) (length r) → er₁ ≡ replicate (length er) zero → er′ ≡ withLengths v ew n er₁ → tr₁ ≡ replicate (length tr) zero → tr′ ≡ withNormals v ew triangles tw er′ (length triangles) tr₁ → Completed v triangles n ew tw vw er r tr vw′ er′ r′ tr′
+completed v triangles n ew tw vw er r tr vw′ er₁ er′ r′ tr₁ tr′ a b c d e f =
+    record {
+      ranges = a;
+      faces-round = b;
+      lengths = d ∙ ap (withLengths v ew n) c;
+      normals = f ∙ ap (withNormals v ew triangles tw er′ (length triangles)) e;
+    }
+
+-- what an answer of the table says of the mesh
+third-case : (b : Bool) (n : ℕ) → cond b ThirdFace (Edges n) ≡ ThirdFace → b ≡ true
+third-case true n e = refl
+third-case false n e = absurd (let z : _≡_ {A = ℕ} 0 1 = cc in omega arith)
+
+edges-case : (b : Bool) (n m : ℕ) → cond b ThirdFace (Edges n) ≡ Edges m → (b ≡ false) × (m ≡ n)
+edges-case true n m e = absurd (let z : _≡_ {A = ℕ} 0 1 = cc in omega arith)
+edges-case false n m e = (refl, (cc))
+
+module _ (triangles : List ℕ) (v : ℕ) (r : Table) (is : r ≡ tableOf triangles v) where
+  pub is-third : r ≡ ThirdFace → sharedByThree triangles ≡ true
+  unfolding tableOf
+  is-third e = third-case (sharedByThree triangles) (length (edges triangles)) (sym is ∙ e)
+
+  pub has-edges : (n : ℕ) → r ≡ Edges n → (sharedByThree triangles ≡ false) × (n ≡ length (edges triangles))
+  unfolding tableOf
+  has-edges n e = edges-case (sharedByThree triangles) (length (edges triangles)) n (sym is ∙ e)
+
+-- buffers count by their lengths where they are zeroed
+zeros : {m n : ℕ} → m ≡ n → replicate {A = ℕ} m 0 ≡ replicate n 0
+zeros e = ap (λ (k : ℕ). replicate {A = ℕ} k 0) e
+
+module _ (v : List Float) (triangles vw ew : List ℕ) (er : List Float) (r tw : List ℕ) (tr : List Float) where
+  -- an edge in a third triangle
+  module _ (vw′ ew′ tw′ : List ℕ) (after : MeshBuffers) (t : Table) where
+    pub made-third : t ≡ tableOf triangles (length v / 3) → t ≡ ThirdFace → length vw′ ≡ length vw → length ew′ ≡ length ew → length tw′ ≡ length tw → after ≡ zeroed (meshBuffers vw′ ew′ er r tw′ tr) → Made v triangles ThirdFace (meshBuffers vw ew er r tw tr) after
+    unfolding zeroed topologyOf
+    made-third is third a b c z =
+        record {
+          answer = sym third ∙ is;
+          buffers = rw (is-third triangles (length v / 3) t is third) (z ∙ same-buffers (zeros a) (zeros b) refl refl (zeros c) refl);
+        }
+
+  -- none
+  module _ (vw₁ ew₁ tw₁ vw₂ r₂ : List ℕ) (er₂ tr₂ : List Float) (t : Table) (n : ℕ) where
+    pub made-filled : Built triangles (length v / 3) t vw ew tw vw₁ ew₁ tw₁ → t ≡ Edges n → Completed v triangles n ew₁ tw₁ vw₁ er r tr vw₂ er₂ r₂ tr₂ → Made v triangles (Edges n) (meshBuffers vw ew er r tw tr) (meshBuffers vw₂ ew₁ er₂ r₂ tw₁ tr₂)
+    unfolding topologyOf filled
+    made-filled b e c =
+        let k = has-edges triangles (length v / 3) t (b .answer) n e in
+        let w : Filled triangles (length v / 3) vw ew tw vw₁ ew₁ tw₁ = b .words (k .0) in
+        let l : er₂ ≡ withLengths v (edgeWords triangles (length v / 3) (length ew)) (length (edges triangles)) (replicate (length er) zero) = c .lengths ∙ rw (w .edge-words, k .1) in
+        record {
+          answer = sym e ∙ b .answer;
+          buffers =
+              rw (k .0)
+              (same-buffers
+              (c .ranges ∙ ap (withRanges (startOf triangles) (endOf triangles) (length v / 3)) (w .vertex-words))
+              (w .edge-words)
+              l
+              (c .faces-round)
+              (w .triangle-words)
+              (c .normals ∙ rw (w .edge-words, w .triangle-words, l)));
+        }

@@ -1,0 +1,54 @@
+-- `mesh::complete` meets its contract. Assumes nothing.
+use Rattle.mesh.proofs.Making.{completed}
+use borrow.Author.Needs.{needs}
+use Rattle.mesh.proofs.complete.Statement.{statement}
+use Rattle.mesh.proofs.complete.Tie as tie
+
+cast-build : tie.Need-cast-build
+cast-build c = search needs
+
+build-requires : tie.Need-build-requires
+build-requires c κs = search needs
+
+zero-f64-requires : tie.Need-zero-f64-requires
+zero-f64-requires c κs = search needs
+
+lengths-requires : tie.Need-lengths-requires
+lengths-requires c κs = search needs
+
+zero-f64-requires-2 : tie.Need-zero-f64-requires-2
+zero-f64-requires-2 c κs = search needs
+
+normals-requires : tie.Need-normals-requires
+normals-requires c κs = search needs
+
+same-length : tie.Need-same-length
+same-length c = search needs
+
+same-length-2 : tie.Need-same-length-2
+same-length-2 c = search needs
+
+same-length-3 : tie.Need-same-length-3
+same-length-3 c = search needs
+
+same-length-4 : tie.Need-same-length-4
+same-length-4 c = search needs
+
+returns : tie.Need-returns
+returns c = completed _ _ _ _ _ _ _ _ _ _ _ _ _ _ _ (c .before .before .before .before .before .before .before .before .before .before .before .before .before .before .before .before .before .before .before .before .before .build .ensures .0) (c .before .before .before .before .before .before .before .before .before .before .before .before .before .before .before .before .before .before .before .before .before .build .ensures .1) (c .before .before .before .before .before .before .before .before .before .before .before .before .before .before .before .zero-f64 .ensures) (c .before .before .before .before .before .before .before .before .before .before .before .lengths .ensures) (c .before .before .before .before .before .before .before .zero-f642 .ensures) (c .before .before .normals .ensures)
+
+pub complete-spec : {M : Type 1} → statement M
+complete-spec =
+    tie.close
+    (tie.spec
+    cast-build
+    build-requires
+    zero-f64-requires
+    lengths-requires
+    zero-f64-requires-2
+    normals-requires
+    same-length
+    same-length-2
+    same-length-3
+    same-length-4
+    returns)

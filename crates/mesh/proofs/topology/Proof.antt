@@ -1,0 +1,95 @@
+-- `mesh::topology` meets its contract. Assumes nothing.
+use native.Mathlib.Omega.{arith}
+use Rattle.mesh.proofs.Making.{in-range, made-third, made-filled}
+use borrow.Author.Needs.{needs}
+use Rattle.mesh.proofs.topology.Statement.{statement}
+use Rattle.mesh.proofs.topology.Tie as tie
+
+cast-build : tie.Need-cast-build
+cast-build c = search needs
+
+build-requires : tie.Need-build-requires
+build-requires c κs = search needs
+
+enum-told : tie.Need-enum-told
+enum-told c = search needs
+
+clear-requires : tie.Need-clear-requires
+clear-requires c κs = search needs
+
+enum-known-edges : tie.Need-enum-known-edges
+enum-known-edges c = search needs
+
+complete-requires : tie.Need-complete-requires
+complete-requires c κs =
+    let fits = c .before .before .before .before .before .before .before .before .before .before .before .before .before .before .before .before .before .before .before .before .before .before .before .before .before .before .before .pre in
+    (in-range _ _ (fits .mesh), (fits .mesh .few-vertices, (omega (arith, fits .vertices-fit, c .before .before .before .before .before .before .before .before .before .before .before .before .before .before .before .build .kept .1 .1 .0), fits .round-fits)))
+
+same-length : tie.Need-same-length
+same-length c = search needs
+
+same-length-2 : tie.Need-same-length-2
+same-length-2 c = search needs
+
+same-length-3 : tie.Need-same-length-3
+same-length-3 c = search needs
+
+same-length-4 : tie.Need-same-length-4
+same-length-4 c = search needs
+
+same-length-5 : tie.Need-same-length-5
+same-length-5 c = search needs
+
+same-length-6 : tie.Need-same-length-6
+same-length-6 c = search needs
+
+returns : tie.Need-returns
+returns c =
+    let built = c .before .before .before .before .before .before .before .before .before .before .before .before .before .before .before .before .before .before .before .before .before .before .before .before .before .before .before .build in
+    made-third _ _ _ _ _ _ _ _ _ _ _ _ _ (built .ensures .answer) (c .before .before .before .before .before .before .before .before .before .before .before .before .before .before .before .before .before .before .before .enum-told .given .1) (built .kept .1 .1 .0) (built .kept .1 .1 .1 .0) (built .kept .1 .1 .1 .1 .0) (c .before .before .before .before .before .before .before .before .before .before .before .before .clear .ensures)
+
+same-length-7 : tie.Need-same-length-7
+same-length-7 c = search needs
+
+same-length-8 : tie.Need-same-length-8
+same-length-8 c = search needs
+
+same-length-9 : tie.Need-same-length-9
+same-length-9 c = search needs
+
+same-length-10 : tie.Need-same-length-10
+same-length-10 c = search needs
+
+same-length-11 : tie.Need-same-length-11
+same-length-11 c = search needs
+
+same-length-12 : tie.Need-same-length-12
+same-length-12 c = search needs
+
+returns-2 : tie.Need-returns-2
+returns-2 c = made-filled _ _ _ _ _ _ _ _ _ _ _ _ _ _ _ _ _ (c .before .before .before .before .before .before .before .before .before .before .before .before .before .before .before .before .before .before .before .before .before .before .before .before .build .ensures) (c .before .before .before .before .before .before .before .before .before .before .before .before .before .before .before .before .edges .given .1) (c .before .before .before .before .before .before .before .before .complete .ensures)
+
+pub topology-spec : {M : Type 1} → statement M
+topology-spec =
+    tie.close
+    (tie.spec
+    cast-build
+    build-requires
+    enum-told
+    clear-requires
+    enum-known-edges
+    complete-requires
+    same-length
+    same-length-2
+    same-length-3
+    same-length-4
+    same-length-5
+    same-length-6
+    returns
+    same-length-7
+    same-length-8
+    same-length-9
+    same-length-10
+    same-length-11
+    same-length-12
+    returns-2)

@@ -1,0 +1,57 @@
+-- A job's mesh: document 01's refusals 1 to 10, or its topology. Definitions only.
+use Prim.Native.Nat.{ℕ, zero, suc, min}
+use mathlib.Core.Path.{_≡_}
+use mathlib.Core.Bool.{cond}
+use lib.ListN.{length}
+use Rattle.buffers.specs.Slots.{slotsOf}
+use Rattle.job_checks.specs.declared.BufferCounts.{BufferCounts}
+use Rattle.job_checks.specs.Job.{Job}
+use Rattle.job_checks.specs.Refusals.{refusalNumber, refusalOf}
+use Rattle.topology.specs.Edges.{edges, sharedByThree}
+use Rattle.mesh.specs.declared.OtherCounts.{OtherCounts}
+use Rattle.mesh.specs.declared.Meshed.{Meshed}
+use Rattle.mesh.specs.declared.Meshed.the-variants.{Edges, Refused, ThirdFace}
+use Rattle.mesh.specs.Topology.{MeshBuffers, topologyOf}
+
+-- each answer's number in document 01; 0 is no refusal
+abbrev pub numberOf : Meshed → ℕ
+numberOf (Edges n) = 0
+numberOf (Refused c) = refusalNumber c
+numberOf ThirdFace = 10
+
+-- the slots of buffers whose slices have these lengths, and of the others as they are told
+abbrev pub countsOf : ℕ → ℕ → ℕ → ℕ → ℕ → ℕ → OtherCounts → BufferCounts
+countsOf vw ew er r tw tr others =
+    record {
+      vertices = slotsOf vw 3;
+      edges = min (slotsOf ew 6) (slotsOf er 4);
+      «vertex_faces» = slotsOf r 1;
+      triangles = min (slotsOf tw 6) (slotsOf tr 9);
+      pieces = others .pieces;
+      windows = others .windows;
+      scratch = others .scratch;
+      «other_scratch» = others .«other_scratch»;
+    }
+
+abbrev pub countsIn : MeshBuffers → OtherCounts → BufferCounts
+countsIn m others =
+    countsOf (length (m .vertex-words)) (length (m .edge-words)) (length (m .edge-reals)) (length (m .round)) (length (m .triangle-words)) (length (m .triangle-reals)) others
+
+-- a refusal, or else another
+unfoldable pub orElse : ℕ → ℕ → ℕ
+orElse zero n = n
+orElse (suc k) n = suc k
+
+-- the first of 1 to 10 that holds, or 0
+unfoldable pub meshRefusal : Job → BufferCounts → ℕ
+meshRefusal j b = orElse (refusalOf j b) (cond (sharedByThree (j .triangles)) 10 0)
+
+-- 1 to 9 change no buffer
+unfoldable pub afterwards : ℕ → MeshBuffers → MeshBuffers → MeshBuffers
+afterwards zero m t = t
+afterwards (suc k) m t = m
+
+pub record Answered (j : Job) (others : OtherCounts) (r : Meshed) (before after : MeshBuffers) : Type 0 where
+  pub number : numberOf r ≡ meshRefusal j (countsIn before others)
+  pub edge-count : meshRefusal j (countsIn before others) ≡ 0 → r ≡ Edges (length (edges (j .triangles)))
+  pub buffers : after ≡ afterwards (refusalOf j (countsIn before others)) before (topologyOf (j .vertices) (j .triangles) before)

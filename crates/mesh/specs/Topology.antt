@@ -1,0 +1,77 @@
+-- A mesh's topology in its six buffers. Definitions only.
+use Prim.Native.Nat.{ℕ, _*_, _/_, _≤_}
+use mathlib.Core.Path.{_≡_}
+use mathlib.Core.Bool.{cond}
+use mathlib.Core.List.{List}
+use lib.ListN.{length, replicate}
+use lib.Ieee.{Float}
+use Rattle.float64.specs.Scalar.{zero}
+use Rattle.topology.specs.Edges.{edges, sharedByThree}
+use Rattle.edge_table.specs.declared.Table.{Table}
+use Rattle.edge_table.specs.Table.{Mesh, tableOf, vertexWords, edgeWords, triangleWords}
+use Rattle.vertex_faces.specs.Ranges.{withRanges, startOf, endOf, roundOf}
+use Rattle.frames.specs.Stored.{withLengths, withNormals}
+
+-- document 01's rooms of the mesh
+pub record MeshBuffers : Type 0 where
+  pub vertex-words : List ℕ  -- three for each vertex: where its faces start and end in `round`, the head of a bucket of edges
+  pub edge-words : List ℕ  -- six for each edge: its two vertices, its two faces, no windows, the next edge of its bucket
+  pub edge-reals : List Float  -- four for each edge: its length and its unit vector
+  pub round : List ℕ  -- the faces round each vertex, one vertex after the other
+  pub triangle-words : List ℕ  -- six for each triangle: its three edges, and three zeros
+  pub triangle-reals : List Float  -- nine for each triangle: the inward normals of its sides
+
+abbrev pub meshBuffers : List ℕ → List ℕ → List Float → List ℕ → List ℕ → List Float → MeshBuffers
+meshBuffers vw ew er r tw tr = record { vertex-words = vw; edge-words = ew; edge-reals = er; round = r; triangle-words = tw; triangle-reals = tr }
+
+-- what refusal 10 leaves
+unfoldable pub zeroed : MeshBuffers → MeshBuffers
+zeroed m =
+    meshBuffers
+    (replicate (length (m .vertex-words)) 0)
+    (replicate (length (m .edge-words)) 0)
+    (replicate (length (m .edge-reals)) zero)
+    (replicate (length (m .round)) 0)
+    (replicate (length (m .triangle-words)) 0)
+    (replicate (length (m .triangle-reals)) zero)
+
+module _ (v : List Float) (triangles : List ℕ) where
+  -- What is asked of a mesh and of buffers of so many elements: a job that passed the checks has it.
+  pub record Fits (vw ew er r tw tr : ℕ) : Type 0 where
+    pub mesh : Mesh triangles (length v / 3)
+    pub vertices-fit : 3 * (length v / 3) ≤ vw
+    pub edges-fit : 6 * length triangles ≤ ew
+    pub edge-reals-fit : 4 * length triangles ≤ er
+    pub round-fits : length triangles ≤ r
+    pub triangles-fit : 2 * length triangles ≤ tw
+    pub triangle-reals-fit : 3 * length triangles ≤ tr
+
+  -- What is added to an edge table of n edges.
+  pub record Completed (n : ℕ) (ew tw vertex₀ : List ℕ) (edge₀ : List Float) (round₀ : List ℕ) (triangle₀ : List Float) (vertex : List ℕ) (edge : List Float) (round : List ℕ) (triangle : List Float) : Type 0 where
+    pub ranges : vertex ≡ withRanges (startOf triangles) (endOf triangles) (length v / 3) vertex₀
+    pub faces-round : round ≡ roundOf triangles (length v / 3) (length round₀)
+    pub lengths : edge ≡ withLengths v ew n (replicate (length edge₀) zero)
+    pub normals : triangle ≡ withNormals v ew triangles tw edge (length triangles) (replicate (length triangle₀) zero)
+
+  -- The topology in buffers, which count by their lengths alone.
+  unfoldable pub filled : MeshBuffers → MeshBuffers
+  filled m =
+      let vertices : ℕ = length v / 3 in
+      let ew : List ℕ = edgeWords triangles vertices (length (m .edge-words)) in
+      let tw : List ℕ = triangleWords triangles vertices (length (m .triangle-words)) in
+      let er : List Float = withLengths v ew (length (edges triangles)) (replicate (length (m .edge-reals)) zero) in
+      meshBuffers
+      (withRanges (startOf triangles) (endOf triangles) vertices (vertexWords triangles vertices (length (m .vertex-words))))
+      ew
+      er
+      (roundOf triangles vertices (length (m .round)))
+      tw
+      (withNormals v ew triangles tw er (length triangles) (replicate (length (m .triangle-reals)) zero))
+
+  -- The answer and the buffers: refused where an edge lies in more than two triangles.
+  unfoldable pub topologyOf : MeshBuffers → MeshBuffers
+  topologyOf m = cond (sharedByThree triangles) (zeroed m) (filled m)
+
+  pub record Made (r : Table) (before after : MeshBuffers) : Type 0 where
+    pub answer : r ≡ tableOf triangles (length v / 3)
+    pub buffers : after ≡ topologyOf before

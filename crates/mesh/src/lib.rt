@@ -1,0 +1,224 @@
+// A mesh's topology in six buffers that a caller lends: the checks of its job, then the edge table, the faces round each vertex, and the frames.
+use buffers::zero_f64;
+use buffers::zero_u32;
+use edge_table::Table;
+use job_checks::BufferCounts;
+use job_checks::Checked;
+ghost use mathlib.Core.Path.{_≡_};
+ghost use Prim.Native.Nat.{_*_, _/_, _≤_};
+ghost use lib.ListN.{length, replicate};
+ghost use Rattle.float64.specs.Scalar.{zero};
+ghost use Rattle.job_checks.specs.Job.{job};
+ghost use Rattle.vertex_faces.specs.Ranges.{InRange};
+ghost use Rattle.mesh.specs.Topology.{meshBuffers, zeroed, Fits, Completed, Made};
+ghost use Rattle.mesh.specs.Answer.{numberOf, countsOf, Answered};
+
+// How many slots the buffers have that a job needs beside those of the mesh, and how many windows there is a slot for.
+pub struct OtherCounts {
+    pub pieces: u32,
+    pub windows: u32,
+    pub scratch: u32,
+    pub other_scratch: u32,
+}
+
+// How many edges the mesh has, or what it is refused for: `numberOf` of specs/ gives each case its number.
+pub enum Meshed {
+    Edges(u32),
+    Refused(Checked),
+    ThirdFace,
+}
+
+pub fn refusal_number(meshed: Meshed) -> u32
+    ensures { λ r. ⌜ r ≡ numberOf meshed ⌝ }
+{
+    match meshed {
+        Meshed::Edges(_) => 0,
+        Meshed::Refused(checked) => job_checks::refusal_number(checked),
+        Meshed::ThirdFace => 10,
+    }
+}
+
+fn clear(
+    vertex_words: &mut [u32],
+    edge_words: &mut [u32],
+    edge_reals: &mut [f64],
+    round: &mut [u32],
+    triangle_words: &mut [u32],
+    triangle_reals: &mut [f64],
+)
+    ensures { λ r. ⌜ meshBuffers (now («vertex_words» .exit)) (now («edge_words» .exit)) (now («edge_reals» .exit)) (now (round .exit)) (now («triangle_words» .exit)) (now («triangle_reals» .exit))
+        ≡ zeroed (meshBuffers (now («vertex_words» .entry)) (now («edge_words» .entry)) (now («edge_reals» .entry)) (now (round .entry)) (now («triangle_words» .entry)) (now («triangle_reals» .entry))) ⌝ }
+{
+    zero_u32(vertex_words);
+    zero_u32(edge_words);
+    zero_f64(edge_reals);
+    zero_u32(round);
+    zero_u32(triangle_words);
+    zero_f64(triangle_reals);
+}
+
+// What the edge table is the ground of, where it has so many edges.
+fn complete(
+    vertices: &[f64],
+    triangles: &[u32],
+    edges: u32,
+    vertex_words: &mut [u32],
+    edge_words: &[u32],
+    edge_reals: &mut [f64],
+    round: &mut [u32],
+    triangle_words: &[u32],
+    triangle_reals: &mut [f64],
+)
+    requires { ⌜ InRange (now triangles) (length (now vertices) / 3) × ((length (now vertices) / 3 ≤ 65535) × ((3 * (length (now vertices) / 3) ≤ length (now «vertex_words»)) × (length (now triangles) ≤ length (now round)))) ⌝ }
+    ensures { λ r. ⌜ Completed (now (vertices .entry)) (now (triangles .entry)) edges (now («edge_words» .entry)) (now («triangle_words» .entry))
+        (now («vertex_words» .entry)) (now («edge_reals» .entry)) (now (round .entry)) (now («triangle_reals» .entry))
+        (now («vertex_words» .exit)) (now («edge_reals» .exit)) (now (round .exit)) (now («triangle_reals» .exit)) ⌝ }
+{
+    vertex_faces::build(triangles, vertex_words, (vertices.len() / 3) as u32, round);
+    zero_f64(edge_reals);
+    frames::lengths(vertices, edge_words, edges, edge_reals);
+    zero_f64(triangle_reals);
+    frames::normals(
+        vertices,
+        triangles,
+        edge_words,
+        triangle_words,
+        edge_reals,
+        triangle_reals,
+    );
+}
+
+// The topology of a mesh that passed the checks, or refusal 10 and every buffer zero.
+pub fn topology(
+    vertices: &[f64],
+    triangles: &[u32],
+    vertex_words: &mut [u32],
+    edge_words: &mut [u32],
+    edge_reals: &mut [f64],
+    round: &mut [u32],
+    triangle_words: &mut [u32],
+    triangle_reals: &mut [f64],
+) -> Table
+    requires { ⌜ Fits (now vertices) (now triangles) (length (now «vertex_words»)) (length (now «edge_words»)) (length (now «edge_reals»)) (length (now round)) (length (now «triangle_words»)) (length (now «triangle_reals»)) ⌝ }
+    ensures { λ r. ⌜ Made (now (vertices .entry)) (now (triangles .entry)) r
+        (meshBuffers (now («vertex_words» .entry)) (now («edge_words» .entry)) (now («edge_reals» .entry)) (now (round .entry)) (now («triangle_words» .entry)) (now («triangle_reals» .entry)))
+        (meshBuffers (now («vertex_words» .exit)) (now («edge_words» .exit)) (now («edge_reals» .exit)) (now (round .exit)) (now («triangle_words» .exit)) (now («triangle_reals» .exit))) ⌝ }
+{
+    match edge_table::build(
+        triangles,
+        (vertices.len() / 3) as u32,
+        vertex_words,
+        edge_words,
+        triangle_words,
+    ) {
+        Table::ThirdFace => {
+            clear(
+                vertex_words,
+                edge_words,
+                edge_reals,
+                round,
+                triangle_words,
+                triangle_reals,
+            );
+            Table::ThirdFace
+        }
+        Table::Edges(edges) => {
+            complete(
+                vertices,
+                triangles,
+                edges,
+                vertex_words,
+                edge_words,
+                edge_reals,
+                round,
+                triangle_words,
+                triangle_reals,
+            );
+            Table::Edges(edges)
+        }
+    }
+}
+
+// How many slots a job's buffers have, of which those of the mesh have slices of these lengths.
+fn buffer_counts(
+    vertex_words: usize,
+    edge_words: usize,
+    edge_reals: usize,
+    round: usize,
+    triangle_words: usize,
+    triangle_reals: usize,
+    others: OtherCounts,
+) -> BufferCounts
+    ensures { λ r. ⌜ r ≡ countsOf «vertex_words» «edge_words» «edge_reals» round «triangle_words» «triangle_reals» others ⌝ }
+{
+    BufferCounts {
+        vertices: buffers::slots(vertex_words, 3),
+        edges: buffers::count(edge_words, 6, edge_reals, 4),
+        vertex_faces: buffers::slots(round, 1),
+        triangles: buffers::count(triangle_words, 6, triangle_reals, 9),
+        pieces: others.pieces,
+        windows: others.windows,
+        scratch: others.scratch,
+        other_scratch: others.other_scratch,
+    }
+}
+
+// Any job: the first of the refusals 1 to 10 that holds, if any, or the topology of its mesh.
+pub fn build(
+    vertices: &[f64],
+    triangles: &[u32],
+    flags: &[u8],
+    kinds: &[u8],
+    faces: &[u32],
+    coords: &[f64],
+    limit: f64,
+    others: OtherCounts,
+    vertex_words: &mut [u32],
+    edge_words: &mut [u32],
+    edge_reals: &mut [f64],
+    round: &mut [u32],
+    triangle_words: &mut [u32],
+    triangle_reals: &mut [f64],
+) -> Meshed
+    ensures { λ r. ⌜ Answered
+        (job (now (vertices .entry)) (now (triangles .entry)) (now (flags .entry)) (now (kinds .entry)) (now (faces .entry)) (now (coords .entry)) limit)
+        others r
+        (meshBuffers (now («vertex_words» .entry)) (now («edge_words» .entry)) (now («edge_reals» .entry)) (now (round .entry)) (now («triangle_words» .entry)) (now («triangle_reals» .entry)))
+        (meshBuffers (now («vertex_words» .exit)) (now («edge_words» .exit)) (now («edge_reals» .exit)) (now (round .exit)) (now («triangle_words» .exit)) (now («triangle_reals» .exit))) ⌝ }
+{
+    let counts = buffer_counts(
+        vertex_words.len(),
+        edge_words.len(),
+        edge_reals.len(),
+        round.len(),
+        triangle_words.len(),
+        triangle_reals.len(),
+        others,
+    );
+    let checked = job_checks::check(
+        vertices,
+        triangles,
+        flags,
+        kinds,
+        faces,
+        coords,
+        limit,
+        counts,
+    );
+    if job_checks::refusal_number(checked) > 0 {
+        return Meshed::Refused(checked);
+    }
+    match topology(
+        vertices,
+        triangles,
+        vertex_words,
+        edge_words,
+        edge_reals,
+        round,
+        triangle_words,
+        triangle_reals,
+    ) {
+        Table::Edges(edges) => Meshed::Edges(edges),
+        Table::ThirdFace => Meshed::ThirdFace,
+    }
+}

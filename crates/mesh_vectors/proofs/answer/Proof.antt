@@ -1,0 +1,127 @@
+-- `mesh_vectors::answer` is safe and ends. A slice's front has as many elements as it is cut to. Assumes nothing.
+use mathlib.Core.Path.{sym}
+use lib.Seq.{length-take-le}
+use borrow.Author.Needs.{needs}
+use Rattle.mesh_vectors.proofs.answer.Statement.{statement}
+use Rattle.mesh_vectors.proofs.answer.Tie as tie
+
+add-double : tie.Need-add-double
+add-double c = search needs
+
+double-requires : tie.Need-double-requires
+double-requires c κs = search needs
+
+other-counts-requires : tie.Need-other-counts-requires
+other-counts-requires c κs = search needs
+
+add-count : tie.Need-add-count
+add-count c = search needs
+
+count-requires : tie.Need-count-requires
+count-requires c κs = search needs
+
+slice-aggregate-v : tie.Need-slice-aggregate-v
+slice-aggregate-v c = sym (length-take-le _ _ (search needs))
+
+add-count-2 : tie.Need-add-count-2
+add-count-2 c = search needs
+
+count-requires-2 : tie.Need-count-requires-2
+count-requires-2 c κs = search needs
+
+slice-aggregate-t : tie.Need-slice-aggregate-t
+slice-aggregate-t c = sym (length-take-le _ _ (search needs))
+
+add-count-3 : tie.Need-add-count-3
+add-count-3 c = search needs
+
+count-requires-3 : tie.Need-count-requires-3
+count-requires-3 c κs = search needs
+
+slice-aggregate-f : tie.Need-slice-aggregate-f
+slice-aggregate-f c = sym (length-take-le _ _ (search needs))
+
+add-count-4 : tie.Need-add-count-4
+add-count-4 c = search needs
+
+count-requires-4 : tie.Need-count-requires-4
+count-requires-4 c κs = search needs
+
+slice-aggregate-i : tie.Need-slice-aggregate-i
+slice-aggregate-i c = sym (length-take-le _ _ (search needs))
+
+add-count-5 : tie.Need-add-count-5
+add-count-5 c = search needs
+
+count-requires-5 : tie.Need-count-requires-5
+count-requires-5 c κs = search needs
+
+slice-aggregate-n : tie.Need-slice-aggregate-n
+slice-aggregate-n c = sym (length-take-le _ _ (search needs))
+
+add-count-6 : tie.Need-add-count-6
+add-count-6 c = search needs
+
+count-requires-6 : tie.Need-count-requires-6
+count-requires-6 c κs = search needs
+
+slice-aggregate-c : tie.Need-slice-aggregate-c
+slice-aggregate-c c = sym (length-take-le _ _ (search needs))
+
+build-requires : tie.Need-build-requires
+build-requires c κs = search needs
+
+same-length : tie.Need-same-length
+same-length c = search needs
+
+same-length-2 : tie.Need-same-length-2
+same-length-2 c = search needs
+
+same-length-3 : tie.Need-same-length-3
+same-length-3 c = search needs
+
+same-length-4 : tie.Need-same-length-4
+same-length-4 c = search needs
+
+same-length-5 : tie.Need-same-length-5
+same-length-5 c = search needs
+
+same-length-6 : tie.Need-same-length-6
+same-length-6 c = search needs
+
+returns : tie.Need-returns
+returns c = search needs
+
+pub answer-spec : {M : Type 1} → statement M
+answer-spec =
+    tie.close
+    (tie.spec
+    add-double
+    double-requires
+    other-counts-requires
+    add-count
+    count-requires
+    slice-aggregate-v
+    add-count-2
+    count-requires-2
+    slice-aggregate-t
+    add-count-3
+    count-requires-3
+    slice-aggregate-f
+    add-count-4
+    count-requires-4
+    slice-aggregate-i
+    add-count-5
+    count-requires-5
+    slice-aggregate-n
+    add-count-6
+    count-requires-6
+    slice-aggregate-c
+    build-requires
+    same-length
+    same-length-2
+    same-length-3
+    same-length-4
+    same-length-5
+    same-length-6
+    returns)

@@ -1,0 +1,742 @@
+// Replays stored meshes through the checks and the topology: how many there are, and how many are answered otherwise. Compared are the refusal, every number
+// of the topology, and what is left in the buffers. tests/mesh/make_vectors.py has the format and makes the files.
+use buffers::read_f64;
+use buffers::read_u32;
+use mesh::Meshed;
+use mesh::OtherCounts;
+ghost use mathlib.Core.Path.{_≡_};
+ghost use Prim.Native.Nat.{_≤_, _<_};
+ghost use lib.ListN.{length};
+
+fn wide(x: u8) -> u32
+    ensures { λ r. ⌜ r ≤ 255 ⌝ }
+{
+    x as u32
+}
+
+// Byte i of s, 0 past the end.
+fn octet(s: &[u8], i: usize) -> u32
+    ensures { λ r. ⌜ r ≤ 255 ⌝ }
+{
+    if i < s.len() {
+        return wide(s[i]);
+    }
+    0
+}
+
+// Number k of s, 0 past the end.
+fn number(s: &[u8], k: usize) -> u32
+    requires { ⌜ k < 4_000_000 ⌝ }
+{
+    let i = 4 * k;
+    octet(s, i) + 256 * octet(s, i + 1) + 65_536 * octet(s, i + 2) + 16_777_216 * octet(s, i + 3)
+}
+
+// The double at number k of s.
+fn double(s: &[u8], k: usize) -> f64
+    requires { ⌜ k < 3_000_000 ⌝ }
+{
+    vectors::float((number(s, k) as u64) + 4_294_967_296 * (number(s, k + 1) as u64))
+}
+
+fn at_most(n: usize, most: usize) -> usize
+    ensures { λ r. ⌜ r ≤ most ⌝ }
+{
+    if n < most { n } else { most }
+}
+
+// Number k of s, and no more than most.
+fn count(s: &[u8], k: usize, most: usize) -> usize
+    requires { ⌜ k < 4_000_000 ⌝ }
+    ensures { λ r. ⌜ r ≤ most ⌝ }
+{
+    at_most(number(s, k) as usize, most)
+}
+
+// The numbers of s from number k on, as many as fill the slice.
+fn read_doubles(s: &[u8], k: usize, to: &mut [f64])
+    requires { ⌜ (k < 1_000_000) × (length (now to) ≤ 200_000) ⌝ }
+{
+    let mut i = 0;
+    while i < to.len() {
+        to[i] = double(s, k + 2 * i);
+        i += 1;
+    }
+}
+
+fn read_numbers(s: &[u8], k: usize, to: &mut [u32])
+    requires { ⌜ (k < 1_000_000) × (length (now to) ≤ 200_000) ⌝ }
+{
+    let mut i = 0;
+    while i < to.len() {
+        to[i] = number(s, k + i);
+        i += 1;
+    }
+}
+
+fn read_bytes(s: &[u8], k: usize, to: &mut [u8])
+    requires { ⌜ (k < 1_000_000) × (length (now to) ≤ 200_000) ⌝ }
+{
+    let mut i = 0;
+    while i < to.len() {
+        to[i] = (number(s, k + i) % 256) as u8;
+        i += 1;
+    }
+}
+
+// Whether all from element n on are x.
+fn all_u32(s: &[u32], n: usize, x: u32) -> bool {
+    let mut i = n;
+    while i < s.len() {
+        if s[i] != x {
+            return false;
+        }
+        i += 1;
+    }
+    true
+}
+
+fn all_f64(s: &[f64], n: usize, x: f64) -> bool {
+    let mut i = n;
+    while i < s.len() {
+        if vectors::pattern(s[i]) != vectors::pattern(x) {
+            return false;
+        }
+        i += 1;
+    }
+    true
+}
+
+// Where in the file the next expected number is, the check sum so far, and whether all that was compared agrees.
+struct Walk {
+    at: usize,
+    sum: u64,
+    same: bool,
+}
+
+// One more number of the topology, compared at detail 1 and summed at detail 2.
+fn visit(s: &[u8], detail: u32, w: Walk, n: u32) -> Walk {
+    let at = at_most(w.at, 3_000_000);
+    if detail == 1 {
+        if number(s, at) == n {
+            return Walk {
+                at: at + 1,
+                sum: 0,
+                same: w.same,
+            };
+        }
+        return Walk {
+            at: at + 1,
+            sum: 0,
+            same: false,
+        };
+    }
+    Walk {
+        at,
+        sum: ((w.sum % 4_294_967_296) * 65_599 + (n as u64)) % 4_294_967_291,
+        same: w.same,
+    }
+}
+
+// The end of a list: at detail 2 its check sum is compared.
+fn section(s: &[u8], detail: u32, w: Walk) -> Walk {
+    if detail == 1 {
+        return w;
+    }
+    let sum = (w.sum % 4_294_967_296) as u32;
+    visit(s, 1, w, sum)
+}
+
+fn visit_double(s: &[u8], detail: u32, w: Walk, x: f64) -> Walk {
+    let bits = vectors::pattern(x);
+    let low = visit(s, detail, w, (bits % 4_294_967_296) as u32);
+    visit(s, detail, low, (bits / 4_294_967_296) as u32)
+}
+
+// The first fields of a slot.
+fn visit_slot_u32(
+    s: &[u8],
+    detail: u32,
+    w: Walk,
+    words: &[u32],
+    stride: u32,
+    slot: u32,
+    fields: u32,
+) -> Walk {
+    let mut now = w;
+    let mut k: u32 = 0;
+    while k < fields {
+        now = visit(s, detail, now, read_u32(words, stride, slot, k));
+        k += 1;
+    }
+    now
+}
+
+fn visit_slot_f64(s: &[u8], detail: u32, w: Walk, reals: &[f64], fields: u32, slot: u32) -> Walk {
+    let mut now = w;
+    let mut k: u32 = 0;
+    while k < fields {
+        now = visit_double(s, detail, now, read_f64(reals, fields, slot, k));
+        k += 1;
+    }
+    now
+}
+
+// The same of the first n slots.
+fn visit_u32(
+    s: &[u8],
+    detail: u32,
+    w: Walk,
+    words: &[u32],
+    stride: u32,
+    n: u32,
+    fields: u32,
+) -> Walk {
+    let mut now = w;
+    let mut i: u32 = 0;
+    while i < n {
+        now = visit_slot_u32(s, detail, now, words, stride, i, fields);
+        i += 1;
+    }
+    section(s, detail, now)
+}
+
+fn visit_f64(s: &[u8], detail: u32, w: Walk, reals: &[f64], fields: u32, n: u32) -> Walk {
+    let mut now = w;
+    let mut i: u32 = 0;
+    while i < n {
+        now = visit_slot_f64(s, detail, now, reals, fields, i);
+        i += 1;
+    }
+    section(s, detail, now)
+}
+
+// The faces from one place of their list up to another, their count first.
+fn visit_faces(s: &[u8], detail: u32, w: Walk, round: &[u32], start: u32, end: u32) -> Walk {
+    if end < start {
+        return Walk {
+            at: 0,
+            sum: 0,
+            same: false,
+        };
+    }
+    let mut now = visit(s, detail, w, end - start);
+    let mut i = start;
+    while i < end {
+        now = visit(s, detail, now, read_u32(round, 1, i, 0));
+        i += 1;
+    }
+    now
+}
+
+fn visit_vertices(s: &[u8], detail: u32, w: Walk, words: &[u32], round: &[u32], n: u32) -> Walk {
+    let mut now = w;
+    let mut i: u32 = 0;
+    while i < n {
+        now = visit_faces(
+            s,
+            detail,
+            now,
+            round,
+            read_u32(words, 3, i, 0),
+            read_u32(words, 3, i, 1),
+        );
+        i += 1;
+    }
+    section(s, detail, now)
+}
+
+// Where the lists of the record at number k stand.
+struct ListPlaces {
+    triangles: usize,
+    flags: usize,
+    kinds: usize,
+    faces: usize,
+    coords: usize,
+    answer: usize,
+}
+
+fn places(s: &[u8], k: usize) -> ListPlaces
+    requires { ⌜ k < 500_000 ⌝ }
+    ensures { λ r. ⌜ (r .triangles < 1_000_000) × ((r .flags < 1_000_000) × ((r .kinds < 1_000_000) × ((r .faces < 1_000_000) × (r .coords < 1_000_000)))) ⌝ }
+{
+    let triangles = k + 19 + 2 * count(s, k + 3, 20_000);
+    let flags = triangles + count(s, k + 4, 40_000);
+    let kinds = flags + count(s, k + 5, 10_000);
+    let faces = kinds + count(s, k + 6, 1_000);
+    let coords = faces + count(s, k + 7, 1_000);
+    let answer = coords + 2 * count(s, k + 8, 1_000);
+    ListPlaces {
+        triangles,
+        flags,
+        kinds,
+        faces,
+        coords,
+        answer,
+    }
+}
+
+// Reads the lists of the record at number k, as many numbers as there is room for, to the fronts of the arrays.
+fn load_mesh(
+    s: &[u8],
+    k: usize,
+    vertices: &mut [f64; 12288],
+    triangles: &mut [u32; 24576],
+    flags: &mut [u8; 4096],
+)
+    requires { ⌜ k < 500_000 ⌝ }
+{
+    let at = places(s, k);
+    read_numbers(s, at.triangles, triangles);
+    read_bytes(s, at.flags, flags);
+    read_doubles(s, k + 19, vertices);
+}
+
+fn load_pieces(
+    s: &[u8],
+    k: usize,
+    kinds: &mut [u8; 64],
+    faces: &mut [u32; 64],
+    coords: &mut [f64; 384],
+)
+    requires { ⌜ k < 500_000 ⌝ }
+{
+    let at = places(s, k);
+    read_bytes(s, at.kinds, kinds);
+    read_numbers(s, at.faces, faces);
+    read_doubles(s, at.coords, coords);
+}
+
+// The slots of the buffers that the topology does not touch, as the record at number k says.
+fn other_counts(s: &[u8], k: usize) -> OtherCounts
+    requires { ⌜ k < 500_000 ⌝ }
+{
+    OtherCounts {
+        pieces: number(s, k + 13),
+        windows: number(s, k + 14),
+        scratch: number(s, k + 15),
+        other_scratch: number(s, k + 16),
+    }
+}
+
+// Whether the buffers all hold one number, as integers and as floats.
+fn all_are(
+    vertex_words: &[u32],
+    edge_words: &[u32],
+    edge_reals: &[f64],
+    round: &[u32],
+    triangle_words: &[u32],
+    triangle_reals: &[f64],
+    x: u32,
+    y: f64,
+) -> bool {
+    if !all_u32(vertex_words, 0, x) {
+        return false;
+    }
+    if !all_u32(edge_words, 0, x) {
+        return false;
+    }
+    if !all_f64(edge_reals, 0, y) {
+        return false;
+    }
+    if !all_u32(round, 0, x) {
+        return false;
+    }
+    if !all_u32(triangle_words, 0, x) {
+        return false;
+    }
+    all_f64(triangle_reals, 0, y)
+}
+
+// Whether what lies behind the edges, the sides and the triangles is zero.
+fn tails_zero(
+    edge_words: &[u32],
+    edge_reals: &[f64],
+    round: &[u32],
+    triangle_words: &[u32],
+    triangle_reals: &[f64],
+    edges: u32,
+    sides: usize,
+) -> bool
+    requires { ⌜ sides ≤ 1_000_000 ⌝ }
+{
+    if !all_u32(edge_words, 6 * (edges as usize), 0) {
+        return false;
+    }
+    if !all_f64(edge_reals, 4 * (edges as usize), 0.0) {
+        return false;
+    }
+    if !all_u32(round, sides, 0) {
+        return false;
+    }
+    if !all_u32(triangle_words, 2 * sides, 0) {
+        return false;
+    }
+    all_f64(triangle_reals, 3 * sides, 0.0)
+}
+
+// Whether the topology in the buffers, of so many edges, is the one that the record at number k has.
+fn same_topology(
+    s: &[u8],
+    k: usize,
+    edges: u32,
+    vertex_words: &[u32],
+    edge_words: &[u32],
+    edge_reals: &[f64],
+    round: &[u32],
+    triangle_words: &[u32],
+    triangle_reals: &[f64],
+) -> bool
+    requires { ⌜ k < 500_000 ⌝ }
+{
+    let detail = number(s, k + 1);
+    let vertices = (count(s, k + 3, 200_000) / 3) as u32;
+    let sides = count(s, k + 4, 200_000);
+    let triangles = (sides / 3) as u32;
+    let start = Walk {
+        at: places(s, k).answer,
+        sum: 0,
+        same: true,
+    };
+    let counted = visit(s, 1, start, edges);
+    let ends = visit_u32(s, detail, counted, edge_words, 6, edges, 4);
+    let lengths = visit_f64(s, detail, ends, edge_reals, 4, edges);
+    let numbered = visit_u32(s, detail, lengths, triangle_words, 6, triangles, 3);
+    let normals = visit_f64(s, detail, numbered, triangle_reals, 9, triangles);
+    let last = visit_vertices(s, detail, normals, vertex_words, round, vertices);
+    if last.same {
+        return tails_zero(
+            edge_words,
+            edge_reals,
+            round,
+            triangle_words,
+            triangle_reals,
+            edges,
+            sides,
+        );
+    }
+    false
+}
+
+// Whether an answer and the buffers, all 7 before, are what the record at number k says: 1 to 9 leave the buffers as they were, and 10 leaves them zero.
+fn same_answer(
+    s: &[u8],
+    k: usize,
+    answer: Meshed,
+    vertex_words: &[u32],
+    edge_words: &[u32],
+    edge_reals: &[f64],
+    round: &[u32],
+    triangle_words: &[u32],
+    triangle_reals: &[f64],
+) -> bool
+    requires { ⌜ k < 500_000 ⌝ }
+{
+    if mesh::refusal_number(answer) != number(s, k) {
+        return false;
+    }
+    match answer {
+        Meshed::Edges(n) => {
+            if number(s, k + 1) == 0 {
+                return true;
+            }
+            same_topology(
+                s,
+                k,
+                n,
+                vertex_words,
+                edge_words,
+                edge_reals,
+                round,
+                triangle_words,
+                triangle_reals,
+            )
+        }
+        Meshed::Refused(_) => all_are(
+            vertex_words,
+            edge_words,
+            edge_reals,
+            round,
+            triangle_words,
+            triangle_reals,
+            7,
+            7.0,
+        ),
+        Meshed::ThirdFace => all_are(
+            vertex_words,
+            edge_words,
+            edge_reals,
+            round,
+            triangle_words,
+            triangle_reals,
+            0,
+            0.0,
+        ),
+    }
+}
+
+// The answer to the record at number k, whose lists stand at the fronts of the slices.
+fn answer(
+    s: &[u8],
+    k: usize,
+    vertices: &[f64],
+    triangles: &[u32],
+    flags: &[u8],
+    kinds: &[u8],
+    faces: &[u32],
+    coords: &[f64],
+    vertex_words: &mut [u32],
+    edge_words: &mut [u32],
+    edge_reals: &mut [f64],
+    round: &mut [u32],
+    triangle_words: &mut [u32],
+    triangle_reals: &mut [f64],
+) -> Meshed
+    requires { ⌜ k < 500_000 ⌝ }
+{
+    let limit = double(s, k + 17);
+    let others = other_counts(s, k);
+    let nv = count(s, k + 3, vertices.len());
+    let v = &vertices[..nv];
+    let nt = count(s, k + 4, triangles.len());
+    let t = &triangles[..nt];
+    let nf = count(s, k + 5, flags.len());
+    let f = &flags[..nf];
+    let nk = count(s, k + 6, kinds.len());
+    let i = &kinds[..nk];
+    let nn = count(s, k + 7, faces.len());
+    let n = &faces[..nn];
+    let nc = count(s, k + 8, coords.len());
+    let c = &coords[..nc];
+    mesh::build(
+        v,
+        t,
+        f,
+        i,
+        n,
+        c,
+        limit,
+        others,
+        vertex_words,
+        edge_words,
+        edge_reals,
+        round,
+        triangle_words,
+        triangle_reals,
+    )
+}
+
+// Whether that is the stored answer, and the buffers are as they must be.
+fn holds(
+    s: &[u8],
+    k: usize,
+    vertices: &[f64],
+    triangles: &[u32],
+    flags: &[u8],
+    kinds: &[u8],
+    faces: &[u32],
+    coords: &[f64],
+    vertex_words: &mut [u32],
+    edge_words: &mut [u32],
+    edge_reals: &mut [f64],
+    round: &mut [u32],
+    triangle_words: &mut [u32],
+    triangle_reals: &mut [f64],
+) -> bool
+    requires { ⌜ k < 500_000 ⌝ }
+{
+    let given = answer(
+        s,
+        k,
+        vertices,
+        triangles,
+        flags,
+        kinds,
+        faces,
+        coords,
+        vertex_words,
+        edge_words,
+        edge_reals,
+        round,
+        triangle_words,
+        triangle_reals,
+    );
+    same_answer(
+        s,
+        k,
+        given,
+        vertex_words,
+        edge_words,
+        edge_reals,
+        round,
+        triangle_words,
+        triangle_reals,
+    )
+}
+
+// The same, in buffers of the sizes that the record says, cut from longer ones.
+fn holds_in(
+    s: &[u8],
+    k: usize,
+    vertices: &[f64],
+    triangles: &[u32],
+    flags: &[u8],
+    kinds: &[u8],
+    faces: &[u32],
+    coords: &[f64],
+    vertex_words: &mut [u32],
+    edge_words: &mut [u32],
+    edge_reals: &mut [f64],
+    round: &mut [u32],
+    triangle_words: &mut [u32],
+    triangle_reals: &mut [f64],
+) -> bool
+    requires { ⌜ (k < 400_000) × ((length (now «vertex_words») ≡ 12288) × ((length (now «edge_words») ≡ 144000) × ((length (now «edge_reals») ≡ 96000) × ((length (now round) ≡ 24000) × ((length (now «triangle_words») ≡ 48000) × (length (now «triangle_reals») ≡ 72000)))))) ⌝ }
+{
+    let nv = 3 * count(s, k + 9, 4096);
+    let edges = count(s, k + 10, 24000);
+    let ne = 6 * edges;
+    let nr = 4 * edges;
+    let nf = count(s, k + 11, 24000);
+    let triangles_there = count(s, k + 12, 8000);
+    let nt = 6 * triangles_there;
+    let nn = 9 * triangles_there;
+    holds(
+        s,
+        k,
+        vertices,
+        triangles,
+        flags,
+        kinds,
+        faces,
+        coords,
+        &mut vertex_words[..nv],
+        &mut edge_words[..ne],
+        &mut edge_reals[..nr],
+        &mut round[..nf],
+        &mut triangle_words[..nt],
+        &mut triangle_reals[..nn],
+    )
+}
+
+// The same of arrays, whose lengths their types tell.
+fn holds_in_arrays(
+    s: &[u8],
+    k: usize,
+    vertices: &[f64; 12288],
+    triangles: &[u32; 24576],
+    flags: &[u8; 4096],
+    kinds: &[u8; 64],
+    faces: &[u32; 64],
+    coords: &[f64; 384],
+    vertex_words: &mut [u32; 12288],
+    edge_words: &mut [u32; 144000],
+    edge_reals: &mut [f64; 96000],
+    round: &mut [u32; 24000],
+    triangle_words: &mut [u32; 48000],
+    triangle_reals: &mut [f64; 72000],
+) -> bool
+    requires { ⌜ k < 400_000 ⌝ }
+{
+    holds_in(
+        s,
+        k,
+        vertices,
+        triangles,
+        flags,
+        kinds,
+        faces,
+        coords,
+        vertex_words,
+        edge_words,
+        edge_reals,
+        round,
+        triangle_words,
+        triangle_reals,
+    )
+}
+
+// The same of a record that is still to be read. The buffers are all 7 before.
+fn replays(s: &[u8], k: usize) -> bool
+    requires { ⌜ k < 400_000 ⌝ }
+{
+    let mut vertices = [0.0f64; 12288];
+    let mut triangles = [0u32; 24576];
+    let mut flags = [0u8; 4096];
+    let mut kinds = [0u8; 64];
+    let mut faces = [0u32; 64];
+    let mut coords = [0.0f64; 384];
+    load_mesh(s, k, &mut vertices, &mut triangles, &mut flags);
+    load_pieces(s, k, &mut kinds, &mut faces, &mut coords);
+    let mut vertex_words = [7u32; 12288];
+    let mut edge_words = [7u32; 144000];
+    let mut edge_reals = [7.0f64; 96000];
+    let mut round = [7u32; 24000];
+    let mut triangle_words = [7u32; 48000];
+    let mut triangle_reals = [7.0f64; 72000];
+    holds_in_arrays(
+        s,
+        k,
+        &vertices,
+        &triangles,
+        &flags,
+        &kinds,
+        &faces,
+        &coords,
+        &mut vertex_words,
+        &mut edge_words,
+        &mut edge_reals,
+        &mut round,
+        &mut triangle_words,
+        &mut triangle_reals,
+    )
+}
+
+fn failed(right: bool) -> u64
+    ensures { λ r. ⌜ r ≤ 1 ⌝ }
+{
+    if right { 0 } else { 1 }
+}
+
+struct Tally {
+    cases: u64,
+    differences: u64,
+}
+
+// A record that has no size is the last.
+fn replay(s: &[u8]) -> Tally {
+    let end = at_most(s.len() / 4, 400_000);
+    let mut cases: u64 = 0;
+    let mut differences: u64 = 0;
+    let mut k: usize = 0;
+    while k < end {
+        let wrong = failed(replays(s, k));
+        differences += wrong;
+        cases += 1;
+        let size = count(s, k + 2, 400_000);
+        if size == 0 {
+            return Tally { cases, differences };
+        }
+        k += size;
+    }
+    Tally { cases, differences }
+}
+
+fn replay_file(name: &[u8]) {
+    let fd = os::open_read(name);
+    if fd < 0 {
+        os::fail(name);
+        return;
+    }
+    let mut buf = [0u8; 524288];
+    let got = io::read_full(fd, &mut buf);
+    libc::close(fd);
+    let tally = replay(&buf[..got]);
+    vectors::report(name, tally.cases, tally.differences);
+}
+
+fn main() {
+    replay_file(b"jobs");
+    replay_file(b"meshes");
+    replay_file(b"large");
+}

@@ -1,0 +1,16 @@
+#!/bin/sh
+# Makes the stored lists of trim_vectors again, from the repository's root: tests/trim/make_vectors.sh
+# Needs cargo and python3. The answers are those of oracle/; make_vectors.py has the format.
+set -eu
+cd "$(dirname "$0")/../.."
+made=$(mktemp -d)
+trap 'rm -rf "$made"' EXIT
+oracle() { cargo run --quiet --offline --release --manifest-path oracle/Cargo.toml -- vectors "$@"; }
+data=crates/trim_vectors/data
+mkdir -p "$data"
+oracle add-scope 1 4 >"$made/scope"
+oracle add 7 180 >"$made/short"
+oracle add-long 1 1 >"$made/long"
+python3 tests/trim/make_vectors.py "$made/scope" >"$data/scope"
+python3 tests/trim/make_vectors.py "$made/short" >"$data/short"
+python3 tests/trim/make_vectors.py "$made/long" >"$data/long"
