@@ -6,7 +6,7 @@ cd "$(dirname "$0")/../.."
 made=$(mktemp -d)
 trap 'rm -rf "$made"' EXIT
 oracle() { cargo run --quiet --offline --release --manifest-path oracle/Cargo.toml -- vectors "$@"; }
-data=crates/trim_vectors/data
+data=tests/trim/data
 mkdir -p "$data"
 oracle add-scope 1 4 >"$made/scope"
 oracle add 7 180 >"$made/short"
