@@ -1,5 +1,5 @@
 #!/usr/bin/env python3
-"""Makes the stored lists of crates/trim_vectors: make_vectors.py FILE.. > OUT
+"""Makes the stored lists of candidates: make_vectors.py FILE.. > OUT
 
 Each FILE is of the oracle's `vectors add`, `add-long` or `add-scope`; the answers are the oracle's. OUT is a file of records, one for each list, each a row
 of numbers of 4 bytes, the least significant first; a double is two, the low half first, and a NaN is 7ff8000000000000:

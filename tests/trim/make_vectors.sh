@@ -1,5 +1,5 @@
 #!/bin/sh
-# Makes the stored lists of trim_vectors again, from the repository's root: tests/trim/make_vectors.sh
+# Makes the stored lists of candidates again, from the repository's root: tests/trim/make_vectors.sh
 # Needs cargo and python3. The answers are those of oracle/; make_vectors.py has the format.
 set -eu
 cd "$(dirname "$0")/../.."
