@@ -22,7 +22,7 @@ use Rattle.better.proofs.Points.{Rising, Le, Rises, Inside, all-map, pt
 abbrev Apart : Interval → Interval → Type 0
 Apart g h = T (lt (g .to) (h .from))
 
-number : (x : Float) → Point x → Number x
+pub number : (x : Float) → Point x → Number x
 number x g = finite-number x (g .number)
 
 before : (x y : Float) → Number x → Number y → T (le x y) → T (not (eq x y)) → T (lt x y)

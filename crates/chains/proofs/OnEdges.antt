@@ -61,12 +61,12 @@ only-cleared count (suc n) w (suc i) stop =
       go true v ih = only-none w
       go false v ih = ih
 
-only-with : (b : Links) (e k v : ℕ) → OnlyLinks (b .words) (withLink b e k v .words)
+pub only-with : (b : Links) (e k v : ℕ) → OnlyLinks (b .words) (withLink b e k v .words)
 unfolding withLink
 only-with b e zero v = only-none (b .words)
 only-with b e (suc k) v = only-set (b .words) k v
 
-head-with : (b : Links) (e k v : ℕ) → OnlyHead e (b .edges) (withLink b e k v .edges)
+pub head-with : (b : Links) (e k v : ℕ) → OnlyHead e (b .edges) (withLink b e k v .edges)
 unfolding withLink
 head-with b e zero v = record { same-length = simp length-set; fields = λ p ne. getD-set-other (b .edges) (6 * e + 4) p v 0 ne }
 head-with b e (suc k) v = record { same-length = refl; fields = λ p ne. refl }
@@ -164,7 +164,7 @@ module _ (made : ℕ) where
   all-append w e [] ys h = (tt, h)
   all-append w e (x ∷ xs) ys h = ((h .0, all-append w e xs ys (h .1) .0), all-append w e xs ys (h .1) .1)
 
-  all-join : (w : List ℕ) (e : ℕ) (xs ys : List ℕ) → AllBelong made w e xs → AllBelong made w e ys → AllBelong made w e (xs ++ ys)
+  pub all-join : (w : List ℕ) (e : ℕ) (xs ys : List ℕ) → AllBelong made w e xs → AllBelong made w e ys → AllBelong made w e (xs ++ ys)
   unfolding AllBelong
   all-join w e [] ys p q = q
   all-join w e (x ∷ xs) ys p q = (p .0, all-join w e xs ys (p .1) q)

@@ -14,12 +14,12 @@ use Rattle.windows.proofs.WindowList.{flags-same, flags-other, link-same, link-
 use Rattle.chains.proofs.Turns.{link-in}
 use Rattle.chains.specs.Chains.{Links, linkIn, links, headOf, nextOf, withLink, Path, Out, Belongs, OnEdge}
 use Rattle.chains.proofs.Paths.{path-first, path-set, path-drop}
-use Rattle.chains.proofs.OnEdges.{all-set, set-frame, with-frame, flags-frame}
+use Rattle.chains.proofs.OnEdges.{only-with, head-with, all-set, set-frame, with-frame, flags-frame}
 use Rattle.trim_model.specs.Windows.{Window}
 use Rattle.live_windows.specs.Live.{nums, lastLink, Stands, bare, winsOf, adjust, dead, Kills}
 use Rattle.live_windows.proofs.Places.{first-in, point, before-is}
 use Rattle.live_windows.proofs.Stored.{Same, others, Behind, with-bare, wins-adjust}
-use Rattle.live_windows.proofs.Standing.{Around, at-edge, holds-put, stands-both, around, not-there, behind-is, last-out, out-both, with-edges, with-words, with-length, with-belongs}
+use Rattle.live_windows.proofs.Standing.{Around, at-edge, holds-put, stands-both, around, not-there, behind-is, last-out, out-both, with-words, with-belongs}
 
 -- ---- a window is taken out
 module _ (n : ℕ) (b : Links) (e k i v : ℕ) (q : Bool) (p : 4 * i + 4 ≤ length (b .words)) (r : 6 * e + 6 ≤ length (b .edges)) (kn : k ≤ n) (il : i < n)
@@ -45,7 +45,7 @@ module _ (n : ℕ) (b : Links) (e k i v : ℕ) (q : Bool) (p : 4 * i + 4 ≤ len
   kill-bare z z1 h g = ap (λ a. relinked (reflagged a false q) 0) h ∙ ap (λ a. relinked (reflagged (bare z) false a) 0) g
 
   length-kb : 4 * i + 4 ≤ length (kb .words)
-  length-kb = rw (with-length b e k v) p
+  length-kb = rw (only-with b e k v .same-length) p
 
   length-kw : 4 * i + 4 ≤ length kw
   length-kw = simp length-set length-kb
@@ -118,7 +118,7 @@ module _ (n : ℕ) (b : Links) (e k i v : ℕ) (q : Bool) (p : 4 * i + 4 ≤ len
 
   kill-core : Kills n b kb2 e k i
   kill-core = record {
-    outside = record { edges = λ c ne. with-edges b e k v c ne; words = kill-words };
+    outside = record { edges = head-with b e k v .fields; words = kill-words };
     holds = λ m f live xs u zs l H d kq g. let s = at-edge n m b f live e (xs ++ u ∷ zs) l H d in (
       holds-put n m kb2 f live e (xs ++ zs) (kill-stands f xs u zs s kq g) (λ z ne h. kill-other f xs u zs s kq g z (live z) ne (H z h)),
       kill-wins f xs u zs s kq g,

@@ -10,27 +10,21 @@ use lib.Ieee.{Float}
 use Rattle.buffers.specs.declared.EdgeId.{EdgeId}
 use Rattle.buffers.specs.declared.FaceId.{FaceId}
 use Rattle.source.specs.declared.Src.{Src}
-use Rattle.source.specs.declared.Src.the-variants.{Point, Line}
 use Rattle.source.specs.declared.Win.{Win}
 use Rattle.windows.specs.declared.WindowRecord.{WindowRecord}
 use Rattle.windows.specs.Windows.{realsOf, windowAt, wordsWith, realsWith, relinked}
-use Rattle.windows.proofs.WindowList.{link-is, load-same, load-other}
+use Rattle.windows.proofs.WindowList.{length-realsOf, link-is, load-same, load-other}
 use Rattle.chains.specs.Chains.{Links, linkIn, links, headOf, nextOf, linkAt, withLink, Path, Out, AllBelong, firstLink, OnEdge}
 use Rattle.chains.proofs.Paths.{path-after}
-use Rattle.chains.proofs.OnEdges.{all-append, with-frame, store-frame, stored-belongs, new-out}
+use Rattle.chains.proofs.OnEdges.{head-with, all-append, with-frame, store-frame, stored-belongs, new-out}
 use Rattle.better.specs.Claim.{All}
 use Rattle.trim_model.specs.Windows.{Window}
 use Rattle.trim_model.proofs.Lists.{all-left, all-right}
 use Rattle.live_windows.specs.Live.{liveOf, nums, lastLink, Alive, Stands, bare, winsOf, windowOf, Makes}
 use Rattle.live_windows.proofs.Places.{nums-cons, next-is, point, before-is}
 use Rattle.live_windows.proofs.Stored.{Same, others, Behind, with-bare, wins-same}
-use Rattle.live_windows.proofs.Standing.{at-edge, holds-put, chain-both, stands-both, behind-is, last-out, with-edges, with-words}
+use Rattle.live_windows.proofs.Standing.{at-edge, holds-put, chain-both, stands-both, behind-is, last-out, with-words}
 use Rattle.buffers.proofs.Strides.{fill-outside}
-
-length-realsOf : (s : Src) → length (realsOf s) ≡ 3
-unfolding realsOf
-length-realsOf (Point x y s) = refl
-length-realsOf (Line ux uy c) = refl
 
 -- ---- a window is made
 module _ (n : ℕ) (b : Links) (f : List Float) (e : EdgeId) (k v : ℕ) (into : FaceId) (queued : Bool) (win : Win)
@@ -142,7 +136,7 @@ module _ (n : ℕ) (b : Links) (f : List Float) (e : EdgeId) (k v : ℕ) (into :
       subst (λ c. Makes n b c f f′ (e .0) k y) (sym hb)
       (subst (λ g. Makes n b mb2 f g (e .0) k y) (sym hf)
       (record {
-        outside = record { edges = λ a ne. with-edges mb (e .0) k (suc n) a ne; words = make-words };
+        outside = record { edges = head-with mb (e .0) k (suc n) .fields; words = make-words };
         reals = make-reals;
         holds = λ m live xs zs l H d kq. let s = at-edge n m b f live (e .0) (xs ++ zs) l H d in (
           holds-put (suc n) m mb2 mf live (e .0) (xs ++ liveOf y n ∷ zs) (made-stands xs zs s kq) (λ z ne h. made-other xs zs s kq z (live z) ne (H z h)),

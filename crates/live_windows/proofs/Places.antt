@@ -13,7 +13,7 @@ use lib.Seq.{getD-set-same, append-snoc}
 use Rattle.chains.proofs.Turns.{link-in}
 use Rattle.chains.specs.Chains.{Links, linkIn, links, headOf, nextOf, linkAt, withLink, Each, Path, Out, AllBelong, Before, firstLink, OnEdge}
 use Rattle.chains.proofs.Paths.{path-once, path-first, front-out, front-of, splice}
-use Rattle.chains.proofs.OnEdges.{all-set, all-append}
+use Rattle.chains.proofs.OnEdges.{all-set, all-append, all-join, all-counted}
 use Rattle.trim_model.specs.Windows.{Window}
 use Rattle.live_windows.specs.Live.{nums, endLink}
 
@@ -71,11 +71,6 @@ module _ (made : ℕ) where
       let f : linkAt b e k ≡ firstLink zs = ap (linkAt b e) h ∙ path-first (b .words) (linkAt b e (endLink 0 xs)) zs (path-behind b e 0 xs zs p) in
       ap (linkIn made) f ∙ link-in made (firstLink zs) (first-in (b .words) e zs (all-append made (b .words) e xs zs (o .belong) .1))
 
-  pub all-join : (w : List ℕ) (e : ℕ) (xs ys : List ℕ) → AllBelong made w e xs → AllBelong made w e ys → AllBelong made w e (xs ++ ys)
-  unfolding AllBelong
-  all-join w e [] ys p q = q
-  all-join w e (x ∷ xs) ys p q = (p .0, all-join w e xs ys (p .1) q)
-
   -- ---- the link behind xs points at another path
   point-head : (b : Links) (e : ℕ) (vs : List ℕ) (v : ℕ) → 6 * e + 6 ≤ length (b .edges) → Path (b .words) v vs → AllBelong made (b .words) e vs → OnEdge made (withLink b e 0 v) e vs
   unfolding withLink
@@ -90,7 +85,7 @@ module _ (made : ℕ) where
       let m = all-append made w e front (k ∷ ys) (o .belong) in
       record {
         path = splice w l front k vs v (m .1 .0 .there) (front-out w l front k ys (o .path) .0) out (front-of w l front k ys (o .path)) p;
-        belong = all-set made w e (front ++ k ∷ vs) k v (all-join w e front (k ∷ vs) (m .0) (m .1 .0, a));
+        belong = all-set made w e (front ++ k ∷ vs) k v (all-join made w e front (k ∷ vs) (m .0) (m .1 .0, a));
       }
 
   pub point : (b : Links) (e k : ℕ) (xs ys vs : List ℕ) (v : ℕ) → 6 * e + 6 ≤ length (b .edges) → k ≡ endLink 0 xs → OnEdge made b e (xs ++ ys) → Path (b .words) v vs → AllBelong made (b .words) e vs
@@ -172,11 +167,6 @@ unfolding Differ Path
 differ-path w l [] p = tt
 differ-path w l (i ∷ is) p = (path-once w l i is p, differ-path w (nextOf w i) is (p .1))
 
-pub below-made : (made : ℕ) (w : List ℕ) (e : ℕ) (is : List ℕ) → AllBelong made w e is → Each (λ i. i < made) is
-unfolding AllBelong Each
-below-made made w e [] h = tt
-below-made made w e (i ∷ is) h = (h .0 .made, below-made made w e is (h .1))
-
 -- a chain has at most as many windows as were made
 pub short : (made : ℕ) (w : List ℕ) (e l : ℕ) (is : List ℕ) → Path w l is → AllBelong made w e is → length is ≤ made
-short made w e l is p a = at-most made is (below-made made w e is a) (differ-path w l is p)
+short made w e l is p a = at-most made is (all-counted made made (omega arith) w e is a) (differ-path w l is p)

@@ -8,8 +8,8 @@ use mathlib.Core.List.{List, [], _∷_, _++_}
 use mathlib.Core.Logic.{_≢_}
 use borrow.Author.Tests.{eq-eqb, ne-eqb}
 use lib.Dec.{eqb}
-use lib.ListN.{length, getD, drop, length-set}
-use lib.Seq.{append-snoc, getD-set-other, drop-set-lt}
+use lib.ListN.{drop}
+use lib.Seq.{append-snoc, drop-set-lt}
 use lib.Ieee.{Float}
 use Rattle.chains.specs.Chains.{Links, headOf, withLink, Path, Out, Belongs, AllBelong, OnEdge}
 use Rattle.chains.proofs.Paths.{front-out}
@@ -94,20 +94,10 @@ out-both i [] js h g = g
 out-both i (j ∷ is) js h g = (h .0, out-both i is js (h .1) g)
 
 -- ---- what a link that is pointed elsewhere leaves
-pub with-edges : (b : Links) (e k v p : ℕ) → p ≢ 6 * e + 4 → getD (withLink b e k v .edges) p 0 ≡ getD (b .edges) p 0
-unfolding withLink
-with-edges b e zero v p ne = getD-set-other (b .edges) (6 * e + 4) p v 0 ne
-with-edges b e (suc k) v p ne = refl
-
 pub with-words : (n : ℕ) (b : Links) (e k v : ℕ) → k ≤ n → drop (4 * n) (withLink b e k v .words) ≡ drop (4 * n) (b .words)
 unfolding withLink
 with-words n b e zero v h = refl
 with-words n b e (suc k) v h = drop-set-lt (4 * n) (b .words) (4 * k + 3) v (omega arith)
-
-pub with-length : (b : Links) (e k v : ℕ) → length (withLink b e k v .words) ≡ length (b .words)
-unfolding withLink
-with-length b e zero v = refl
-with-length b e (suc k) v = simp length-set
 
 pub with-belongs : (n : ℕ) (b : Links) (e k v i : ℕ) → Belongs n (b .words) e i → Belongs n (withLink b e k v .words) e i
 unfolding withLink AllBelong

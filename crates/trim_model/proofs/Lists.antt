@@ -7,6 +7,7 @@ use lib.Dec.{T}
 use Rattle.trim_model.specs.Intervals.{pushIf}
 use Rattle.trim_model.specs.Windows.{takeWhile, dropWhile, all, takeWhileEnd, dropWhileEnd}
 use Rattle.better.specs.Claim.{All}
+pub use Rattle.better.proofs.Points.{all-append}
 use Rattle.trim_model.specs.Claim.{Any}
 use Rattle.trim_model.proofs.Ranks.{by-cases}
 
@@ -18,10 +19,6 @@ module _ {A : Type 0} where
   pub all-map2 : {P Q R : A → Type 0} → ((x : A) → P x → Q x → R x) → (l : List A) → All P l → All Q l → All R l
   all-map2 f [] h k = tt
   all-map2 f (x ∷ xs) h k = (f x (h .0) (k .0), all-map2 f xs (h .1) (k .1))
-
-  pub all-append : (P : A → Type 0) (l m : List A) → All P l → All P m → All P (l ++ m)
-  all-append P [] m h k = k
-  all-append P (x ∷ xs) m h k = (h .0, all-append P xs m (h .1) k)
 
   pub all-left : (P : A → Type 0) (l m : List A) → All P (l ++ m) → All P l
   all-left P [] m h = tt

@@ -40,7 +40,7 @@ pub record EdgeOk (t : Float) (bound : ℕ) (s : EdgeState) : Type 0 where
 ok-more : {t : Float} {n : ℕ} {s : EdgeState} (n' : ℕ) → n ≤ n' → EdgeOk t n s → EdgeOk t n' s
 ok-more n' h k = record { tidy = k .tidy; cover = k .cover; ranges = k .ranges; narrow = k .narrow; few = le-trans (k .few) h }
 
-not-or : (a b : Bool) → T (not (a || b)) → T (not a)
+pub not-or : (a b : Bool) → T (not (a || b)) → T (not a)
 not-or true b h = absurd h
 not-or false b h = tt
 

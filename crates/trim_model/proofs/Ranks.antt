@@ -12,7 +12,7 @@ use lib.Ieee.{Float, binary64, add, sub, lt, le, ofBits}
 use lib.Ieee.Scale.{finite}
 use Rattle.float64.specs.Scalar.{zero, minOf, maxOf}
 use Rattle.float64.specs.TotalOrder.{totalLess}
-use Rattle.float_laws.proofs.Order.{Number, finite-number, lt-le, not-lt-le, not-le-lt, lt-not-le, le-number-r, le-trans, lt-le-trans, le-lt-trans}
+use Rattle.float_laws.proofs.Order.{Number, lt-le, not-lt-le, not-le-lt, lt-not-le, le-number-r, le-trans, lt-le-trans, le-lt-trans}
 use Rattle.float_laws.proofs.Total.{total-le, not-total-le}
 use Rattle.float_laws.proofs.Rank as laws
 use Rattle.float_laws.proofs.Rank.{Held, held-finite}
@@ -21,15 +21,14 @@ use Rattle.float_laws.proofs.Sum.{sub-mono, sub-number, sub-nonpos, sub-pos, su
 use Rattle.float_laws.proofs.Product.{mul-nonneg}
 use Rattle.trim_model.specs.Intervals.{width, tinyOf}
 use Rattle.better.specs.Claim.{Point}
+use Rattle.better.proofs.Stretches.{number}
+pub use Rattle.float_laws.proofs.MinMax.{by-cases}
 
 unfoldable pub rank : Float → ℕ
 rank x = laws.rank binary64 x
 
 held : {x : Float} → Point x → Held binary64 x
 held {x} g = held-finite binary64 x (g .number) (g .double)
-
-number : {x : Float} → Point x → Number x
-number {x} g = finite-number x (g .number)
 
 module _ {x y : Float} (g : Point x) (k : Point y) where
   pub le-yes : T (le x y) → rank x ≤ rank y
@@ -70,16 +69,16 @@ module _ {x y : Float} (g : Point x) (k : Point y) where
 
 module _ {x y : Float} (g : Point x) (k : Point y) where
   pub lt-no : T (not (lt x y)) → rank y ≤ rank x
-  lt-no h = le-yes k g (not-lt-le x y (number g) (number k) h)
+  lt-no h = le-yes k g (not-lt-le x y (number x g) (number y k) h)
 
   pub le-no : T (not (le x y)) → rank y < rank x
-  le-no h = lt-yes k g (not-le-lt x y (number g) (number k) h)
+  le-no h = lt-yes k g (not-le-lt x y (number x g) (number y k) h)
 
   pub total-yes : T (totalLess x y) → rank x ≤ rank y
-  total-yes h = le-yes g k (total-le x y (number k) h)
+  total-yes h = le-yes g k (total-le x y (number y k) h)
 
   pub total-no : T (not (totalLess x y)) → rank y ≤ rank x
-  total-no h = le-yes k g (not-total-le x y (number g) (number k) h)
+  total-no h = le-yes k g (not-total-le x y (number x g) (number y k) h)
 
 clash : (b : Bool) → T (not b) → T b → ⊥
 clash true p q = p
@@ -125,8 +124,3 @@ eleventh = (tt, tt)
 
 pub tiny-nonneg : (len : Float) → Point len → T (lt zero len) → Nonneg (tinyOf len)
 tiny-nonneg len g h = record { nonneg = mul-nonneg binary64 (ofBits binary64 0x3da5_fd7f_e179_6495) len (eleventh .0) (g .number) (eleventh .1) (lt-le zero len h) }
-
--- ---- tests
-pub by-cases : (P : Bool → Type 0) (b : Bool) → (T b → P true) → (T (not b) → P false) → P b
-by-cases P true f g = f tt
-by-cases P false f g = g tt

@@ -1,6 +1,5 @@
 -- An addition of an admitted candidate to a tidy list, told as one walk forward: past the windows before the run, over the run, and from its start once more to seat the new windows. Assumes nothing.
 use Prim.Native.Nat.{ℕ}
-use mathlib.Core.Bool.{Bool, true, false, not, _||_}
 use mathlib.Core.List.{List, [], _∷_, _++_}
 use mathlib.Core.Path.{_≡_, ap, _∙_, subst}
 use lib.Dec.{T}
@@ -18,13 +17,10 @@ use Rattle.trim_model.proofs.Ranks.{Nonneg, wide-no, tiny-nonneg}
 use Rattle.trim_model.proofs.Windows.{Wide}
 use Rattle.trim_model.proofs.Order.{Tidy}
 use Rattle.trim_model.proofs.Demand3.{stretches}
+use Rattle.trim_model.proofs.Model.{not-or}
 use Rattle.trim_model.proofs.Forward.{before-is}
 use Rattle.trim_model.proofs.Seat.{seatAll, Ready, news-ready, add-seated}
 use Rattle.trim_model.proofs.Turns.{run-is, behind-is}
-
-not-or : (a b : Bool) → T (not (a || b)) → T (not a)
-not-or true b h = absurd h
-not-or false b h = tt
 
 -- tiny of a proper candidate's edge is not below zero
 pub proper-nonneg : {len : ℕ → Float} (c : Candidate) → Proper len c → Nonneg (tinyOf (len (c .edge)))
