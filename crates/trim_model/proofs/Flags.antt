@@ -178,13 +178,15 @@ module _ (better : Better) (t : Float) where
       ∙ ap (λ (m : List Window). resultOf t (unqueued w) (before t (unqueued w) (map unqueued l)) m (walkFlags (visits better t w (run t w l) (start w made)))) (behind-flags t w l)
       ∙ ap (resultOf t (unqueued w) (before t (unqueued w) (map unqueued l)) (behind t (unqueued w) (map unqueued l))) (ended-flags better t w l made)
 
-  -- its live windows, the number made, and its slivers
+  -- its live windows
   pub add-flags-live : (w : Window) (l : List Window) (made : ℕ) → map unqueued (addTo better t w l made .live) ≡ addTo better t (unqueued w) (map unqueued l) made .live
   add-flags-live w l made = ap (λ (a : Added). a .live) (add-flags w l made)
 
+  -- the number made
   pub add-flags-made : (w : Window) (l : List Window) (made : ℕ) → addTo better t w l made .made ≡ addTo better t (unqueued w) (map unqueued l) made .made
   add-flags-made w l made = ap (λ (a : Added). a .made) (add-flags w l made)
 
+  -- its slivers
   pub add-flags-slivers : (w : Window) (l : List Window) (made : ℕ) → addTo better t w l made .slivers ≡ addTo better t (unqueued w) (map unqueued l) made .slivers
   add-flags-slivers w l made = ap (λ (a : Added). a .slivers) (add-flags w l made)
 
@@ -198,12 +200,15 @@ module _ (better : Better) (t : Float) where
         ∙ ap (λ (m : List Window). addTo better t (unqueued w') m made) k
         ∙ sym (add-flags w' l' made)
 
+    -- of them the live windows
     pub add-same-live : map unqueued (addTo better t w l made .live) ≡ map unqueued (addTo better t w' l' made .live)
     add-same-live = ap (λ (a : Added). a .live) add-same
 
+    -- the number made
     pub add-same-made : addTo better t w l made .made ≡ addTo better t w' l' made .made
     add-same-made = ap (λ (a : Added). a .made) add-same
 
+    -- the slivers
     pub add-same-slivers : addTo better t w l made .slivers ≡ addTo better t w' l' made .slivers
     add-same-slivers = ap (λ (a : Added). a .slivers) add-same
 

@@ -28,16 +28,19 @@ use Rattle.trim_model.proofs.InPlace.{ended, add-in-place}
 abbrev pub startsUnder : Window → Window → Bool
 startsUnder n v = totalLess (v .b0) (n .b0)
 
+-- the same, as a fact
 abbrev pub Under : Window → Window → Type 0
 Under n v = startsUnder n v ≡ true
 
--- n set in behind xs: the part up to and including n, and the rest
+-- n set in behind xs: the part up to and including n
 abbrev pub seatFront : Window → List Window → List Window → List Window
 seatFront n xs zs = xs ++ (takeWhile (startsUnder n) zs ++ (n ∷ []))
 
+-- what is left behind n
 abbrev pub seatRest : Window → List Window → List Window
 seatRest n zs = dropWhile (startsUnder n) zs
 
+-- the whole list
 abbrev pub seat : Window → List Window → List Window → List Window
 seat n xs zs = xs ++ (takeWhile (startsUnder n) zs ++ (n ∷ dropWhile (startsUnder n) zs))
 
@@ -63,22 +66,27 @@ unfolding insert
 insert-seat n [] zs h = insert-at n zs
 insert-seat n (u ∷ us) zs h = ap (λ (c : Bool). cond c (u ∷ insert n (us ++ zs)) (n ∷ u ∷ (us ++ zs))) (h .0) ∙ ap (λ (l : List Window). u ∷ l) (insert-seat n us zs (h .1))
 
--- ---- the walk to n's seat, turn by turn: v starts before n and is passed
+-- ---- the walk to n's seat, turn by turn
+-- v starts before n and is passed
 module _ (n : Window) (xs : List Window) (v : Window) (zs : List Window) (h : startsUnder n v ≡ true) where
+  -- it comes to the part before n
   pub seat-front-pass : seatFront n xs (v ∷ zs) ≡ seatFront n (xs ++ (v ∷ [])) zs
   unfolding takeWhile
   seat-front-pass = ap (λ (c : Bool). xs ++ (cond c (v ∷ takeWhile (startsUnder n) zs) [] ++ (n ∷ []))) h ∙ sym (append-assoc xs (v ∷ []) (takeWhile (startsUnder n) zs ++ (n ∷ [])))
 
+  -- and leaves the rest as it was
   pub seat-rest-pass : seatRest n (v ∷ zs) ≡ seatRest n zs
   unfolding dropWhile
   seat-rest-pass = ap (λ (c : Bool). cond c (dropWhile (startsUnder n) zs) (v ∷ zs)) h
 
 -- it does not: n is seated before it
 module _ (n : Window) (xs : List Window) (v : Window) (zs : List Window) (h : startsUnder n v ≡ false) where
+  -- the part up to n ends
   pub seat-front-here : seatFront n xs (v ∷ zs) ≡ xs ++ (n ∷ [])
   unfolding takeWhile
   seat-front-here = ap (λ (c : Bool). xs ++ (cond c (v ∷ takeWhile (startsUnder n) zs) [] ++ (n ∷ []))) h
 
+  -- and the rest starts with v
   pub seat-rest-here : seatRest n (v ∷ zs) ≡ v ∷ zs
   unfolding dropWhile
   seat-rest-here = ap (λ (c : Bool). cond c (dropWhile (startsUnder n) zs) (v ∷ zs)) h
@@ -88,15 +96,18 @@ pub seat-front-end : (n : Window) (xs : List Window) → seatFront n xs [] ≡ x
 unfolding takeWhile
 seat-front-end n xs = refl
 
+-- and nothing is left
 pub seat-rest-end : (n : Window) → seatRest n [] ≡ []
 unfolding dropWhile
 seat-rest-end n = refl
 
 -- ---- one new window after the other
+-- none is left
 pub seat-all-nil : (xs zs : List Window) → seatAll [] xs zs ≡ xs ++ zs
 unfolding seatAll
 seat-all-nil xs zs = refl
 
+-- the next one is seated, then the others
 pub seat-all-next : (n : Window) (ns xs zs : List Window) → seatAll (n ∷ ns) xs zs ≡ seatAll ns (seatFront n xs zs) (seatRest n zs)
 unfolding seatAll
 seat-all-next n ns xs zs = refl
@@ -175,6 +186,7 @@ fresh-pairs R w n [] h = tt
 fresh-pairs R w n (k ∷ ks) h = (fresh-all (λ a b. R (k .from) a) w (suc n) ks (h .0), fresh-pairs R w (suc n) ks (h .1))
 
 module _ {t : Float} (t0 : Nonneg t) {better : Better} (B : Stretches better) {w : Window} (W : Wide t w) (made : ℕ) (l : List Window) (h : Tidy t l) where
+  -- the new windows
   abbrev pub newsOf : List Window
   newsOf = fresh w (ended t0 B W made l .made) (wideOf t (ended t0 B W made l .keep))
 

@@ -21,6 +21,7 @@ module _ (p : Window → Bool) where
   unfolding takeWhile
   take-yes u us h = ap (λ (c : Bool). cond c (u ∷ takeWhile p us) []) h
 
+  -- and is not left
   pub drop-yes : (u : Window) (us : List Window) → p u ≡ true → dropWhile p (u ∷ us) ≡ dropWhile p us
   unfolding dropWhile
   drop-yes u us h = ap (λ (c : Bool). cond c (dropWhile p us) (u ∷ us)) h
@@ -30,6 +31,7 @@ module _ (p : Window → Bool) where
   unfolding takeWhile
   take-no u us h = ap (λ (c : Bool). cond c (u ∷ takeWhile p us) []) h
 
+  -- and all is left
   pub drop-no : (u : Window) (us : List Window) → p u ≡ false → dropWhile p (u ∷ us) ≡ u ∷ us
   unfolding dropWhile
   drop-no u us h = ap (λ (c : Bool). cond c (dropWhile p us) (u ∷ us)) h
@@ -39,6 +41,7 @@ module _ (p : Window → Bool) where
   unfolding takeWhile
   take-nil = refl
 
+  -- and none is left
   pub drop-nil : dropWhile p [] ≡ []
   unfolding dropWhile
   drop-nil = refl
@@ -53,10 +56,11 @@ module _ (t : Float) (w : Window) (l : List Window) where
   pub walk-parts : l ≡ takeWhile (passes t (w .b0)) l ++ dropWhile (passes t (w .b0)) l
   walk-parts = sym (take-drop (passes t (w .b0)) l)
 
-  -- the run, and what stands behind it
+  -- the run
   pub run-is : Tidy t l → run t w l ≡ takeWhile (startsBefore (w .b1 ⊕ t)) (dropWhile (passes t (w .b0)) l)
   run-is h = ap (takeWhile (startsBefore (w .b1 ⊕ t))) (onward-is t w l h)
 
+  -- what stands behind the run
   pub behind-is : Tidy t l → behind t w l ≡ dropWhile (startsBefore (w .b1 ⊕ t)) (dropWhile (passes t (w .b0)) l)
   behind-is h = ap (dropWhile (startsBefore (w .b1 ⊕ t))) (onward-is t w l h)
 
@@ -96,11 +100,12 @@ module _ (better : Better) (t : Float) (w : Window) where
   unfolding visits
   visits-turn u zs s h = ap (λ (us : List Window). visits better t w us s) (take-yes (startsBefore (w .b1 ⊕ t)) u zs h)
 
-  -- the first window behind the run, or none: the walk is over
+  -- the first window behind the run: the walk is over
   pub visits-over : (u : Window) (zs : List Window) (s : Walk) → startsBefore (w .b1 ⊕ t) u ≡ false → from-here (u ∷ zs) s ≡ s
   unfolding visits
   visits-over u zs s h = ap (λ (us : List Window). visits better t w us s) (take-no (startsBefore (w .b1 ⊕ t)) u zs h)
 
+  -- there is no window left: the walk is over
   pub visits-end : (s : Walk) → from-here [] s ≡ s
   unfolding visits
   visits-end s = ap (λ (us : List Window). visits better t w us s) (take-nil (startsBefore (w .b1 ⊕ t)))

@@ -1,3 +1,4 @@
 pub mod Follows
 pub mod Made
 pub mod Turns
+pub mod Seated

@@ -157,6 +157,34 @@ module _ (cuts windows : ℕ) (limit : Float) (flags : List ℕ) where
       subst (λ (n : ℕ). k .made ≡ addTo betterOf (tinyOf l) w live n .made) e
       (subst (Made (addTo betterOf (tinyOf l) w live (s .made) .made)) (ap (λ (n : ℕ). play cuts windows limit flags (adding l a b w live n) s) e ∙ h) (adding-made l a b w live s))
 
+  -- the parts of an addition: a number of windows is made, if all goes through
+  went-made : (xs : List Action) (n : ℕ) (k k' : Stock) → k .made + makes xs ≡ n → play cuts windows limit flags xs k ≡ went k' → k' .made ≡ n
+  went-made xs n k k' e h = subst (λ (m : ℕ). k' .made ≡ m) e (subst (Made (k .made + makes xs)) h (play-made cuts windows limit flags xs k))
+
+  -- one window and its event
+  pub making-made : (u : Window) (n : ℕ) (p : Interval) (k k' : Stock) → play cuts windows limit flags (making u n p) k ≡ went k' → k' .made ≡ suc (k .made)
+  making-made u n p k k' h = went-made (making u n p) (suc (k .made)) k k' (omega (arith, making-makes u n p)) h
+
+  -- several, one after the other
+  pub makings-made : (u : Window) (n : ℕ) (ps : List Interval) (k k' : Stock) → play cuts windows limit flags (makings u n ps) k ≡ went k' → k' .made ≡ k .made + length ps
+  makings-made u n ps k k' h = went-made (makings u n ps) (k .made + length ps) k k' (ap (λ (m : ℕ). k .made + m) (makings-makes u n ps)) h
+
+  -- the pieces of an existing window
+  pub losing-made : (t : Float) (u : Window) (lo hi : Float) (gs : List Interval) (s : Walk) (k k' : Stock) → play cuts windows limit flags (losing t u (s .made) gs) k ≡ went k' → k .made ≡ s .made → k' .made ≡ meet t u lo hi gs s .made
+  losing-made t u lo hi gs s k k' h e = went-made (losing t u (s .made) gs) (meet t u lo hi gs s .made) k k' (ap (λ (m : ℕ). m + makes (losing t u (s .made) gs)) e ∙ losing-makes t u lo hi gs s) h
+
+  -- one window of the run
+  pub visiting-made : (t : Float) (w u : Window) (s : Walk) (k k' : Stock) → play cuts windows limit flags (visiting t w u s) k ≡ went k' → k .made ≡ s .made → k' .made ≡ visit betterOf t w u s .made
+  visiting-made t w u s k k' h e = went-made (visiting t w u s) (visit betterOf t w u s .made) k k' (ap (λ (m : ℕ). m + makes (visiting t w u s)) e ∙ visiting-makes t w u s) h
+
+  -- the touches make none
+  pub touching-made : (l : Float) (a b : ℕ) (nw : Window) (k k' : Stock) → play cuts windows limit flags (touching l a b nw) k ≡ went k' → k' .made ≡ k .made
+  touching-made l a b nw k k' h = went-made (touching l a b nw) (k .made) k k' (omega (arith, touching-makes l a b nw)) h
+
+  -- the new windows
+  pub keeping-made : (l : Float) (a b : ℕ) (w : Window) (n : ℕ) (ks : List Interval) (k k' : Stock) → play cuts windows limit flags (keeping l a b w n ks) k ≡ went k' → k' .made ≡ k .made + length ks
+  keeping-made l a b w n ks k k' h = went-made (keeping l a b w n ks) (k .made + length ks) k k' (ap (λ (m : ℕ). k .made + m) (keeping-makes l a b w n ks)) h
+
   -- what holds of the state, if it went through
   abbrev After : (State → Type 0) → Result → Type 0
   After P (state.stopped n) = Unit {0}

@@ -49,20 +49,22 @@ pub losing-some : (t : Float) (u : Window) (n : ℕ) (g : Interval) (gs : List I
 unfolding losing
 losing-some t u n g gs = refl
 
--- all pieces but the first are made
+-- no piece is left of u
 pub splitting-none : (u : Window) (n : ℕ) → splitting u n [] ≡ []
 unfolding splitting
 splitting-none u n = refl
 
+-- the first keeps its number
 pub splitting-some : (u : Window) (n : ℕ) (p : Interval) (ps : List Interval) → splitting u n (p ∷ ps) ≡ makings u n ps
 unfolding splitting
 splitting-some u n p ps = refl
 
--- one after the other
+-- none is made
 pub makings-none : (u : Window) (n : ℕ) → makings u n [] ≡ []
 unfolding makings
 makings-none u n = refl
 
+-- one, then the others
 pub makings-some : (u : Window) (n : ℕ) (p : Interval) (ps : List Interval) → makings u n (p ∷ ps) ≡ making u n p ++ makings u (suc n) ps
 unfolding makings
 makings-some u n p ps = refl
@@ -77,11 +79,12 @@ module _ (t : Float) (w : Window) where
   unfolding visitings
   visitings-turn u zs s h = ap (λ (us : List Window). visitings t w us s) (take-yes (startsBefore (w .b1 ⊕ t)) u zs h)
 
-  -- the first window behind the run, or none
+  -- the first window behind the run
   pub visitings-over : (u : Window) (zs : List Window) (s : Walk) → startsBefore (w .b1 ⊕ t) u ≡ false → from-here (u ∷ zs) s ≡ []
   unfolding visitings
   visitings-over u zs s h = ap (λ (us : List Window). visitings t w us s) (take-no (startsBefore (w .b1 ⊕ t)) u zs h)
 
+  -- there is no window left
   pub visitings-end : (s : Walk) → from-here [] s ≡ []
   unfolding visitings
   visitings-end s = ap (λ (us : List Window). visitings t w us s) (take-nil (startsBefore (w .b1 ⊕ t)))
@@ -113,27 +116,32 @@ module _ (cuts windows : ℕ) (limit : Float) (flags : List ℕ) (t : Float) (w 
   pub turn-over : (u : Window) (zs : List Window) (s : Walk) (k : Stock) → startsBefore (w .b1 ⊕ t) u ≡ false → played (here (u ∷ zs) s ++ rest) k ≡ played rest k
   turn-over u zs s k h = ap (λ (l : List Action). played (l ++ rest) k) (visitings-over t w u zs s h)
 
+  -- there is no window left
   pub turn-end : (s : Walk) (k : Stock) → played (here [] s ++ rest) k ≡ played rest k
   turn-end s k = ap (λ (l : List Action). played (l ++ rest) k) (visitings-end t w s)
 
--- ---- the loop over `keep`: an entry that is wide becomes a window, another does not
+-- ---- the loop over `keep`
+-- a wide entry becomes a window
 pub wide-yes : (t : Float) (k : Interval) (ks : List Interval) → le (width (k .from) (k .to)) t ≡ false → wideOf t (k ∷ ks) ≡ k ∷ wideOf t ks
 unfolding wideOf
 wide-yes t k ks h = ap (λ (c : Bool). pushIf (not c) k ++ wideOf t ks) h
 
+-- an entry that is no wider than tiny is left out
 pub wide-skip : (t : Float) (k : Interval) (ks : List Interval) → le (width (k .from) (k .to)) t ≡ true → wideOf t (k ∷ ks) ≡ wideOf t ks
 unfolding wideOf
 wide-skip t k ks h = ap (λ (c : Bool). pushIf (not c) k ++ wideOf t ks) h
 
+-- no entry is left
 pub wide-end : (t : Float) → wideOf t [] ≡ []
 unfolding wideOf
 wide-end t = refl
 
--- the actions of a new window, then those of the rest
+-- no new window is left
 pub keeping-none : (l : Float) (a b : ℕ) (w : Window) (n : ℕ) → keeping l a b w n [] ≡ []
 unfolding keeping
 keeping-none l a b w n = refl
 
+-- one new window, then the others
 pub keeping-some : (l : Float) (a b : ℕ) (w : Window) (n : ℕ) (k : Interval) (ks : List Interval) → keeping l a b w n (k ∷ ks) ≡ making w n k ++ (touching l a b (part w (k .from) (k .to) n) ++ keeping l a b w (suc n) ks)
 unfolding keeping
 keeping-some l a b w n k ks = refl
