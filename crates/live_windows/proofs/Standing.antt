@@ -11,8 +11,8 @@ use lib.Dec.{eqb}
 use lib.ListN.{length, getD, set, drop, length-set}
 use lib.Seq.{append-snoc, getD-set-other, drop-set-lt}
 use lib.Ieee.{Float}
+use Rattle.nat_laws.proofs.Ring.{run-within}
 use Rattle.buffers.specs.Slots.{fill}
-use Rattle.buffers.proofs.Strides.{before}
 use Rattle.chains.specs.Chains.{Links, headOf, withLink, Path, Out, Belongs, AllBelong, OnEdge}
 use Rattle.chains.proofs.Paths.{front-out}
 use Rattle.chains.proofs.OnEdges.{all-set, all-append, elsewhere, no-windows}
@@ -119,7 +119,7 @@ with-belongs n b e (suc k) v i h = all-set n (b .words) e (i ∷ []) k v (h, tt)
 pub fill-outside : {A : Type 0} (s n : ℕ) (vs l : List A) (i a : ℕ) → i < n → a + length vs ≤ s → drop (s * n) (fill s l i a vs) ≡ drop (s * n) l
 unfolding fill
 fill-outside s n [] l i a h g = refl
-fill-outside s n (v ∷ vs) l i a h g = fill-outside s n vs (set l (s * i + a) v) i (suc a) h (omega arith) ∙ drop-set-lt (s * n) l (s * i + a) v (omega (arith, before s h))
+fill-outside s n (v ∷ vs) l i a h g = fill-outside s n vs (set l (s * i + a) v) i (suc a) h (omega arith) ∙ drop-set-lt (s * n) l (s * i + a) v (omega (arith, run-within s h))
 
 -- ---- at first there is none
 pub no-live : (n m : ℕ) (b : Links) (f : List Float) → ((e : ℕ) → e < m → headOf (b .edges) e ≡ 0) → Holds n m b f (λ e. [])
