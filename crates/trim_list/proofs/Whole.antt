@@ -2,8 +2,8 @@
 use Prim.Native.Nat.{ℕ, zero, suc, _+_, _*_, _≤_, _<_, min}
 use native.Mathlib.Omega.{arith}
 use mathlib.Core.List.{List, [], _∷_}
-use mathlib.Core.Path.{_≡_, refl, ap, subst, _∙_}
-use lib.ListN.{length, getD, take, replicate}
+use mathlib.Core.Path.{_≡_, refl, sym, ap, subst, _∙_}
+use lib.ListN.{length, getD, take, replicate, length-replicate}
 use lib.Seq.{length-take-le}
 use lib.Ieee.{Float}
 use Rattle.float64.specs.Scalar.{zero as zero64}
@@ -12,7 +12,8 @@ use Rattle.buffers.specs.Slots.{slotsOf}
 use Rattle.chains.specs.Chains.{headOf}
 use Rattle.trim_state.specs.State.{State}
 use Rattle.trim_list.specs.declared.Ran.{Ran}
-use Rattle.trim_list.specs.Lists.{Slices, Cuts, cuts, meshOf, Setting, settingOf, Ready, Runs, edgeCount, operationCount, cutCount, lentSetting, ZeroSlices, ZeroCuts}
+use Rattle.trim_list.specs.declared.Ran.the-variants.{Done, Ended}
+use Rattle.trim_list.specs.Lists.{Slices, slices, Cuts, cuts, meshOf, Setting, settingOf, Ready, Runs, firstOf, edgeCount, operationCount, cutCount, lentSetting, ZeroSlices, ZeroCuts, RunWhole}
 use Rattle.trim_list.proofs.Loop.{SameLengths, SameCuts}
 
 -- ---- counts
@@ -115,3 +116,27 @@ zeroed-slices b b₁ b′ s z = record {
   events = z .events ∙ ap (λ (n : ℕ). replicate n 0) (s .events);
   vertex = z .vertex ∙ ap (λ (n : ℕ). replicate n zero64) (s .vertex);
 }
+
+pub zeros-stay : (edges zeroed : List ℕ) → zeroed ≡ replicate (length edges) 0 → zeroed ≡ replicate (length zeroed) 0
+zeros-stay edges zeroed h = h ∙ ap (λ (n : ℕ). replicate n 0) (sym (ap (λ (l : List ℕ). length l) h ∙ length-replicate (length edges) 0))
+
+-- ---- the whole: edges are zeroed to `zeroed`, the run leaves b₂ and c₁, and the cut buffers are zeroed to c′
+module _ (limit : Float) (flags ends : List ℕ) (lens : List Float) (ops : List ℕ) (args : List Float) (b : Slices) (c : Cuts) (zeroed : List ℕ) (long : length zeroed ≡ length (b .edges)) (r : Ran) (b₂ : Slices)
+    (runs : Runs (lentSetting c (slices zeroed (b .words) (b .reals) (b .keys) (b .events) (b .vertex)) limit flags ends lens) ops args (operationCount ops args) (firstOf b) r b₂)
+    (c₁ c′ : Cuts) (same : SameCuts c₁ c) (zeros : ZeroCuts c₁ c′) where
+  whole-runs : Runs (lentSetting c b limit flags ends lens) ops args (operationCount ops args) (firstOf b) r b₂
+  whole-runs = subst (λ (n : ℕ). Runs (record { cuts = cutCount c; windows = capacityOf (length (b .words)) (length (b .reals)); limit = limit; flags = flags; mesh = meshOf ends lens; edges = min (min (slotsOf (length ends) 2) (slotsOf (length lens) 1)) (slotsOf n 6); vertices = slotsOf (length (b .vertex)) 2 }) ops args (operationCount ops args) (firstOf b) r b₂) long runs
+
+  pub whole-done : (made queued : ℕ) → r ≡ Done made queued → RunWhole limit flags ends lens ops args b c (Done made queued) b₂ c′
+  whole-done made queued h = record {
+    runs = subst (λ (z : Ran). Runs (lentSetting c b limit flags ends lens) ops args (operationCount ops args) (firstOf b) z b₂) h whole-runs;
+    cuts = zeroed-cuts c c₁ c′ same zeros;
+    cleared = tt;
+  }
+
+  pub whole-ended : (k number : ℕ) → r ≡ Ended k number → (b′ : Slices) → SameLengths b₂ b → ZeroSlices b₂ b′ → RunWhole limit flags ends lens ops args b c (Ended k number) b′ c′
+  whole-ended k number h b′ s z = record {
+    runs = subst (λ (y : Ran). Runs (lentSetting c b limit flags ends lens) ops args (operationCount ops args) (firstOf b) y b₂) h whole-runs;
+    cuts = zeroed-cuts c c₁ c′ same zeros;
+    cleared = zeroed-slices b b₂ b′ s z;
+  }
