@@ -14,7 +14,7 @@ use Rattle.heap.specs.declared.Popped.{Popped}
 use Rattle.heap.specs.declared.Popped.the-variants.{Empty, First}
 use Rattle.heap.specs.Queue.{Queue, popping}
 use Rattle.actions.specs.Actions as actions
-use Rattle.actions.specs.Actions.{Outcome, act}
+use Rattle.actions.specs.Actions.{act}
 use Rattle.better.specs.Claim.{Point}
 use Rattle.trim_model.specs.Windows.{Window, unqueued}
 use Rattle.trim_model.specs.Model.{Candidate}
@@ -25,8 +25,9 @@ use Rattle.trim_state.specs.State.{State, Result, finish, Mesh}
 use Rattle.trim_state.specs.Follows.{Follows}
 use Rattle.trim_state.proofs.Follows.{follows-unqueue, follows-demand3}
 use Rattle.trim_state.proofs.Made.{Made, act-made, After, finish-after, add-after}
+use Rattle.live_windows.specs.Live.{unqueuedIn}
 use Rattle.trim_run.specs.Operations.{Operation, offer, pop, touch, unknown, candidateOf, candidates}
-use Rattle.trim_run.specs.Run.{unqueuedIn, taken, popped, hasLength, isOnEdge, offering, operate}
+use Rattle.trim_run.specs.Run.{taken, popped, hasLength, isOnEdge, offering, operate}
 use Rattle.trim_run.specs.Demand3.{Demand3}
 
 -- the numbers that a list's slices hold are doubles

@@ -1,1 +1,4 @@
 pub mod Follow
+pub mod Popping
+pub mod Tests
+pub mod Reading

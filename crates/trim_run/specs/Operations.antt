@@ -2,16 +2,19 @@
 -- An operation has four u32: its kind, its edge or vertex, the face that a candidate goes into, whether a candidate is queued; and five f64: a candidate's ends and the
 -- three numbers of its source, or the distance of a touch.
 use Prim.Native.Nat.{ℕ, zero, suc, _+_, _*_}
-use mathlib.Core.Bool.{Bool, true, false, not, cond, _&&_}
+use mathlib.Core.Bool.{Bool, cond, _&&_}
 use mathlib.Core.List.{List, [], _∷_, _++_}
-use lib.Dec.{eqb, ltb}
+use lib.Dec.{eqb}
 use lib.ListN.{getD}
-use lib.Ieee.{Float, nan, le}
-use Rattle.float64.specs.Scalar.{zero as zeroFloat}
+use lib.Ieee.{Float, nan}
 use Rattle.float64.specs.Notation.{if_then_else_}
 use Rattle.source.specs.declared.Src.{Src}
 use Rattle.source.specs.declared.Src.the-variants.{Point, Line}
+use Rattle.windows.specs.Windows.{srcOf}
 use Rattle.trim_model.specs.Model.{Candidate}
+use Rattle.trim_run.specs.declared.Offer.{Offer}
+use Rattle.trim_run.specs.declared.Op.{Op}
+use Rattle.trim_run.specs.declared.Op.the-variants.{Add, Pop, Touch, Unknown}
 
 pub data Operation : Type 0 where
   offer : Candidate → Operation  -- kind 0, from a point, or 1, from a line
@@ -19,15 +22,24 @@ pub data Operation : Type 0 where
   touch : ℕ → Float → Operation  -- kind 3
   unknown : Operation  -- any other
 
-module _ (words : List ℕ) (reals : List Float) where
-  abbrev pub word : ℕ → ℕ → ℕ
-  word k a = getD words (4 * k + a) 0
+abbrev pub wordAt : List ℕ → ℕ → ℕ → ℕ
+wordAt words k a = getD words (4 * k + a) 0
 
-  abbrev pub real : ℕ → ℕ → Float
-  real k a = getD reals (5 * k + a) nan
+abbrev pub realAt : List Float → ℕ → ℕ → Float
+realAt reals k a = getD reals (5 * k + a) nan
+
+abbrev pub isQueued : List ℕ → ℕ → Bool
+isQueued words k = eqb (wordAt words k 3) 1
+
+module _ (words : List ℕ) (reals : List Float) where
+  abbrev word : ℕ → ℕ → ℕ
+  word = wordAt words
+
+  abbrev real : ℕ → ℕ → Float
+  real = realAt reals
 
   abbrev pub candidateAt : ℕ → Src → Candidate
-  candidateAt k s = record { edge = word k 1; b0 = real k 0; b1 = real k 1; src = s; into = word k 2; queued = eqb (word k 3) 1 }
+  candidateAt k s = record { edge = word k 1; b0 = real k 0; b1 = real k 1; src = s; into = word k 2; queued = isQueued words k }
 
   unfoldable pub operationAt : ℕ → Operation
   operationAt k =
@@ -54,3 +66,17 @@ unfoldable pub candidates : List Operation → List Candidate
 unfolding candidateOf
 candidates [] = []
 candidates (o ∷ ops) = candidateOf o ++ candidates ops
+
+-- ---- an operation that was read
+-- the source of a candidate, from a line or else a point
+abbrev pub sourceAt : List Float → ℕ → Bool → Src
+sourceAt reals k line = srcOf line (realAt reals k 2) (realAt reals k 3) (realAt reals k 4)
+
+abbrev pub asCandidate : Offer → Candidate
+asCandidate c = record { edge = c .edge .0; b0 = c .b0; b1 = c .b1; src = c .src; into = c .into .0; queued = c .queued }
+
+abbrev pub asOperation : Op → Operation
+asOperation (Add c) = offer (asCandidate c)
+asOperation Pop = pop
+asOperation (Touch v d) = touch (v .0) d
+asOperation Unknown = unknown

@@ -11,17 +11,14 @@ use Rattle.heap.specs.declared.Popped.{Popped}
 use Rattle.heap.specs.declared.Popped.the-variants.{Empty, First}
 use Rattle.heap.specs.Queue.{Queue, popping}
 use Rattle.actions.specs.Actions as actions
-use Rattle.actions.specs.Actions.{Stock, stock, act}
-use Rattle.trim_model.specs.Windows.{Window, unqueued}
+use Rattle.actions.specs.Actions.{stock, act}
+use Rattle.trim_model.specs.Windows.{Window}
 use Rattle.trim_model.specs.Model.{Candidate}
 use Rattle.trim_state.specs.State.{State, Result, stopped, went, finish, Mesh, addOf}
+use Rattle.live_windows.specs.Live.{unqueuedIn}
 use Rattle.trim_run.specs.Operations.{Operation, offer, pop, touch, unknown}
 
 -- ---- a pop: the first event is taken out, and a live window that it names is no longer queued
-unfoldable pub unqueuedIn : ℕ → List Window → List Window
-unqueuedIn n [] = []
-unqueuedIn n (u ∷ us) = cond (eqb (u .num) n) (unqueued u) u ∷ unqueuedIn n us
-
 unfoldable pub taken : Event → (ℕ → List Window) → ℕ → List Window
 unfolding unqueuedIn
 taken x live e = cond (eqb (x .kind) 0) (unqueuedIn (x .number) (live e)) (live e)
@@ -38,6 +35,10 @@ hasLength l = lt zero l && finite l
 
 abbrev pub isOnEdge : Float → Float → Bool
 isOnEdge l x = le zero x && le x l
+
+-- the number of a candidate's refusal, where there are so many edges; 0 is none
+abbrev pub refusalOf : ℕ → ℕ → Float → Float → Float → ℕ
+refusalOf edges e l b0 b1 = cond (ltb e edges && hasLength l) (cond (isOnEdge l b0 && isOnEdge l b1) 0 42) 41
 
 module _ (cuts windows : ℕ) (limit : Float) (flags : List ℕ) (mesh : Mesh) (edges vertices : ℕ) where
   unfoldable pub offering : Candidate → State → Result

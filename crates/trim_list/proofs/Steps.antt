@@ -1,0 +1,87 @@
+-- One operation, by its kind and its answer. Assumes nothing.
+use Prim.Native.Nat.{ℕ, _≤_, _<_}
+use native.Mathlib.Omega.{arith}
+use mathlib.Core.List.{List}
+use mathlib.Core.Path.{_≡_, refl, sym, ap, subst, _∙_}
+use borrow.Author.Tests.{le-ltb, lt-ltb}
+use lib.ListN.{length}
+use lib.Ieee.{Float}
+use Rattle.buffers.specs.Slots.{slotsOf}
+use Rattle.heap.specs.declared.Pushed.{Pushed}
+use Rattle.heap.specs.declared.Pushed.the-variants.{Full, Queued}
+use Rattle.heap.specs.Queue.{queue, popping}
+use Rattle.actions.specs.Actions as actions
+use Rattle.actions.specs.Actions.{queueing, act}
+use Rattle.trim_state.specs.State.{State, finish}
+use Rattle.trim_run.specs.declared.Op.{Op}
+use Rattle.trim_run.specs.Operations.{touch, pop, unknown, asOperation}
+use Rattle.trim_run.specs.Run.{popped, operate}
+use Rattle.trim_run.specs.Represents.{Represents}
+use Rattle.trim_list.specs.declared.Step.{Step}
+use Rattle.trim_list.specs.declared.Step.the-variants.{Stopped, Went}
+use Rattle.trim_list.specs.Lists.{Slices, slices, Setting, Within, Touches, Operated}
+
+-- ---- a touch
+module _ (v : ℕ) (d limit : Float) (flags : List ℕ) (made queued : ℕ) (keys : List Float) (events : List ℕ) (vertex : List Float) where
+  pub touch-missing : slotsOf (length vertex) 2 ≤ v → Touches v d limit flags made queued keys events vertex (Stopped 43) keys events vertex
+  unfolding operate
+  touch-missing h = record { fits = tt; says = λ cuts windows mesh m edges words reals s R. rw (le-ltb v (slotsOf (length vertex) 2) h) }
+
+  module _ (there : v < slotsOf (length vertex) 2) (keys′ : List Float) (events′ : List ℕ) (vertex′ : List Float) where
+    -- what `actions::touch` ensures
+    abbrev Answers : Pushed → Type 0
+    Answers p = (cuts windows made : ℕ) → act cuts windows limit flags (actions.touch v d) (actions.stock made queued (queue keys events) vertex) ≡ queueing made vertex′ (p, queue keys′ events′)
+
+    pub touch-full : Answers Full → Touches v d limit flags made queued keys events vertex (Stopped 13) keys′ events′ vertex′
+    unfolding operate finish queueing
+    touch-full h = record {
+      fits = tt;
+      says = λ cuts windows mesh m edges words reals s R.
+          rw (lt-ltb v (slotsOf (length vertex) 2) there)
+          (ap (finish (s .live)) (ap (act cuts windows limit flags (actions.touch v d)) (R .stock) ∙ h cuts windows made));
+    }
+
+    pub touch-queued : (n : ℕ) → Answers (Queued n) → Touches v d limit flags made queued keys events vertex (Went made n) keys′ events′ vertex′
+    unfolding operate finish queueing
+    touch-queued n h = record {
+      fits = omega arith;
+      says = λ cuts windows mesh m edges words reals s R. record {
+        state = record { live = s .live; stock = actions.stock made n (queue keys′ events′) vertex′ };
+        is =
+            rw (lt-ltb v (slotsOf (length vertex) 2) there)
+            (ap (finish (s .live)) (ap (act cuts windows limit flags (actions.touch v d)) (R .stock) ∙ h cuts windows made));
+        stands = record { holds = R .holds; stock = refl };
+      };
+    }
+
+-- ---- the kinds
+within : (made windows : ℕ) → made ≤ windows → (r : Step) → Within made r → Within windows r
+within made windows h (Stopped n) w = tt
+within made windows h (Went a q) w = omega (arith, h, w)
+
+module _ (g : Setting) (made queued : ℕ) where
+  pub of-op : (op o : Op) → op ≡ o → (b : Slices) (r : Step) (b′ : Slices) → Operated g (asOperation o) made queued b r b′ → Operated g (asOperation op) made queued b r b′
+  of-op op o h b r b′ k = subst (λ (z : Op). Operated g (asOperation z) made queued b r b′) (sym h) k
+
+  pub op-unknown : (b : Slices) → Operated g unknown made queued b (Stopped 40) b
+  unfolding operate
+  op-unknown b = record { doubles = tt; fits = tt; says = λ s cs S F. refl }
+
+  module _ (fits : made ≤ g .windows) (edges words : List ℕ) (reals keys : List Float) (events : List ℕ) (vertex : List Float) where
+    pub op-pop : (words′ : List ℕ) (keys′ : List Float) (events′ : List ℕ) (n : ℕ)
+        → ((m : ℕ) (edges : List ℕ) (vertex : List Float) (s : State) → Represents m made queued edges words reals keys events vertex s → Represents m made n edges words′ reals keys′ events′ vertex (popped s (popping (s .stock .queue) (s .stock .queued))))
+        → Operated g pop made queued (slices edges words reals keys events vertex) (Went made n) (slices edges words′ reals keys′ events′ vertex)
+    unfolding operate
+    op-pop words′ keys′ events′ n h = record {
+      doubles = tt;
+      fits = fits;
+      says = λ s cs S F. record { state = popped s (popping (s .stock .queue) (s .stock .queued)); is = refl; stands = h (g .edges) edges vertex s S };
+    }
+
+    pub op-touch : (v : ℕ) (d : Float) → g .vertices ≡ slotsOf (length vertex) 2 → (r : Step) (keys′ : List Float) (events′ : List ℕ) (vertex′ : List Float)
+        → Touches v d (g .limit) (g .flags) made queued keys events vertex r keys′ events′ vertex′ → Operated g (touch v d) made queued (slices edges words reals keys events vertex) r (slices edges words reals keys′ events′ vertex′)
+    op-touch v d e r keys′ events′ vertex′ t = record {
+      doubles = tt;
+      fits = within made (g .windows) fits r (t .fits);
+      says = λ s cs S F. rw e (t .says (g .cuts) (g .windows) (g .mesh) (g .edges) edges words reals s S);
+    }

@@ -1,0 +1,142 @@
+-- Whole slices as they are lent: their counts, the parts that are used, and zeros. Assumes nothing.
+use Prim.Native.Nat.{ℕ, zero, suc, _+_, _*_, _≤_, _<_, min}
+use native.Mathlib.Omega.{arith}
+use mathlib.Core.List.{List, [], _∷_}
+use mathlib.Core.Path.{_≡_, refl, sym, ap, subst, _∙_}
+use lib.ListN.{length, getD, take, replicate, length-replicate}
+use lib.Seq.{length-take-le}
+use lib.Ieee.{Float}
+use Rattle.float64.specs.Scalar.{zero as zero64}
+use Rattle.windows.specs.Windows.{capacityOf}
+use Rattle.buffers.specs.Slots.{slotsOf}
+use Rattle.chains.specs.Chains.{headOf}
+use Rattle.trim_state.specs.State.{State}
+use Rattle.trim_list.specs.declared.Ran.{Ran}
+use Rattle.trim_list.specs.declared.Ran.the-variants.{Done, Ended}
+use Rattle.trim_list.specs.Lists.{Slices, slices, Cuts, cuts, meshOf, Setting, settingOf, Ready, Runs, firstOf, edgeCount, operationCount, cutCount, lentSetting, ZeroSlices, ZeroCuts, RunWhole}
+use Rattle.trim_list.proofs.Loop.{SameLengths, SameCuts}
+
+-- ---- counts
+pub least-left : (x y a b : ℕ) → a ≡ x → b ≡ y → a ≤ b → a ≡ min x y
+least-left x y a b h k l = omega (arith, h, k, l)
+
+pub least-right : (x y a b : ℕ) → a ≡ x → b ≡ y → b < a → b ≡ min x y
+least-right x y a b h k l = omega (arith, h, k, l)
+
+-- the least of four is no more than each
+least-first : (a b c d x : ℕ) → x ≡ min (min a b) (min c d) → x ≤ a
+least-first a b c d x h = omega (arith, h)
+
+least-second : (a b c d x : ℕ) → x ≡ min (min a b) (min c d) → x ≤ b
+least-second a b c d x h = omega (arith, h)
+
+least-third : (a b c d x : ℕ) → x ≡ min (min a b) (min c d) → x ≤ c
+least-third a b c d x h = omega (arith, h)
+
+least-fourth : (a b c d x : ℕ) → x ≡ min (min a b) (min c d) → x ≤ d
+least-fourth a b c d x h = omega (arith, h)
+
+least-last : (a b x : ℕ) → x ≡ min a b → x ≤ b
+least-last a b x h = omega (arith, h)
+
+one-slot : (x n : ℕ) → x ≤ slotsOf n 1 → x ≤ n
+one-slot x n h = omega (arith, h)
+
+two-slots : (x n : ℕ) → x ≤ slotsOf n 2 → 2 * x ≤ n
+two-slots x n h = omega (arith, h)
+
+pub pts-fit : (c : Cuts) (x : ℕ) → x ≡ cutCount c → x ≤ length (c .pts)
+pts-fit c x h = one-slot x (length (c .pts)) (least-first (slotsOf (length (c .pts)) 1) (slotsOf (length (c .out)) 2) (slotsOf (length (c .keep)) 2) (slotsOf (length (c .next)) 2) x h)
+
+pub out-fit : (c : Cuts) (x : ℕ) → x ≡ cutCount c → 2 * x ≤ length (c .out)
+out-fit c x h = two-slots x (length (c .out)) (least-second (slotsOf (length (c .pts)) 1) (slotsOf (length (c .out)) 2) (slotsOf (length (c .keep)) 2) (slotsOf (length (c .next)) 2) x h)
+
+pub keep-fit : (c : Cuts) (x : ℕ) → x ≡ cutCount c → 2 * x ≤ length (c .keep)
+keep-fit c x h = two-slots x (length (c .keep)) (least-third (slotsOf (length (c .pts)) 1) (slotsOf (length (c .out)) 2) (slotsOf (length (c .keep)) 2) (slotsOf (length (c .next)) 2) x h)
+
+pub next-fit : (c : Cuts) (x : ℕ) → x ≡ cutCount c → 2 * x ≤ length (c .next)
+next-fit c x h = two-slots x (length (c .next)) (least-fourth (slotsOf (length (c .pts)) 1) (slotsOf (length (c .out)) 2) (slotsOf (length (c .keep)) 2) (slotsOf (length (c .next)) 2) x h)
+
+-- ---- the parts of the cut buffers that are used
+abbrev pub parts : ℕ → Cuts → Cuts
+parts x c = cuts (take x (c .pts)) (take (2 * x) (c .out)) (take (2 * x) (c .keep)) (take (2 * x) (c .next))
+
+twice : (x a b : ℕ) → a ≡ 2 * x → b ≡ x → a ≡ b + b
+twice x a b h k = omega (arith, h, k)
+
+module _ (ends : List ℕ) (lens : List Float) (b : Slices) (c : Cuts) (m x : ℕ) (isEdges : m ≡ edgeCount ends lens (b .edges)) (isCuts : x ≡ cutCount c) where
+  pts-length : length (take x (c .pts)) ≡ x
+  pts-length = length-take-le x (c .pts) (pts-fit c x isCuts)
+
+  pub parts-ready : Ready m 0 b (parts x c)
+  parts-ready = record {
+    fits = omega arith;
+    edges = least-last (min (slotsOf (length ends) 2) (slotsOf (length lens) 1)) (slotsOf (length (b .edges)) 6) m isEdges;
+    outs = twice x _ _ (length-take-le (2 * x) (c .out) (out-fit c x isCuts)) pts-length;
+    keeps = twice x _ _ (length-take-le (2 * x) (c .keep) (keep-fit c x isCuts)) pts-length;
+    nexts = twice x _ _ (length-take-le (2 * x) (c .next) (next-fit c x isCuts)) pts-length;
+  }
+
+  module _ (limit : Float) (flags : List ℕ) where
+    abbrev settingAt : ℕ → ℕ → Setting
+    settingAt k e = record { cuts = k; windows = capacityOf (length (b .words)) (length (b .reals)); limit = limit; flags = flags; mesh = meshOf ends lens; edges = e; vertices = slotsOf (length (b .vertex)) 2 }
+
+    same-setting : settingOf (parts x c) b limit flags ends lens m ≡ lentSetting c b limit flags ends lens
+    same-setting = let p : length (take x (c .pts)) ≡ cutCount c = pts-length ∙ isCuts in λ t. settingAt (p t) (isEdges t)
+
+    pub parts-run : (ops : List ℕ) (args : List Float) (n : ℕ) → n ≡ operationCount ops args → (first : State) (r : Ran) (b′ : Slices) → Runs (settingOf (parts x c) b limit flags ends lens m) ops args n first r b′
+        → Runs (lentSetting c b limit flags ends lens) ops args (operationCount ops args) first r b′
+    parts-run ops args n isCount first r b′ k =
+        subst (λ (j : ℕ). Runs (lentSetting c b limit flags ends lens) ops args j first r b′) isCount
+        (subst (λ (g : Setting). Runs g ops args n first r b′) same-setting k)
+
+-- ---- zeros
+no-heads : (n i : ℕ) → _≡_ {A = ℕ} (getD (replicate n 0) i 0) 0
+no-heads zero i = refl
+no-heads (suc n) zero = refl
+no-heads (suc n) (suc i) = no-heads n i
+
+pub heads-zero : (edges : List ℕ) → edges ≡ replicate (length edges) 0 → (e : ℕ) → headOf edges e ≡ 0
+heads-zero edges h e = ap (λ (l : List ℕ). headOf l e) h ∙ no-heads (length edges) _
+
+pub zeroed-cuts : (c c₁ c′ : Cuts) → SameCuts c₁ c → ZeroCuts c₁ c′ → ZeroCuts c c′
+zeroed-cuts c c₁ c′ s z = record {
+  pts = z .pts ∙ ap (λ (n : ℕ). replicate n zero64) (s .pts);
+  out = z .out ∙ ap (λ (n : ℕ). replicate n zero64) (s .out);
+  keep = z .keep ∙ ap (λ (n : ℕ). replicate n zero64) (s .keep);
+  next = z .next ∙ ap (λ (n : ℕ). replicate n zero64) (s .next);
+}
+
+pub zeroed-slices : (b b₁ b′ : Slices) → SameLengths b₁ b → ZeroSlices b₁ b′ → ZeroSlices b b′
+zeroed-slices b b₁ b′ s z = record {
+  edges = z .edges ∙ ap (λ (n : ℕ). replicate n 0) (s .edges);
+  words = z .words ∙ ap (λ (n : ℕ). replicate n 0) (s .words);
+  reals = z .reals ∙ ap (λ (n : ℕ). replicate n zero64) (s .reals);
+  keys = z .keys ∙ ap (λ (n : ℕ). replicate n zero64) (s .keys);
+  events = z .events ∙ ap (λ (n : ℕ). replicate n 0) (s .events);
+  vertex = z .vertex ∙ ap (λ (n : ℕ). replicate n zero64) (s .vertex);
+}
+
+pub zeros-stay : (edges zeroed : List ℕ) → zeroed ≡ replicate (length edges) 0 → zeroed ≡ replicate (length zeroed) 0
+zeros-stay edges zeroed h = h ∙ ap (λ (n : ℕ). replicate n 0) (sym (ap (λ (l : List ℕ). length l) h ∙ length-replicate (length edges) 0))
+
+-- ---- the whole: edges are zeroed to `zeroed`, the run leaves b₂ and c₁, and the cut buffers are zeroed to c′
+module _ (limit : Float) (flags ends : List ℕ) (lens : List Float) (ops : List ℕ) (args : List Float) (b : Slices) (c : Cuts) (zeroed : List ℕ) (long : length zeroed ≡ length (b .edges)) (r : Ran) (b₂ : Slices)
+    (runs : Runs (lentSetting c (slices zeroed (b .words) (b .reals) (b .keys) (b .events) (b .vertex)) limit flags ends lens) ops args (operationCount ops args) (firstOf b) r b₂)
+    (c₁ c′ : Cuts) (same : SameCuts c₁ c) (zeros : ZeroCuts c₁ c′) where
+  whole-runs : Runs (lentSetting c b limit flags ends lens) ops args (operationCount ops args) (firstOf b) r b₂
+  whole-runs = subst (λ (n : ℕ). Runs (record { cuts = cutCount c; windows = capacityOf (length (b .words)) (length (b .reals)); limit = limit; flags = flags; mesh = meshOf ends lens; edges = min (min (slotsOf (length ends) 2) (slotsOf (length lens) 1)) (slotsOf n 6); vertices = slotsOf (length (b .vertex)) 2 }) ops args (operationCount ops args) (firstOf b) r b₂) long runs
+
+  pub whole-done : (made queued : ℕ) → r ≡ Done made queued → RunWhole limit flags ends lens ops args b c (Done made queued) b₂ c′
+  whole-done made queued h = record {
+    runs = subst (λ (z : Ran). Runs (lentSetting c b limit flags ends lens) ops args (operationCount ops args) (firstOf b) z b₂) h whole-runs;
+    cuts = zeroed-cuts c c₁ c′ same zeros;
+    cleared = tt;
+  }
+
+  pub whole-ended : (k number : ℕ) → r ≡ Ended k number → (b′ : Slices) → SameLengths b₂ b → ZeroSlices b₂ b′ → RunWhole limit flags ends lens ops args b c (Ended k number) b′ c′
+  whole-ended k number h b′ s z = record {
+    runs = subst (λ (y : Ran). Runs (lentSetting c b limit flags ends lens) ops args (operationCount ops args) (firstOf b) y b₂) h whole-runs;
+    cuts = zeroed-cuts c c₁ c′ same zeros;
+    cleared = zeroed-slices b b₂ b′ s z;
+  }

@@ -1,0 +1,183 @@
+-- What an operation, and a whole list of them, does to the lent buffers. Definitions only.
+use Prim.Native.Nat.{ℕ, _+_, _*_, _≤_, _<_, min}
+use mathlib.Core.List.{List}
+use mathlib.Core.Path.{_≡_}
+use lib.ListN.{length, getD, replicate}
+use lib.Ieee.{Float, nan}
+use Rattle.float64.specs.Scalar.{zero}
+use Rattle.buffers.specs.Slots.{slotsOf}
+use Rattle.windows.specs.Windows.{capacityOf}
+use Rattle.heap.specs.Queue.{queue}
+use Rattle.trim_model.specs.Model.{Candidate}
+use Rattle.trim_state.specs.State.{State, Result, stopped, went, Mesh}
+use Rattle.trim_state.specs.Follows.{Follows}
+use Rattle.trim_run.specs.Operations.{Operation, touch, operations, candidates}
+use Rattle.trim_run.specs.Run.{operate, Run, ran, ended, runFrom, start}
+use Rattle.trim_run.specs.Demand3.{Demand3}
+use Rattle.trim_run.specs.Represents.{Represents}
+use Rattle.trim_run.proofs.Follow.{DoublesOf}
+use Rattle.trim_list.specs.declared.Step.{Step}
+use Rattle.trim_list.specs.declared.Step.the-variants.{Stopped, Went}
+use Rattle.trim_list.specs.declared.Ran.{Ran}
+use Rattle.trim_list.specs.declared.Ran.the-variants.{Done, Ended}
+
+-- ---- what is lent
+pub record Slices : Type 0 where
+  pub edges : List ℕ
+  pub words : List ℕ
+  pub reals : List Float
+  pub keys : List Float
+  pub events : List ℕ
+  pub vertex : List Float
+
+abbrev pub slices : List ℕ → List ℕ → List Float → List Float → List ℕ → List Float → Slices
+slices edges words reals keys events vertex = record { edges = edges; words = words; reals = reals; keys = keys; events = events; vertex = vertex }
+
+-- the buffers of the lists that an addition makes: `pts` has one number to an entry, the others two
+pub record Cuts : Type 0 where
+  pub pts : List Float
+  pub out : List Float
+  pub keep : List Float
+  pub next : List Float
+
+abbrev pub cuts : List Float → List Float → List Float → List Float → Cuts
+cuts pts out keep next = record { pts = pts; out = out; keep = keep; next = next }
+
+-- of each edge its two ends, and its length
+abbrev pub meshOf : List ℕ → List Float → Mesh
+meshOf ends lens = record { len = λ (e : ℕ). getD lens (1 * e + 0) nan; low = λ (e : ℕ). getD ends (2 * e + 0) 0; high = λ (e : ℕ). getD ends (2 * e + 1) 0 }
+
+-- the counts of the buffers, and what stays the same
+pub record Setting : Type 0 where
+  pub cuts : ℕ
+  pub windows : ℕ
+  pub limit : Float
+  pub flags : List ℕ
+  pub mesh : Mesh
+  pub edges : ℕ
+  pub vertices : ℕ
+
+abbrev pub settingOf : Cuts → Slices → Float → List ℕ → List ℕ → List Float → ℕ → Setting
+settingOf c b limit flags ends lens m = record {
+  cuts = length (c .pts);
+  windows = capacityOf (length (b .words)) (length (b .reals));
+  limit = limit;
+  flags = flags;
+  mesh = meshOf ends lens;
+  edges = m;
+  vertices = slotsOf (length (b .vertex)) 2;
+}
+
+-- so many windows are made and m edges counted, no more than the buffers have slots, and the cut buffers have as many slots each
+pub record Ready (m made : ℕ) (b : Slices) (c : Cuts) : Type 0 where
+  pub fits : made ≤ capacityOf (length (b .words)) (length (b .reals))
+  pub edges : m ≤ slotsOf (length (b .edges)) 6
+  pub outs : length (c .out) ≡ length (c .pts) + length (c .pts)
+  pub keeps : length (c .keep) ≡ length (c .pts) + length (c .pts)
+  pub nexts : length (c .next) ≡ length (c .pts) + length (c .pts)
+
+-- ---- an operation
+abbrev pub Stands : ℕ → ℕ → ℕ → Slices → State → Type 0
+Stands m made queued b s = Represents m made queued (b .edges) (b .words) (b .reals) (b .keys) (b .events) (b .vertex) s
+
+pub record Goes (m made queued : ℕ) (b : Slices) (result : Result) : Type 0 where
+  pub state : State
+  pub is : result ≡ went state
+  pub stands : Stands m made queued b state
+
+-- an answer says what the result is, and what there is then stands in the buffers
+abbrev pub Says : ℕ → Step → Slices → Result → Type 0
+Says m (Stopped n) b result = result ≡ stopped n
+Says m (Went made queued) b result = Goes m made queued b result
+
+abbrev pub Within : ℕ → Step → Type 0
+Within windows (Stopped n) = Unit {0}
+Within windows (Went made queued) = made ≤ windows
+
+-- a vertex is reached at a distance, whatever stands in the other buffers
+pub record Touches (v : ℕ) (d limit : Float) (flags : List ℕ) (made queued : ℕ) (keys : List Float) (events : List ℕ) (vertex : List Float) (r : Step) (keys′ : List Float) (events′ : List ℕ) (vertex′ : List Float) : Type 0 where
+  pub fits : Within made r
+  pub says : (cuts windows : ℕ) (mesh : Mesh) (m : ℕ) (edges words : List ℕ) (reals : List Float) (s : State) → Represents m made queued edges words reals keys events vertex s
+      → Says m r (slices edges words reals keys′ events′ vertex′) (operate cuts windows limit flags mesh m (slotsOf (length vertex) 2) (touch v d) s)
+
+-- from buffers b to b′, whatever state they stand for that follows the reference model
+pub record Operated (g : Setting) (o : Operation) (made queued : ℕ) (b : Slices) (r : Step) (b′ : Slices) : Type 0 where
+  pub doubles : DoublesOf (g .mesh .len) o
+  pub fits : Within (g .windows) r
+  pub says : (s : State) (cs : List Candidate) → Stands (g .edges) made queued b s → Follows (g .limit) (g .mesh .len) cs (s .stock .made) (s .live)
+      → Says (g .edges) r b′ (operate (g .cuts) (g .windows) (g .limit) (g .flags) (g .mesh) (g .edges) (g .vertices) o s)
+
+-- ---- a list of n operations, from empty edges on
+module _ (g : Setting) (ops : List ℕ) (args : List Float) (n : ℕ) (first : State) where
+  abbrev pub wholeRun : Run
+  wholeRun = runFrom (g .cuts) (g .windows) (g .limit) (g .flags) (g .mesh) (g .edges) (g .vertices) 0 (operations ops args n) first
+
+  -- demand 3 for the first k operations
+  abbrev pub Claim : ℕ → State → Type 0
+  Claim k s = (e : ℕ) → Demand3 (g .limit) (g .mesh .len) (candidates (operations ops args k)) e (s .live e)
+
+  pub record Finishes (made queued : ℕ) (b : Slices) : Type 0 where
+    pub state : State
+    pub is : wholeRun ≡ ran state
+    pub stands : Stands (g .edges) made queued b state
+    pub demand3 : Claim n state
+
+  -- the list ends before operation k, which is refused by a number
+  pub record Ends (k number : ℕ) : Type 0 where
+    pub state : State
+    pub is : wholeRun ≡ ended k number state
+    pub demand3 : Claim k state
+
+  abbrev pub Runs : Ran → Slices → Type 0
+  Runs (Done made queued) b = Finishes made queued b
+  Runs (Ended k number) b = Ends k number
+
+-- the state that there is at first
+abbrev pub firstOf : Slices → State
+firstOf b = start (queue (b .keys) (b .events)) (b .vertex)
+
+-- ---- whole slices as they are lent: what they all have slots for
+abbrev pub edgeCount : List ℕ → List Float → List ℕ → ℕ
+edgeCount ends lens edges = min (min (slotsOf (length ends) 2) (slotsOf (length lens) 1)) (slotsOf (length edges) 6)
+
+abbrev pub operationCount : List ℕ → List Float → ℕ
+operationCount ops args = min (slotsOf (length ops) 4) (slotsOf (length args) 5)
+
+abbrev pub cutCount : Cuts → ℕ
+cutCount c = min (min (slotsOf (length (c .pts)) 1) (slotsOf (length (c .out)) 2)) (min (slotsOf (length (c .keep)) 2) (slotsOf (length (c .next)) 2))
+
+abbrev pub lentSetting : Cuts → Slices → Float → List ℕ → List ℕ → List Float → Setting
+lentSetting c b limit flags ends lens = record {
+  cuts = cutCount c;
+  windows = capacityOf (length (b .words)) (length (b .reals));
+  limit = limit;
+  flags = flags;
+  mesh = meshOf ends lens;
+  edges = edgeCount ends lens (b .edges);
+  vertices = slotsOf (length (b .vertex)) 2;
+}
+
+pub record ZeroSlices (b b′ : Slices) : Type 0 where
+  pub edges : b′ .edges ≡ replicate (length (b .edges)) 0
+  pub words : b′ .words ≡ replicate (length (b .words)) 0
+  pub reals : b′ .reals ≡ replicate (length (b .reals)) zero
+  pub keys : b′ .keys ≡ replicate (length (b .keys)) zero
+  pub events : b′ .events ≡ replicate (length (b .events)) 0
+  pub vertex : b′ .vertex ≡ replicate (length (b .vertex)) zero
+
+pub record ZeroCuts (c c′ : Cuts) : Type 0 where
+  pub pts : c′ .pts ≡ replicate (length (c .pts)) zero
+  pub out : c′ .out ≡ replicate (length (c .out)) zero
+  pub keep : c′ .keep ≡ replicate (length (c .keep)) zero
+  pub next : c′ .next ≡ replicate (length (c .next)) zero
+
+-- a list that ends before its last operation leaves zeros
+abbrev pub Cleared : Ran → Slices → Slices → Type 0
+Cleared (Done made queued) b b′ = Unit {0}
+Cleared (Ended k number) b b′ = ZeroSlices b b′
+
+-- the whole: buffers b and c at entry, b′ and c′ at exit
+pub record RunWhole (limit : Float) (flags ends : List ℕ) (lens : List Float) (ops : List ℕ) (args : List Float) (b : Slices) (c : Cuts) (r : Ran) (b′ : Slices) (c′ : Cuts) : Type 0 where
+  pub runs : Runs (lentSetting c b limit flags ends lens) ops args (operationCount ops args) (firstOf b) r b′
+  pub cuts : ZeroCuts c c′
+  pub cleared : Cleared r b b′

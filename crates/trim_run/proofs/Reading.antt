@@ -1,0 +1,42 @@
+-- An operation that was read, by its kind. Assumes nothing.
+use Prim.Native.Nat.{ℕ}
+use mathlib.Core.Bool.{true, false}
+use mathlib.Core.List.{List}
+use mathlib.Core.Logic.{_≢_}
+use mathlib.Core.Path.{_≡_, sym, ap, _∙_}
+use borrow.Author.Tests.{eq-eqb, ne-eqb}
+use lib.Dec.{eqb}
+use lib.Ieee.{Float}
+use Rattle.trim_model.specs.Model.{Candidate}
+use Rattle.trim_run.specs.Operations.{offer, pop, touch, unknown, wordAt, realAt, candidateAt, sourceAt, operationAt}
+
+module _ (words : List ℕ) (reals : List Float) (k kind : ℕ) (is : kind ≡ wordAt words k 0) where
+  -- the tests of the kind, in their order
+  test : (n : ℕ) → kind ≡ n → eqb (wordAt words k 0) n ≡ true
+  test n h = eq-eqb (wordAt words k 0) n (sym is ∙ h)
+
+  other : (n : ℕ) → kind ≢ n → eqb (wordAt words k 0) n ≡ false
+  other n h = ne-eqb (wordAt words k 0) n (λ d. h (is ∙ d))
+
+  pub read-point : kind ≡ 0 → (c : Candidate) → c ≡ candidateAt words reals k (sourceAt reals k false) → offer c ≡ operationAt words reals k
+  unfolding operationAt
+  read-point h c d = rw (test 0 h) (ap offer d)
+
+  module _ (not0 : kind ≢ 0) where
+    pub read-line : kind ≡ 1 → (c : Candidate) → c ≡ candidateAt words reals k (sourceAt reals k true) → offer c ≡ operationAt words reals k
+    unfolding operationAt
+    read-line h c d = rw (other 0 not0, test 1 h) (ap offer d)
+
+    module _ (not1 : kind ≢ 1) where
+      pub read-pop : kind ≡ 2 → pop ≡ operationAt words reals k
+      unfolding operationAt
+      read-pop h = rw (other 0 not0, other 1 not1, test 2 h)
+
+      module _ (not2 : kind ≢ 2) where
+        pub read-touch : kind ≡ 3 → (v : ℕ) (d : Float) → v ≡ wordAt words k 1 → d ≡ realAt reals k 0 → touch v d ≡ operationAt words reals k
+        unfolding operationAt
+        read-touch h v d i j = rw (other 0 not0, other 1 not1, other 2 not2, test 3 h, i, j)
+
+        pub read-unknown : kind ≢ 3 → unknown ≡ operationAt words reals k
+        unfolding operationAt
+        read-unknown h = rw (other 0 not0, other 1 not1, other 2 not2, other 3 h)
