@@ -61,7 +61,7 @@ module _ (j : Job) (others : OtherCounts) (before : MeshBuffers) where
       pub answer-edges : (n : ℕ) → t ≡ Table·Edges n → Answered j others (Edges n) before after
       unfolding orElse
       answer-edges n e =
-          let k = has-edges (j .triangles) (length (j .vertices) / 3) t (made .answer) n e in
+          let k = has-edges (j .triangles) t (made .answer) n e in
           record {
             number = sym (then false (k .0));
             edge-count = λ z. ap Edges (k .1);
@@ -71,7 +71,7 @@ module _ (j : Job) (others : OtherCounts) (before : MeshBuffers) where
       pub answer-third : t ≡ Table·ThirdFace → Answered j others ThirdFace before after
       unfolding orElse
       answer-third e =
-          let k = is-third (j .triangles) (length (j .vertices) / 3) t (made .answer) e in
+          let k = is-third (j .triangles) t (made .answer) e in
           record {
             number = sym (then true k);
             edge-count = λ z. absurd (omega (arith, sym (then true k) ∙ z));

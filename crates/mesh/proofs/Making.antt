@@ -41,7 +41,7 @@ edges-case : (b : Bool) (n m : ℕ) → cond b ThirdFace (Edges n) ≡ Edges m �
 edges-case true n m e = absurd (let z : _≡_ {A = ℕ} 0 1 = cc in omega arith)
 edges-case false n m e = (refl, (cc))
 
-module _ (triangles : List ℕ) (v : ℕ) (r : Table) (is : r ≡ tableOf triangles v) where
+module _ (triangles : List ℕ) (r : Table) (is : r ≡ tableOf triangles) where
   pub is-third : r ≡ ThirdFace → sharedByThree triangles ≡ true
   unfolding tableOf
   is-third e = third-case (sharedByThree triangles) (length (edges triangles)) (sym is ∙ e)
@@ -57,12 +57,12 @@ zeros e = ap (λ (k : ℕ). replicate {A = ℕ} k 0) e
 module _ (v : List Float) (triangles vw ew : List ℕ) (er : List Float) (r tw : List ℕ) (tr : List Float) where
   -- an edge in a third triangle
   module _ (vw′ ew′ tw′ : List ℕ) (after : MeshBuffers) (t : Table) where
-    pub made-third : t ≡ tableOf triangles (length v / 3) → t ≡ ThirdFace → length vw′ ≡ length vw → length ew′ ≡ length ew → length tw′ ≡ length tw → after ≡ zeroed (meshBuffers vw′ ew′ er r tw′ tr) → Made v triangles ThirdFace (meshBuffers vw ew er r tw tr) after
+    pub made-third : t ≡ tableOf triangles → t ≡ ThirdFace → length vw′ ≡ length vw → length ew′ ≡ length ew → length tw′ ≡ length tw → after ≡ zeroed (meshBuffers vw′ ew′ er r tw′ tr) → Made v triangles ThirdFace (meshBuffers vw ew er r tw tr) after
     unfolding zeroed topologyOf
     made-third is third a b c z =
         record {
           answer = sym third ∙ is;
-          buffers = rw (is-third triangles (length v / 3) t is third) (z ∙ same-buffers (zeros a) (zeros b) refl refl (zeros c) refl);
+          buffers = rw (is-third triangles t is third) (z ∙ same-buffers (zeros a) (zeros b) refl refl (zeros c) refl);
         }
 
   -- none
@@ -70,7 +70,7 @@ module _ (v : List Float) (triangles vw ew : List ℕ) (er : List Float) (r tw :
     pub made-filled : Built triangles (length v / 3) t vw ew tw vw₁ ew₁ tw₁ → t ≡ Edges n → Completed v triangles n ew₁ tw₁ vw₁ er r tr vw₂ er₂ r₂ tr₂ → Made v triangles (Edges n) (meshBuffers vw ew er r tw tr) (meshBuffers vw₂ ew₁ er₂ r₂ tw₁ tr₂)
     unfolding topologyOf filled
     made-filled b e c =
-        let k = has-edges triangles (length v / 3) t (b .answer) n e in
+        let k = has-edges triangles t (b .answer) n e in
         let w : Filled triangles (length v / 3) vw ew tw vw₁ ew₁ tw₁ = b .words (k .0) in
         let l : er₂ ≡ withLengths v (edgeWords triangles (length v / 3) (length ew)) (length (edges triangles)) (replicate (length er) zero) = c .lengths ∙ rw (w .edge-words, k .1) in
         record {

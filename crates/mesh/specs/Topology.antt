@@ -58,7 +58,7 @@ module _ (v : List Float) (triangles : List ℕ) where
   filled m =
       let vertices : ℕ = length v / 3 in
       let ew : List ℕ = edgeWords triangles vertices (length (m .edge-words)) in
-      let tw : List ℕ = triangleWords triangles vertices (length (m .triangle-words)) in
+      let tw : List ℕ = triangleWords triangles (length (m .triangle-words)) in
       let er : List Float = withLengths v ew (length (edges triangles)) (replicate (length (m .edge-reals)) zero) in
       meshBuffers
       (withRanges (startOf triangles) (endOf triangles) vertices (vertexWords triangles vertices (length (m .vertex-words))))
@@ -73,5 +73,5 @@ module _ (v : List Float) (triangles : List ℕ) where
   topologyOf m = cond (sharedByThree triangles) (zeroed m) (filled m)
 
   pub record Made (r : Table) (before after : MeshBuffers) : Type 0 where
-    pub answer : r ≡ tableOf triangles (length v / 3)
+    pub answer : r ≡ tableOf triangles
     pub buffers : after ≡ topologyOf before
