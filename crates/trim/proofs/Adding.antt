@@ -1,0 +1,185 @@
+-- The parts of `add` put together: past the windows before the run, over the run, and from its start once more to seat the new windows. Assumes nothing.
+use Prim.Native.Nat.{ℕ, _+_, _≤_, _<_}
+use mathlib.Core.List.{List, [], _∷_, _++_}
+use mathlib.Core.Path.{_≡_, refl, sym, ap, _∙_, subst}
+use native.Mathlib.Omega.{arith}
+use lib.ListN.{length}
+use lib.Ieee.{Float}
+use borrow.Author.Tests.{le-leb, lt-leb}
+use Rattle.float64.specs.Notation.{_⊕_}
+use Rattle.better.specs.Stretches.{Interval, interval, betterOf}
+use Rattle.better.specs.Buffers.{pairs}
+use Rattle.heap.specs.Queue.{Queue}
+use Rattle.chains.specs.Chains.{Links, headOf}
+use Rattle.actions.specs.Actions as actions
+use Rattle.actions.specs.Actions.{Action, list, Stock, Outcome, act, play}
+use Rattle.actions.proofs.Play.{play-go, play-stop, play-go-append, play-stop-append}
+use Rattle.trim_model.specs.Intervals.{tinyOf, wideOf}
+use Rattle.trim_model.specs.Windows.{Window, fresh, takeWhile}
+use Rattle.trim_model.specs.Add.{Walk, startsBefore, passes, start, visits, addTo}
+use Rattle.trim_model.proofs.Ranks.{Nonneg}
+use Rattle.trim_model.proofs.Windows.{Wide}
+use Rattle.trim_model.proofs.Lists.{take-drop}
+use Rattle.trim_model.proofs.Order.{Tidy}
+use Rattle.trim_model.proofs.Turns.{run-is}
+use Rattle.trim_model.proofs.Seat.{seatAll}
+use Rattle.trim_state.specs.State as state
+use Rattle.trim_state.specs.State.{State, Result, put, finish}
+use Rattle.trim_state.specs.Trace.{visitings, keeping, adding}
+use Rattle.trim_state.proofs.Turns.{adding-is}
+use Rattle.trim_state.proofs.Seated.{passed, reached, beyond, walked, walk-seated}
+use Rattle.live_windows.specs.Live.{Holds, Walked, nums, endLink, lastLink}
+use Rattle.live_windows.proofs.Places.{short}
+use Rattle.trim_split.specs.Running.{Place, place, stockOf, End, stopped, at, Ran}
+use Rattle.trim_split.specs.declared.Counts.{Counts}
+use Rattle.trim_split.proofs.Edges.{holds-put, holds-equal}
+use Rattle.trim_visit.specs.declared.Visited.the-variants.{Stopped, Went}
+use Rattle.trim_visit.specs.Visiting.{VisitsAll, Kept}
+use Rattle.trim_keep.specs.Keeping.{Seats, SeatsAmong}
+use Rattle.trim.specs.Adding.{Leaves, Says}
+
+-- ---- lists
+none-link : 0 ≡ lastLink []
+unfolding nums endLink
+none-link = refl
+
+nums-length : (us : List Window) → length (nums us) ≡ length us
+unfolding nums
+nums-length [] = refl
+nums-length (u ∷ us) = omega (arith, nums-length us)
+
+length-both : (xs zs : List Window) → length (xs ++ zs) ≡ length xs + length zs
+length-both [] zs = omega arith
+length-both (x ∷ xs) zs = omega (arith, length-both xs zs)
+
+part-few : (xs zs us : List Window) (n : ℕ) → xs ++ zs ≡ us → length us ≤ n → length zs ≤ n
+part-few xs zs us n h i = omega (arith, length-both xs zs, ap length h, i)
+
+module _ (cuts windows : ℕ) (limit : Float) (flags : List ℕ) (e : ℕ) (len : Float) (a b : ℕ) (w : Window) (made queued : ℕ) (lk : Links) (f : List Float) (q : Queue) (vertex : List Float) where
+  abbrev t : Float
+  t = tinyOf len
+
+  abbrev stock₀ : Stock
+  stock₀ = actions.stock made queued q vertex
+
+  abbrev played : List Action → Stock → Outcome
+  played = play cuts windows limit flags
+
+  list-go : (rest : List Action) → 0 < cuts → played (list 1 ∷ rest) stock₀ ≡ played rest stock₀
+  list-go rest h = play-go cuts windows limit flags (list 1) rest stock₀ stock₀ go
+    where
+      go : act cuts windows limit flags (list 1) stock₀ ≡ actions.went stock₀
+      go = unfold act in rw (le-leb 1 cuts h)
+
+  list-stop : (rest : List Action) → cuts ≡ 0 → played (list 1 ∷ rest) stock₀ ≡ actions.stopped 14
+  list-stop rest h = play-stop cuts windows limit flags (list 1) rest stock₀ 14 stop
+    where
+      stop : act cuts windows limit flags (list 1) stock₀ ≡ actions.stopped 14
+      stop = unfold act in rw (lt-leb 1 cuts (omega (arith, h)))
+
+  module _ (m : ℕ) (live : ℕ → List Window) (there : e < m) (hold : Holds made m lk f live) (t0 : Nonneg t) (W : Wide t w) (tidy : Tidy t (live e)) where
+    abbrev front : List Window
+    front = passed t w (live e) made
+
+    abbrev rest : List Window
+    rest = reached t w (live e) made
+
+    abbrev tail : List Window
+    tail = beyond t w (live e) made
+
+    abbrev walk : Walk
+    walk = walked t w (live e) made
+
+    abbrev visiting : List Action
+    visiting = visitings t w (takeWhile (startsBefore (w .b1 ⊕ t)) rest) (start w made)
+
+    abbrev kept : ℕ → List Interval → List Action
+    kept n ks = keeping len a b w n (wideOf t ks)
+
+    abbrev after : ℕ → List Window
+    after e′ = put e (addTo betterOf t w (live e) made .live) live e′
+
+    abbrev result : Result
+    result = finish after (played (adding len a b w (live e) made) stock₀)
+
+    todo-is : adding len a b w (live e) made ≡ list 1 ∷ (visiting ++ kept (walk .made) (walk .keep))
+    todo-is = adding-is len a b w (live e) made tidy ∙ ap (λ (us : List Window). list 1 ∷ (visiting ++ kept (visits betterOf t w us (start w made) .made) (visits betterOf t w us (start w made) .keep))) (run-is t w (live e) tidy)
+
+    stop : (n : ℕ) → played (adding len a b w (live e) made) stock₀ ≡ actions.stopped n → result ≡ state.stopped n
+    unfolding finish
+    stop n h = ap (finish after) h
+
+    leave : (p : Place) → played (adding len a b w (live e) made) stock₀ ≡ actions.went (stockOf p) → Holds (p .made) m (p .links) (p .reals) after → Leaves m p result
+    unfolding finish
+    leave p h k = record { live = after; is = ap (finish after) h; holds = k }
+
+    pub no-cuts : cuts ≡ 0 → result ≡ state.stopped 14
+    no-cuts z = stop 14 (ap (λ (l : List Action). played l stock₀) todo-is ∙ list-stop (visiting ++ kept (walk .made) (walk .keep)) z)
+
+    parts : front ++ rest ≡ live e
+    parts = take-drop (passes t (w .b0)) (live e)
+
+    few : length rest ≤ made
+    few =
+        let s = hold e there in
+        part-few front rest (live e) made parts (subst (λ (n : ℕ). n ≤ made) (nums-length (live e)) (short made (lk .words) e (headOf (lk .edges) e) (nums (live e)) (s .chain .path) (s .chain .belong)))
+
+    stand : Holds made m lk f (put e (front ++ rest) live)
+    stand = holds-put made m lk f e (front ++ rest) live (sym parts) hold
+
+    module _ (some : 0 < cuts) (before : ℕ) (walks : Walked (passes t (w .b0)) made lk f e 0 before) where
+      link : before ≡ lastLink front
+      link = walks .last m live [] (live e) there hold refl none-link
+
+      played-one : played (adding len a b w (live e) made) stock₀ ≡ played (visiting ++ kept (walk .made) (walk .keep)) stock₀
+      played-one = ap (λ (l : List Action). played l stock₀) todo-is ∙ list-go (visiting ++ kept (walk .made) (walk .keep)) some
+
+      abbrev Few : List Window → Type 0
+      Few zs = length zs ≤ made
+
+      abbrev first : List Interval
+      first = interval (w .b0) (w .b1) ∷ []
+
+      abbrev start₀ : Place
+      start₀ = place made queued before lk f q vertex
+
+      pub visit-stopped : (n : ℕ) (keep′ : List Float) → VisitsAll cuts windows limit flags e t w Few first start₀ (Stopped n) (stopped n) keep′ → result ≡ state.stopped n
+      visit-stopped n keep′ d = stop n (played-one ∙ play-stop-append cuts windows limit flags visiting (kept (walk .made) (walk .keep)) stock₀ n (d m live front rest there few link stand .0))
+
+      module _ (c : Counts) (last k : ℕ) (lk′ : Links) (f′ : List Float) (q′ : Queue) (keep′ : List Float)
+          (d : VisitsAll cuts windows limit flags e t w Few first start₀ (Went c last k) (at (place (c .made) (c .queued) last lk′ f′ q′ vertex)) keep′) where
+        abbrev there₁ : Place
+        there₁ = place (c .made) (c .queued) before lk′ f′ q′ vertex
+
+        ran : Ran cuts windows limit flags e visiting (takeWhile (startsBefore (w .b1 ⊕ t)) rest) (walk .survivors) start₀ (place (c .made) (c .queued) last lk′ f′ q′ vertex)
+        ran = d m live front rest there few link stand .0
+
+        keeps : Kept cuts (c .made) k keep′ walk
+        keeps = d m live front rest there few link stand .1
+
+        held : Holds (c .made) m lk′ f′ (put e (front ++ (walk .survivors ++ tail)) live)
+        held = ran .holds m live front tail there link
+            (holds-equal made m lk f e (front ++ rest) (front ++ (takeWhile (startsBefore (w .b1 ⊕ t)) rest ++ tail)) live (ap (λ (l : List Window). front ++ l) (sym (take-drop (startsBefore (w .b1 ⊕ t)) rest))) stand)
+
+        kept-is : kept (c .made) (pairs k keep′) ≡ kept (walk .made) (walk .keep)
+        kept-is = ap (λ (n : ℕ). kept n (pairs k keep′)) (keeps .count) ∙ ap (kept (walk .made)) (keeps .keep)
+
+        news-is : fresh w (c .made) (wideOf t (pairs k keep′)) ≡ fresh w (walk .made) (wideOf t (walk .keep))
+        news-is = ap (λ (n : ℕ). fresh w n (wideOf t (pairs k keep′))) (keeps .count) ∙ ap (λ (ks : List Interval). fresh w (walk .made) (wideOf t ks)) (keeps .keep)
+
+        played-all : (o : Outcome) → played (kept (c .made) (pairs k keep′)) (stockOf there₁) ≡ o → played (adding len a b w (live e) made) stock₀ ≡ o
+        played-all o h =
+            played-one
+            ∙ play-go-append cuts windows limit flags visiting (kept (walk .made) (walk .keep)) stock₀ (stockOf there₁) (ran .plays)
+            ∙ ap (λ (l : List Action). played l (stockOf there₁)) (sym kept-is)
+            ∙ h
+
+        seated : (end : End) → SeatsAmong cuts windows limit flags e len a b w m live front (walk .survivors ++ tail) (wideOf t (pairs k keep′)) there₁ end → Says m end result
+        seated (stopped n) h = stop n (played-all (actions.stopped n) h)
+        seated (at p) h = leave p (played-all (actions.went (stockOf p)) (h .plays))
+            (holds-equal (p .made) m (p .links) (p .reals) e (seatAll (fresh w (c .made) (wideOf t (pairs k keep′))) front (walk .survivors ++ tail)) (addTo betterOf t w (live e) made .live) live
+            (ap (λ (us : List Window). seatAll us front (walk .survivors ++ tail)) news-is ∙ sym (walk-seated t w (live e) made t0 W tidy))
+            (h .holds))
+
+        pub all-seated : (end : End) → Seats cuts windows limit flags e len a b w (wideOf t (pairs k keep′)) there₁ end → Says m end result
+        all-seated end s = seated end (s m live front (walk .survivors ++ tail) there link held)

@@ -1,0 +1,185 @@
+// Window trimming: a candidate window is added to its edge.
+use buffers::EdgeId;
+use buffers::FaceId;
+use buffers::VertexId;
+use source::Src;
+use source::Win;
+use trim_split::Counts;
+use trim_split::Made;
+use trim_visit::Visited;
+use windows::WindowRecord;
+ghost use Prim.Native.Nat.{_≤_};
+ghost use mathlib.Core.Path.{_≡_};
+ghost use mathlib.Core.List.{[], _∷_};
+ghost use lib.ListN.{length};
+ghost use Rattle.source.specs.Distance.{lowestOf};
+ghost use Rattle.better.specs.Stretches.{interval};
+ghost use Rattle.better.specs.Buffers.{pairs};
+ghost use Rattle.heap.specs.Queue.{queue};
+ghost use Rattle.windows.specs.Windows.{capacityOf};
+ghost use Rattle.chains.specs.Chains.{links};
+ghost use Rattle.trim_model.specs.Intervals.{tinyOf};
+ghost use Rattle.trim_cut.specs.Cut.{Sizes};
+ghost use Rattle.trim_split.specs.Running.{Ready, place, endOf};
+ghost use Rattle.trim_keep.specs.Keeping.{Bounded};
+ghost use Rattle.trim.specs.Adding.{candidate, candidateOf, endOf as Adding·endOf, Bounded as Adding·Bounded, Admits, Adds};
+
+// A refusal by its number in 01; or how many windows and events there are now.
+pub enum Added {
+    Stopped(u32),
+    Went(Counts),
+}
+
+// `keep` at first: the whole of the new window.
+fn whole(keep: &mut [f64], b0: f64, b1: f64)
+    requires { ⌜ 2 ≤ length (now keep) ⌝ }
+    ensures { λ r. ⌜ pairs 1 (now (keep .exit)) ≡ interval b0 b1 ∷ [] ⌝ }
+{
+    keep[0] = b0;
+    keep[1] = b1;
+}
+
+// The addition of window w, which is admitted.
+fn admit(
+    edges: &mut [u32],
+    words: &mut [u32],
+    reals: &mut [f64],
+    keys: &mut [f64],
+    events: &mut [u32],
+    vertex: &mut [f64],
+    flags: &[u8],
+    pts: &mut [f64],
+    keep: &mut [f64],
+    out: &mut [f64],
+    next: &mut [f64],
+    counts: Counts,
+    e: EdgeId,
+    w: WindowRecord,
+    tiny: f64,
+    len: f64,
+    a: VertexId,
+    b: VertexId,
+    limit: f64,
+) -> Made
+    requires { ⌜ Ready (e .0) (counts .made) 0 (now edges) (now words) (now reals) × Sizes (length (now pts)) (now keep) (now out) (now next) ⌝ }
+    ensures { λ r. ⌜ Bounded (capacityOf (length (now (words .entry))) (length (now (reals .entry)))) r × (w .win .low ≡ lowestOf (w .win .src) (w .win .b0) (w .win .b1) → tiny ≡ tinyOf len → Admits (length (now (pts .entry))) (capacityOf (length (now (words .entry))) (length (now (reals .entry)))) limit (now (flags .entry)) len (a .0) (b .0) (candidateOf (e .0) w) (place (counts .made) (counts .queued) 0 (links (now (edges .entry)) (now (words .entry))) (now (reals .entry)) (queue (now (keys .entry)) (now (events .entry))) (now (vertex .entry))) (endOf r (links (now (edges .exit)) (now (words .exit))) (now (reals .exit)) (queue (now (keys .exit)) (now (events .exit))) (now (vertex .exit)))) ⌝ }
+{
+    if pts.len() == 0 {
+        return Made::Stopped(14);
+    }
+    let win = w.win;
+    whole(keep, win.b0, win.b1);
+    let before = live_windows::pass_front(edges, words, reals, counts.made, e, win.b0, tiny);
+    let visited = trim_visit::visits(
+        edges,
+        words,
+        reals,
+        keys,
+        events,
+        keep,
+        pts,
+        out,
+        next,
+        counts,
+        e,
+        before,
+        1,
+        w,
+        tiny,
+    );
+    match visited {
+        Visited::Stopped(n) => Made::Stopped(n),
+        Visited::Went(c, _, k) => trim_keep::keep_parts(
+            edges,
+            words,
+            reals,
+            keys,
+            events,
+            vertex,
+            flags,
+            keep,
+            k,
+            c,
+            e,
+            before,
+            w,
+            tiny,
+            limit,
+            len,
+            a,
+            b,
+        ),
+    }
+}
+
+// The Rust's `add`: the window from b0 to b1 of edge e, of length len with ends a and b, is added, if it is wide enough and not all beyond the limit.
+pub fn add(
+    edges: &mut [u32],
+    words: &mut [u32],
+    reals: &mut [f64],
+    keys: &mut [f64],
+    events: &mut [u32],
+    vertex: &mut [f64],
+    flags: &[u8],
+    pts: &mut [f64],
+    keep: &mut [f64],
+    out: &mut [f64],
+    next: &mut [f64],
+    counts: Counts,
+    e: EdgeId,
+    into: FaceId,
+    queued: bool,
+    b0: f64,
+    b1: f64,
+    src: Src,
+    len: f64,
+    a: VertexId,
+    b: VertexId,
+    limit: f64,
+) -> Added
+    requires { ⌜ Ready (e .0) (counts .made) 0 (now edges) (now words) (now reals) × Sizes (length (now pts)) (now keep) (now out) (now next) ⌝ }
+    ensures { λ r. ⌜ Adding·Bounded (capacityOf (length (now (words .entry))) (length (now (reals .entry)))) r × Adds (length (now (pts .entry))) (capacityOf (length (now (words .entry))) (length (now (reals .entry)))) limit (now (flags .entry)) len (a .0) (b .0) (candidate (e .0) b0 b1 src (into .0) queued) (place (counts .made) (counts .queued) 0 (links (now (edges .entry)) (now (words .entry))) (now (reals .entry)) (queue (now (keys .entry)) (now (events .entry))) (now (vertex .entry))) (Adding·endOf r (links (now (edges .exit)) (now (words .exit))) (now (reals .exit)) (queue (now (keys .exit)) (now (events .exit))) (now (vertex .exit))) ⌝ }
+{
+    let tiny = 1e-11 * len;
+    if b1 - b0 <= tiny {
+        return Added::Went(counts);
+    }
+    let low = source::lowest(src, b0, b1);
+    if low > limit {
+        return Added::Went(counts);
+    }
+    let win = Win { b0, b1, low, src };
+    let w = WindowRecord {
+        edge: e,
+        into,
+        alive: true,
+        queued,
+        link: 0,
+        win,
+    };
+    let admitted = admit(
+        edges,
+        words,
+        reals,
+        keys,
+        events,
+        vertex,
+        flags,
+        pts,
+        keep,
+        out,
+        next,
+        counts,
+        e,
+        w,
+        tiny,
+        len,
+        a,
+        b,
+        limit,
+    );
+    match admitted {
+        Made::Stopped(n) => Added::Stopped(n),
+        Made::Went(c, _) => Added::Went(c),
+    }
+}
