@@ -1,8 +1,19 @@
-// Parts of running a list of candidates, pops and touches over lent buffers.
+// A list of candidates, pops and touches is run over lent buffers, from empty edges on.
 use buffers::VertexId;
+use buffers::read_f64;
+use buffers::read_u32;
 use heap::Pushed;
+use trim::Added;
+use trim_run::Offer;
+use trim_run::Op;
+use trim_split::Counts;
+ghost use Prim.Native.Nat.{ℕ, _*_, _≤_, _<_};
 ghost use mathlib.Core.Path.{_≡_};
-ghost use Rattle.trim_list.specs.Lists.{slices, cuts, Touches, edgeCount, cutCount, ZeroSlices, ZeroCuts};
+ghost use lib.ListN.{length};
+ghost use Rattle.chains.specs.Chains.{headOf};
+ghost use Rattle.trim_run.specs.Operations.{asCandidate, asOperation};
+ghost use Rattle.trim_run.specs.Operations.{offer as Operations·offer};
+ghost use Rattle.trim_list.specs.Lists.{slices, cuts, settingOf, Ready, Operated, Runs, firstOf, Touches, edgeCount, cutCount, operationCount, lentSetting, ZeroSlices, ZeroCuts, RunWhole};
 
 // An operation is refused by its number; or so many windows are made and so many events queued.
 pub enum Step {
@@ -89,4 +100,289 @@ fn zero_slices(
     buffers::zero_f64(keys);
     buffers::zero_u32(events);
     buffers::zero_f64(vertex);
+}
+
+// A candidate is offered to its edge: refused by its number, or added.
+fn offer(
+    m: u32,
+    c: Offer,
+    limit: f64,
+    ends: &[u32],
+    lens: &[f64],
+    flags: &[u8],
+    edges: &mut [u32],
+    words: &mut [u32],
+    reals: &mut [f64],
+    keys: &mut [f64],
+    events: &mut [u32],
+    vertex: &mut [f64],
+    pts: &mut [f64],
+    out: &mut [f64],
+    keep: &mut [f64],
+    next: &mut [f64],
+    made: u32,
+    queued: u32,
+) -> Step
+    requires { ⌜ Ready m made (slices (now edges) (now words) (now reals) (now keys) (now events) (now vertex)) (cuts (now pts) (now out) (now keep) (now next)) ⌝ }
+    ensures { λ r. ⌜ Operated (settingOf (cuts (now (pts .entry)) (now (out .entry)) (now (keep .entry)) (now (next .entry))) (slices (now (edges .entry)) (now (words .entry)) (now (reals .entry)) (now (keys .entry)) (now (events .entry)) (now (vertex .entry))) limit (now (flags .entry)) (now (ends .entry)) (now (lens .entry)) m) (Operations·offer (asCandidate c)) made queued (slices (now (edges .entry)) (now (words .entry)) (now (reals .entry)) (now (keys .entry)) (now (events .entry)) (now (vertex .entry))) r (slices (now (edges .exit)) (now (words .exit)) (now (reals .exit)) (now (keys .exit)) (now (events .exit)) (now (vertex .exit))) ⌝ }
+{
+    let l = read_f64(lens, 1, c.edge.0, 0);
+    let number = trim_run::refusal(m, c.edge, l, c.b0, c.b1);
+    if number != 0 {
+        return Step::Stopped(number);
+    }
+    let low = read_u32(ends, 2, c.edge.0, 0);
+    let high = read_u32(ends, 2, c.edge.0, 1);
+    let added = trim::add(
+        edges,
+        words,
+        reals,
+        keys,
+        events,
+        vertex,
+        flags,
+        pts,
+        keep,
+        out,
+        next,
+        Counts { made, queued },
+        c.edge,
+        c.into,
+        c.queued,
+        c.b0,
+        c.b1,
+        c.src,
+        l,
+        VertexId(low),
+        VertexId(high),
+        limit,
+    );
+    match added {
+        Added::Stopped(n) => Step::Stopped(n),
+        Added::Went(now) => Step::Went {
+            made: now.made,
+            queued: now.queued,
+        },
+    }
+}
+
+// One operation.
+fn operate(
+    m: u32,
+    op: Op,
+    limit: f64,
+    ends: &[u32],
+    lens: &[f64],
+    flags: &[u8],
+    edges: &mut [u32],
+    words: &mut [u32],
+    reals: &mut [f64],
+    keys: &mut [f64],
+    events: &mut [u32],
+    vertex: &mut [f64],
+    pts: &mut [f64],
+    out: &mut [f64],
+    keep: &mut [f64],
+    next: &mut [f64],
+    made: u32,
+    queued: u32,
+) -> Step
+    requires { ⌜ Ready m made (slices (now edges) (now words) (now reals) (now keys) (now events) (now vertex)) (cuts (now pts) (now out) (now keep) (now next)) ⌝ }
+    ensures { λ r. ⌜ Operated (settingOf (cuts (now (pts .entry)) (now (out .entry)) (now (keep .entry)) (now (next .entry))) (slices (now (edges .entry)) (now (words .entry)) (now (reals .entry)) (now (keys .entry)) (now (events .entry)) (now (vertex .entry))) limit (now (flags .entry)) (now (ends .entry)) (now (lens .entry)) m) (asOperation op) made queued (slices (now (edges .entry)) (now (words .entry)) (now (reals .entry)) (now (keys .entry)) (now (events .entry)) (now (vertex .entry))) r (slices (now (edges .exit)) (now (words .exit)) (now (reals .exit)) (now (keys .exit)) (now (events .exit)) (now (vertex .exit))) ⌝ }
+{
+    match op {
+        Op::Add(c) => offer(
+            m,
+            c,
+            limit,
+            ends,
+            lens,
+            flags,
+            edges,
+            words,
+            reals,
+            keys,
+            events,
+            vertex,
+            pts,
+            out,
+            keep,
+            next,
+            made,
+            queued,
+        ),
+        Op::Pop => {
+            let n = trim_run::pop(words, reals, keys, events, made, queued);
+            Step::Went { made, queued: n }
+        }
+        Op::Touch(v, d) => touch(v, d, limit, flags, keys, events, vertex, made, queued),
+        Op::Unknown => Step::Stopped(40),
+    }
+}
+
+// The n operations of a list, over cut buffers of as many slots each.
+fn run_all(
+    m: u32,
+    n: u32,
+    limit: f64,
+    ops: &[u32],
+    args: &[f64],
+    ends: &[u32],
+    lens: &[f64],
+    flags: &[u8],
+    edges: &mut [u32],
+    words: &mut [u32],
+    reals: &mut [f64],
+    keys: &mut [f64],
+    events: &mut [u32],
+    vertex: &mut [f64],
+    pts: &mut [f64],
+    out: &mut [f64],
+    keep: &mut [f64],
+    next: &mut [f64],
+) -> Ran
+    requires { ⌜ Ready m 0 (slices (now edges) (now words) (now reals) (now keys) (now events) (now vertex)) (cuts (now pts) (now out) (now keep) (now next)) × ((e : ℕ) → e < m → headOf (now edges) e ≡ 0) ⌝ }
+    ensures { λ r. ⌜ Runs (settingOf (cuts (now (pts .entry)) (now (out .entry)) (now (keep .entry)) (now (next .entry))) (slices (now (edges .entry)) (now (words .entry)) (now (reals .entry)) (now (keys .entry)) (now (events .entry)) (now (vertex .entry))) limit (now (flags .entry)) (now (ends .entry)) (now (lens .entry)) m) (now (ops .entry)) (now (args .entry)) n (firstOf (slices (now (edges .entry)) (now (words .entry)) (now (reals .entry)) (now (keys .entry)) (now (events .entry)) (now (vertex .entry)))) r (slices (now (edges .exit)) (now (words .exit)) (now (reals .exit)) (now (keys .exit)) (now (events .exit)) (now (vertex .exit))) ⌝ }
+{
+    let mut made = 0;
+    let mut queued = 0;
+    let mut k = 0;
+    while k < n {
+        let op = trim_run::operation_at(ops, args, k);
+        let step = operate(
+            m,
+            op,
+            limit,
+            ends,
+            lens,
+            flags,
+            edges,
+            words,
+            reals,
+            keys,
+            events,
+            vertex,
+            pts,
+            out,
+            keep,
+            next,
+            made,
+            queued,
+        );
+        match step {
+            Step::Stopped(number) => return Ran::Ended { at: k, number },
+            Step::Went { made: a, queued: b } => {
+                made = a;
+                queued = b;
+            }
+        }
+        k += 1;
+    }
+    Ran::Done { made, queued }
+}
+
+// The same over the first x slots of the cut buffers.
+fn run_parts(
+    x: u32,
+    m: u32,
+    n: u32,
+    limit: f64,
+    ops: &[u32],
+    args: &[f64],
+    ends: &[u32],
+    lens: &[f64],
+    flags: &[u8],
+    edges: &mut [u32],
+    words: &mut [u32],
+    reals: &mut [f64],
+    keys: &mut [f64],
+    events: &mut [u32],
+    vertex: &mut [f64],
+    pts: &mut [f64],
+    out: &mut [f64],
+    keep: &mut [f64],
+    next: &mut [f64],
+) -> Ran
+    requires { ⌜ (m ≡ edgeCount (now ends) (now lens) (now edges)) × ((x ≡ cutCount (cuts (now pts) (now out) (now keep) (now next))) × ((n ≡ operationCount (now ops) (now args)) × ((e : ℕ) → headOf (now edges) e ≡ 0))) ⌝ }
+    ensures { λ r. ⌜ Runs (lentSetting (cuts (now (pts .entry)) (now (out .entry)) (now (keep .entry)) (now (next .entry))) (slices (now (edges .entry)) (now (words .entry)) (now (reals .entry)) (now (keys .entry)) (now (events .entry)) (now (vertex .entry))) limit (now (flags .entry)) (now (ends .entry)) (now (lens .entry))) (now (ops .entry)) (now (args .entry)) (operationCount (now (ops .entry)) (now (args .entry))) (firstOf (slices (now (edges .entry)) (now (words .entry)) (now (reals .entry)) (now (keys .entry)) (now (events .entry)) (now (vertex .entry)))) r (slices (now (edges .exit)) (now (words .exit)) (now (reals .exit)) (now (keys .exit)) (now (events .exit)) (now (vertex .exit))) ⌝ }
+{
+    let single = x as usize;
+    let double = 2 * single;
+    run_all(
+        m,
+        n,
+        limit,
+        ops,
+        args,
+        ends,
+        lens,
+        flags,
+        edges,
+        words,
+        reals,
+        keys,
+        events,
+        vertex,
+        &mut pts[..single],
+        &mut out[..double],
+        &mut keep[..double],
+        &mut next[..double],
+    )
+}
+
+// The operations of a list, one after the other, on edges without windows and with no event queued. The list ends before an operation
+// that is refused; the buffers are zeroed then. The lists of the additions are zeroed in any case.
+pub fn run(
+    limit: f64,
+    ops: &[u32],
+    args: &[f64],
+    ends: &[u32],
+    lens: &[f64],
+    flags: &[u8],
+    edges: &mut [u32],
+    words: &mut [u32],
+    reals: &mut [f64],
+    keys: &mut [f64],
+    events: &mut [u32],
+    vertex: &mut [f64],
+    pts: &mut [f64],
+    out: &mut [f64],
+    keep: &mut [f64],
+    next: &mut [f64],
+) -> Ran
+    ensures { λ r. ⌜ RunWhole limit (now (flags .entry)) (now (ends .entry)) (now (lens .entry)) (now (ops .entry)) (now (args .entry)) (slices (now (edges .entry)) (now (words .entry)) (now (reals .entry)) (now (keys .entry)) (now (events .entry)) (now (vertex .entry))) (cuts (now (pts .entry)) (now (out .entry)) (now (keep .entry)) (now (next .entry))) r (slices (now (edges .exit)) (now (words .exit)) (now (reals .exit)) (now (keys .exit)) (now (events .exit)) (now (vertex .exit))) (cuts (now (pts .exit)) (now (out .exit)) (now (keep .exit)) (now (next .exit))) ⌝ }
+{
+    let m = edge_count(ends, lens, edges);
+    let x = cut_count(pts, out, keep, next);
+    let n = buffers::count(ops.len(), 4, args.len(), 5);
+    buffers::zero_u32(edges);
+    let r = run_parts(
+        x,
+        m,
+        n,
+        limit,
+        ops,
+        args,
+        ends,
+        lens,
+        flags,
+        edges,
+        words,
+        reals,
+        keys,
+        events,
+        vertex,
+        pts,
+        out,
+        keep,
+        next,
+    );
+    zero_cuts(pts, out, keep, next);
+    match r {
+        Ran::Done { made, queued } => Ran::Done { made, queued },
+        Ran::Ended { at, number } => {
+            zero_slices(edges, words, reals, keys, events, vertex);
+            Ran::Ended { at, number }
+        }
+    }
 }
