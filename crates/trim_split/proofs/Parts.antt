@@ -26,6 +26,7 @@ use Rattle.trim_state.specs.Trace.{windowEvent, making, makings, splitting}
 use Rattle.live_windows.specs.Live.{Holds, lastLink, liveOf, windowOf, ranged, Makes, Trims, Kills}
 use Rattle.trim_split.specs.Running.{Place, place, stockOf, End, stopped, at, Ran, Does}
 use Rattle.trim_split.proofs.Edges.{put-there, holds-again, last-link}
+use Rattle.trim_split.proofs.Untouched.{untouched-made, untouched-killed, untouched-trimmed}
 use Rattle.trim_split.proofs.Running.{ran-none, does-then}
 
 module _ (cuts windows : ℕ) (limit : Float) (flags : List ℕ) (made queued : ℕ) (q : Queue) (vertex : List Float) where
@@ -86,6 +87,7 @@ module _ (cuts windows : ℕ) (limit : Float) (flags : List ℕ) (e : EdgeId) (x
       holds = λ m live xs zs i l hs.
           let g = makes .holds m (put (e .0) (xs ++ zs) live) xs zs i hs (put-there (e .0) (xs ++ zs) live) l .0 in
           subst (λ (u : Window). Holds (suc made) m b′ f′ (put (e .0) (xs ++ (u ∷ zs)) live)) (made-is e x k made b0 b1 low isLow) (holds-again (suc made) m b′ f′ (e .0) (xs ++ (liveOf (windowOf e (x .into) (x .queued) 0 (record { b0 = b0; b1 = b1; low = low; src = x .win .src })) made ∷ zs)) (xs ++ zs) live g);
+      untouched = untouched-made (e .0) made queued last b f q vertex b′ f′ (windowOf e (x .into) (x .queued) 0 (record { b0 = b0; b1 = b1; low = low; src = x .win .src })) makes n (suc made) q′;
       after = λ xs l. sym (last-link xs (part (liveOf x k) b0 b1 made));
     }
 
@@ -141,6 +143,7 @@ module _ (cuts windows : ℕ) (limit : Float) (flags : List ℕ) (e : ℕ) (x : 
     holds = λ m live xs zs j k h.
         holds-again made m b′ f e (xs ++ zs) (xs ++ (liveOf x id ∷ zs)) live
         (kills .holds m f (put e (xs ++ (liveOf x id ∷ zs)) live) xs (liveOf x id) zs j h (put-there e (xs ++ (liveOf x id ∷ zs)) live) k refl .0);
+    untouched = untouched-killed e made queued last b f q vertex b′ id kills;
     after = λ xs k. k ∙ ap lastLink (sym (append-nil xs));
   }
 
@@ -161,6 +164,7 @@ module _ (cuts windows : ℕ) (limit : Float) (flags : List ℕ) (e : ℕ) (x : 
           let g = trims .holds made m b e (put e (xs ++ (liveOf x id ∷ zs)) live) xs (liveOf x id) zs j h (put-there e (xs ++ (liveOf x id ∷ zs)) live) refl .0 in
           subst (λ (y : Float). Holds made m b f′ (put e (xs ++ (ranged (liveOf x id) (p0 .from) (p0 .to) y ∷ zs)) live)) isLow
           (holds-again made m b f′ e (xs ++ (ranged (liveOf x id) (p0 .from) (p0 .to) low ∷ zs)) (xs ++ (liveOf x id ∷ zs)) live g);
+      untouched = untouched-trimmed e made queued last b f q vertex f′ id (p0 .from) (p0 .to) low in-made trims (suc id);
       after = λ xs k. sym (last-link xs first);
     }
 

@@ -29,6 +29,7 @@ use Rattle.live_windows.specs.Live.{Holds, lastLink}
 use Rattle.trim_cut.specs.Cut.{lossLengths, lengths}
 use Rattle.trim_split.specs.Running.{Place, stockOf, End, stopped, at, Ran, Does}
 use Rattle.trim_split.proofs.Edges.{last-link}
+use Rattle.trim_split.proofs.Untouched.{untouched-same}
 use Rattle.trim_visit.specs.Visiting.{from, Kept}
 
 -- lists that come to so many entries
@@ -127,6 +128,7 @@ module _ (cuts windows : ℕ) (limit : Float) (flags : List ℕ) (e : ℕ) (p : 
     linked = inside;
     plays = h;
     holds = λ m live xs zs i l k. k;
+    untouched = untouched-same e p (p .queued) (suc (u .num)) (p .queue) (p .vertex);
     after = λ xs l. sym (last-link xs u);
   }
 
@@ -218,6 +220,7 @@ module _ (cuts windows : ℕ) (limit : Float) (flags : List ℕ) (e : ℕ) (t : 
         linked = d .linked;
         plays = played-rest ∙ ap (λ (l : List Action). play cuts windows limit flags l (stockOf p)) (some gs z ∙ ap (splitting u (p .made)) (sym is)) ∙ d .plays;
         holds = λ m live xs zs i l k. subst (λ (ys : List Window). Holds (p′ .made) m (p′ .links) (p′ .reals) (put e (xs ++ (ys ++ zs)) live)) (sym same) (d .holds m live xs zs i l k);
+        untouched = d .untouched;
         after = λ xs l. d .after xs l ∙ ap (λ (ys : List Window). lastLink (xs ++ ys)) (sym same);
       }
         where
