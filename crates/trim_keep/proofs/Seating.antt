@@ -38,7 +38,7 @@ module _ (cuts windows : ℕ) (limit : Float) (flags : List ℕ) (e : ℕ) (len 
   pub seats-end : (p : Place) → Does [] p (at p)
   seats-end p m live xs zs i l h = record {
     plays = ap (λ (todo : List Action). play cuts windows limit flags todo (stockOf p)) (keeping-none len a b w (p .made)) ∙ play-nil cuts windows limit flags (stockOf p);
-    untouched = untouched-same e p (p .queued) (p .last) (p .queue) (p .vertex);
+    untouched = untouched-same (λ k. k ≡ e) p (p .queued) (p .last) (p .queue) (p .vertex);
     holds = holds-equal (p .made) m (p .links) (p .reals) e (xs ++ zs) (seatAll (fresh w (p .made) []) xs zs) live (sym (ap (λ (ns : List Window). seatAll ns xs zs) (fresh-none w (p .made)) ∙ seat-all-nil xs zs)) h;
   }
 
@@ -99,7 +99,7 @@ module _ (cuts windows : ℕ) (limit : Float) (flags : List ℕ) (e : ℕ) (len 
                   (append-assoc xs ys (n ∷ rs) ∙ sym (append-assoc xs (ys ++ (n ∷ [])) rs ∙ ap (λ (v : List Window). xs ++ v) (append-assoc ys (n ∷ []) rs))) g,
             )
 
-        seated-on : Untouched e p p2
+        seated-on : Untouched (λ k. k ≡ e) p p2
         seated-on = let u = ran .untouched in record { more = u .more; edges = u .edges; words = u .words; reals = u .reals }
 
         pub seats-turn : (end : End) → Does ks p2 end → Does (k ∷ ks) p end
@@ -107,4 +107,4 @@ module _ (cuts windows : ℕ) (limit : Float) (flags : List ℕ) (e : ℕ) (len 
         seats-turn (at p′) d m live xs zs i l h =
             let x = there m live xs zs i l h in
             let y = d m live (seatFront n xs zs) (seatRest n zs) i (x .0) (x .1) in
-            record { plays = start ∙ y .plays; untouched = untouched-then e p p2 p′ seated-on (y .untouched); holds = holds-equal (p′ .made) m (p′ .links) (p′ .reals) e (seatAll (fresh w (p1 .made) ks) (seatFront n xs zs) (seatRest n zs)) (seatAll (fresh w (p .made) (k ∷ ks)) xs zs) live (news xs zs) (y .holds) }
+            record { plays = start ∙ y .plays; untouched = untouched-then (λ k. k ≡ e) p p2 p′ seated-on (y .untouched); holds = holds-equal (p′ .made) m (p′ .links) (p′ .reals) e (seatAll (fresh w (p1 .made) ks) (seatFront n xs zs) (seatRest n zs)) (seatAll (fresh w (p .made) (k ∷ ks)) xs zs) live (news xs zs) (y .holds) }

@@ -25,7 +25,7 @@ module _ (cuts windows : ℕ) (limit : Float) (flags : List ℕ) (e : ℕ) (len 
   -- from p to p′ the intervals became windows, seated behind xs among zs
   pub record Seated (m : ℕ) (live : ℕ → List Window) (xs zs : List Window) (ks : List Interval) (p p′ : Place) : Type 0 where
     pub plays : play cuts windows limit flags (keeping len a b w (p .made) ks) (stockOf p) ≡ actions.went (stockOf p′)
-    pub untouched : Untouched e p p′
+    pub untouched : Untouched (λ k. k ≡ e) p p′
     pub holds : Holds (p′ .made) m (p′ .links) (p′ .reals) (put e (seatAll (fresh w (p .made) ks) xs zs) live)
 
   abbrev pub SeatsAmong : (m : ℕ) (live : ℕ → List Window) (xs zs : List Window) → List Interval → Place → End → Type 0

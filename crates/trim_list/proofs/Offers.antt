@@ -16,7 +16,7 @@ use Rattle.trim_model.specs.Model.{Candidate}
 use Rattle.trim_state.specs.State.{State, Result, stopped, went, addOf}
 use Rattle.trim_state.specs.Follows.{Follows}
 use Rattle.trim_cut.specs.Cut.{Sizes}
-use Rattle.trim_split.specs.Running.{place, End}
+use Rattle.trim_split.proofs.Untouched.{untouched-wider}
 use Rattle.trim_split.specs.Running.{Ready as Running·Ready}
 use Rattle.trim_split.specs.declared.Counts.{Counts}
 use Rattle.trim.specs.declared.Added.{Added}
@@ -27,7 +27,7 @@ use Rattle.trim_run.specs.Run.{hasLength, isOnEdge, refusalOf, offering, operat
 use Rattle.trim_run.specs.Represents.{Checked}
 use Rattle.trim_run.proofs.Follow.{and-left, and-right, proper}
 use Rattle.trim_list.specs.declared.Step.the-variants.{Stopped, Went}
-use Rattle.trim_list.specs.Lists.{Slices, Cuts, Setting, settingOf, Ready, Stands, Says, Operated}
+use Rattle.trim_list.specs.Lists.{Slices, Cuts, Setting, settingOf, Ready, Stands, placeIn, Says, Operated}
 
 -- ---- by the answers of two tests
 refused : (a b : Bool) (n : ℕ) (r : Result) → n ≡ cond a (cond b 0 42) 41 → n ≢ 0 → cond a (cond b r (stopped 42)) (stopped 41) ≡ stopped n
@@ -85,7 +85,7 @@ module _ (limit : Float) (flags ends : List ℕ) (lens : List Float) (m : ℕ) (
     -- of the ends that were read
     module _ (low high : ℕ) (isLow : low ≡ getD ends (2 * c .edge + 0) 0) (isHigh : high ≡ getD ends (2 * c .edge + 1) 0) where
       given : (s : State) (cs : List Candidate) → Stands m made queued b s → Follows limit (g .mesh .len) cs (s .stock .made) (s .live)
-          → Given (g .cuts) (g .windows) limit flags l low high c m (g .mesh) cs s (place made queued 0 (links (b .edges) (b .words)) (b .reals) (queue (b .keys) (b .events)) (b .vertex))
+          → Given (g .cuts) (g .windows) limit flags l low high c m (g .mesh) cs s (placeIn made queued b)
       given s cs S F = record {
         there = offer-there;
         long = sym long;
@@ -105,7 +105,7 @@ module _ (limit : Float) (flags ends : List ℕ) (lens : List Float) (m : ℕ) (
 
       -- what `add` ensures of its answer
       abbrev AddsTo : Added → Slices → Type 0
-      AddsTo r b′ = Adds (g .cuts) (g .windows) limit flags l low high c (place made queued 0 (links (b .edges) (b .words)) (b .reals) (queue (b .keys) (b .events)) (b .vertex))
+      AddsTo r b′ = Adds (g .cuts) (g .windows) limit flags l low high c (placeIn made queued b)
           (endOf r (links (b′ .edges) (b′ .words)) (b′ .reals) (queue (b′ .keys) (b′ .events)) (b′ .vertex))
 
       adds : (s : State) → operate (g .cuts) (g .windows) limit flags (g .mesh) m (g .vertices) (offer c) s ≡ added s
@@ -120,7 +120,7 @@ module _ (limit : Float) (flags ends : List ℕ) (lens : List Float) (m : ℕ) (
         fits = fits;
         says = λ s cs S F.
             let r = h m (g .mesh) cs s (given s cs S F) in
-            record { state = record { live = r .live; stock = _ }; is = adds s ∙ r .is; stands = record { holds = r .holds; stock = refl } };
+            record { state = record { live = r .live; stock = _ }; is = adds s ∙ r .is; stands = record { holds = r .holds; stock = refl }; untouched = untouched-wider (λ k. k ≡ c .edge) (λ e. e < m) (λ e h. subst (λ (k : ℕ). k < m) (sym h) offer-there) (placeIn made queued b) (placeIn (now .made) (now .queued) b′) (r .untouched) };
       }
 
     -- what `add` requires

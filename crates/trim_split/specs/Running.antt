@@ -54,10 +54,10 @@ pub record Ready (e made last : ℕ) (edges words : List ℕ) (reals : List Floa
   pub linked : last ≤ made
   pub edge : e < slotsOf (length edges) 6
 
--- what stays as it is from p to p′: the slots past the windows that are made by then, and of the edges' words all but the head of e and the link that e remembers
-pub record Untouched (e : ℕ) (p p′ : Place) : Type 0 where
+-- what stays as it is from p to p′: the slots past the windows that are made by then, and the edges' words but for the head of each edge at work and the link that it remembers
+pub record Untouched (AtWork : ℕ → Type 0) (p p′ : Place) : Type 0 where
   pub more : p .made ≤ p′ .made
-  pub edges : (i : ℕ) → i ≢ 6 * e + 4 → i ≢ 6 * e + 5 → getD (p′ .links .edges) i 0 ≡ getD (p .links .edges) i 0
+  pub edges : (i : ℕ) → ((e : ℕ) → AtWork e → (i ≢ 6 * e + 4) × (i ≢ 6 * e + 5)) → getD (p′ .links .edges) i 0 ≡ getD (p .links .edges) i 0
   pub words : drop (4 * p′ .made) (p′ .links .words) ≡ drop (4 * p′ .made) (p .links .words)
   pub reals : drop (6 * p′ .made) (p′ .reals) ≡ drop (6 * p′ .made) (p .reals)
 
@@ -69,7 +69,7 @@ module _ (cuts windows : ℕ) (limit : Float) (flags : List ℕ) (e : ℕ) where
     pub linked : p′ .last ≤ p′ .made
     pub plays : play cuts windows limit flags todo (stockOf p) ≡ actions.went (stockOf p′)
     pub holds : (m : ℕ) (live : ℕ → List Window) (xs zs : List Window) → e < m → p .last ≡ lastLink xs → Holds (p .made) m (p .links) (p .reals) (put e (xs ++ (old ++ zs)) live) → Holds (p′ .made) m (p′ .links) (p′ .reals) (put e (xs ++ (new ++ zs)) live)
-    pub untouched : Untouched e p p′
+    pub untouched : Untouched (λ k. k ≡ e) p p′
     pub after : (xs : List Window) → p .last ≡ lastLink xs → p′ .last ≡ lastLink (xs ++ new)
 
   abbrev pub Does : List Action → List Window → List Window → Place → End → Type 0

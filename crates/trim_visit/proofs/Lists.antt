@@ -128,7 +128,7 @@ module _ (cuts windows : ℕ) (limit : Float) (flags : List ℕ) (e : ℕ) (p : 
     linked = inside;
     plays = h;
     holds = λ m live xs zs i l k. k;
-    untouched = untouched-same e p (p .queued) (suc (u .num)) (p .queue) (p .vertex);
+    untouched = untouched-same (λ k. k ≡ e) p (p .queued) (suc (u .num)) (p .queue) (p .vertex);
     after = λ xs l. sym (last-link xs u);
   }
 
