@@ -14,7 +14,7 @@ use Rattle.buffers.specs.declared.FaceId.{FaceId}
 use Rattle.source.specs.declared.Win.{Win}
 use Rattle.windows.specs.declared.WindowRecord.{WindowRecord}
 use Rattle.windows.specs.Windows.{windowAt, trimmed, reflagged, relinked}
-use Rattle.chains.specs.Chains.{Links, links, linkIn, linkAt, OnEdge, firstLink}
+use Rattle.chains.specs.Chains.{Links, links, linkIn, linkAt, Out, OnEdge, firstLink}
 use Rattle.better.specs.Claim.{All}
 use Rattle.trim_model.specs.Windows.{Window, unqueued, takeWhile}
 use Rattle.trim_state.specs.State.{put}
@@ -42,10 +42,19 @@ pub record Alive (w : List ℕ) (f : List Float) (u : Window) : Type 0 where
   pub alive : windowAt w f (u .num) .alive ≡ true
   pub same : liveOf (windowAt w f (u .num)) (u .num) ≡ u
 
--- us are the windows of edge e in order, of the first n
+-- i is one of the list
+abbrev pub In : ℕ → List ℕ → Type 0
+In i is = Out i is → ⊥
+
+-- of the first n windows, those alive on edge e are all in the list
+abbrev pub Complete : ℕ → List ℕ → List Float → ℕ → List ℕ → Type 0
+Complete n w f e is = (i : ℕ) → i < n → windowAt w f i .edge .0 ≡ e → windowAt w f i .alive ≡ true → In i is
+
+-- us are the windows of edge e in order, of the first n, and all of them that are alive
 pub record Stands (n : ℕ) (b : Links) (f : List Float) (e : ℕ) (us : List Window) : Type 0 where
   pub chain : OnEdge n b e (nums us)
   pub windows : All (Alive (b .words) f) us
+  pub complete : Complete n (b .words) f e (nums us)
 
 -- the Rust's `on_edge` of m edges
 abbrev pub Holds : ℕ → ℕ → Links → List Float → (ℕ → List Window) → Type 0
