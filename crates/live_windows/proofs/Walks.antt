@@ -107,15 +107,15 @@ module _ (w : List ℕ) (f : List Float) (u : Window) (a : Alive w f u) where
   end-is : getD f (6 * u .num + 1) nan ≡ u .b1
   end-is = sym (b1-is w f (u .num)) ∙ ap (λ v. v .b1) (a .same)
 
-  passes-is : (b0 lo : Float) → passesAt b0 lo f (u .num) ≡ (lt (u .b0) b0 && not (lt lo (u .b1)))
+  pub passes-is : (b0 lo : Float) → passesAt b0 lo f (u .num) ≡ (lt (u .b0) b0 && not (lt lo (u .b1)))
   passes-is b0 lo = ap (λ x. lt x b0 && not (lt lo (getD f (6 * u .num + 1) nan))) start-is ∙ ap (λ x. lt (u .b0) b0 && not (lt lo x)) end-is
 
   starts-is : (b0 : Float) → startsAt b0 f (u .num) ≡ totalLess (u .b0) b0
   starts-is b0 = ap (λ x. totalLess x b0) start-is
 
 -- what the loops come to
-pub passed : (tiny b0 : Float) (f : List Float) (n : ℕ) (b : Links) (e r : ℕ) → r ≤ n → r ≡ walkOn (passesAt b0 (b0 ⊖ tiny) f) n b e n 0 → Walked (passes tiny b0) n b f e 0 r
-passed tiny b0 f n b e r h i = walked (passesAt b0 (b0 ⊖ tiny) f) (passes tiny b0) f n b e 0 r (λ u a. passes-is (b .words) f u a b0 (b0 ⊖ tiny)) h i
+pub passed : (tiny b0 : Float) (f : List Float) (n : ℕ) (b : Links) (e k r : ℕ) → r ≤ n → r ≡ walkOn (passesAt b0 (b0 ⊖ tiny) f) n b e n k → Walked (passes tiny b0) n b f e k r
+passed tiny b0 f n b e k r h i = walked (passesAt b0 (b0 ⊖ tiny) f) (passes tiny b0) f n b e k r (λ u a. passes-is (b .words) f u a b0 (b0 ⊖ tiny)) h i
 
 pub seated : (b0 : Float) (f : List Float) (n : ℕ) (b : Links) (e k r : ℕ) → r ≤ n → r ≡ walkOn (startsAt b0 f) n b e n k → Walked (sortsBefore b0) n b f e k r
 seated b0 f n b e k r h i = walked (startsAt b0 f) (sortsBefore b0) f n b e k r (λ u a. starts-is (b .words) f u a b0) h i

@@ -28,7 +28,7 @@ use Rattle.trim_state.specs.State.{State, Result, put, finish}
 use Rattle.trim_state.specs.Trace.{visitings, keeping, adding}
 use Rattle.trim_state.proofs.Turns.{adding-is}
 use Rattle.trim_state.proofs.Seated.{passed, reached, beyond, walked, walk-seated}
-use Rattle.live_windows.specs.Live.{Holds, Walked, nums, endLink, lastLink}
+use Rattle.live_windows.specs.Live.{Holds, nums, lastLink}
 use Rattle.live_windows.proofs.Places.{short}
 use Rattle.trim_split.specs.Running.{Place, place, stockOf, End, stopped, at, Ran}
 use Rattle.trim_split.specs.declared.Counts.{Counts}
@@ -39,10 +39,6 @@ use Rattle.trim_keep.specs.Keeping.{Seats, SeatsAmong}
 use Rattle.trim.specs.Adding.{Leaves, Says}
 
 -- ---- lists
-none-link : 0 ≡ lastLink []
-unfolding nums endLink
-none-link = refl
-
 nums-length : (us : List Window) → length (nums us) ≡ length us
 unfolding nums
 nums-length [] = refl
@@ -127,10 +123,7 @@ module _ (cuts windows : ℕ) (limit : Float) (flags : List ℕ) (e : ℕ) (len 
     stand : Holds made m lk f (put e (front ++ rest) live)
     stand = holds-put made m lk f e (front ++ rest) live (sym parts) hold
 
-    module _ (some : 0 < cuts) (before : ℕ) (walks : Walked (passes t (w .b0)) made lk f e 0 before) where
-      link : before ≡ lastLink front
-      link = walks .last m live [] (live e) there hold refl none-link
-
+    module _ (some : 0 < cuts) (before : ℕ) (link : before ≡ lastLink front) where
       played-one : played (adding len a b w (live e) made) stock₀ ≡ played (visiting ++ kept (walk .made) (walk .keep)) stock₀
       played-one = ap (λ (l : List Action). played l stock₀) todo-is ∙ list-go (visiting ++ kept (walk .made) (walk .keep)) some
 

@@ -17,7 +17,7 @@ use Rattle.chains.specs.Chains.{links}
 use Rattle.windows.specs.declared.WindowRecord.{WindowRecord}
 use Rattle.actions.specs.Actions.{Stock, play}
 use Rattle.trim_model.specs.Intervals.{width, tinyOf, wideOf}
-use Rattle.trim_model.specs.Windows.{Window}
+use Rattle.trim_model.specs.Windows.{Window, takeWhile}
 use Rattle.trim_model.specs.Add.{passes, addTo}
 use Rattle.trim_model.specs.Model.{Candidate, asWindow, admits}
 use Rattle.trim_model.proofs.Ranks.{Nonneg}
@@ -28,16 +28,17 @@ use Rattle.trim_state.specs.State.{State, Mesh, put, finish, admitOf, addOf}
 use Rattle.trim_state.specs.Trace.{adding}
 use Rattle.trim_state.proofs.Follows.{follows-tidy}
 use Rattle.trim_state.proofs.Seated.{proper-nonneg, admitted-wide}
-use Rattle.live_windows.specs.Live.{Holds, Walked, liveOf}
+use Rattle.live_windows.specs.Live.{Holds, Fronted, liveOf, lastLink}
 use Rattle.trim_split.specs.Running.{Place, stockOf, End, stopped, at}
 use Rattle.trim_split.specs.declared.Counts.{Counts}
 use Rattle.trim_split.specs.declared.Made.{Made}
 use Rattle.trim_cut.specs.Cut.{Sizes}
-use Rattle.trim_split.proofs.Loops.{Slices, SameLengths, same-windows, windowsOf, placeOf, ReadyIn, ready-same}
+use Rattle.trim_split.proofs.Loops.{Slices, slices, SameLengths, same-windows, windowsOf, placeOf, ReadyIn, ready-same}
 use Rattle.trim_visit.specs.declared.Visited.the-variants.{Stopped, Went}
 use Rattle.trim_visit.specs.Visiting.{VisitsAll}
 use Rattle.trim_keep.specs.Keeping.{Seats, Bounded}
 use Rattle.trim.specs.Adding.{candidateOf, Given, Says, Admits, Adds}
+use Rattle.trim.proofs.Front.{tidy-leads}
 use Rattle.trim.proofs.Adding.{no-cuts, visit-stopped, all-seated}
 
 module _ (cuts : ℕ) (limit : Float) (flags : List ℕ) (e : ℕ) (len : Float) (a b : ℕ) (x : WindowRecord) (made queued : ℕ) (s : Slices) (vertex : List Float) where
@@ -84,35 +85,44 @@ module _ (cuts : ℕ) (limit : Float) (flags : List ℕ) (e : ℕ) (len : Float)
   pub admit-full : (tiny : Float) → cuts ≡ 0 → LowIs → tiny ≡ tinyOf len → Admits cuts (windowsOf s) limit flags len a b c p (stopped 14)
   admit-full tiny z low is = admitted (stopped 14) (λ m live i h n W t. no-cuts cuts (windowsOf s) limit flags e len a b w made queued (p .links) (p .reals) (p .queue) vertex m live i h n W t z) low
 
-  module _ (tiny : Float) (some : cuts ≢ 0) (before : ℕ) (walks : Walked (passes tiny (x .win .b0)) made (p .links) (p .reals) e 0 before) (keep : List Float) (one : pairs 1 keep ≡ interval (x .win .b0) (x .win .b1) ∷ []) where
+  -- the walk along the front leaves s₁, where the edge remembers its end
+  module _ (tiny : Float) (some : cuts ≢ 0) (before : ℕ) (edges₁ : List ℕ) (fronted : Fronted (passes tiny (x .win .b0)) made (p .links) (p .reals) edges₁ e before) (keep : List Float) (one : pairs 1 keep ≡ interval (x .win .b0) (x .win .b1) ∷ []) where
+    abbrev s₁ : Slices
+    s₁ = slices edges₁ (s .words) (s .reals) (s .keys) (s .events)
+
     above : 0 < cuts
     above = omega (arith, some)
 
-    walks-at : tiny ≡ tinyOf len → Walked (passes (tinyOf len) (x .win .b0)) made (p .links) (p .reals) e 0 before
-    walks-at is = subst (λ (t : Float). Walked (passes t (x .win .b0)) made (p .links) (p .reals) e 0 before) is walks
+    module _ (m : ℕ) (live : ℕ → List Window) (there : e < m) (hold : Holds made m (p .links) (p .reals) live) where
+      held : Holds made m (links edges₁ (s .words)) (s .reals) live
+      held = fronted .holds m (s .reals) live hold
+
+      link : tiny ≡ tinyOf len → Tidy (tinyOf len) (live e) → before ≡ lastLink (takeWhile (passes (tinyOf len) (x .win .b0)) (live e))
+      link is t = subst (λ (y : Float). before ≡ lastLink (takeWhile (passes y (x .win .b0)) (live e))) is
+          (fronted .last m live there hold (tidy-leads tiny (x .win .b0) (live e) (subst (λ (y : Float). Tidy y (live e)) (sym is) t)))
 
     abbrev Few : List Window → Type 0
     Few zs = length zs ≤ made
 
     -- a visit is stopped
-    pub admit-stopped : (n : ℕ) (keep′ : List Float) → ((limit : Float) (flags : List ℕ) (vertex : List Float) → VisitsAll cuts (windowsOf s) limit flags e tiny w Few (pairs 1 keep) (placeOf s made queued before vertex) (Stopped n) (stopped n) keep′)
+    pub admit-stopped : (n : ℕ) (keep′ : List Float) → ((limit : Float) (flags : List ℕ) (vertex : List Float) → VisitsAll cuts (windowsOf s) limit flags e tiny w Few (pairs 1 keep) (placeOf s₁ made queued before vertex) (Stopped n) (stopped n) keep′)
         → LowIs → tiny ≡ tinyOf len → Admits cuts (windowsOf s) limit flags len a b c p (stopped n)
     admit-stopped n keep′ d low is = admitted (stopped n)
-        (λ m live i h n0 W t. visit-stopped cuts (windowsOf s) limit flags e len a b w made queued (p .links) (p .reals) (p .queue) vertex m live i h n0 W t above before (walks-at is) n keep′
-        (subst (λ (y : Float). VisitsAll cuts (windowsOf s) limit flags e y w Few (interval (x .win .b0) (x .win .b1) ∷ []) (placeOf s made queued before vertex) (Stopped n) (stopped n) keep′) is
-        (subst (λ (ks : List Interval). VisitsAll cuts (windowsOf s) limit flags e tiny w Few ks (placeOf s made queued before vertex) (Stopped n) (stopped n) keep′) one
+        (λ m live i h n0 W t. visit-stopped cuts (windowsOf s) limit flags e len a b w made queued (links edges₁ (s .words)) (p .reals) (p .queue) vertex m live i (held m live i h) n0 W t above before (link m live i h is t) n keep′
+        (subst (λ (y : Float). VisitsAll cuts (windowsOf s) limit flags e y w Few (interval (x .win .b0) (x .win .b1) ∷ []) (placeOf s₁ made queued before vertex) (Stopped n) (stopped n) keep′) is
+        (subst (λ (ks : List Interval). VisitsAll cuts (windowsOf s) limit flags e tiny w Few ks (placeOf s₁ made queued before vertex) (Stopped n) (stopped n) keep′) one
         (d limit flags vertex))))
         low
 
     -- the windows that are kept are seated, or that is stopped
     module _ (n : Counts) (last k : ℕ) (s′ : Slices) (keep′ : List Float) (same : SameLengths s s′)
-        (d : (limit : Float) (flags : List ℕ) (vertex : List Float) → VisitsAll cuts (windowsOf s) limit flags e tiny w Few (pairs 1 keep) (placeOf s made queued before vertex) (Went n last k) (at (placeOf s′ (n .made) (n .queued) last vertex)) keep′) where
+        (d : (limit : Float) (flags : List ℕ) (vertex : List Float) → VisitsAll cuts (windowsOf s) limit flags e tiny w Few (pairs 1 keep) (placeOf s₁ made queued before vertex) (Went n last k) (at (placeOf s′ (n .made) (n .queued) last vertex)) keep′) where
       pub admit-seated : (end : End) → ((cuts j : ℕ) → Seats cuts (windowsOf s′) limit flags e len a b (liveOf x j) (wideOf tiny (pairs k keep′)) (placeOf s′ (n .made) (n .queued) before vertex) end)
           → LowIs → tiny ≡ tinyOf len → Admits cuts (windowsOf s) limit flags len a b c p end
       admit-seated end seats low is = admitted end
-          (λ m live i h n0 W t. all-seated cuts (windowsOf s) limit flags e len a b w made queued (p .links) (p .reals) (p .queue) vertex m live i h n0 W t above before (walks-at is) n last k (links (s′ .edges) (s′ .words)) (s′ .reals) (queue (s′ .keys) (s′ .events)) keep′
-          (subst (λ (y : Float). VisitsAll cuts (windowsOf s) limit flags e y w Few (interval (x .win .b0) (x .win .b1) ∷ []) (placeOf s made queued before vertex) (Went n last k) (at (placeOf s′ (n .made) (n .queued) last vertex)) keep′) is
-          (subst (λ (ks : List Interval). VisitsAll cuts (windowsOf s) limit flags e tiny w Few ks (placeOf s made queued before vertex) (Went n last k) (at (placeOf s′ (n .made) (n .queued) last vertex)) keep′) one
+          (λ m live i h n0 W t. all-seated cuts (windowsOf s) limit flags e len a b w made queued (links edges₁ (s .words)) (p .reals) (p .queue) vertex m live i (held m live i h) n0 W t above before (link m live i h is t) n last k (links (s′ .edges) (s′ .words)) (s′ .reals) (queue (s′ .keys) (s′ .events)) keep′
+          (subst (λ (y : Float). VisitsAll cuts (windowsOf s) limit flags e y w Few (interval (x .win .b0) (x .win .b1) ∷ []) (placeOf s₁ made queued before vertex) (Went n last k) (at (placeOf s′ (n .made) (n .queued) last vertex)) keep′) is
+          (subst (λ (ks : List Interval). VisitsAll cuts (windowsOf s) limit flags e tiny w Few ks (placeOf s₁ made queued before vertex) (Went n last k) (at (placeOf s′ (n .made) (n .queued) last vertex)) keep′) one
           (d limit flags vertex)))
           end
           (subst (λ (y : Float). Seats cuts (windowsOf s) limit flags e len a b w (wideOf y (pairs k keep′)) (placeOf s′ (n .made) (n .queued) before vertex) end) is
