@@ -162,7 +162,7 @@ module _ (limit : Float) (flags ends : List ℕ) (lens : List Float) (m : ℕ) w
         state = start (queue (b₀ .keys) (b₀ .events)) (b₀ .vertex);
         left = n;
         count = omega arith;
-        stands = record { holds = no-live 0 m (links (b₀ .edges) (b₀ .words)) (b₀ .reals) h; stock = refl };
+        stands = record { holds = no-live m (links (b₀ .edges) (b₀ .words)) (b₀ .reals) h; stock = refl };
         untouched = untouched-same (λ e. e < m) (placeIn 0 0 b₀) 0 0 (queue (b₀ .keys) (b₀ .events)) (b₀ .vertex);
         follows = follows-empty;
         same = ap (λ (os : List Operation). runFrom (setting .cuts) (setting .windows) limit flags (setting .mesh) m (setting .vertices) 0 os (start (queue (b₀ .keys) (b₀ .events)) (b₀ .vertex))) (rest-all ops args n);

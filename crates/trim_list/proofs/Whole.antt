@@ -129,7 +129,7 @@ module _ (limit : Float) (flags ends : List ℕ) (lens : List Float) (ops : List
   settingFor edges words reals = record { cuts = cutCount c; windows = capacityOf words reals; limit = limit; flags = flags; mesh = meshOf ends lens; edges = min (min (slotsOf (length ends) 2) (slotsOf (length lens) 1)) (slotsOf edges 6); vertices = slotsOf (length (b .vertex)) 2 }
 
   same-lent : lentSetting c (cleared b) limit flags ends lens ≡ lentSetting c b limit flags ends lens
-  same-lent = λ t. settingFor (length-replicate (length (b .edges)) 0 t) (length-replicate (length (b .words)) 0 t) (length-replicate (length (b .reals)) zero64 t)
+  same-lent = λ t. settingFor (length-replicate {A = ℕ} (length (b .edges)) 0 t) (length-replicate {A = ℕ} (length (b .words)) 0 t) (length-replicate (length (b .reals)) zero64 t)
 
   abbrev WholeRuns : Setting → Slices → Ran → Slices → Type 0
   WholeRuns g b₁ r b₂ = Runs g ops args (operationCount ops args) (placeIn 0 0 b₁) r b₂
