@@ -31,7 +31,7 @@ record Found (us : List Window) (i : ℕ) : Type 0 where
   number : it .num ≡ i
 
 find : (us : List Window) (i : ℕ) → In i (nums us) → Found us i
-unfolding nums Out
+unfolding nums
 find [] i h = absurd (h tt)
 find (u ∷ us) i h = go (ℕ-discrete (u .num) i) (find us i) where
   go : Dec (u .num ≡ i) → (In i (nums us) → Found us i) → Found (u ∷ us) i

@@ -12,6 +12,7 @@ use Rattle.windows.specs.declared.WindowRecord.{WindowRecord}
 use Rattle.windows.specs.Windows.{hasFlag, windowAt, flagsWith, reflagged, relinked}
 use Rattle.windows.proofs.WindowList.{flags-same, flags-other, link-same, link-other}
 use Rattle.chains.proofs.Turns.{link-in}
+use Rattle.nat_laws.proofs.Lists.{all-append}
 use Rattle.chains.specs.Chains.{Links, linkIn, links, headOf, nextOf, withLink, Path, Out, Belongs, OnEdge}
 use Rattle.chains.proofs.Paths.{path-first, path-set, path-drop}
 use Rattle.chains.proofs.OnEdges.{only-with, head-with, all-set, set-frame, with-frame, flags-frame}
@@ -19,7 +20,7 @@ use Rattle.trim_model.specs.Windows.{Window}
 use Rattle.live_windows.specs.Live.{nums, lastLink, Complete, Stands, bare, winsOf, adjust, dead, Kills}
 use Rattle.live_windows.proofs.Places.{first-in, point, before-is}
 use Rattle.live_windows.proofs.Stored.{Same, others, Behind, with-bare, wins-adjust}
-use Rattle.live_windows.proofs.Standing.{Around, at-edge, holds-put, stands-both, around, not-there, behind-is, last-out, out-both, with-words, with-belongs, not-both, out-more, complete-but, complete-at}
+use Rattle.live_windows.proofs.Standing.{Around, at-edge, holds-put, stands-both, around, not-there, behind-is, last-out, with-words, with-belongs, not-both, out-more, complete-but, complete-at}
 
 -- ---- a window is taken out
 module _ (n : ℕ) (b : Links) (e k i v : ℕ) (q : Bool) (p : 4 * i + 4 ≤ length (b .words)) (r : 6 * e + 6 ≤ length (b .edges)) (kn : k ≤ n) (il : i < n)
@@ -64,14 +65,13 @@ module _ (n : ℕ) (b : Links) (e k i v : ℕ) (q : Bool) (p : 4 * i + 4 ≤ len
     v-is = read ∙ link-in n (nextOf (b .words) i) (rw (path-first (b .words) (nextOf (b .words) i) (nums zs) rest-path) (first-in n (b .words) e (nums zs) (a .belong-rest)))
 
     kill-apart : (front : List ℕ) (j : ℕ) → nums xs ≡ front ++ (j ∷ []) → Out j (nums zs)
-    unfolding Out
     kill-apart front j d = last-out n b e (nums xs) (i ∷ nums zs) front j o d .1 .1
 
     k1 : OnEdge n kb e (nums xs ++ nums zs)
     k1 = point n b e k (nums xs) (i ∷ nums zs) (nums zs) v r kq o (subst (λ l. Path (b .words) l (nums zs)) (sym v-is) rest-path) (a .belong-rest) kill-apart
 
     i-out : Out i (nums xs ++ nums zs)
-    i-out = subst (λ j. Out j (nums xs ++ nums zs)) (sym g) (out-both (u .num) (nums xs) (nums zs) (a .out-front) (a .out-rest))
+    i-out = subst (λ j. Out j (nums xs ++ nums zs)) (sym g) (all-append (λ j. u .num ≢ j) (nums xs) (nums zs) (a .out-front) (a .out-rest))
 
     k2 : OnEdge n (links (kb .edges) kw) e (nums xs ++ nums zs)
     k2 = record {

@@ -1,5 +1,5 @@
 -- A window is made. Assumes nothing.
-use Prim.Native.Nat.{ℕ, suc, _+_, _*_, _≤_, _<_}
+use Prim.Native.Nat.{ℕ, suc, _+_, _*_, _≤_}
 use native.Mathlib.Omega.{arith}
 use native.Mathlib.Decide.{ℕ-discrete}
 use mathlib.Core.Bool.{Bool}
@@ -10,17 +10,17 @@ use lib.ListN.{length, drop}
 use lib.Ieee.{Float}
 use Rattle.buffers.specs.declared.EdgeId.{EdgeId}
 use Rattle.buffers.specs.declared.FaceId.{FaceId}
-use Rattle.source.specs.declared.Src.{Src}
 use Rattle.source.specs.declared.Win.{Win}
 use Rattle.windows.specs.declared.WindowRecord.{WindowRecord}
 use Rattle.windows.specs.Windows.{realsOf, windowAt, wordsWith, realsWith, relinked}
 use Rattle.windows.proofs.WindowList.{length-realsOf, link-is, load-same, load-other}
-use Rattle.chains.specs.Chains.{Links, linkIn, links, headOf, nextOf, linkAt, withLink, Path, Out, AllBelong, firstLink, OnEdge}
+use Rattle.nat_laws.specs.Lists.{listOf}
+use Rattle.nat_laws.proofs.Lists.{all-left, all-right}
+use Rattle.chains.specs.Chains.{Links, linkIn, links, headOf, nextOf, linkAt, withLink, Path, Out, Belongs, AllBelong, firstLink, OnEdge}
 use Rattle.chains.proofs.Paths.{path-after}
-use Rattle.chains.proofs.OnEdges.{head-with, all-append, with-frame, store-frame, stored-belongs, new-out}
+use Rattle.chains.proofs.OnEdges.{head-with, with-frame, store-frame, stored-belongs, new-out}
 use Rattle.better.specs.Claim.{All}
 use Rattle.trim_model.specs.Windows.{Window}
-use Rattle.trim_model.proofs.Lists.{all-left, all-right}
 use Rattle.live_windows.specs.Live.{liveOf, nums, lastLink, Alive, In, Complete, Stands, bare, winsOf, windowOf, Makes}
 use Rattle.live_windows.proofs.Places.{nums-append, nums-cons, next-is, point, before-is}
 use Rattle.live_windows.proofs.Stored.{Same, others, Behind, with-bare, wins-same}
@@ -73,11 +73,9 @@ module _ (n : ℕ) (b : Links) (f : List Float) (e : EdgeId) (k v : ℕ) (into :
     new-path = (refl, subst (λ l. Path mw l (nums zs)) (sym (next-new ∙ v-is)) (path-after mw (headOf (b .edges) (e .0)) (nums xs) (nums zs) (o1 .path)))
 
     new-belong : AllBelong (suc n) mw (e .0) (n ∷ nums zs)
-    unfolding AllBelong
-    new-belong = (stored-belongs n (b .words) x p, all-append (suc n) mw (e .0) (nums xs) (nums zs) (o1 .belong) .1)
+    new-belong = (stored-belongs n (b .words) x p, all-right (Belongs (suc n) mw (e .0)) (nums xs) (nums zs) (o1 .belong))
 
     new-apart : (front : List ℕ) (i : ℕ) → nums xs ≡ front ++ (i ∷ []) → Out i (n ∷ nums zs)
-    unfolding Out
     new-apart front i d =
         let h = last-out n b (e .0) (nums xs) (nums zs) front i o d in
         let l = h .0 .made in
@@ -138,7 +136,7 @@ module _ (n : ℕ) (b : Links) (f : List Float) (e : EdgeId) (k v : ℕ) (into :
     }
 
     made-wins : winsOf (suc n) (mb2 .words) mf ≡ winsOf n (b .words) f ++ (y ∷ [])
-    unfolding winsOf
+    unfolding winsOf listOf
     made-wins =
         ap (λ l. l ++ (bare (windowAt (mb2 .words) mf n) ∷ [])) (wins-same n (b .words) f (mb2 .words) mf (λ j l. made-same j (λ z. omega (arith, z, l))))
         ∙ ap (λ z. winsOf n (b .words) f ++ (z ∷ [])) made-new

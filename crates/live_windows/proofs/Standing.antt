@@ -11,13 +11,13 @@ use lib.Dec.{T, eqb}
 use lib.ListN.{drop}
 use lib.Seq.{append-snoc, drop-set-lt}
 use lib.Ieee.{Float}
+use Rattle.nat_laws.proofs.Lists.{all-append, all-left, all-right}
 use Rattle.windows.specs.Windows.{windowAt, relinked}
 use Rattle.chains.specs.Chains.{Links, headOf, withLink, Path, Out, Belongs, AllBelong, OnEdge}
 use Rattle.chains.proofs.Paths.{front-out}
-use Rattle.chains.proofs.OnEdges.{all-set, all-append, elsewhere, no-windows}
+use Rattle.chains.proofs.OnEdges.{all-set, elsewhere, no-windows}
 use Rattle.better.specs.Claim.{All}
 use Rattle.trim_model.specs.Windows.{Window}
-use Rattle.trim_model.proofs.Lists.{all-append as all-both, all-left, all-right}
 use Rattle.trim_state.specs.State.{put}
 use Rattle.live_windows.specs.Live.{nums, endLink, lastLink, Alive, In, Complete, Stands, Holds, bare}
 use Rattle.live_windows.proofs.Places.{nums-append, nums-cons}
@@ -39,7 +39,7 @@ chain-both n b e xs zs = subst (OnEdge n b e) (nums-append xs zs)
 pub stands-both : (n : ℕ) (b : Links) (f : List Float) (e : ℕ) (xs zs : List Window) → OnEdge n b e (nums xs ++ nums zs) → All (Alive (b .words) f) xs → All (Alive (b .words) f) zs → Complete n (b .words) f e (nums xs ++ nums zs) → Stands n b f e (xs ++ zs)
 stands-both n b f e xs zs o p q c =
     let d : nums xs ++ nums zs ≡ nums (xs ++ zs) = sym (nums-append xs zs) in
-    record { chain = subst (OnEdge n b e) d o; windows = all-both (Alive (b .words) f) xs zs p q; complete = subst (Complete n (b .words) f e) d c }
+    record { chain = subst (OnEdge n b e) d o; windows = all-append (Alive (b .words) f) xs zs p q; complete = subst (Complete n (b .words) f e) d c }
 
 -- a list with one window in sight
 pub record Around (n : ℕ) (b : Links) (f : List Float) (e : ℕ) (xs : List Window) (u : Window) (zs : List Window) : Type 0 where
@@ -54,13 +54,12 @@ pub record Around (n : ℕ) (b : Links) (f : List Float) (e : ℕ) (xs : List Wi
   pub complete : Complete n (b .words) f e (nums xs ++ u .num ∷ nums zs)
 
 pub around : (n : ℕ) (b : Links) (f : List Float) (e : ℕ) (xs : List Window) (u : Window) (zs : List Window) → Stands n b f e (xs ++ u ∷ zs) → Around n b f e xs u zs
-unfolding AllBelong
 around n b f e xs u zs s =
     let d : nums (xs ++ u ∷ zs) ≡ nums xs ++ u .num ∷ nums zs = nums-append xs (u ∷ zs) ∙ ap (λ l. nums xs ++ l) (nums-cons u zs) in
     let o : OnEdge n b e (nums xs ++ u .num ∷ nums zs) = subst (OnEdge n b e) d (s .chain) in
     let r = all-right (Alive (b .words) f) xs (u ∷ zs) (s .windows) in
     let out = front-out (b .words) (headOf (b .edges) e) (nums xs) (u .num) (nums zs) (o .path) in
-    let a = all-append n (b .words) e (nums xs) (u .num ∷ nums zs) (o .belong) .1 in
+    let a = all-right (Belongs n (b .words) e) (nums xs) (u .num ∷ nums zs) (o .belong) in
     record {
       chain = o;
       front = all-left (Alive (b .words) f) xs (u ∷ zs) (s .windows);
@@ -79,25 +78,19 @@ not-there n b f e x i us ne h s = elsewhere n (b .words) x (nums us) i (λ z. ne
 
 -- the link behind which something stands is 0, or a live window's
 behind-all : (n : ℕ) (w : List ℕ) (f : List Float) (e k : ℕ) (us : List Window) → AllBelong n w e (nums us) → All (Alive w f) us → Behind w f k → Behind w f (endLink k (nums us))
-unfolding nums endLink AllBelong Behind
+unfolding nums endLink Behind
 behind-all n w f e k [] a h s = s
 behind-all n w f e k (u ∷ us) a h s = behind-all n w f e (suc (u .num)) us (a .1) (h .1) (a .0 .there, h .0 .alive)
 
 pub behind-is : (n : ℕ) (w : List ℕ) (f : List Float) (e k : ℕ) (xs : List Window) (zs : List ℕ) → k ≡ lastLink xs → AllBelong n w e (nums xs ++ zs) → All (Alive w f) xs → Behind w f k
 unfolding Behind
-behind-is n w f e k xs zs q a h = subst (Behind w f) (sym q) (behind-all n w f e 0 xs (all-append n w e (nums xs) zs a .0) h tt)
+behind-is n w f e k xs zs q a h = subst (Behind w f) (sym q) (behind-all n w f e 0 xs (all-left (Belongs n w e) (nums xs) zs a) h tt)
 
 -- the last window of a front is none of what follows
 pub last-out : (n : ℕ) (b : Links) (e : ℕ) (is zs front : List ℕ) (i : ℕ) → OnEdge n b e (is ++ zs) → is ≡ front ++ (i ∷ []) → Belongs n (b .words) e i × Out i zs
-unfolding AllBelong
 last-out n b e is zs front i o d =
     let o′ : OnEdge n b e (front ++ i ∷ zs) = subst (OnEdge n b e) (ap (λ l. l ++ zs) d ∙ append-snoc front i zs) o in
-    (all-append n (b .words) e front (i ∷ zs) (o′ .belong) .1 .0, front-out (b .words) (headOf (b .edges) e) front i zs (o′ .path) .1)
-
-pub out-both : (i : ℕ) (is js : List ℕ) → Out i is → Out i js → Out i (is ++ js)
-unfolding Out
-out-both i [] js h g = g
-out-both i (j ∷ is) js h g = (h .0, out-both i is js (h .1) g)
+    (all-right (Belongs n (b .words) e) front (i ∷ zs) (o′ .belong) .0, front-out (b .words) (headOf (b .edges) e) front i zs (o′ .path) .1)
 
 -- ---- all that are alive
 pub not-both : (c : Bool) → c ≡ true → c ≡ false → ⊥
@@ -105,17 +98,14 @@ not-both c p q = subst T (sym p ∙ q) tt
 
 -- a list with one number more
 pub out-less : (i k : ℕ) (is js : List ℕ) → Out i (is ++ k ∷ js) → Out i (is ++ js)
-unfolding Out
 out-less i k [] js o = o .1
 out-less i k (j ∷ is) js o = (o .0, out-less i k is js (o .1))
 
 pub out-more : (i k : ℕ) (is js : List ℕ) → i ≢ k → Out i (is ++ js) → Out i (is ++ k ∷ js)
-unfolding Out
 out-more i k [] js ne o = (ne, o)
 out-more i k (j ∷ is) js ne o = (o .0, out-more i k is js ne (o .1))
 
 pub in-it : (k : ℕ) (is js : List ℕ) → In k (is ++ k ∷ js)
-unfolding Out
 in-it k [] js o = o .0 refl
 in-it k (j ∷ is) js o = in-it k is js (o .1)
 
@@ -139,7 +129,7 @@ with-words n b e zero v h = refl
 with-words n b e (suc k) v h = drop-set-lt (4 * n) (b .words) (4 * k + 3) v (omega arith)
 
 pub with-belongs : (n : ℕ) (b : Links) (e k v i : ℕ) → Belongs n (b .words) e i → Belongs n (withLink b e k v .words) e i
-unfolding withLink AllBelong
+unfolding withLink
 with-belongs n b e zero v i h = h
 with-belongs n b e (suc k) v i h = all-set n (b .words) e (i ∷ []) k v (h, tt) .0
 

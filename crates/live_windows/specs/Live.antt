@@ -9,6 +9,7 @@ use lib.ListN.{getD, set, drop}
 use lib.Ieee.{Float}
 use Rattle.float64.specs.TotalOrder.{totalLess}
 use Rattle.float64.specs.Notation.{if_then_else_}
+use Rattle.nat_laws.specs.Lists.{listOf}
 use Rattle.buffers.specs.declared.EdgeId.{EdgeId}
 use Rattle.buffers.specs.declared.FaceId.{FaceId}
 use Rattle.source.specs.declared.Win.{Win}
@@ -67,8 +68,7 @@ bare x = relinked x (cond (x .alive) 0 (x .link))
 
 -- the Rust's `wins`: the first n windows
 unfoldable pub winsOf : ℕ → List ℕ → List Float → List WindowRecord
-winsOf zero w f = []
-winsOf (suc n) w f = winsOf n w f ++ (bare (windowAt w f n) ∷ [])
+winsOf n w f = listOf n (λ i. bare (windowAt w f i))
 
 -- element k changed
 unfoldable pub adjust : {A : Type 0} → ℕ → (A → A) → List A → List A

@@ -1,5 +1,5 @@
 -- The loop over `keep`, turn by turn. Assumes nothing.
-use Prim.Native.Nat.{ℕ, suc, _≤_, _<_}
+use Prim.Native.Nat.{ℕ, suc, _<_}
 use mathlib.Core.Bool.{true}
 use mathlib.Core.List.{List, [], _∷_, _++_, append-assoc}
 use mathlib.Core.Path.{_≡_, refl, sym, ap, _∙_, subst}
@@ -18,7 +18,8 @@ use Rattle.trim_state.proofs.Turns.{wide-skip, wide-end, keeping-none, keeping-
 use Rattle.live_windows.specs.Live.{Holds, lastLink, sortsBefore, Walked}
 use Rattle.live_windows.proofs.Seats.{seat-split}
 use Rattle.trim_split.specs.Running.{Place, place, stockOf, End, stopped, at, Ran, Untouched}
-use Rattle.trim_split.proofs.Edges.{put-there, holds-equal}
+use Rattle.live_windows.proofs.Lists.{put-here}
+use Rattle.trim_split.proofs.Edges.{holds-equal}
 use Rattle.trim_split.proofs.Untouched.{untouched-same, untouched-then}
 use Rattle.trim_keep.specs.Keeping.{Seats}
 
@@ -92,7 +93,7 @@ module _ (cuts windows : ℕ) (limit : Float) (flags : List ℕ) (e : ℕ) (len 
         there m live xs zs i l h =
             let ys = takeWhile (startsUnder n) zs in
             let rs = dropWhile (startsUnder n) zs in
-            let r-is = seated .last m (put e (xs ++ zs) live) xs zs i h (put-there e (xs ++ zs) live) l in
+            let r-is = seated .last m (put e (xs ++ zs) live) xs zs i h (put-here e (xs ++ zs) live) l in
             let g = ran .holds m live (xs ++ ys) rs i r-is (holds-equal (p .made) m (p .links) (p .reals) e (xs ++ zs) ((xs ++ ys) ++ rs) live (seat-split (startsUnder n) xs zs) h) in (
               ran .after (xs ++ ys) r-is ∙ ap lastLink (append-assoc xs ys (n ∷ [])),
               holds-equal (p1 .made) m (p1 .links) (p1 .reals) e ((xs ++ ys) ++ (n ∷ rs)) (seatFront n xs zs ++ seatRest n zs) live

@@ -1,7 +1,7 @@
 -- The loop over the operations of a list. Assumes nothing.
 use Prim.Native.Nat.{ℕ, zero, suc, _+_, _≤_, _<_}
 use native.Mathlib.Omega.{arith}
-use mathlib.Core.List.{List, [], _∷_, _++_, append-assoc}
+use mathlib.Core.List.{List, [], _∷_, _++_, append-assoc, append-nil}
 use mathlib.Core.Path.{_≡_, refl, sym, ap, subst, _∙_}
 use lib.ListN.{length}
 use lib.Ieee.{Float}
@@ -29,13 +29,9 @@ use Rattle.trim_list.specs.declared.Ran.the-variants.{Done, Ended}
 use Rattle.trim_list.specs.Lists.{Slices, Cuts, meshOf, Setting, settingOf, Ready, Stands, Goes, Operated, wholeRun, Finishes, Ends, Runs, placeIn}
 
 -- ---- lists of operations
-append-none : {A : Type 0} (l : List A) → l ++ [] ≡ l
-append-none [] = refl
-append-none (x ∷ l) = ap (λ (m : List _). x ∷ m) (append-none l)
-
 candidates-last : (os : List Operation) (o : Operation) → candidates (os ++ (o ∷ [])) ≡ candidates os ++ candidateOf o
 unfolding candidates
-candidates-last [] o = append-none (candidateOf o)
+candidates-last [] o = append-nil (candidateOf o)
 candidates-last (x ∷ os) o = ap (λ (l : List Candidate). candidateOf x ++ l) (candidates-last os o) ∙ sym (append-assoc (candidateOf x) (candidates os) (candidateOf o))
 
 module _ (ops : List ℕ) (args : List Float) where
@@ -46,7 +42,7 @@ module _ (ops : List ℕ) (args : List Float) where
 
   rest-is : (k j : ℕ) → operations ops args k ++ rest k j ≡ operations ops args (k + j)
   unfolding rest operations
-  rest-is k zero = let e : k ≡ k + zero = omega arith in append-none (operations ops args k) ∙ ap (operations ops args) e
+  rest-is k zero = let e : k ≡ k + zero = omega arith in append-nil (operations ops args k) ∙ ap (operations ops args) e
   rest-is k (suc j) =
       let e : suc k + j ≡ k + suc j = omega arith in
       sym (append-assoc (operations ops args k) (operationAt ops args k ∷ []) (rest (suc k) j))

@@ -8,6 +8,7 @@ use mathlib.Core.Path.{_≡_, refl, sym, ap, subst, _∙_}
 use lib.Dec.{T, ltb, ltb→lt}
 use lib.ListN.{length, getD}
 use lib.Ieee.{Float, nan, binary64, fits}
+use lib.Ieee.Fits.{and-l, and-r}
 use Rattle.buffers.specs.Slots.{slotsOf}
 use Rattle.windows.specs.Windows.{capacityOf}
 use Rattle.heap.specs.Queue.{queue}
@@ -25,7 +26,7 @@ use Rattle.trim.specs.Adding.{Given, Adds, Bounded, endOf}
 use Rattle.trim_run.specs.Operations.{offer, Doubles}
 use Rattle.trim_run.specs.Run.{hasLength, isOnEdge, refusalOf, offering, operate}
 use Rattle.trim_run.specs.Represents.{Checked}
-use Rattle.trim_run.proofs.Follow.{and-left, and-right, proper}
+use Rattle.trim_run.proofs.Follow.{proper}
 use Rattle.trim_list.specs.declared.Step.the-variants.{Stopped, Went}
 use Rattle.trim_list.specs.Lists.{Slices, Cuts, Setting, settingOf, Ready, Stands, placeIn, Says, Operated}
 
@@ -80,7 +81,7 @@ module _ (limit : Float) (flags ends : List ℕ) (lens : List Float) (m : ℕ) (
     is = sym none ∙ checked .number
 
     pub offer-there : c .edge < m
-    offer-there = ltb→lt (c .edge) m (and-left (ltb (c .edge) m) (hasLength l) (passed-first first second is))
+    offer-there = ltb→lt (c .edge) m (and-l (ltb (c .edge) m) (hasLength l) (passed-first first second is))
 
     -- of the ends that were read
     module _ (low high : ℕ) (isLow : low ≡ getD ends (2 * c .edge + 0) 0) (isHigh : high ≡ getD ends (2 * c .edge + 1) 0) where
@@ -98,9 +99,9 @@ module _ (limit : Float) (flags ends : List ℕ) (lens : List Float) (m : ℕ) (
             let d = doubles number checked in
             let on = passed-second first second is in
             proper (g .mesh .len) c d
-            (subst (λ (z : Float). T (hasLength z)) long (and-right (ltb (c .edge) m) (hasLength l) (passed-first first second is)))
-            (subst (λ (z : Float). T (isOnEdge z (c .b0))) long (and-left (isOnEdge l (c .b0)) (isOnEdge l (c .b1)) on))
-            (subst (λ (z : Float). T (isOnEdge z (c .b1))) long (and-right (isOnEdge l (c .b0)) (isOnEdge l (c .b1)) on));
+            (subst (λ (z : Float). T (hasLength z)) long (and-r (ltb (c .edge) m) (hasLength l) (passed-first first second is)))
+            (subst (λ (z : Float). T (isOnEdge z (c .b0))) long (and-l (isOnEdge l (c .b0)) (isOnEdge l (c .b1)) on))
+            (subst (λ (z : Float). T (isOnEdge z (c .b1))) long (and-r (isOnEdge l (c .b0)) (isOnEdge l (c .b1)) on));
       }
 
       -- what `add` ensures of its answer

@@ -9,6 +9,7 @@ use lib.Ieee.{Float}
 use Rattle.float64.specs.Scalar.{zero as zero64}
 use Rattle.windows.specs.Windows.{capacityOf}
 use Rattle.buffers.specs.Slots.{slotsOf}
+use Rattle.buffers.proofs.Zeroing.{zero-at}
 use Rattle.chains.specs.Chains.{headOf}
 use Rattle.trim_split.specs.Running.{Place}
 use Rattle.trim_list.specs.declared.Ran.{Ran}
@@ -94,13 +95,8 @@ module _ (ends : List ℕ) (lens : List Float) (b : Slices) (c : Cuts) (m x : �
         (subst (λ (g : Setting). Runs g ops args n p r b′) same-setting k)
 
 -- ---- zeros
-no-heads : (n i : ℕ) → _≡_ {A = ℕ} (getD (replicate n 0) i 0) 0
-no-heads zero i = refl
-no-heads (suc n) zero = refl
-no-heads (suc n) (suc i) = no-heads n i
-
 pub heads-zero : (edges : List ℕ) → edges ≡ replicate (length edges) 0 → (e : ℕ) → headOf edges e ≡ 0
-heads-zero edges h e = ap (λ (l : List ℕ). headOf l e) h ∙ no-heads (length edges) _
+heads-zero edges h e = ap (λ (l : List ℕ). headOf l e) h ∙ zero-at 0 (length edges) (6 * e + 4)
 
 pub zeroed-cuts : (c c₁ c′ : Cuts) → SameCuts c₁ c → ZeroCuts c₁ c′ → ZeroCuts c c′
 zeroed-cuts c c₁ c′ s z = record {
