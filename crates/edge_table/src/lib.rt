@@ -5,12 +5,13 @@
 use buffers::read_u32;
 use buffers::write_u32;
 use buffers::zero_u32;
+use topology::higher_of;
+use topology::lower_of;
 ghost use mathlib.Core.Path.{_≡_};
 ghost use mathlib.Core.List.{[], _∷_};
 ghost use Prim.Native.Nat.{_+_, _*_, _/_, _<_, _≤_};
 ghost use lib.ListN.{length, getD, set};
 ghost use Rattle.buffers.specs.Slots.{fill};
-ghost use Rattle.job_checks.specs.Edge.{lower, higher};
 ghost use Rattle.edge_table.specs.Words.{bucketOf};
 ghost use Rattle.edge_table.specs.Table.{Mesh, LongEnough, Built};
 ghost use Rattle.edge_table.specs.Sides.{Ready, Turned, Falling, seek};
@@ -19,24 +20,6 @@ ghost use Rattle.edge_table.specs.Sides.{Ready, Turned, Falling, seek};
 pub enum Table {
     Edges(u32),
     ThirdFace,
-}
-
-fn lower_of(a: u32, b: u32) -> u32
-    ensures { λ r. ⌜ r ≡ lower a b ⌝ }
-{
-    if a < b {
-        return a;
-    }
-    b
-}
-
-fn higher_of(a: u32, b: u32) -> u32
-    ensures { λ r. ⌜ r ≡ higher a b ⌝ }
-{
-    if a < b {
-        return b;
-    }
-    a
 }
 
 fn bucket_of(low: u32, high: u32, vertex_count: u32) -> u32

@@ -23,13 +23,13 @@ pub same-buffers : {a a′ b b′ : List ℕ} {c c′ : List Float} {d d′ e e�
 same-buffers p q r s t u = λ i. record { vertex-words = p i; edge-words = q i; edge-reals = r i; round = s i; triangle-words = t i; triangle-reals = u i }
 
 -- what is added to the table, one callee after the other
-pub completed : (v : List Float) (triangles : List ℕ) (n : ℕ) (ew tw vw : List ℕ) (er : List Float) (r : List ℕ) (tr : List Float) (vw′ : List ℕ) (er₁ er′ : List Float) (r′ : List ℕ) (tr₁ tr′ : List Float) → vw′ ≡ withRanges (startOf triangles) (endOf triangles) (length v / 3) vw → r′ ≡ roundOf triangles (length v / 3) (length r) → er₁ ≡ replicate (length er) zero → er′ ≡ withLengths v ew n er₁ → tr₁ ≡ replicate (length tr) zero → tr′ ≡ withNormals v ew triangles tw er′ (length triangles) tr₁ → Completed v triangles n ew tw vw er r tr vw′ er′ r′ tr′
+pub completed : (v : List Float) (triangles : List ℕ) (n : ℕ) (ew tw vw : List ℕ) (er : List Float) (r : List ℕ) (tr : List Float) (vw′ : List ℕ) (er₁ er′ : List Float) (r′ : List ℕ) (tr₁ tr′ : List Float) → vw′ ≡ withRanges (startOf triangles) (endOf triangles) (length v / 3) vw → r′ ≡ roundOf triangles (length v / 3) (length r) → er₁ ≡ replicate (length er) zero → er′ ≡ withLengths v ew n er₁ → tr₁ ≡ replicate (length tr) zero → tr′ ≡ withNormals v triangles tw er′ (length triangles) tr₁ → Completed v triangles n ew tw vw er r tr vw′ er′ r′ tr′
 completed v triangles n ew tw vw er r tr vw′ er₁ er′ r′ tr₁ tr′ a b c d e f =
     record {
       ranges = a;
       faces-round = b;
       lengths = d ∙ ap (withLengths v ew n) c;
-      normals = f ∙ ap (withNormals v ew triangles tw er′ (length triangles)) e;
+      normals = f ∙ ap (withNormals v triangles tw er′ (length triangles)) e;
     }
 
 -- what an answer of the table says of the mesh
@@ -83,5 +83,5 @@ module _ (v : List Float) (triangles vw ew : List ℕ) (er : List Float) (r tw :
               l
               (c .faces-round)
               (w .triangle-words)
-              (c .normals ∙ rw (w .edge-words, w .triangle-words, l)));
+              (c .normals ∙ rw (w .triangle-words, l)));
         }

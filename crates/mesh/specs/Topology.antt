@@ -51,7 +51,7 @@ module _ (v : List Float) (triangles : List ℕ) where
     pub ranges : vertex ≡ withRanges (startOf triangles) (endOf triangles) (length v / 3) vertex₀
     pub faces-round : round ≡ roundOf triangles (length v / 3) (length round₀)
     pub lengths : edge ≡ withLengths v ew n (replicate (length edge₀) zero)
-    pub normals : triangle ≡ withNormals v ew triangles tw edge (length triangles) (replicate (length triangle₀) zero)
+    pub normals : triangle ≡ withNormals v triangles tw edge (length triangles) (replicate (length triangle₀) zero)
 
   -- The topology in buffers, which count by their lengths alone.
   unfoldable pub filled : MeshBuffers → MeshBuffers
@@ -66,7 +66,7 @@ module _ (v : List Float) (triangles : List ℕ) where
       er
       (roundOf triangles vertices (length (m .round)))
       tw
-      (withNormals v ew triangles tw er (length triangles) (replicate (length (m .triangle-reals)) zero))
+      (withNormals v triangles tw er (length triangles) (replicate (length (m .triangle-reals)) zero))
 
   -- The answer and the buffers: refused where an edge lies in more than two triangles.
   unfoldable pub topologyOf : MeshBuffers → MeshBuffers

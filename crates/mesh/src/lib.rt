@@ -81,7 +81,6 @@ fn complete(
     frames::normals(
         vertices,
         triangles,
-        edge_words,
         triangle_words,
         edge_reals,
         triangle_reals,
