@@ -1,4 +1,4 @@
--- Laws of buckets: a bucket is one of as many as there are vertices, and the last edge of a bucket among the first n. Assumes nothing.
+-- Laws of buckets: a bucket is one of three for each vertex, and the last edge of a bucket among the first n. Assumes nothing.
 use Prim.Native.Nat.{ℕ, zero, suc, _+_, _*_, _%_, _/_, _<_, _≤_}
 use mathlib.Core.Path.{_≡_, refl}
 use mathlib.Core.List.{List, [], _∷_, _++_}
@@ -18,14 +18,14 @@ scaled-below m v l =
     let p : m % 4294967296 * v < 4294967296 * v = mul-lt-mul-of-pos-right (mod-lt m (omega arith)) l in
     div-lt-iff-lt-mul {k = 4294967296} {x = m % 4294967296 * v} {y = v} (omega arith) .1 (omega (arith, mul-comm v 4294967296))
 
-pub scaled-fits : (m v : ℕ) → v ≤ 65535 → m % 4294967296 * v < 18446744073709551616
+pub scaled-fits : (m v : ℕ) → v ≤ 196605 → m % 4294967296 * v < 18446744073709551616
 scaled-fits m v l =
-    let p : m % 4294967296 * v ≤ m % 4294967296 * 65535 = mul-le-mul-left (m % 4294967296) l in
+    let p : m % 4294967296 * v ≤ m % 4294967296 * 196605 = mul-le-mul-left (m % 4294967296) l in
     omega (arith, mod-lt m {m = 4294967296} (omega arith))
 
-pub bucket-below : (v : ℕ) (x : Edge) → 0 < v → bucketOf v x < v
+pub bucket-below : (v : ℕ) (x : Edge) → 0 < v → bucketOf v x < 3 * v
 unfolding bucketOf
-bucket-below v x l = scaled-below (x .low * 2654435761 + x .high * 2246822519) v l
+bucket-below v x l = scaled-below (x .low * 2654435761 + x .high * 2246822519) (3 * v) (omega arith)
 
 module _ (v : ℕ) (es : List Edge) (b : ℕ) where
   pub last-le : (n : ℕ) → lastIn v es b n ≤ n

@@ -67,9 +67,9 @@ module _ (triangles : List ℕ) (v n : ℕ) where
   untaken-read e a l k m = words-at n 6 (edgeWord v (edges triangles) (edgeFaces triangles)) e a k m ∙ edge-none v (edges triangles) (edgeFaces triangles) e a l
 
   -- the head of a bucket
-  pub bucket-read : (b : ℕ) → 3 * b + 2 < n → getD (vertexWords triangles v n) (3 * b + 2) 0 ≡ lastIn v (edges triangles) b (length (edges triangles))
+  pub bucket-read : (b : ℕ) → b < n → getD (vertexWords triangles v n) (1 * b + 0) 0 ≡ lastIn v (edges triangles) b (length (edges triangles))
   unfolding vertexWords vertexWord
-  bucket-read b m = words-at n 3 (vertexWord v (edges triangles)) b 2 (omega arith) m
+  bucket-read b m = words-at n 1 (vertexWord v (edges triangles)) b 0 (omega arith) (omega arith)
 
   -- the edge of a side
   pub number-read : (f k : ℕ) → k < 3 → 3 * f + k < length triangles → 6 * f + k < n → getD (triangleWords triangles n) (6 * f + k) 0 ≡ triEdge triangles (3 * f + k)

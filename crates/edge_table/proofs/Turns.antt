@@ -8,8 +8,8 @@ use native.Mathlib.Decide.{ℕ-discrete, decLe}
 use native.Mathlib.Nat.{eq-or-lt-of-le}
 use native.Mathlib.Numerals.{add-one}
 use native.Mathlib.Omega.{arith}
-use borrow.Author.Tests.{lt-ltb, le-ltb, ne-eqb}
-use lib.Dec.{ltb, eqb}
+use borrow.Author.Tests.{lt-ltb, le-ltb}
+use lib.Dec.{ltb}
 use lib.ListN.{length, getD, set, length-append, List·getD-append, List·getD-eq-default}
 use lib.Seq.{getD-append-seam, getD-at}
 use Rattle.buffers.specs.Slots.{fill}
@@ -139,15 +139,15 @@ module _ (triangles : List ℕ) (v h : ℕ) (vertex edge triangle : List ℕ) (p
         next-at = λ e l. p .edge-words e 5 (omega arith) ∙ edge-live v (edgesOf triangles h) (facesSoFar triangles h) e 5 l;
       }
 
-  head-at : (b : ℕ) → getD vertex (3 * b + 2) 0 ≡ lastIn v (edgesOf triangles h) b (length (edgesOf triangles h))
+  head-at : (b : ℕ) → getD vertex (1 * b + 0) 0 ≡ lastIn v (edgesOf triangles h) b (length (edgesOf triangles h))
   unfolding vertexWord
-  head-at b = p .vertex-words b 2 (omega arith)
+  head-at b = p .vertex-words b 0 (omega arith)
 
   second-at : (e : ℕ) → e < length (edgesOf triangles h) → getD edge (6 * e + 3) 0 ≡ getD (facesSoFar triangles h e) 1 noFace
   second-at e l = p .edge-words e 3 (omega arith) ∙ (edge-live v (edgesOf triangles h) (facesSoFar triangles h) e 3 l ∙ row-second v (edgesOf triangles h) e (facesSoFar triangles h e))
 
   -- the look-up
-  module _ (x : Edge) (bucket head r : ℕ) (eb : bucket ≡ bucketOf v x) (eh : head ≡ getD vertex (3 * bucket + 2) 0) (er : r ≡ seek edge (x .low) (x .high) head head) where
+  module _ (x : Edge) (bucket head r : ℕ) (eb : bucket ≡ bucketOf v x) (eh : head ≡ getD vertex (1 * bucket + 0) 0) (er : r ≡ seek edge (x .low) (x .high) head head) where
     from-head : head ≡ lastIn v (edgesOf triangles h) (bucketOf v x) (length (edgesOf triangles h))
     from-head = eh ∙ (head-at bucket ∙ ap (λ (b : ℕ). lastIn v (edgesOf triangles h) b (length (edgesOf triangles h))) eb)
 
@@ -158,7 +158,7 @@ module _ (triangles : List ℕ) (v h : ℕ) (vertex edge triangle : List ℕ) (p
     look-found = seek-found v (edgesOf triangles h) edge (numbered triangles h) linked x links-fall head r from-head er
 
   -- the same for a side whose ends were computed
-  module _ (low high bucket head r : ℕ) (q : record { low = low; high = high } ≡ sideEdge triangles h) (eb : bucket ≡ bucketOf v (record { low = low; high = high })) (eh : head ≡ getD vertex (3 * bucket + 2) 0) (er : r ≡ seek edge low high head head) where
+  module _ (low high bucket head r : ℕ) (q : record { low = low; high = high } ≡ sideEdge triangles h) (eb : bucket ≡ bucketOf v (record { low = low; high = high })) (eh : head ≡ getD vertex (1 * bucket + 0) 0) (er : r ≡ seek edge low high head head) where
     pub side-missing : r ≡ 0 → length (edgesOf triangles h) ≤ find (sideEdge triangles h) (edgesOf triangles h)
     side-missing z = subst (λ (x : Edge). length (edgesOf triangles h) ≤ find x (edgesOf triangles h)) q (look-missing (record { low = low; high = high }) bucket head r eb eh er z)
 
@@ -171,11 +171,11 @@ facesIn triangles es n j = facesAmong triangles (getD es j noEdge) n
 
 -- The buffers after one more side, whose edges are es.
 module _ (triangles : List ℕ) (v h : ℕ) (es : List Edge) (e : edgesOf triangles (suc h) ≡ es) where
-  partial : (vertex edge triangle : List ℕ) → Holds 3 vertex (vertexWord v es) → Holds 6 edge (edgeWord v es (facesIn triangles es (suc h))) → Holds 6 triangle (triangleWord (suc h) (numberSoFar triangles (suc h))) → ((j : ℕ) → j < length es → length (facesIn triangles es (suc h) j) ≤ 2) → Partial triangles v (suc h) vertex edge triangle
+  partial : (vertex edge triangle : List ℕ) → Holds 1 vertex (vertexWord v es) → Holds 6 edge (edgeWord v es (facesIn triangles es (suc h))) → Holds 6 triangle (triangleWord (suc h) (numberSoFar triangles (suc h))) → ((j : ℕ) → j < length es → length (facesIn triangles es (suc h) j) ≤ 2) → Partial triangles v (suc h) vertex edge triangle
   unfolding facesSoFar
   partial vertex edge triangle a b c d =
       record {
-        vertex-words = subst (λ (z : List Edge). Holds 3 vertex (vertexWord v z)) (sym e) a;
+        vertex-words = subst (λ (z : List Edge). Holds 1 vertex (vertexWord v z)) (sym e) a;
         edge-words = subst (λ (z : List Edge). Holds 6 edge (edgeWord v z (facesIn triangles z (suc h)))) (sym e) b;
         triangle-words = c;
         two-faces = subst (λ (z : List Edge). (j : ℕ) → j < length z → length (facesIn triangles z (suc h) j) ≤ 2) (sym e) d;
@@ -290,18 +290,15 @@ module _ (triangles : List ℕ) (v h : ℕ) (vertex edge triangle : List ℕ) (m
     new-last = rw more-edges (find-last (sideEdge triangles h) (edgesOf triangles h) fresh)
 
     -- the heads of the buckets
-    head-here : vertexWord v grown (bucketOf v (sideEdge triangles h)) 2 ≡ suc (length (edgesOf triangles h))
+    head-here : vertexWord v grown (bucketOf v (sideEdge triangles h)) 0 ≡ suc (length (edgesOf triangles h))
     unfolding vertexWord
     head-here = rw one-more (last-new v (edgesOf triangles h) (bucketOf v (sideEdge triangles h)) (sideEdge triangles h) refl)
 
-    heads-kept : (j b : ℕ) → b < 3 → (j ≡ bucketOf v (sideEdge triangles h) → b ≡ 2 → ⊥) → vertexWord v grown j b ≡ vertexWord v (edgesOf triangles h) j b
+    heads-kept : (j b : ℕ) → b < 1 → (j ≡ bucketOf v (sideEdge triangles h) → b ≡ 0 → ⊥) → vertexWord v grown j b ≡ vertexWord v (edgesOf triangles h) j b
     unfolding vertexWord
-    heads-kept j b k ne = go (ℕ-discrete b 2) where
-      go : Dec (b ≡ 2) → cond (eqb b 2) (lastIn v grown j (length grown)) 0 ≡ cond (eqb b 2) (lastIn v (edgesOf triangles h) j (length (edgesOf triangles h))) 0
-      go (yes q) = ap (λ (n : ℕ). cond (eqb b 2) n 0) (ap (lastIn v grown j) one-more ∙ last-kept v (edgesOf triangles h) j (sideEdge triangles h) (λ z. ne (sym z) q))
-      go (no q) = rw (ne-eqb b 2 q) refl
+    heads-kept j b k ne = ap (lastIn v grown j) one-more ∙ last-kept v (edgesOf triangles h) j (sideEdge triangles h) (λ z. ne (sym z) (omega arith))
 
-    bucket-fits : 3 * bucketOf v (sideEdge triangles h) + 2 < length vertex
+    bucket-fits : 1 * bucketOf v (sideEdge triangles h) + 0 < length vertex
     bucket-fits = omega (arith, bucket-below v (sideEdge triangles h) (omega (arith, side-below triangles h v m l .0)), long .vertices-fit)
 
     -- the faces of the new edge, and of those before it
@@ -341,12 +338,12 @@ module _ (triangles : List ℕ) (v h : ℕ) (vertex edge triangle : List ℕ) (m
       go (no n) = rw (old-faces j (omega arith)) (p .two-faces j (omega arith))
 
     pub new-turn : Partial triangles v (suc h)
-        (set vertex (3 * bucketOf v (sideEdge triangles h) + 2) (suc (length (edgesOf triangles h))))
+        (set vertex (1 * bucketOf v (sideEdge triangles h) + 0) (suc (length (edgesOf triangles h))))
         (fill 6 edge (length (edgesOf triangles h)) 0 (sideEdge triangles h .low ∷ sideEdge triangles h .high ∷ h / 3 ∷ noFace ∷ 0 ∷ lastIn v (edgesOf triangles h) (bucketOf v (sideEdge triangles h)) (length (edgesOf triangles h)) ∷ []))
         (set triangle (6 * (h / 3) + h % 3) (length (edgesOf triangles h)))
     new-turn =
         partial triangles v h grown more-edges _ _ _
-        (holds-set 3 vertex (vertexWord v (edgesOf triangles h)) (vertexWord v grown) (p .vertex-words) (bucketOf v (sideEdge triangles h)) 2 (suc (length (edgesOf triangles h))) (omega arith) bucket-fits head-here heads-kept)
+        (holds-set 1 vertex (vertexWord v (edgesOf triangles h)) (vertexWord v grown) (p .vertex-words) (bucketOf v (sideEdge triangles h)) 0 (suc (length (edgesOf triangles h))) (omega arith) bucket-fits head-here heads-kept)
         (holds-fill 6 edge (edgeWord v (edgesOf triangles h) (facesSoFar triangles h)) (edgeWord v grown (facesIn triangles grown (suc h))) (p .edge-words) (length (edgesOf triangles h)) _ refl (edge-fits (length (edgesOf triangles h)) (omega arith)) new-row rows-kept)
         (numbers-turn triangles h (length (edgesOf triangles h)) new-last triangle number-fits (p .triangle-words))
         all-two
@@ -358,7 +355,7 @@ module _ (triangles : List ℕ) (v h : ℕ) (vertex edge triangle : List ℕ) (m
   -- What the code stores.
   module _ (vertex′ edge′ triangle′ : List ℕ) where
     pub new-done : (low high bucket count : ℕ) → length (edgesOf triangles h) ≤ find (sideEdge triangles h) (edgesOf triangles h) → record { low = low; high = high } ≡ sideEdge triangles h → bucket ≡ bucketOf v (record { low = low; high = high }) → count ≡ length (edgesOf triangles h)
-        → vertex′ ≡ set vertex (3 * bucket + 2) (count + 1) → edge′ ≡ fill 6 edge count 0 (low ∷ high ∷ h / 3 ∷ noFace ∷ 0 ∷ getD vertex (3 * bucket + 2) 0 ∷ []) → triangle′ ≡ set triangle (6 * (h / 3) + h % 3) count
+        → vertex′ ≡ set vertex (1 * bucket + 0) (count + 1) → edge′ ≡ fill 6 edge count 0 (low ∷ high ∷ h / 3 ∷ noFace ∷ 0 ∷ getD vertex (1 * bucket + 0) 0 ∷ []) → triangle′ ≡ set triangle (6 * (h / 3) + h % 3) count
         → Turned triangles v (h + 1) vertex′ edge′ triangle′ (Edges (count + 1))
     unfolding Turned
     new-done low high bucket count fresh q eb ec ev ee et =

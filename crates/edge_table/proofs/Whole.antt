@@ -3,13 +3,11 @@ use Prim.Native.Nat.{ℕ, _+_, _*_}
 use mathlib.Core.Path.{_≡_, refl, sym, ap, _∙_}
 use mathlib.Core.Bool.{true, false, and-false}
 use mathlib.Core.List.{List, []}
-use mathlib.Core.Logic.{⊎-elim}
 use native.Mathlib.Omega.{arith}
 use borrow.Author.Tests.{le-ltb}
-use lib.Dec.{ltb, eqb}
+use lib.Dec.{ltb}
 use lib.ListN.{length, replicate, length-replicate}
 use Rattle.topology.specs.Edges.{edgesOf, edges, triEdge, edgeFaces, sharedByThree}
-use Rattle.topology.proofs.Find.{either}
 use Rattle.topology.proofs.Growth.{no-third-face}
 use Rattle.edge_table.specs.declared.Table.{Table}
 use Rattle.edge_table.specs.declared.Table.the-variants.{Edges, ThirdFace}
@@ -21,7 +19,7 @@ use Rattle.edge_table.proofs.Holding.{zero-at, words-are}
 module _ (triangles : List ℕ) (v : ℕ) where
   no-heads : (b a : ℕ) → vertexWord v [] b a ≡ 0
   unfolding vertexWord lastIn
-  no-heads b a = ⊎-elim (λ q. rw q refl) (λ q. rw q refl) (either (eqb a 2))
+  no-heads b a = refl
 
   no-edges : (faces : ℕ → List ℕ) (e a : ℕ) → edgeWord v [] faces e a ≡ 0
   unfolding edgeWord
@@ -37,7 +35,7 @@ module _ (triangles : List ℕ) (v : ℕ) where
   none-entered vertex edge triangle n m k ev ee et =
       rw (ev, ee, et)
       record {
-        vertex-words = λ i a l. zero-at n (3 * i + a) ∙ sym (no-heads i a);
+        vertex-words = λ i a l. zero-at n (1 * i + a) ∙ sym (no-heads i a);
         edge-words = λ i a l. zero-at m (6 * i + a) ∙ sym (no-edges (facesSoFar triangles 0) i a);
         triangle-words = λ i a l. zero-at k (6 * i + a) ∙ sym (no-numbers (numberSoFar triangles 0) i a);
         two-faces = λ e l. absurd (omega arith);
@@ -67,7 +65,7 @@ module _ (triangles : List ℕ) (v : ℕ) where
       unfolding edges edgeFaces triEdge facesSoFar numberSoFar vertexWords edgeWords triangleWords
       all-words =
           record {
-            vertex-words = words-are (length vertex₀) 3 (vertexWord v (edges triangles)) vertex (omega arith) lv (p .vertex-words);
+            vertex-words = words-are (length vertex₀) 1 (vertexWord v (edges triangles)) vertex (omega arith) lv (p .vertex-words);
             edge-words = words-are (length edge₀) 6 (edgeWord v (edges triangles) (edgeFaces triangles)) edge (omega arith) le (p .edge-words);
             triangle-words = words-are (length triangle₀) 6 (triangleWord (length triangles) (triEdge triangles)) triangle (omega arith) lt (p .triangle-words);
           }

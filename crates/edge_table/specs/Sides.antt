@@ -25,7 +25,7 @@ module _ (triangles : List ℕ) (h : ℕ) where
   numberSoFar s = find (sideEdge triangles s) (edgesOf triangles h)
 
 pub record Partial (triangles : List ℕ) (v h : ℕ) (vertex edge triangle : List ℕ) : Type 0 where
-  pub vertex-words : Holds 3 vertex (vertexWord v (edgesOf triangles h))
+  pub vertex-words : Holds 1 vertex (vertexWord v (edgesOf triangles h))
   pub edge-words : Holds 6 edge (edgeWord v (edgesOf triangles h) (facesSoFar triangles h))
   pub triangle-words : Holds 6 triangle (triangleWord h (numberSoFar triangles h))
   pub two-faces : (e : ℕ) → e < length (edgesOf triangles h) → length (facesSoFar triangles h e) ≤ 2

@@ -31,7 +31,7 @@ triangleWords triangles n = wordsOf n 6 (triangleWord (length triangles) (triEdg
 
 module _ (triangles : List ℕ) (v : ℕ) where
   unfoldable pub vertexWords : ℕ → List ℕ
-  vertexWords n = wordsOf n 3 (vertexWord v (edges triangles))
+  vertexWords n = wordsOf n 1 (vertexWord v (edges triangles))
 
   unfoldable pub edgeWords : ℕ → List ℕ
   edgeWords n = wordsOf n 6 (edgeWord v (edges triangles) (edgeFaces triangles))

@@ -16,18 +16,18 @@ listOf (suc n) f = listOf n f ++ (f n ∷ [])
 unfoldable pub wordsOf : ℕ → ℕ → (ℕ → ℕ → ℕ) → List ℕ
 wordsOf n s word = listOf n (λ (p : ℕ). word (p / s) (p % s))
 
--- The bucket of an edge among v of them. Both ends are mixed in, so that neither the edges at one vertex nor those of a strip meet in few buckets.
+-- The bucket of an edge among 3 v of them. Both ends are mixed in, so that neither the edges at one vertex nor those of a strip meet in few buckets.
 unfoldable pub bucketOf : ℕ → Edge → ℕ
-bucketOf v x = (x .low * 2654435761 + x .high * 2246822519) % 4294967296 * v / 4294967296
+bucketOf v x = (x .low * 2654435761 + x .high * 2246822519) % 4294967296 * (3 * v) / 4294967296
 
 -- the link to the last of the first n edges that is in bucket b
 unfoldable pub lastIn : ℕ → List Edge → ℕ → ℕ → ℕ
 lastIn v es b zero = 0
 lastIn v es b (suc n) = cond (eqb (bucketOf v (getD es n noEdge)) b) (suc n) (lastIn v es b n)
 
--- field a of vertex b: 2 is the head of bucket b, the start and the end of the vertex's faces are left
+-- word b of the vertices: the head of bucket b
 unfoldable pub vertexWord : ℕ → List Edge → ℕ → ℕ → ℕ
-vertexWord v es b a = cond (eqb a 2) (lastIn v es b (length es)) 0
+vertexWord v es b a = lastIn v es b (length es)
 
 -- the fields of edge e, whose faces are fs: its ends, its first and its second face, no windows, the next edge of its bucket
 unfoldable pub edgeRow : ℕ → List Edge → ℕ → List ℕ → List ℕ

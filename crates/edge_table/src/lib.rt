@@ -1,5 +1,5 @@
 // The edges of a mesh, numbered by first appearance, in buffers that a caller lends. An edge is looked up through buckets: as many
-// as there are vertices, each a chain of edges through the edge buffer, the newest first. `bucketOf` in specs/ mixes both ends of an edge.
+// as the vertices have words, each a chain of edges through the edge buffer, the newest first. `bucketOf` in specs/ mixes both ends of an edge.
 // On grids, strips, fans and double fans of up to 131,070 triangles a look-up took about one step and no chain had more than 12 edges.
 // Nothing proves that: the worst case, a mesh whose edges all meet in one bucket, takes a step for each edge so far.
 use buffers::read_u32;
@@ -27,7 +27,7 @@ fn bucket_of(low: u32, high: u32, vertex_count: u32) -> u32
     ensures { λ r. ⌜ r ≡ bucketOf «vertex_count» (record { low = low; high = high }) ⌝ }
 {
     let mixed = ((low as u64) * 2654435761 + (high as u64) * 2246822519) % 4294967296;
-    (mixed * (vertex_count as u64) / 4294967296) as u32
+    (mixed * (3 * (vertex_count as u64)) / 4294967296) as u32
 }
 
 // The link to the edge with these ends on the chain from a link on, or 0. Links fall, so the chain ends.
@@ -59,17 +59,17 @@ fn add_edge(
     f: u32,
 )
     requires { ⌜ e < 4294967295 ⌝ }
-    ensures { λ r. ⌜ (now («vertex_words» .exit) ≡ set (now («vertex_words» .entry)) (3 * bucket + 2) (e + 1))
-        × (now («edge_words» .exit) ≡ fill 6 (now («edge_words» .entry)) e 0 (low ∷ high ∷ f ∷ 4294967295 ∷ 0 ∷ getD (now («vertex_words» .entry)) (3 * bucket + 2) 0 ∷ [])) ⌝ }
+    ensures { λ r. ⌜ (now («vertex_words» .exit) ≡ set (now («vertex_words» .entry)) (1 * bucket + 0) (e + 1))
+        × (now («edge_words» .exit) ≡ fill 6 (now («edge_words» .entry)) e 0 (low ∷ high ∷ f ∷ 4294967295 ∷ 0 ∷ getD (now («vertex_words» .entry)) (1 * bucket + 0) 0 ∷ [])) ⌝ }
 {
-    let next = read_u32(vertex_words, 3, bucket, 2);
+    let next = read_u32(vertex_words, 1, bucket, 0);
     write_u32(edge_words, 6, e, 0, low);
     write_u32(edge_words, 6, e, 1, high);
     write_u32(edge_words, 6, e, 2, f);
     write_u32(edge_words, 6, e, 3, 4294967295);
     write_u32(edge_words, 6, e, 4, 0);
     write_u32(edge_words, 6, e, 5, next);
-    write_u32(vertex_words, 3, bucket, 2, e + 1);
+    write_u32(vertex_words, 1, bucket, 0, e + 1);
 }
 
 // Side h: its edge is found or entered, and has the side's triangle as its next face. `count` is how many edges there are.
@@ -92,7 +92,7 @@ fn enter_side(
     let low = lower_of(a, b);
     let high = higher_of(a, b);
     let bucket = bucket_of(low, high, vertex_count);
-    let head = read_u32(vertex_words, 3, bucket, 2);
+    let head = read_u32(vertex_words, 1, bucket, 0);
     let link = find_in_bucket(edge_words, head, low, high);
     if link == 0 {
         add_edge(vertex_words, edge_words, bucket, count, low, high, f);

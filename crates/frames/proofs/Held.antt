@@ -16,7 +16,7 @@ use Rattle.vec3.specs.Vec.{scaleOf, subOf, dotOf}
 use Rattle.job_checks.specs.Edge.{vertexAt, lenOf, xhatOf, perpendicularOf, altitudeOf}
 use Rattle.buffers.specs.Slots.{slot, fill}
 use Rattle.buffers.proofs.Strides.{slot-at, length-fill, fill-same, fill-other}
-use Rattle.topology.specs.Edges.{Edge, offEnds, corner, edges, triEdge, other, local, third}
+use Rattle.topology.specs.Edges.{offEnds, corner, edges, triEdge, other, local, third}
 use Rattle.topology.specs.Frames.{origin, end, len, xhat, yhat, coordsX, coordsY}
 use Rattle.topology.proofs.Edges.{tri-edge-there, tri-edge-is}
 use Rattle.frames.specs.Stored.{vectorAt, lengthAt, unitAt, normalAt, inward, originAt, endAt, withLengths, normalOf, withNormals, xOf, otherAt, localAt, thirdAt, yOf}

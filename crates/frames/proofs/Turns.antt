@@ -1,9 +1,8 @@
 -- The numbers as the code computes them, and the turns of the loops. Assumes nothing.
-use Prim.Native.Nat.{ℕ, _+_, _*_, _/_, _%_, _<_, _≤_}
+use Prim.Native.Nat.{ℕ, _+_, _*_, _/_, _%_, _≤_}
 use mathlib.Core.Path.{_≡_, refl, sym, ap, _∙_}
 use mathlib.Core.Bool.{Bool, true, false, cond}
 use mathlib.Core.List.{List, [], _∷_}
-use mathlib.Core.Logic.{⊎-elim}
 use native.Mathlib.Omega.{arith}
 use native.Mathlib.Numerals.{add-one}
 use borrow.Author.Tests.{eq-eqb, ne-eqb}
@@ -18,7 +17,7 @@ use Rattle.job_checks.specs.Edge.{vertexAt, lower, lenOf, xhatOf}
 use Rattle.buffers.specs.declared.FaceId.{FaceId}
 use Rattle.buffers.specs.declared.VertexId.{VertexId}
 use Rattle.buffers.specs.Slots.{fill}
-use Rattle.topology.specs.Edges.{Edge, between, offEnds, corner, sideEdge}
+use Rattle.topology.specs.Edges.{between, offEnds, corner, sideEdge}
 use Rattle.frames.specs.Stored.{lowAt, highAt, faceAt, sideAt, vectorAt, unitAt, inward, originAt, endAt, withLengths, normalOf, withNormals, xOf, otherAt, localAt, thirdAt, yOf}
 
 pub vector-of : (r : Vec3) (a b c x y z : Float) → r ≡ record { x = a; y = b; z = c } → a ≡ x → b ≡ y → c ≡ z → r ≡ record { x = x; y = y; z = z }

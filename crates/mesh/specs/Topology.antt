@@ -14,7 +14,7 @@ use Rattle.frames.specs.Stored.{withLengths, withNormals}
 
 -- document 01's rooms of the mesh
 pub record MeshBuffers : Type 0 where
-  pub vertex-words : List ℕ  -- three for each vertex: where its faces start and end in `round`, the head of a bucket of edges
+  pub vertex-words : List ℕ  -- three for each vertex: where its faces start and end in `round`; the third is left of the look-up of edges
   pub edge-words : List ℕ  -- six for each edge: its two vertices, its two faces, no windows, the next edge of its bucket
   pub edge-reals : List Float  -- four for each edge: its length and its unit vector
   pub round : List ℕ  -- the faces round each vertex, one vertex after the other
