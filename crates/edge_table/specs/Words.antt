@@ -16,32 +16,32 @@ listOf (suc n) f = listOf n f ++ (f n ∷ [])
 unfoldable pub wordsOf : ℕ → ℕ → (ℕ → ℕ → ℕ) → List ℕ
 wordsOf n s word = listOf n (λ (p : ℕ). word (p / s) (p % s))
 
--- The bucket of an edge among 3 v of them. Both ends are mixed in, so that neither the edges at one vertex nor those of a strip meet in few buckets.
+-- The bucket of an edge among size of them. Both ends are mixed in, so that neither the edges at one vertex nor those of a strip meet in few buckets.
 unfoldable pub bucketOf : ℕ → Edge → ℕ
-bucketOf v x = (x .low * 2654435761 + x .high * 2246822519) % 4294967296 * (3 * v) / 4294967296
+bucketOf size x = (x .low * 2654435761 + x .high * 2246822519) % 4294967296 * size / 4294967296
 
 -- the link to the last of the first n edges that is in bucket b
 unfoldable pub lastIn : ℕ → List Edge → ℕ → ℕ → ℕ
-lastIn v es b zero = 0
-lastIn v es b (suc n) = cond (eqb (bucketOf v (getD es n noEdge)) b) (suc n) (lastIn v es b n)
+lastIn size es b zero = 0
+lastIn size es b (suc n) = cond (eqb (bucketOf size (getD es n noEdge)) b) (suc n) (lastIn size es b n)
 
--- word b of the vertices: the head of bucket b
-unfoldable pub vertexWord : ℕ → List Edge → ℕ → ℕ → ℕ
-vertexWord v es b a = lastIn v es b (length es)
+-- the head of bucket b, in a slot of one word
+unfoldable pub headWord : ℕ → List Edge → ℕ → ℕ → ℕ
+headWord size es b a = lastIn size es b (length es)
 
 -- the fields of edge e, whose faces are fs: its ends, its first and its second face, no windows, the next edge of its bucket
 unfoldable pub edgeRow : ℕ → List Edge → ℕ → List ℕ → List ℕ
-edgeRow v es e fs =
+edgeRow size es e fs =
     getD es e noEdge .low
     ∷ getD es e noEdge .high
     ∷ getD fs 0 noFace
     ∷ getD fs 1 noFace
     ∷ 0
-    ∷ lastIn v es (bucketOf v (getD es e noEdge)) e
+    ∷ lastIn size es (bucketOf size (getD es e noEdge)) e
     ∷ []
 
 unfoldable pub edgeWord : ℕ → List Edge → (ℕ → List ℕ) → ℕ → ℕ → ℕ
-edgeWord v es faces e a = cond (ltb e (length es)) (getD (edgeRow v es e (faces e)) a 0) 0
+edgeWord size es faces e a = cond (ltb e (length es)) (getD (edgeRow size es e (faces e)) a 0) 0
 
 -- field a of triangle f, where sides below n have the numbers of their edges
 unfoldable pub triangleWord : ℕ → (ℕ → ℕ) → ℕ → ℕ → ℕ

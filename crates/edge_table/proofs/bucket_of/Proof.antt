@@ -17,13 +17,10 @@ add-mixed : tie.Need-add-mixed
 add-mixed c = search needs
 
 mul-result : tie.Need-mul-result
-mul-result c = search needs
-
-mul-result-2 : tie.Need-mul-result-2
-mul-result-2 c = record { fits = scaled-fits (c .args .low * 2654435761 + c .args .high * 2246822519) (3 * c .args .vertex-count) (omega (arith, c .pre .1 .1)) }
+mul-result c = record { fits = scaled-fits (c .args .low * 2654435761 + c .args .high * 2246822519) (c .args .size) (c .pre .1 .1 .1) }
 
 cast-result : tie.Need-cast-result
-cast-result c = omega (arith, scaled-below (c .args .low * 2654435761 + c .args .high * 2246822519) (3 * c .args .vertex-count) (omega (arith, c .pre .0)))
+cast-result c = omega (arith, scaled-below (c .args .low * 2654435761 + c .args .high * 2246822519) (c .args .size) (c .pre .1 .1 .0))
 
 returns : tie.Need-returns
 unfolding bucketOf
@@ -31,4 +28,4 @@ returns c = search needs
 
 pub bucket-of-spec : {M : Type 1} → statement M
 bucket-of-spec =
-    tie.close (tie.spec mul-mixed mul-mixed-2 add-mixed mul-result mul-result-2 cast-result returns)
+    tie.close (tie.spec mul-mixed mul-mixed-2 add-mixed mul-result cast-result returns)
