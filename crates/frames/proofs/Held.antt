@@ -176,7 +176,7 @@ module _ (triangles triangleWords : List ℕ) (sides : HoldsSides triangles tria
       λ i. cond (eqb ((side 0 (omega arith) ∙ ap (triEdge triangles) z) i) e) 0 (cond (eqb (side 1 (omega arith) i) e) 1 2)
 
 -- the normals of a triangle as nine reals, and as three for each side
-nine : (reals : List Float) (f k : ℕ) → vectorAt 9 reals f (3 * k) ≡ normalAt reals (3 * f + k)
+pub nine : (reals : List Float) (f k : ℕ) → vectorAt 9 reals f (3 * k) ≡ normalAt reals (3 * f + k)
 nine reals f k =
     let a : 9 * f + 3 * k ≡ 3 * (3 * f + k) + 0 = omega arith in
     let b : 9 * f + (3 * k + 1) ≡ 3 * (3 * f + k) + 1 = omega arith in
