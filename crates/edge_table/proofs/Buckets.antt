@@ -25,7 +25,7 @@ scaled-fits m size l =
 
 pub bucket-below : (size : ℕ) (x : Edge) → 0 < size → bucketOf size x < size
 unfolding bucketOf
-bucket-below size x l = scaled-below (x .low * 2654435761 + x .high * 2246822519) size l
+bucket-below size x l = mod-lt (x .low + (x .low * 1640531535 + x .high * 2654435761) % 4294967296 * size / 4294967296) l
 
 module _ (size : ℕ) (es : List Edge) (b : ℕ) where
   pub last-le : (n : ℕ) → lastIn size es b n ≤ n

@@ -16,9 +16,10 @@ listOf (suc n) f = listOf n f ++ (f n ∷ [])
 unfoldable pub wordsOf : ℕ → ℕ → (ℕ → ℕ → ℕ) → List ℕ
 wordsOf n s word = listOf n (λ (p : ℕ). word (p / s) (p % s))
 
--- The bucket of an edge among size of them. Both ends are mixed in, so that neither the edges at one vertex nor those of a strip meet in few buckets.
+-- The bucket of an edge among size of them. The distance of its ends, high - low, is scattered by a factor modulo 2^32, of which 1640531535 is the
+-- negative; from there the lower end counts on. So edges along a grid or a strip stand side by side, and those at one vertex far apart.
 unfoldable pub bucketOf : ℕ → Edge → ℕ
-bucketOf size x = (x .low * 2654435761 + x .high * 2246822519) % 4294967296 * size / 4294967296
+bucketOf size x = (x .low + (x .low * 1640531535 + x .high * 2654435761) % 4294967296 * size / 4294967296) % size
 
 -- the link to the last of the first n edges that is in bucket b
 unfoldable pub lastIn : ℕ → List Edge → ℕ → ℕ → ℕ
