@@ -11,7 +11,7 @@ const TURNS: usize = 9;
 
 #[cfg(lent)]
 unsafe extern "C" {
-    /// The refusals 1 to 9 alone, 0 for none.
+    /// The refusals 1 to 5, 0 for none.
     fn sirmolaat_mesh_check(
         vertices: *const f64,
         vertices_len: usize,
@@ -20,7 +20,7 @@ unsafe extern "C" {
         flags: *const u8,
         flags_len: usize,
     ) -> u32;
-    /// The refusals and the topology: 0 or a refusal in the upper 32 bits, the number of edges in the lower.
+    /// The refusals and the topology: a refusal in the upper 32 bits, or else the number of edges in the lower.
     fn sirmolaat_mesh_build(
         vertices: *const f64,
         vertices_len: usize,

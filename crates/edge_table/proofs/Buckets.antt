@@ -1,4 +1,4 @@
--- Laws of buckets: a bucket is one of as many as there are vertices, and the last edge of a bucket among the first n. Assumes nothing.
+-- Laws of buckets: a bucket is one of so many, and the last edge of a bucket among the first n. Assumes nothing.
 use Prim.Native.Nat.{ℕ, zero, suc, _+_, _*_, _%_, _/_, _<_, _≤_}
 use mathlib.Core.Path.{_≡_, refl}
 use mathlib.Core.List.{List, [], _∷_, _++_}
@@ -13,38 +13,38 @@ use Rattle.topology.specs.Edges.{Edge, noEdge}
 use Rattle.topology.proofs.Find.{either}
 use Rattle.edge_table.specs.Words.{bucketOf, lastIn}
 
-pub scaled-below : (m v : ℕ) → 0 < v → m % 4294967296 * v / 4294967296 < v
-scaled-below m v l =
-    let p : m % 4294967296 * v < 4294967296 * v = mul-lt-mul-of-pos-right (mod-lt m (omega arith)) l in
-    div-lt-iff-lt-mul {k = 4294967296} {x = m % 4294967296 * v} {y = v} (omega arith) .1 (omega (arith, mul-comm v 4294967296))
+pub scaled-below : (m size : ℕ) → 0 < size → m % 4294967296 * size / 4294967296 < size
+scaled-below m size l =
+    let p : m % 4294967296 * size < 4294967296 * size = mul-lt-mul-of-pos-right (mod-lt m (omega arith)) l in
+    div-lt-iff-lt-mul {k = 4294967296} {x = m % 4294967296 * size} {y = size} (omega arith) .1 (omega (arith, mul-comm size 4294967296))
 
-pub scaled-fits : (m v : ℕ) → v ≤ 65535 → m % 4294967296 * v < 18446744073709551616
-scaled-fits m v l =
-    let p : m % 4294967296 * v ≤ m % 4294967296 * 65535 = mul-le-mul-left (m % 4294967296) l in
+pub scaled-fits : (m size : ℕ) → size ≤ 393210 → m % 4294967296 * size < 18446744073709551616
+scaled-fits m size l =
+    let p : m % 4294967296 * size ≤ m % 4294967296 * 393210 = mul-le-mul-left (m % 4294967296) l in
     omega (arith, mod-lt m {m = 4294967296} (omega arith))
 
-pub bucket-below : (v : ℕ) (x : Edge) → 0 < v → bucketOf v x < v
+pub bucket-below : (size : ℕ) (x : Edge) → 0 < size → bucketOf size x < size
 unfolding bucketOf
-bucket-below v x l = scaled-below (x .low * 2654435761 + x .high * 2246822519) v l
+bucket-below size x l = mod-lt (x .low + (x .low * 1640531535 + x .high * 2654435761) % 4294967296 * size / 4294967296) l
 
-module _ (v : ℕ) (es : List Edge) (b : ℕ) where
-  pub last-le : (n : ℕ) → lastIn v es b n ≤ n
+module _ (size : ℕ) (es : List Edge) (b : ℕ) where
+  pub last-le : (n : ℕ) → lastIn size es b n ≤ n
   unfolding lastIn
   last-le zero = omega arith
-  last-le (suc n) = ⊎-elim (λ q. rw q (omega arith)) (λ q. rw q (omega (arith, last-le n))) (either (eqb (bucketOf v (getD es n noEdge)) b))
+  last-le (suc n) = ⊎-elim (λ q. rw q (omega arith)) (λ q. rw q (omega (arith, last-le n))) (either (eqb (bucketOf size (getD es n noEdge)) b))
 
   -- edges that are entered later count for nothing
-  pub last-append : (xs : List Edge) (n : ℕ) → n ≤ length es → lastIn v (es ++ xs) b n ≡ lastIn v es b n
+  pub last-append : (xs : List Edge) (n : ℕ) → n ≤ length es → lastIn size (es ++ xs) b n ≡ lastIn size es b n
   unfolding lastIn
   last-append xs zero l = refl
   last-append xs (suc n) l = rw (List·getD-append es xs noEdge n (omega arith), last-append xs n (omega arith)) refl
 
   -- an edge that is entered in the bucket, or in another
   module _ (x : Edge) where
-    pub last-new : bucketOf v x ≡ b → lastIn v (es ++ (x ∷ [])) b (suc (length es)) ≡ suc (length es)
+    pub last-new : bucketOf size x ≡ b → lastIn size (es ++ (x ∷ [])) b (suc (length es)) ≡ suc (length es)
     unfolding lastIn
-    last-new e = rw (getD-append-seam es x [] noEdge, eq-eqb (bucketOf v x) b e) refl
+    last-new e = rw (getD-append-seam es x [] noEdge, eq-eqb (bucketOf size x) b e) refl
 
-    pub last-kept : (bucketOf v x ≡ b → ⊥) → lastIn v (es ++ (x ∷ [])) b (suc (length es)) ≡ lastIn v es b (length es)
+    pub last-kept : (bucketOf size x ≡ b → ⊥) → lastIn size (es ++ (x ∷ [])) b (suc (length es)) ≡ lastIn size es b (length es)
     unfolding lastIn
-    last-kept e = rw (getD-append-seam es x [] noEdge, ne-eqb (bucketOf v x) b e) (last-append (x ∷ []) (length es) (omega arith))
+    last-kept e = rw (getD-append-seam es x [] noEdge, ne-eqb (bucketOf size x) b e) (last-append (x ∷ []) (length es) (omega arith))

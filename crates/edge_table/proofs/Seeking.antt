@@ -76,12 +76,12 @@ ltb-suc : (k m : ℕ) → (k ≡ m → ⊥) → ltb k (suc m) ≡ ltb k m
 ltb-suc k m ne = ⊎-elim (λ q. rw q (lt-ltb k (suc m) (omega (arith, ltb-true k m q)))) (λ q. rw q (le-ltb k (suc m) (omega (arith, ltb-false k m q)))) (either (ltb k m))
 
 -- Words that hold the first fields and the links of a list of edges.
-pub record Linked (v : ℕ) (es : List Edge) (w : List ℕ) : Type 0 where
+pub record Linked (size : ℕ) (es : List Edge) (w : List ℕ) : Type 0 where
   pub low-at : (e : ℕ) → e < length es → getD w (6 * e + 0) 0 ≡ getD es e noEdge .low
   pub high-at : (e : ℕ) → e < length es → getD w (6 * e + 1) 0 ≡ getD es e noEdge .high
-  pub next-at : (e : ℕ) → e < length es → getD w (6 * e + 5) 0 ≡ lastIn v es (bucketOf v (getD es e noEdge)) e
+  pub next-at : (e : ℕ) → e < length es → getD w (6 * e + 5) 0 ≡ lastIn size es (bucketOf size (getD es e noEdge)) e
 
-module _ (v : ℕ) (es : List Edge) (w : List ℕ) (all : Numbered es) (linked : Linked v es w) (x : Edge) where
+module _ (size : ℕ) (es : List Edge) (w : List ℕ) (all : Numbered es) (linked : Linked size es w) (x : Edge) where
   -- the link of an edge that is among the first m
   linkBelow : ℕ → ℕ
   linkBelow m = cond (ltb (find x es) m) (suc (find x es)) 0
@@ -100,7 +100,7 @@ module _ (v : ℕ) (es : List Edge) (w : List ℕ) (all : Numbered es) (linked :
   less m ne = rw (ltb-suc (find x es) m ne) refl
 
   -- edge m stands at the link: it is looked at, and its link followed
-  look : (n m : ℕ) → m < length es → seek w (x .low) (x .high) (suc n) (suc m) ≡ cond (sameEdge (getD es m noEdge) x) (suc m) (seek w (x .low) (x .high) n (lastIn v es (bucketOf v (getD es m noEdge)) m))
+  look : (n m : ℕ) → m < length es → seek w (x .low) (x .high) (suc n) (suc m) ≡ cond (sameEdge (getD es m noEdge) x) (suc m) (seek w (x .low) (x .high) n (lastIn size es (bucketOf size (getD es m noEdge)) m))
   unfolding seek
   look n m l = rw (linked .low-at m l, linked .high-at m l, linked .next-at m l) refl
 
@@ -112,39 +112,39 @@ module _ (v : ℕ) (es : List Edge) (w : List ℕ) (all : Numbered es) (linked :
   pick true m k l p q = sym (at-edge m l (p refl))
   pick false m k l p q = q refl
 
-  last-in : (m : ℕ) → bucketOf v (getD es m noEdge) ≡ bucketOf v x → lastIn v es (bucketOf v x) (suc m) ≡ suc m
+  last-in : (m : ℕ) → bucketOf size (getD es m noEdge) ≡ bucketOf size x → lastIn size es (bucketOf size x) (suc m) ≡ suc m
   unfolding lastIn
-  last-in m q = rw (eq-eqb (bucketOf v (getD es m noEdge)) (bucketOf v x) q) refl
+  last-in m q = rw (eq-eqb (bucketOf size (getD es m noEdge)) (bucketOf size x) q) refl
 
-  last-off : (m : ℕ) → eqb (bucketOf v (getD es m noEdge)) (bucketOf v x) ≡ false → lastIn v es (bucketOf v x) (suc m) ≡ lastIn v es (bucketOf v x) m
+  last-off : (m : ℕ) → eqb (bucketOf size (getD es m noEdge)) (bucketOf size x) ≡ false → lastIn size es (bucketOf size x) (suc m) ≡ lastIn size es (bucketOf size x) m
   unfolding lastIn
   last-off m q = rw q refl
 
-  seek-zero : (n : ℕ) → seek w (x .low) (x .high) n (lastIn v es (bucketOf v x) 0) ≡ linkBelow 0
+  seek-zero : (n : ℕ) → seek w (x .low) (x .high) n (lastIn size es (bucketOf size x) 0) ≡ linkBelow 0
   unfolding lastIn linkBelow
   seek-zero n = rw (le-ltb (find x es) 0 (omega arith)) (seek-none w (x .low) (x .high) n)
 
-  seek-last : (n m : ℕ) → m ≤ n → m ≤ length es → seek w (x .low) (x .high) n (lastIn v es (bucketOf v x) m) ≡ linkBelow m
+  seek-last : (n m : ℕ) → m ≤ n → m ≤ length es → seek w (x .low) (x .high) n (lastIn size es (bucketOf size x) m) ≡ linkBelow m
   seek-last n zero l k = seek-zero n
   seek-last zero (suc m) l k = absurd (omega arith)
   seek-last (suc n) (suc m) l k =
       ⊎-elim
-      (λ q. let e : bucketOf v (getD es m noEdge) ≡ bucketOf v x = eqb-true (bucketOf v (getD es m noEdge)) (bucketOf v x) q in
+      (λ q. let e : bucketOf size (getD es m noEdge) ≡ bucketOf size x = eqb-true (bucketOf size (getD es m noEdge)) (bucketOf size x) q in
       ap (seek w (x .low) (x .high) (suc n)) (last-in m e)
       ∙ (look n m (omega arith)
-      ∙ pick (sameEdge (getD es m noEdge) x) m (seek w (x .low) (x .high) n (lastIn v es (bucketOf v (getD es m noEdge)) m)) (omega arith) (here m (omega arith))
-      (λ s. ap (λ (b : ℕ). seek w (x .low) (x .high) n (lastIn v es b m)) e ∙ (seek-last n m (omega arith) (omega arith) ∙ less m (not-here m (omega arith) s)))))
+      ∙ pick (sameEdge (getD es m noEdge) x) m (seek w (x .low) (x .high) n (lastIn size es (bucketOf size (getD es m noEdge)) m)) (omega arith) (here m (omega arith))
+      (λ s. ap (λ (b : ℕ). seek w (x .low) (x .high) n (lastIn size es b m)) e ∙ (seek-last n m (omega arith) (omega arith) ∙ less m (not-here m (omega arith) s)))))
       (λ q. ap (seek w (x .low) (x .high) (suc n)) (last-off m q)
       ∙ (seek-last (suc n) m (omega arith) (omega arith)
-      ∙ less m (λ z. eqb-false (bucketOf v (getD es m noEdge)) (bucketOf v x) q (ap (bucketOf v) (subst (λ (j : ℕ). getD es j noEdge ≡ x) z (find-at x es (omega arith)))))))
-      (either (eqb (bucketOf v (getD es m noEdge)) (bucketOf v x)))
+      ∙ less m (λ z. eqb-false (bucketOf size (getD es m noEdge)) (bucketOf size x) q (ap (bucketOf size) (subst (λ (j : ℕ). getD es j noEdge ≡ x) z (find-at x es (omega arith)))))))
+      (either (eqb (bucketOf size (getD es m noEdge)) (bucketOf size x)))
 
   -- from the head of its bucket
-  module _ (fall : Falling w) (head r : ℕ) (at-head : head ≡ lastIn v es (bucketOf v x) (length es)) (said : r ≡ seek w (x .low) (x .high) head head) where
+  module _ (fall : Falling w) (head r : ℕ) (at-head : head ≡ lastIn size es (bucketOf size x) (length es)) (said : r ≡ seek w (x .low) (x .high) head head) where
     link-is : r ≡ linkBelow (length es)
     link-is =
         said
-        ∙ (enough w (x .low) (x .high) fall head (length es) head (omega arith) (omega (arith, last-le v es (bucketOf v x) (length es)))
+        ∙ (enough w (x .low) (x .high) fall head (length es) head (omega arith) (omega (arith, last-le size es (bucketOf size x) (length es)))
         ∙ (ap (seek w (x .low) (x .high) (length es)) at-head ∙ seek-last (length es) (length es) (omega arith) (omega arith)))
 
     pub seek-missing : r ≡ 0 → length es ≤ find x es

@@ -8,8 +8,8 @@ use native.Mathlib.Decide.{ℕ-discrete, decLe}
 use native.Mathlib.Nat.{eq-or-lt-of-le}
 use native.Mathlib.Numerals.{add-one}
 use native.Mathlib.Omega.{arith}
-use borrow.Author.Tests.{lt-ltb, le-ltb, ne-eqb}
-use lib.Dec.{ltb, eqb}
+use borrow.Author.Tests.{lt-ltb, le-ltb}
+use lib.Dec.{ltb}
 use lib.ListN.{length, getD, set, length-append, List·getD-append, List·getD-eq-default}
 use lib.Seq.{getD-append-seam, getD-at}
 use Rattle.buffers.specs.Slots.{fill}
@@ -20,7 +20,7 @@ use Rattle.topology.proofs.Edges.{numbered, few-edges, number-kept}
 use Rattle.topology.proofs.Faces.{OfSide, listed-face}
 use Rattle.topology.proofs.Growth.{other-edge, faces-more, faces-same, faces-none, faces-some, third-face}
 use Rattle.edge_table.specs.declared.Table.the-variants.{Edges, ThirdFace}
-use Rattle.edge_table.specs.Words.{bucketOf, lastIn, vertexWord, edgeRow, edgeWord, triangleWord}
+use Rattle.edge_table.specs.Words.{bucketOf, lastIn, headWord, edgeRow, edgeWord, triangleWord}
 use Rattle.edge_table.specs.Table.{Mesh, LongEnough}
 use Rattle.edge_table.specs.Sides.{Holds, Partial, Turned, Falling, facesSoFar, numberSoFar, seek}
 use Rattle.edge_table.proofs.Buckets.{bucket-below, last-le, last-append, last-new, last-kept}
@@ -33,18 +33,18 @@ unfolding fill
 stored l₀ l₁ l₂ l₃ l₄ l₅ l₆ e a b f n next k p e₁ e₂ e₃ e₄ e₅ e₆ = rw (e₆, e₅, e₄, e₃, e₂, e₁, p) refl
 
 -- A slot that has an edge, and one that has none.
-module _ (v : ℕ) (es : List Edge) (faces : ℕ → List ℕ) (e a : ℕ) where
-  pub edge-live : e < length es → edgeWord v es faces e a ≡ getD (edgeRow v es e (faces e)) a 0
+module _ (size : ℕ) (es : List Edge) (faces : ℕ → List ℕ) (e a : ℕ) where
+  pub edge-live : e < length es → edgeWord size es faces e a ≡ getD (edgeRow size es e (faces e)) a 0
   unfolding edgeWord
   edge-live l = rw (lt-ltb e (length es) l) refl
 
-  pub edge-none : length es ≤ e → edgeWord v es faces e a ≡ 0
+  pub edge-none : length es ≤ e → edgeWord size es faces e a ≡ 0
   unfolding edgeWord
   edge-none l = rw (le-ltb e (length es) l) refl
 
 -- The row of an edge: its faces count, and of the list the edges up to it.
-module _ (v : ℕ) (es : List Edge) (e : ℕ) where
-  row-faces : (fs gs : List ℕ) (a : ℕ) → a ≢ 3 → getD fs 0 noFace ≡ getD gs 0 noFace → getD (edgeRow v es e fs) a 0 ≡ getD (edgeRow v es e gs) a 0
+module _ (size : ℕ) (es : List Edge) (e : ℕ) where
+  row-faces : (fs gs : List ℕ) (a : ℕ) → a ≢ 3 → getD fs 0 noFace ≡ getD gs 0 noFace → getD (edgeRow size es e fs) a 0 ≡ getD (edgeRow size es e gs) a 0
   unfolding edgeRow
   row-faces fs gs zero n q = refl
   row-faces fs gs (suc zero) n q = refl
@@ -53,17 +53,17 @@ module _ (v : ℕ) (es : List Edge) (e : ℕ) where
   row-faces fs gs (suc (suc (suc (suc zero)))) n q = refl
   row-faces fs gs (suc (suc (suc (suc (suc a))))) n q = refl
 
-  row-second : (fs : List ℕ) → getD (edgeRow v es e fs) 3 0 ≡ getD fs 1 noFace
+  row-second : (fs : List ℕ) → getD (edgeRow size es e fs) 3 0 ≡ getD fs 1 noFace
   unfolding edgeRow
   row-second fs = refl
 
-  row-append : (xs : List Edge) (fs : List ℕ) → e < length es → edgeRow v (es ++ xs) e fs ≡ edgeRow v es e fs
+  row-append : (xs : List Edge) (fs : List ℕ) → e < length es → edgeRow size (es ++ xs) e fs ≡ edgeRow size es e fs
   unfolding edgeRow
-  row-append xs fs l = rw (List·getD-append es xs noEdge e l, last-append v es (bucketOf v (getD es e noEdge)) xs e (omega arith)) refl
+  row-append xs fs l = rw (List·getD-append es xs noEdge e l, last-append size es (bucketOf size (getD es e noEdge)) xs e (omega arith)) refl
 
-  row-last : (x : Edge) (f : ℕ) → e ≡ length es → edgeRow v (es ++ (x ∷ [])) e (f ∷ []) ≡ x .low ∷ x .high ∷ f ∷ noFace ∷ 0 ∷ lastIn v es (bucketOf v x) (length es) ∷ []
+  row-last : (x : Edge) (f : ℕ) → e ≡ length es → edgeRow size (es ++ (x ∷ [])) e (f ∷ []) ≡ x .low ∷ x .high ∷ f ∷ noFace ∷ 0 ∷ lastIn size es (bucketOf size x) (length es) ∷ []
   unfolding edgeRow
-  row-last x f q = rw (q, getD-append-seam es x [] noEdge, last-append v es (bucketOf v x) (x ∷ []) (length es) (omega arith)) refl
+  row-last x f q = rw (q, getD-append-seam es x [] noEdge, last-append size es (bucketOf size x) (x ∷ []) (length es) (omega arith)) refl
 
 past : (n j : ℕ) → n ≤ j → (j ≡ n → ⊥) → n < j
 past n j l ne = ⊎-elim (λ q. absurd (ne (sym q))) (λ q. q) (eq-or-lt-of-le l)
@@ -92,11 +92,11 @@ module _ (triangles : List ℕ) (h : ℕ) where
         (m .there (3 * (h / 3) + (h % 3 + 0) % 3) (omega (arith, m .whole)))
         (m .there (3 * (h / 3) + (h % 3 + 1) % 3) (omega (arith, m .whole)))
 
-    pub ends-below : (low high : ℕ) → record { low = low; high = high } ≡ sideEdge triangles h → (low < v) × ((high < v) × (v ≤ 65535))
+    pub ends-below : (low high : ℕ) → record { low = low; high = high } ≡ sideEdge triangles h → (low < v) × ((high < v) × ((0 < length triangles) × (length triangles ≤ 393210)))
     ends-below low high q =
         let lo : low ≡ sideEdge triangles h .low = ap (λ (x : Edge). x .low) q in
         let hi : high ≡ sideEdge triangles h .high = ap (λ (x : Edge). x .high) q in
-        omega (arith, side-below .0, side-below .1, m .few-vertices)
+        omega (arith, side-below .0, side-below .1, m .whole, m .few-triangles)
 
 -- the numbers of the sides
 module _ (triangles : List ℕ) (h k : ℕ) (number : find (sideEdge triangles h) (edgesOf triangles (suc h)) ≡ k) (words : List ℕ) (fits : 6 * (h / 3) + h % 3 < length words)
@@ -122,43 +122,43 @@ module _ (triangles : List ℕ) (h k : ℕ) (number : find (sideEdge triangles h
         holds-set 6 words (triangleWord h (numberSoFar triangles h)) (triangleWord (suc h) (numberSoFar triangles (suc h))) holds (h / 3) (h % 3) k (omega arith) fits new-number old-number
 
 -- The buffers after h sides, read.
-module _ (triangles : List ℕ) (v h : ℕ) (vertex edge triangle : List ℕ) (p : Partial triangles v h vertex edge triangle) where
+module _ (triangles : List ℕ) (size h : ℕ) (heads edge triangle : List ℕ) (p : Partial triangles size h heads edge triangle) where
   pub links-fall : Falling edge
   unfolding edgeRow
   links-fall e = go (decLe (length (edgesOf triangles h)) e) where
     go : Dec (length (edgesOf triangles h) ≤ e) → getD edge (6 * e + 5) 0 ≤ e
-    go (yes l) = omega (arith, p .edge-words e 5 (omega arith) ∙ edge-none v (edgesOf triangles h) (facesSoFar triangles h) e 5 l)
-    go (no l) = omega (arith, p .edge-words e 5 (omega arith) ∙ edge-live v (edgesOf triangles h) (facesSoFar triangles h) e 5 (omega arith), last-le v (edgesOf triangles h) (bucketOf v (getD (edgesOf triangles h) e noEdge)) e)
+    go (yes l) = omega (arith, p .edge-words e 5 (omega arith) ∙ edge-none size (edgesOf triangles h) (facesSoFar triangles h) e 5 l)
+    go (no l) = omega (arith, p .edge-words e 5 (omega arith) ∙ edge-live size (edgesOf triangles h) (facesSoFar triangles h) e 5 (omega arith), last-le size (edgesOf triangles h) (bucketOf size (getD (edgesOf triangles h) e noEdge)) e)
 
-  linked : Linked v (edgesOf triangles h) edge
+  linked : Linked size (edgesOf triangles h) edge
   unfolding edgeRow
   linked =
       record {
-        low-at = λ e l. p .edge-words e 0 (omega arith) ∙ edge-live v (edgesOf triangles h) (facesSoFar triangles h) e 0 l;
-        high-at = λ e l. p .edge-words e 1 (omega arith) ∙ edge-live v (edgesOf triangles h) (facesSoFar triangles h) e 1 l;
-        next-at = λ e l. p .edge-words e 5 (omega arith) ∙ edge-live v (edgesOf triangles h) (facesSoFar triangles h) e 5 l;
+        low-at = λ e l. p .edge-words e 0 (omega arith) ∙ edge-live size (edgesOf triangles h) (facesSoFar triangles h) e 0 l;
+        high-at = λ e l. p .edge-words e 1 (omega arith) ∙ edge-live size (edgesOf triangles h) (facesSoFar triangles h) e 1 l;
+        next-at = λ e l. p .edge-words e 5 (omega arith) ∙ edge-live size (edgesOf triangles h) (facesSoFar triangles h) e 5 l;
       }
 
-  head-at : (b : ℕ) → getD vertex (3 * b + 2) 0 ≡ lastIn v (edgesOf triangles h) b (length (edgesOf triangles h))
-  unfolding vertexWord
-  head-at b = p .vertex-words b 2 (omega arith)
+  head-at : (b : ℕ) → getD heads (1 * b + 0) 0 ≡ lastIn size (edgesOf triangles h) b (length (edgesOf triangles h))
+  unfolding headWord
+  head-at b = p .head-words b 0 (omega arith)
 
   second-at : (e : ℕ) → e < length (edgesOf triangles h) → getD edge (6 * e + 3) 0 ≡ getD (facesSoFar triangles h e) 1 noFace
-  second-at e l = p .edge-words e 3 (omega arith) ∙ (edge-live v (edgesOf triangles h) (facesSoFar triangles h) e 3 l ∙ row-second v (edgesOf triangles h) e (facesSoFar triangles h e))
+  second-at e l = p .edge-words e 3 (omega arith) ∙ (edge-live size (edgesOf triangles h) (facesSoFar triangles h) e 3 l ∙ row-second size (edgesOf triangles h) e (facesSoFar triangles h e))
 
   -- the look-up
-  module _ (x : Edge) (bucket head r : ℕ) (eb : bucket ≡ bucketOf v x) (eh : head ≡ getD vertex (3 * bucket + 2) 0) (er : r ≡ seek edge (x .low) (x .high) head head) where
-    from-head : head ≡ lastIn v (edgesOf triangles h) (bucketOf v x) (length (edgesOf triangles h))
-    from-head = eh ∙ (head-at bucket ∙ ap (λ (b : ℕ). lastIn v (edgesOf triangles h) b (length (edgesOf triangles h))) eb)
+  module _ (x : Edge) (bucket head r : ℕ) (eb : bucket ≡ bucketOf size x) (eh : head ≡ getD heads (1 * bucket + 0) 0) (er : r ≡ seek edge (x .low) (x .high) head head) where
+    from-head : head ≡ lastIn size (edgesOf triangles h) (bucketOf size x) (length (edgesOf triangles h))
+    from-head = eh ∙ (head-at bucket ∙ ap (λ (b : ℕ). lastIn size (edgesOf triangles h) b (length (edgesOf triangles h))) eb)
 
     pub look-missing : r ≡ 0 → length (edgesOf triangles h) ≤ find x (edgesOf triangles h)
-    look-missing = seek-missing v (edgesOf triangles h) edge (numbered triangles h) linked x links-fall head r from-head er
+    look-missing = seek-missing size (edgesOf triangles h) edge (numbered triangles h) linked x links-fall head r from-head er
 
     pub look-found : r ≢ 0 → (find x (edgesOf triangles h) < length (edgesOf triangles h)) × (r - 1 ≡ find x (edgesOf triangles h))
-    look-found = seek-found v (edgesOf triangles h) edge (numbered triangles h) linked x links-fall head r from-head er
+    look-found = seek-found size (edgesOf triangles h) edge (numbered triangles h) linked x links-fall head r from-head er
 
   -- the same for a side whose ends were computed
-  module _ (low high bucket head r : ℕ) (q : record { low = low; high = high } ≡ sideEdge triangles h) (eb : bucket ≡ bucketOf v (record { low = low; high = high })) (eh : head ≡ getD vertex (3 * bucket + 2) 0) (er : r ≡ seek edge low high head head) where
+  module _ (low high bucket head r : ℕ) (q : record { low = low; high = high } ≡ sideEdge triangles h) (eb : bucket ≡ bucketOf size (record { low = low; high = high })) (eh : head ≡ getD heads (1 * bucket + 0) 0) (er : r ≡ seek edge low high head head) where
     pub side-missing : r ≡ 0 → length (edgesOf triangles h) ≤ find (sideEdge triangles h) (edgesOf triangles h)
     side-missing z = subst (λ (x : Edge). length (edgesOf triangles h) ≤ find x (edgesOf triangles h)) q (look-missing (record { low = low; high = high }) bucket head r eb eh er z)
 
@@ -170,18 +170,18 @@ abbrev facesIn : List ℕ → List Edge → ℕ → ℕ → List ℕ
 facesIn triangles es n j = facesAmong triangles (getD es j noEdge) n
 
 -- The buffers after one more side, whose edges are es.
-module _ (triangles : List ℕ) (v h : ℕ) (es : List Edge) (e : edgesOf triangles (suc h) ≡ es) where
-  partial : (vertex edge triangle : List ℕ) → Holds 3 vertex (vertexWord v es) → Holds 6 edge (edgeWord v es (facesIn triangles es (suc h))) → Holds 6 triangle (triangleWord (suc h) (numberSoFar triangles (suc h))) → ((j : ℕ) → j < length es → length (facesIn triangles es (suc h) j) ≤ 2) → Partial triangles v (suc h) vertex edge triangle
+module _ (triangles : List ℕ) (size h : ℕ) (es : List Edge) (e : edgesOf triangles (suc h) ≡ es) where
+  partial : (heads edge triangle : List ℕ) → Holds 1 heads (headWord size es) → Holds 6 edge (edgeWord size es (facesIn triangles es (suc h))) → Holds 6 triangle (triangleWord (suc h) (numberSoFar triangles (suc h))) → ((j : ℕ) → j < length es → length (facesIn triangles es (suc h) j) ≤ 2) → Partial triangles size (suc h) heads edge triangle
   unfolding facesSoFar
-  partial vertex edge triangle a b c d =
+  partial heads edge triangle a b c d =
       record {
-        vertex-words = subst (λ (z : List Edge). Holds 3 vertex (vertexWord v z)) (sym e) a;
-        edge-words = subst (λ (z : List Edge). Holds 6 edge (edgeWord v z (facesIn triangles z (suc h)))) (sym e) b;
+        head-words = subst (λ (z : List Edge). Holds 1 heads (headWord size z)) (sym e) a;
+        edge-words = subst (λ (z : List Edge). Holds 6 edge (edgeWord size z (facesIn triangles z (suc h)))) (sym e) b;
         triangle-words = c;
         two-faces = subst (λ (z : List Edge). (j : ℕ) → j < length z → length (facesIn triangles z (suc h) j) ≤ 2) (sym e) d;
       }
 
-module _ (triangles : List ℕ) (v h : ℕ) (vertex edge triangle : List ℕ) (m : Mesh triangles v) (long : LongEnough triangles v (length vertex) (length edge) (length triangle)) (l : h < length triangles) (p : Partial triangles v h vertex edge triangle) where
+module _ (triangles : List ℕ) (size h : ℕ) (heads edge triangle : List ℕ) (m : Mesh triangles 65535) (long : LongEnough triangles (length heads) (length edge) (length triangle)) (l : h < length triangles) (all : size ≡ length triangles) (p : Partial triangles size h heads edge triangle) where
   edge-fits : (e : ℕ) → e ≤ length (edgesOf triangles h) → 6 * e + 6 ≤ length edge
   edge-fits e k = omega (arith, few-edges triangles h, long .edges-fit)
 
@@ -228,7 +228,7 @@ module _ (triangles : List ℕ) (v h : ℕ) (vertex edge triangle : List ℕ) (m
         third-face triangles h (suc h) l l (rw (faces-more triangles h) (omega (arith, length-append (facesAmong triangles (sideEdge triangles h) h) (h / 3 ∷ []), ap length faces-before)))
       where
         go : Dec (length (facesSoFar triangles h e) ≤ 1) → 1 < length (facesSoFar triangles h e)
-        go (yes k) = absurd (ne (second-at triangles v h vertex edge triangle p e there ∙ List·getD-eq-default (facesSoFar triangles h e) noFace k))
+        go (yes k) = absurd (ne (second-at triangles size h heads edge triangle p e there ∙ List·getD-eq-default (facesSoFar triangles h e) noFace k))
         go (no k) = omega arith
 
     module _ (vacant : getD edge (6 * e + 3) 0 ≡ noFace) where
@@ -238,27 +238,27 @@ module _ (triangles : List ℕ) (v h : ℕ) (vertex edge triangle : List ℕ) (m
         go (yes k) = omega (arith, some)
         go (no k) =
             let n : 1 < length (facesAmong triangles (sideEdge triangles h) h) = omega (arith, ap length faces-before) in
-            absurd (face-small (sideEdge triangles h) 1 n (ap (λ (fs : List ℕ). getD fs 1 noFace) (sym faces-before) ∙ (sym (second-at triangles v h vertex edge triangle p e there) ∙ vacant)))
+            absurd (face-small (sideEdge triangles h) 1 n (ap (λ (fs : List ℕ). getD fs 1 noFace) (sym faces-before) ∙ (sym (second-at triangles size h heads edge triangle p e there) ∙ vacant)))
 
-      second-here : edgeWord v (edgesOf triangles h) (facesIn triangles (edgesOf triangles h) (suc h)) e 3 ≡ h / 3
+      second-here : edgeWord size (edgesOf triangles h) (facesIn triangles (edgesOf triangles h) (suc h)) e 3 ≡ h / 3
       second-here =
-          edge-live v (edgesOf triangles h) (facesIn triangles (edgesOf triangles h) (suc h)) e 3 there
-          ∙ (row-second v (edgesOf triangles h) e (facesIn triangles (edgesOf triangles h) (suc h) e)
+          edge-live size (edgesOf triangles h) (facesIn triangles (edgesOf triangles h) (suc h)) e 3 there
+          ∙ (row-second size (edgesOf triangles h) e (facesIn triangles (edgesOf triangles h) (suc h) e)
           ∙ (ap (λ (fs : List ℕ). getD fs 1 noFace) faces-after ∙ second-face (facesSoFar triangles h e) (h / 3) one-face .1 .0))
 
-      others : (j b : ℕ) → b < 6 → (j ≡ e → b ≡ 3 → ⊥) → edgeWord v (edgesOf triangles h) (facesIn triangles (edgesOf triangles h) (suc h)) j b ≡ edgeWord v (edgesOf triangles h) (facesSoFar triangles h) j b
+      others : (j b : ℕ) → b < 6 → (j ≡ e → b ≡ 3 → ⊥) → edgeWord size (edgesOf triangles h) (facesIn triangles (edgesOf triangles h) (suc h)) j b ≡ edgeWord size (edgesOf triangles h) (facesSoFar triangles h) j b
       others j b k ne = go (decLe (length (edgesOf triangles h)) j) (ℕ-discrete j e) where
-        go : Dec (length (edgesOf triangles h) ≤ j) → Dec (j ≡ e) → edgeWord v (edgesOf triangles h) (facesIn triangles (edgesOf triangles h) (suc h)) j b ≡ edgeWord v (edgesOf triangles h) (facesSoFar triangles h) j b
-        go (yes n) q = edge-none v (edgesOf triangles h) (facesIn triangles (edgesOf triangles h) (suc h)) j b n ∙ sym (edge-none v (edgesOf triangles h) (facesSoFar triangles h) j b n)
+        go : Dec (length (edgesOf triangles h) ≤ j) → Dec (j ≡ e) → edgeWord size (edgesOf triangles h) (facesIn triangles (edgesOf triangles h) (suc h)) j b ≡ edgeWord size (edgesOf triangles h) (facesSoFar triangles h) j b
+        go (yes n) q = edge-none size (edgesOf triangles h) (facesIn triangles (edgesOf triangles h) (suc h)) j b n ∙ sym (edge-none size (edgesOf triangles h) (facesSoFar triangles h) j b n)
         go (no n) (yes q) =
-            edge-live v (edgesOf triangles h) (facesIn triangles (edgesOf triangles h) (suc h)) j b (omega arith)
-            ∙ (row-faces v (edgesOf triangles h) j (facesIn triangles (edgesOf triangles h) (suc h) j) (facesSoFar triangles h j) b (ne q)
+            edge-live size (edgesOf triangles h) (facesIn triangles (edgesOf triangles h) (suc h)) j b (omega arith)
+            ∙ (row-faces size (edgesOf triangles h) j (facesIn triangles (edgesOf triangles h) (suc h) j) (facesSoFar triangles h j) b (ne q)
             (subst (λ (i : ℕ). getD (facesIn triangles (edgesOf triangles h) (suc h) i) 0 noFace ≡ getD (facesSoFar triangles h i) 0 noFace) (sym q) (ap (λ (fs : List ℕ). getD fs 0 noFace) faces-after ∙ second-face (facesSoFar triangles h e) (h / 3) one-face .0))
-            ∙ sym (edge-live v (edgesOf triangles h) (facesSoFar triangles h) j b (omega arith)))
+            ∙ sym (edge-live size (edgesOf triangles h) (facesSoFar triangles h) j b (omega arith)))
         go (no n) (no q) =
-            edge-live v (edgesOf triangles h) (facesIn triangles (edgesOf triangles h) (suc h)) j b (omega arith)
-            ∙ (ap (λ (fs : List ℕ). getD (edgeRow v (edgesOf triangles h) j fs) b 0) (faces-kept j (omega arith) (λ z. q (sym z ∙ number)))
-            ∙ sym (edge-live v (edgesOf triangles h) (facesSoFar triangles h) j b (omega arith)))
+            edge-live size (edgesOf triangles h) (facesIn triangles (edgesOf triangles h) (suc h)) j b (omega arith)
+            ∙ (ap (λ (fs : List ℕ). getD (edgeRow size (edgesOf triangles h) j fs) b 0) (faces-kept j (omega arith) (λ z. q (sym z ∙ number)))
+            ∙ sym (edge-live size (edgesOf triangles h) (facesSoFar triangles h) j b (omega arith)))
 
       still-two : (j : ℕ) → j < length (edgesOf triangles h) → length (facesIn triangles (edgesOf triangles h) (suc h) j) ≤ 2
       still-two j k = go (ℕ-discrete j e) where
@@ -266,11 +266,11 @@ module _ (triangles : List ℕ) (v h : ℕ) (vertex edge triangle : List ℕ) (m
         go (yes q) = rw (q, faces-after, second-face (facesSoFar triangles h e) (h / 3) one-face .1 .1) (omega arith)
         go (no q) = rw (faces-kept j k (λ z. q (sym z ∙ number))) (p .two-faces j k)
 
-      pub found-turn : Partial triangles v (suc h) vertex (set edge (6 * e + 3) (h / 3)) (set triangle (6 * (h / 3) + h % 3) e)
+      pub found-turn : Partial triangles size (suc h) heads (set edge (6 * e + 3) (h / 3)) (set triangle (6 * (h / 3) + h % 3) e)
       found-turn =
-          partial triangles v h (edgesOf triangles h) same-edges vertex (set edge (6 * e + 3) (h / 3)) (set triangle (6 * (h / 3) + h % 3) e)
-          (p .vertex-words)
-          (holds-set 6 edge (edgeWord v (edgesOf triangles h) (facesSoFar triangles h)) (edgeWord v (edgesOf triangles h) (facesIn triangles (edgesOf triangles h) (suc h))) (p .edge-words) e 3 (h / 3) (omega arith) (omega (arith, edge-fits e (omega arith))) second-here others)
+          partial triangles size h (edgesOf triangles h) same-edges heads (set edge (6 * e + 3) (h / 3)) (set triangle (6 * (h / 3) + h % 3) e)
+          (p .head-words)
+          (holds-set 6 edge (edgeWord size (edgesOf triangles h) (facesSoFar triangles h)) (edgeWord size (edgesOf triangles h) (facesIn triangles (edgesOf triangles h) (suc h))) (p .edge-words) e 3 (h / 3) (omega arith) (omega (arith, edge-fits e (omega arith))) second-here others)
           (numbers-turn triangles h e same-number triangle number-fits (p .triangle-words))
           still-two
 
@@ -290,19 +290,16 @@ module _ (triangles : List ℕ) (v h : ℕ) (vertex edge triangle : List ℕ) (m
     new-last = rw more-edges (find-last (sideEdge triangles h) (edgesOf triangles h) fresh)
 
     -- the heads of the buckets
-    head-here : vertexWord v grown (bucketOf v (sideEdge triangles h)) 2 ≡ suc (length (edgesOf triangles h))
-    unfolding vertexWord
-    head-here = rw one-more (last-new v (edgesOf triangles h) (bucketOf v (sideEdge triangles h)) (sideEdge triangles h) refl)
+    head-here : headWord size grown (bucketOf size (sideEdge triangles h)) 0 ≡ suc (length (edgesOf triangles h))
+    unfolding headWord
+    head-here = rw one-more (last-new size (edgesOf triangles h) (bucketOf size (sideEdge triangles h)) (sideEdge triangles h) refl)
 
-    heads-kept : (j b : ℕ) → b < 3 → (j ≡ bucketOf v (sideEdge triangles h) → b ≡ 2 → ⊥) → vertexWord v grown j b ≡ vertexWord v (edgesOf triangles h) j b
-    unfolding vertexWord
-    heads-kept j b k ne = go (ℕ-discrete b 2) where
-      go : Dec (b ≡ 2) → cond (eqb b 2) (lastIn v grown j (length grown)) 0 ≡ cond (eqb b 2) (lastIn v (edgesOf triangles h) j (length (edgesOf triangles h))) 0
-      go (yes q) = ap (λ (n : ℕ). cond (eqb b 2) n 0) (ap (lastIn v grown j) one-more ∙ last-kept v (edgesOf triangles h) j (sideEdge triangles h) (λ z. ne (sym z) q))
-      go (no q) = rw (ne-eqb b 2 q) refl
+    heads-kept : (j b : ℕ) → b < 1 → (j ≡ bucketOf size (sideEdge triangles h) → b ≡ 0 → ⊥) → headWord size grown j b ≡ headWord size (edgesOf triangles h) j b
+    unfolding headWord
+    heads-kept j b k ne = ap (lastIn size grown j) one-more ∙ last-kept size (edgesOf triangles h) j (sideEdge triangles h) (λ z. ne (sym z) (omega arith))
 
-    bucket-fits : 3 * bucketOf v (sideEdge triangles h) + 2 < length vertex
-    bucket-fits = omega (arith, bucket-below v (sideEdge triangles h) (omega (arith, side-below triangles h v m l .0)), long .vertices-fit)
+    bucket-fits : 1 * bucketOf size (sideEdge triangles h) + 0 < length heads
+    bucket-fits = omega (arith, bucket-below size (sideEdge triangles h) (omega arith), long .heads-fit)
 
     -- the faces of the new edge, and of those before it
     new-faces : facesIn triangles grown (suc h) (length (edgesOf triangles h)) ≡ h / 3 ∷ []
@@ -314,23 +311,23 @@ module _ (triangles : List ℕ) (v h : ℕ) (vertex edge triangle : List ℕ) (m
     old-faces j k =
         ap (λ (x : Edge). facesAmong triangles x (suc h)) (List·getD-append (edgesOf triangles h) (sideEdge triangles h ∷ []) noEdge j k) ∙ faces-kept j k (omega arith)
 
-    new-row : (a : ℕ) → a < 6 → edgeWord v grown (facesIn triangles grown (suc h)) (length (edgesOf triangles h)) a ≡ getD (sideEdge triangles h .low ∷ sideEdge triangles h .high ∷ h / 3 ∷ noFace ∷ 0 ∷ lastIn v (edgesOf triangles h) (bucketOf v (sideEdge triangles h)) (length (edgesOf triangles h)) ∷ []) a 0
+    new-row : (a : ℕ) → a < 6 → edgeWord size grown (facesIn triangles grown (suc h)) (length (edgesOf triangles h)) a ≡ getD (sideEdge triangles h .low ∷ sideEdge triangles h .high ∷ h / 3 ∷ noFace ∷ 0 ∷ lastIn size (edgesOf triangles h) (bucketOf size (sideEdge triangles h)) (length (edgesOf triangles h)) ∷ []) a 0
     new-row a k =
-        edge-live v grown (facesIn triangles grown (suc h)) (length (edgesOf triangles h)) a (omega (arith, one-more))
-        ∙ (ap (λ (fs : List ℕ). getD (edgeRow v grown (length (edgesOf triangles h)) fs) a 0) new-faces
-        ∙ ap (λ (r : List ℕ). getD r a 0) (row-last v (edgesOf triangles h) (length (edgesOf triangles h)) (sideEdge triangles h) (h / 3) refl))
+        edge-live size grown (facesIn triangles grown (suc h)) (length (edgesOf triangles h)) a (omega (arith, one-more))
+        ∙ (ap (λ (fs : List ℕ). getD (edgeRow size grown (length (edgesOf triangles h)) fs) a 0) new-faces
+        ∙ ap (λ (r : List ℕ). getD r a 0) (row-last size (edgesOf triangles h) (length (edgesOf triangles h)) (sideEdge triangles h) (h / 3) refl))
 
-    rows-kept : (j b : ℕ) → b < 6 → (j ≡ length (edgesOf triangles h) → ⊥) → edgeWord v grown (facesIn triangles grown (suc h)) j b ≡ edgeWord v (edgesOf triangles h) (facesSoFar triangles h) j b
+    rows-kept : (j b : ℕ) → b < 6 → (j ≡ length (edgesOf triangles h) → ⊥) → edgeWord size grown (facesIn triangles grown (suc h)) j b ≡ edgeWord size (edgesOf triangles h) (facesSoFar triangles h) j b
     rows-kept j b k ne = go (decLe (length (edgesOf triangles h)) j) where
-      go : Dec (length (edgesOf triangles h) ≤ j) → edgeWord v grown (facesIn triangles grown (suc h)) j b ≡ edgeWord v (edgesOf triangles h) (facesSoFar triangles h) j b
+      go : Dec (length (edgesOf triangles h) ≤ j) → edgeWord size grown (facesIn triangles grown (suc h)) j b ≡ edgeWord size (edgesOf triangles h) (facesSoFar triangles h) j b
       go (yes n) =
           let n′ : length (edgesOf triangles h) < j = past (length (edgesOf triangles h)) j n ne in
-          edge-none v grown (facesIn triangles grown (suc h)) j b (omega (arith, one-more)) ∙ sym (edge-none v (edgesOf triangles h) (facesSoFar triangles h) j b n)
+          edge-none size grown (facesIn triangles grown (suc h)) j b (omega (arith, one-more)) ∙ sym (edge-none size (edgesOf triangles h) (facesSoFar triangles h) j b n)
       go (no n) =
-          edge-live v grown (facesIn triangles grown (suc h)) j b (omega (arith, one-more))
-          ∙ (ap (λ (fs : List ℕ). getD (edgeRow v grown j fs) b 0) (old-faces j (omega arith))
-          ∙ (ap (λ (r : List ℕ). getD r b 0) (row-append v (edgesOf triangles h) j (sideEdge triangles h ∷ []) (facesSoFar triangles h j) (omega arith))
-          ∙ sym (edge-live v (edgesOf triangles h) (facesSoFar triangles h) j b (omega arith))))
+          edge-live size grown (facesIn triangles grown (suc h)) j b (omega (arith, one-more))
+          ∙ (ap (λ (fs : List ℕ). getD (edgeRow size grown j fs) b 0) (old-faces j (omega arith))
+          ∙ (ap (λ (r : List ℕ). getD r b 0) (row-append size (edgesOf triangles h) j (sideEdge triangles h ∷ []) (facesSoFar triangles h j) (omega arith))
+          ∙ sym (edge-live size (edgesOf triangles h) (facesSoFar triangles h) j b (omega arith))))
 
     all-two : (j : ℕ) → j < length grown → length (facesIn triangles grown (suc h) j) ≤ 2
     all-two j k = go (decLe (length (edgesOf triangles h)) j) where
@@ -340,14 +337,14 @@ module _ (triangles : List ℕ) (v h : ℕ) (vertex edge triangle : List ℕ) (m
           rw (q, new-faces) (omega arith)
       go (no n) = rw (old-faces j (omega arith)) (p .two-faces j (omega arith))
 
-    pub new-turn : Partial triangles v (suc h)
-        (set vertex (3 * bucketOf v (sideEdge triangles h) + 2) (suc (length (edgesOf triangles h))))
-        (fill 6 edge (length (edgesOf triangles h)) 0 (sideEdge triangles h .low ∷ sideEdge triangles h .high ∷ h / 3 ∷ noFace ∷ 0 ∷ lastIn v (edgesOf triangles h) (bucketOf v (sideEdge triangles h)) (length (edgesOf triangles h)) ∷ []))
+    pub new-turn : Partial triangles size (suc h)
+        (set heads (1 * bucketOf size (sideEdge triangles h) + 0) (suc (length (edgesOf triangles h))))
+        (fill 6 edge (length (edgesOf triangles h)) 0 (sideEdge triangles h .low ∷ sideEdge triangles h .high ∷ h / 3 ∷ noFace ∷ 0 ∷ lastIn size (edgesOf triangles h) (bucketOf size (sideEdge triangles h)) (length (edgesOf triangles h)) ∷ []))
         (set triangle (6 * (h / 3) + h % 3) (length (edgesOf triangles h)))
     new-turn =
-        partial triangles v h grown more-edges _ _ _
-        (holds-set 3 vertex (vertexWord v (edgesOf triangles h)) (vertexWord v grown) (p .vertex-words) (bucketOf v (sideEdge triangles h)) 2 (suc (length (edgesOf triangles h))) (omega arith) bucket-fits head-here heads-kept)
-        (holds-fill 6 edge (edgeWord v (edgesOf triangles h) (facesSoFar triangles h)) (edgeWord v grown (facesIn triangles grown (suc h))) (p .edge-words) (length (edgesOf triangles h)) _ refl (edge-fits (length (edgesOf triangles h)) (omega arith)) new-row rows-kept)
+        partial triangles size h grown more-edges _ _ _
+        (holds-set 1 heads (headWord size (edgesOf triangles h)) (headWord size grown) (p .head-words) (bucketOf size (sideEdge triangles h)) 0 (suc (length (edgesOf triangles h))) (omega arith) bucket-fits head-here heads-kept)
+        (holds-fill 6 edge (edgeWord size (edgesOf triangles h) (facesSoFar triangles h)) (edgeWord size grown (facesIn triangles grown (suc h))) (p .edge-words) (length (edgesOf triangles h)) _ refl (edge-fits (length (edgesOf triangles h)) (omega arith)) new-row rows-kept)
         (numbers-turn triangles h (length (edgesOf triangles h)) new-last triangle number-fits (p .triangle-words))
         all-two
 
@@ -356,26 +353,26 @@ module _ (triangles : List ℕ) (v h : ℕ) (vertex edge triangle : List ℕ) (m
   few = omega (arith, few-edges triangles h, m .whole, m .few-triangles)
 
   -- What the code stores.
-  module _ (vertex′ edge′ triangle′ : List ℕ) where
-    pub new-done : (low high bucket count : ℕ) → length (edgesOf triangles h) ≤ find (sideEdge triangles h) (edgesOf triangles h) → record { low = low; high = high } ≡ sideEdge triangles h → bucket ≡ bucketOf v (record { low = low; high = high }) → count ≡ length (edgesOf triangles h)
-        → vertex′ ≡ set vertex (3 * bucket + 2) (count + 1) → edge′ ≡ fill 6 edge count 0 (low ∷ high ∷ h / 3 ∷ noFace ∷ 0 ∷ getD vertex (3 * bucket + 2) 0 ∷ []) → triangle′ ≡ set triangle (6 * (h / 3) + h % 3) count
-        → Turned triangles v (h + 1) vertex′ edge′ triangle′ (Edges (count + 1))
+  module _ (heads′ edge′ triangle′ : List ℕ) where
+    pub new-done : (low high bucket count : ℕ) → length (edgesOf triangles h) ≤ find (sideEdge triangles h) (edgesOf triangles h) → record { low = low; high = high } ≡ sideEdge triangles h → bucket ≡ bucketOf size (record { low = low; high = high }) → count ≡ length (edgesOf triangles h)
+        → heads′ ≡ set heads (1 * bucket + 0) (count + 1) → edge′ ≡ fill 6 edge count 0 (low ∷ high ∷ h / 3 ∷ noFace ∷ 0 ∷ getD heads (1 * bucket + 0) 0 ∷ []) → triangle′ ≡ set triangle (6 * (h / 3) + h % 3) count
+        → Turned triangles size (h + 1) heads′ edge′ triangle′ (Edges (count + 1))
     unfolding Turned
     new-done low high bucket count fresh q eb ec ev ee et =
-        let b : bucket ≡ bucketOf v (sideEdge triangles h) = eb ∙ ap (bucketOf v) q in
+        let b : bucket ≡ bucketOf size (sideEdge triangles h) = eb ∙ ap (bucketOf size) q in
         let lo : low ≡ sideEdge triangles h .low = ap (λ (x : Edge). x .low) q in
         let hi : high ≡ sideEdge triangles h .high = ap (λ (x : Edge). x .high) q in
         let n : length (edgesOf triangles (suc h)) ≡ suc (length (edgesOf triangles h)) = ap length (more-edges fresh) ∙ one-more fresh in
-        rw (add-one h, ev, ee, et, head-at triangles v h vertex edge triangle p bucket, b, lo, hi, ec, add-one (length (edgesOf triangles h))) (sym n, new-turn fresh)
+        rw (add-one h, ev, ee, et, head-at triangles size h heads edge triangle p bucket, b, lo, hi, ec, add-one (length (edgesOf triangles h))) (sym n, new-turn fresh)
 
     pub found-done : (e count : ℕ) → (find (sideEdge triangles h) (edgesOf triangles h) < length (edgesOf triangles h)) × (e ≡ find (sideEdge triangles h) (edgesOf triangles h)) → count ≡ length (edgesOf triangles h) → (s : ℕ) → s ≡ getD edge (6 * e + 3) 0 → s ≡ noFace
-        → vertex′ ≡ vertex → edge′ ≡ set edge (6 * e + 3) (h / 3) → triangle′ ≡ set triangle (6 * (h / 3) + h % 3) e
-        → Turned triangles v (h + 1) vertex′ edge′ triangle′ (Edges count)
+        → heads′ ≡ heads → edge′ ≡ set edge (6 * e + 3) (h / 3) → triangle′ ≡ set triangle (6 * (h / 3) + h % 3) e
+        → Turned triangles size (h + 1) heads′ edge′ triangle′ (Edges count)
     unfolding Turned
     found-done e count f ec s es vacant ev ee et =
         let k : e < length (edgesOf triangles h) = omega arith in
         rw (add-one h, ev, ee, et) (ec ∙ ap length (sym (same-edges e (sym (f .1)) k)), found-turn e (sym (f .1)) k (sym es ∙ vacant))
 
-    pub third-done : (e : ℕ) → (find (sideEdge triangles h) (edgesOf triangles h) < length (edgesOf triangles h)) × (e ≡ find (sideEdge triangles h) (edgesOf triangles h)) → (s : ℕ) → s ≡ getD edge (6 * e + 3) 0 → s ≢ noFace → Turned triangles v (h + 1) vertex′ edge′ triangle′ ThirdFace
+    pub third-done : (e : ℕ) → (find (sideEdge triangles h) (edgesOf triangles h) < length (edgesOf triangles h)) × (e ≡ find (sideEdge triangles h) (edgesOf triangles h)) → (s : ℕ) → s ≡ getD edge (6 * e + 3) 0 → s ≢ noFace → Turned triangles size (h + 1) heads′ edge′ triangle′ ThirdFace
     unfolding Turned
     third-done e f s es ne = third-turn e (sym (f .1)) (omega arith) (λ z. ne (es ∙ z))

@@ -3,28 +3,26 @@ use Prim.Native.Nat.{ℕ, _+_, _*_}
 use mathlib.Core.Path.{_≡_, refl, sym, ap, _∙_}
 use mathlib.Core.Bool.{true, false, and-false}
 use mathlib.Core.List.{List, []}
-use mathlib.Core.Logic.{⊎-elim}
 use native.Mathlib.Omega.{arith}
 use borrow.Author.Tests.{le-ltb}
-use lib.Dec.{ltb, eqb}
+use lib.Dec.{ltb}
 use lib.ListN.{length, replicate, length-replicate}
 use Rattle.topology.specs.Edges.{edgesOf, edges, triEdge, edgeFaces, sharedByThree}
-use Rattle.topology.proofs.Find.{either}
 use Rattle.topology.proofs.Growth.{no-third-face}
 use Rattle.edge_table.specs.declared.Table.{Table}
 use Rattle.edge_table.specs.declared.Table.the-variants.{Edges, ThirdFace}
-use Rattle.edge_table.specs.Words.{lastIn, vertexWord, edgeWord, triangleWord}
-use Rattle.edge_table.specs.Table.{LongEnough, Filled, Built, tableOf, vertexWords, edgeWords, triangleWords}
+use Rattle.edge_table.specs.Words.{lastIn, headWord, edgeWord, triangleWord}
+use Rattle.edge_table.specs.Table.{LongEnough, Filled, Built, tableOf, headWords, edgeWords, triangleWords}
 use Rattle.edge_table.specs.Sides.{Partial, Turned, facesSoFar, numberSoFar}
 use Rattle.buffers.proofs.Zeroing.{zero-at}
 use Rattle.edge_table.proofs.Holding.{words-are}
 
-module _ (triangles : List ℕ) (v : ℕ) where
-  no-heads : (b a : ℕ) → vertexWord v [] b a ≡ 0
-  unfolding vertexWord lastIn
-  no-heads b a = ⊎-elim (λ q. rw q refl) (λ q. rw q refl) (either (eqb a 2))
+module _ (triangles : List ℕ) (size : ℕ) where
+  no-heads : (b a : ℕ) → headWord size [] b a ≡ 0
+  unfolding headWord lastIn
+  no-heads b a = refl
 
-  no-edges : (faces : ℕ → List ℕ) (e a : ℕ) → edgeWord v [] faces e a ≡ 0
+  no-edges : (faces : ℕ → List ℕ) (e a : ℕ) → edgeWord size [] faces e a ≡ 0
   unfolding edgeWord
   no-edges faces e a = rw (le-ltb e 0 (omega arith)) refl
 
@@ -33,12 +31,12 @@ module _ (triangles : List ℕ) (v : ℕ) where
   no-numbers number f a = rw (le-ltb (3 * f + a) 0 (omega arith), and-false (ltb a 3)) refl
 
   -- zeroed buffers
-  pub none-entered : (vertex edge triangle : List ℕ) (n m k : ℕ) → vertex ≡ replicate n 0 → edge ≡ replicate m 0 → triangle ≡ replicate k 0 → Partial triangles v 0 vertex edge triangle
+  pub none-entered : (heads edge triangle : List ℕ) (n m k : ℕ) → heads ≡ replicate n 0 → edge ≡ replicate m 0 → triangle ≡ replicate k 0 → Partial triangles size 0 heads edge triangle
   unfolding edgesOf facesSoFar
-  none-entered vertex edge triangle n m k ev ee et =
+  none-entered heads edge triangle n m k ev ee et =
       rw (ev, ee, et)
       record {
-        vertex-words = λ i a l. zero-at 0 n (3 * i + a) ∙ sym (no-heads i a);
+        head-words = λ i a l. zero-at 0 n (1 * i + a) ∙ sym (no-heads i a);
         edge-words = λ i a l. zero-at 0 m (6 * i + a) ∙ sym (no-edges (facesSoFar triangles 0) i a);
         triangle-words = λ i a l. zero-at 0 k (6 * i + a) ∙ sym (no-numbers (numberSoFar triangles 0) i a);
         two-faces = λ e l. absurd (omega arith);
@@ -48,9 +46,9 @@ module _ (triangles : List ℕ) (v : ℕ) where
   unfolding edgesOf
   none-counted = refl
 
-  module _ (vertex₀ edge₀ triangle₀ vertex edge triangle : List ℕ) where
+  module _ (heads₀ edge₀ triangle₀ heads edge triangle : List ℕ) where
     -- an edge had a third face
-    pub built-third : sharedByThree triangles ≡ true → Built triangles v ThirdFace vertex₀ edge₀ triangle₀ vertex edge triangle
+    pub built-third : sharedByThree triangles ≡ true → Built triangles ThirdFace heads₀ edge₀ triangle₀ heads edge triangle
     unfolding tableOf
     built-third q =
         record {
@@ -59,31 +57,31 @@ module _ (triangles : List ℕ) (v : ℕ) where
         }
 
     -- all sides were entered
-    module _ (lv : length vertex ≡ length vertex₀) (le : length edge ≡ length edge₀) (lt : length triangle ≡ length triangle₀) (p : Partial triangles v (length triangles) vertex edge triangle) where
+    module _ (lv : length heads ≡ length heads₀) (le : length edge ≡ length edge₀) (lt : length triangle ≡ length triangle₀) (p : Partial triangles (length triangles) (length triangles) heads edge triangle) where
       two : sharedByThree triangles ≡ false
       unfolding edges edgeFaces facesSoFar
       two = no-third-face triangles (p .two-faces)
 
-      all-words : Filled triangles v vertex₀ edge₀ triangle₀ vertex edge triangle
-      unfolding edges edgeFaces triEdge facesSoFar numberSoFar vertexWords edgeWords triangleWords
+      all-words : Filled triangles heads₀ edge₀ triangle₀ heads edge triangle
+      unfolding edges edgeFaces triEdge facesSoFar numberSoFar headWords edgeWords triangleWords
       all-words =
           record {
-            vertex-words = words-are (length vertex₀) 3 (vertexWord v (edges triangles)) vertex (omega arith) lv (p .vertex-words);
-            edge-words = words-are (length edge₀) 6 (edgeWord v (edges triangles) (edgeFaces triangles)) edge (omega arith) le (p .edge-words);
+            head-words = words-are (length heads₀) 1 (headWord (length triangles) (edges triangles)) heads (omega arith) lv (p .head-words);
+            edge-words = words-are (length edge₀) 6 (edgeWord (length triangles) (edges triangles) (edgeFaces triangles)) edge (omega arith) le (p .edge-words);
             triangle-words = words-are (length triangle₀) 6 (triangleWord (length triangles) (triEdge triangles)) triangle (omega arith) lt (p .triangle-words);
           }
 
-      pub built-all : (count : ℕ) → count ≡ length (edgesOf triangles (length triangles)) → Built triangles v (Edges count) vertex₀ edge₀ triangle₀ vertex edge triangle
+      pub built-all : (count : ℕ) → count ≡ length (edgesOf triangles (length triangles)) → Built triangles (Edges count) heads₀ edge₀ triangle₀ heads edge triangle
       unfolding tableOf edges
       built-all count e = record { answer = rw (two, e) refl; words = λ n. all-words }
 
   -- What a side's answer says.
-  module _ (h : ℕ) (vertex edge triangle : List ℕ) (r : Table) (said : Turned triangles v h vertex edge triangle r) where
+  module _ (h : ℕ) (heads edge triangle : List ℕ) (r : Table) (said : Turned triangles size h heads edge triangle r) where
     pub turned-third : r ≡ ThirdFace → sharedByThree triangles ≡ true
     unfolding Turned
     turned-third q = rw q at said
 
-    pub turned-on : (n : ℕ) → r ≡ Edges n → (n ≡ length (edgesOf triangles h)) × Partial triangles v h vertex edge triangle
+    pub turned-on : (n : ℕ) → r ≡ Edges n → (n ≡ length (edgesOf triangles h)) × Partial triangles size h heads edge triangle
     unfolding Turned
     turned-on n q = rw q at said
 
@@ -91,5 +89,5 @@ module _ (triangles : List ℕ) (v : ℕ) where
 pub as-long : (words zeroed at-entry : List ℕ) → length words ≡ length zeroed → zeroed ≡ replicate (length at-entry) 0 → length words ≡ length at-entry
 as-long words zeroed at-entry l z = l ∙ (ap length z ∙ length-replicate (length at-entry) 0)
 
-pub still-long : (triangles : List ℕ) (v : ℕ) (a b c a′ b′ c′ : ℕ) → LongEnough triangles v a b c → a′ ≡ a → b′ ≡ b → c′ ≡ c → LongEnough triangles v a′ b′ c′
-still-long triangles v a b c a′ b′ c′ l p q r = rw (p, q, r) l
+pub still-long : (triangles : List ℕ) (a b c a′ b′ c′ : ℕ) → LongEnough triangles a b c → a′ ≡ a → b′ ≡ b → c′ ≡ c → LongEnough triangles a′ b′ c′
+still-long triangles a b c a′ b′ c′ l p q r = rw (p, q, r) l

@@ -8,7 +8,7 @@ use lib.ListN.{length, getD}
 use Rattle.topology.specs.Edges.{noEdge, sideEdge, find, edgesOf, facesAmong, sharedByThree}
 use Rattle.edge_table.specs.declared.Table.{Table}
 use Rattle.edge_table.specs.declared.Table.the-variants.{Edges, ThirdFace}
-use Rattle.edge_table.specs.Words.{vertexWord, edgeWord, triangleWord}
+use Rattle.edge_table.specs.Words.{headWord, edgeWord, triangleWord}
 use Rattle.edge_table.specs.Table.{Mesh, LongEnough}
 
 -- Every field a of every slot i of a buffer, whether or not it has the slot.
@@ -24,24 +24,24 @@ module _ (triangles : List ℕ) (h : ℕ) where
   unfoldable pub numberSoFar : ℕ → ℕ
   numberSoFar s = find (sideEdge triangles s) (edgesOf triangles h)
 
-pub record Partial (triangles : List ℕ) (v h : ℕ) (vertex edge triangle : List ℕ) : Type 0 where
-  pub vertex-words : Holds 3 vertex (vertexWord v (edgesOf triangles h))
-  pub edge-words : Holds 6 edge (edgeWord v (edgesOf triangles h) (facesSoFar triangles h))
+pub record Partial (triangles : List ℕ) (size h : ℕ) (heads edge triangle : List ℕ) : Type 0 where
+  pub head-words : Holds 1 heads (headWord size (edgesOf triangles h))
+  pub edge-words : Holds 6 edge (edgeWord size (edgesOf triangles h) (facesSoFar triangles h))
   pub triangle-words : Holds 6 triangle (triangleWord h (numberSoFar triangles h))
   pub two-faces : (e : ℕ) → e < length (edgesOf triangles h) → length (facesSoFar triangles h e) ≤ 2
 
 -- What side h is entered into: the buffers after h sides, with so many edges.
-pub record Ready (triangles : List ℕ) (v h count : ℕ) (vertex edge triangle : List ℕ) : Type 0 where
-  pub mesh : Mesh triangles v
-  pub long : LongEnough triangles v (length vertex) (length edge) (length triangle)
+pub record Ready (triangles : List ℕ) (h count : ℕ) (heads edge triangle : List ℕ) : Type 0 where
+  pub mesh : Mesh triangles 65535
+  pub long : LongEnough triangles (length heads) (length edge) (length triangle)
   pub side : h < length triangles
   pub counted : count ≡ length (edgesOf triangles h)
-  pub words : Partial triangles v h vertex edge triangle
+  pub words : Partial triangles (length triangles) h heads edge triangle
 
 -- The answer after h sides.
 unfoldable pub Turned : List ℕ → ℕ → ℕ → List ℕ → List ℕ → List ℕ → Table → Type 0
-Turned triangles v h vertex edge triangle (Edges n) = (n ≡ length (edgesOf triangles h)) × Partial triangles v h vertex edge triangle
-Turned triangles v h vertex edge triangle ThirdFace = sharedByThree triangles ≡ true
+Turned triangles size h heads edge triangle (Edges n) = (n ≡ length (edgesOf triangles h)) × Partial triangles size h heads edge triangle
+Turned triangles size h heads edge triangle ThirdFace = sharedByThree triangles ≡ true
 
 -- The links of edges fall: each leads to an earlier edge.
 abbrev pub Falling : List ℕ → Type 0

@@ -7,7 +7,7 @@ use lib.ListN.{length, getD}
 use Rattle.topology.specs.Edges.{edges, triEdge, edgeFaces, sharedByThree}
 use Rattle.edge_table.specs.declared.Table.{Table}
 use Rattle.edge_table.specs.declared.Table.the-variants.{Edges, ThirdFace}
-use Rattle.edge_table.specs.Words.{wordsOf, vertexWord, edgeWord, triangleWord}
+use Rattle.edge_table.specs.Words.{wordsOf, headWord, edgeWord, triangleWord}
 
 -- What is asked of a mesh: three vertex numbers for each triangle, each below v, and no more of both than document 01 allows.
 pub record Mesh (triangles : List ℕ) (v : ℕ) : Type 0 where
@@ -16,9 +16,9 @@ pub record Mesh (triangles : List ℕ) (v : ℕ) : Type 0 where
   pub few-vertices : v ≤ 65535
   pub there : (i : ℕ) → i < length triangles → getD triangles i 0 < v
 
--- Buffers of so many words: a slot for each vertex, one for each side, which is what the edges can come to, and one for each triangle.
-pub record LongEnough (triangles : List ℕ) (v vertex edge triangle : ℕ) : Type 0 where
-  pub vertices-fit : 3 * v ≤ vertex
+-- Buffers of so many words: a bucket for each side, a slot for each side, which is what the edges can come to, and one for each triangle.
+pub record LongEnough (triangles : List ℕ) (heads edge triangle : ℕ) : Type 0 where
+  pub heads-fit : length triangles ≤ heads
   pub edges-fit : 6 * length triangles ≤ edge
   pub triangles-fit : 2 * length triangles ≤ triangle
 
@@ -29,19 +29,19 @@ tableOf triangles = cond (sharedByThree triangles) ThirdFace (Edges (length (edg
 unfoldable pub triangleWords : List ℕ → ℕ → List ℕ
 triangleWords triangles n = wordsOf n 6 (triangleWord (length triangles) (triEdge triangles))
 
-module _ (triangles : List ℕ) (v : ℕ) where
-  unfoldable pub vertexWords : ℕ → List ℕ
-  vertexWords n = wordsOf n 3 (vertexWord v (edges triangles))
+module _ (triangles : List ℕ) where
+  unfoldable pub headWords : ℕ → List ℕ
+  headWords n = wordsOf n 1 (headWord (length triangles) (edges triangles))
 
   unfoldable pub edgeWords : ℕ → List ℕ
-  edgeWords n = wordsOf n 6 (edgeWord v (edges triangles) (edgeFaces triangles))
+  edgeWords n = wordsOf n 6 (edgeWord (length triangles) (edges triangles) (edgeFaces triangles))
 
   -- What the buffers hold where no edge lies in more than two triangles, against what they held before, which counts by its length alone.
-  pub record Filled (vertex₀ edge₀ triangle₀ vertex edge triangle : List ℕ) : Type 0 where
-    pub vertex-words : vertex ≡ vertexWords (length vertex₀)
+  pub record Filled (heads₀ edge₀ triangle₀ heads edge triangle : List ℕ) : Type 0 where
+    pub head-words : heads ≡ headWords (length heads₀)
     pub edge-words : edge ≡ edgeWords (length edge₀)
     pub triangle-words : triangle ≡ triangleWords triangles (length triangle₀)
 
-  pub record Built (r : Table) (vertex₀ edge₀ triangle₀ vertex edge triangle : List ℕ) : Type 0 where
+  pub record Built (r : Table) (heads₀ edge₀ triangle₀ heads edge triangle : List ℕ) : Type 0 where
     pub answer : r ≡ tableOf triangles
-    pub words : sharedByThree triangles ≡ false → Filled vertex₀ edge₀ triangle₀ vertex edge triangle
+    pub words : sharedByThree triangles ≡ false → Filled heads₀ edge₀ triangle₀ heads edge triangle

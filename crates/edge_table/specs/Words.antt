@@ -12,32 +12,33 @@ use Rattle.topology.specs.Edges.{Edge, noEdge, noFace}
 unfoldable pub wordsOf : ℕ → ℕ → (ℕ → ℕ → ℕ) → List ℕ
 wordsOf n s word = listOf n (λ (p : ℕ). word (p / s) (p % s))
 
--- The bucket of an edge among v of them. Both ends are mixed in, so that neither the edges at one vertex nor those of a strip meet in few buckets.
+-- The bucket of an edge among size of them. The distance of its ends, high - low, is scattered by a factor modulo 2^32, of which 1640531535 is the
+-- negative; from there the lower end counts on. So edges along a grid or a strip stand side by side, and those at one vertex far apart.
 unfoldable pub bucketOf : ℕ → Edge → ℕ
-bucketOf v x = (x .low * 2654435761 + x .high * 2246822519) % 4294967296 * v / 4294967296
+bucketOf size x = (x .low + (x .low * 1640531535 + x .high * 2654435761) % 4294967296 * size / 4294967296) % size
 
 -- the link to the last of the first n edges that is in bucket b
 unfoldable pub lastIn : ℕ → List Edge → ℕ → ℕ → ℕ
-lastIn v es b zero = 0
-lastIn v es b (suc n) = cond (eqb (bucketOf v (getD es n noEdge)) b) (suc n) (lastIn v es b n)
+lastIn size es b zero = 0
+lastIn size es b (suc n) = cond (eqb (bucketOf size (getD es n noEdge)) b) (suc n) (lastIn size es b n)
 
--- field a of vertex b: 2 is the head of bucket b, the start and the end of the vertex's faces are left
-unfoldable pub vertexWord : ℕ → List Edge → ℕ → ℕ → ℕ
-vertexWord v es b a = cond (eqb a 2) (lastIn v es b (length es)) 0
+-- the head of bucket b, in a slot of one word
+unfoldable pub headWord : ℕ → List Edge → ℕ → ℕ → ℕ
+headWord size es b a = lastIn size es b (length es)
 
 -- the fields of edge e, whose faces are fs: its ends, its first and its second face, no windows, the next edge of its bucket
 unfoldable pub edgeRow : ℕ → List Edge → ℕ → List ℕ → List ℕ
-edgeRow v es e fs =
+edgeRow size es e fs =
     getD es e noEdge .low
     ∷ getD es e noEdge .high
     ∷ getD fs 0 noFace
     ∷ getD fs 1 noFace
     ∷ 0
-    ∷ lastIn v es (bucketOf v (getD es e noEdge)) e
+    ∷ lastIn size es (bucketOf size (getD es e noEdge)) e
     ∷ []
 
 unfoldable pub edgeWord : ℕ → List Edge → (ℕ → List ℕ) → ℕ → ℕ → ℕ
-edgeWord v es faces e a = cond (ltb e (length es)) (getD (edgeRow v es e (faces e)) a 0) 0
+edgeWord size es faces e a = cond (ltb e (length es)) (getD (edgeRow size es e (faces e)) a 0) 0
 
 -- field a of triangle f, where sides below n have the numbers of their edges
 unfoldable pub triangleWord : ℕ → (ℕ → ℕ) → ℕ → ℕ → ℕ

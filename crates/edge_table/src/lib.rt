@@ -1,16 +1,18 @@
 // The edges of a mesh, numbered by first appearance, in buffers that a caller lends. An edge is looked up through buckets: as many
-// as there are vertices, each a chain of edges through the edge buffer, the newest first. `bucketOf` in specs/ mixes both ends of an edge.
-// On grids, strips, fans and double fans of up to 131,070 triangles a look-up took about one step and no chain had more than 12 edges.
-// Nothing proves that: the worst case, a mesh whose edges all meet in one bucket, takes a step for each edge so far.
+// as the mesh has sides, each a chain of edges through the edge buffer, the newest first. `bucketOf` in specs/ spreads them.
+// On grids, strips, double fans and spheres of up to 131,070 triangles, on one with its numbers shuffled, and where each vertex is joined with
+// every other, a look-up took less than one step and no chain had more than 6 edges. Nothing proves that: the worst case, a mesh whose E edges all
+// meet in one bucket, takes a step for each edge so far, E (E - 1) / 2 to enter them.
 use buffers::read_u32;
 use buffers::write_u32;
 use buffers::zero_u32;
+use topology::higher_of;
+use topology::lower_of;
 ghost use mathlib.Core.Path.{_≡_};
 ghost use mathlib.Core.List.{[], _∷_};
 ghost use Prim.Native.Nat.{_+_, _*_, _/_, _<_, _≤_};
 ghost use lib.ListN.{length, getD, set};
 ghost use Rattle.buffers.specs.Slots.{fill};
-ghost use Rattle.job_checks.specs.Edge.{lower, higher};
 ghost use Rattle.edge_table.specs.Words.{bucketOf};
 ghost use Rattle.edge_table.specs.Table.{Mesh, LongEnough, Built};
 ghost use Rattle.edge_table.specs.Sides.{Ready, Turned, Falling, seek};
@@ -21,30 +23,16 @@ pub enum Table {
     ThirdFace,
 }
 
-fn lower_of(a: u32, b: u32) -> u32
-    ensures { λ r. ⌜ r ≡ lower a b ⌝ }
+fn bucket_of(low: u32, high: u32, size: u32) -> u32
+    requires { ⌜ (low < 65535) × ((high < 65535) × ((0 < size) × (size ≤ 393210))) ⌝ }
+    ensures { λ r. ⌜ r ≡ bucketOf size (record { low = low; high = high }) ⌝ }
 {
-    if a < b {
-        return a;
+    let mixed = ((low as u64) * 1640531535 + (high as u64) * 2654435761) % 4294967296;
+    let place = (low as u64) + mixed * (size as u64) / 4294967296;
+    if place < (size as u64) {
+        return place as u32;
     }
-    b
-}
-
-fn higher_of(a: u32, b: u32) -> u32
-    ensures { λ r. ⌜ r ≡ higher a b ⌝ }
-{
-    if a < b {
-        return b;
-    }
-    a
-}
-
-fn bucket_of(low: u32, high: u32, vertex_count: u32) -> u32
-    requires { ⌜ (low < «vertex_count») × ((high < «vertex_count») × («vertex_count» ≤ 65535)) ⌝ }
-    ensures { λ r. ⌜ r ≡ bucketOf «vertex_count» (record { low = low; high = high }) ⌝ }
-{
-    let mixed = ((low as u64) * 2654435761 + (high as u64) * 2246822519) % 4294967296;
-    (mixed * (vertex_count as u64) / 4294967296) as u32
+    (place % (size as u64)) as u32
 }
 
 // The link to the edge with these ends on the chain from a link on, or 0. Links fall, so the chain ends.
@@ -67,7 +55,7 @@ fn find_in_bucket(edge_words: &[u32], head: u32, low: u32, high: u32) -> u32
 
 // A new edge, with its first face, at the head of its bucket.
 fn add_edge(
-    vertex_words: &mut [u32],
+    heads: &mut [u32],
     edge_words: &mut [u32],
     bucket: u32,
     e: u32,
@@ -76,31 +64,30 @@ fn add_edge(
     f: u32,
 )
     requires { ⌜ e < 4294967295 ⌝ }
-    ensures { λ r. ⌜ (now («vertex_words» .exit) ≡ set (now («vertex_words» .entry)) (3 * bucket + 2) (e + 1))
-        × (now («edge_words» .exit) ≡ fill 6 (now («edge_words» .entry)) e 0 (low ∷ high ∷ f ∷ 4294967295 ∷ 0 ∷ getD (now («vertex_words» .entry)) (3 * bucket + 2) 0 ∷ [])) ⌝ }
+    ensures { λ r. ⌜ (now (heads .exit) ≡ set (now (heads .entry)) (1 * bucket + 0) (e + 1))
+        × (now («edge_words» .exit) ≡ fill 6 (now («edge_words» .entry)) e 0 (low ∷ high ∷ f ∷ 4294967295 ∷ 0 ∷ getD (now (heads .entry)) (1 * bucket + 0) 0 ∷ [])) ⌝ }
 {
-    let next = read_u32(vertex_words, 3, bucket, 2);
+    let next = read_u32(heads, 1, bucket, 0);
     write_u32(edge_words, 6, e, 0, low);
     write_u32(edge_words, 6, e, 1, high);
     write_u32(edge_words, 6, e, 2, f);
     write_u32(edge_words, 6, e, 3, 4294967295);
     write_u32(edge_words, 6, e, 4, 0);
     write_u32(edge_words, 6, e, 5, next);
-    write_u32(vertex_words, 3, bucket, 2, e + 1);
+    write_u32(heads, 1, bucket, 0, e + 1);
 }
 
 // Side h: its edge is found or entered, and has the side's triangle as its next face. `count` is how many edges there are.
 fn enter_side(
     triangles: &[u32],
-    vertex_count: u32,
-    vertex_words: &mut [u32],
+    heads: &mut [u32],
     edge_words: &mut [u32],
     triangle_words: &mut [u32],
     h: u32,
     count: u32,
 ) -> Table
-    requires { ⌜ Ready (now triangles) «vertex_count» h count (now «vertex_words») (now «edge_words») (now «triangle_words») ⌝ }
-    ensures { λ r. ⌜ Turned (now (triangles .entry)) «vertex_count» (h + 1) (now («vertex_words» .exit)) (now («edge_words» .exit)) (now («triangle_words» .exit)) r ⌝ }
+    requires { ⌜ Ready (now triangles) h count (now heads) (now «edge_words») (now «triangle_words») ⌝ }
+    ensures { λ r. ⌜ Turned (now (triangles .entry)) (length (now (triangles .entry))) (h + 1) (now (heads .exit)) (now («edge_words» .exit)) (now («triangle_words» .exit)) r ⌝ }
 {
     let f = h / 3;
     let k = h % 3;
@@ -108,11 +95,11 @@ fn enter_side(
     let b = read_u32(triangles, 3, f, (k + 1) % 3);
     let low = lower_of(a, b);
     let high = higher_of(a, b);
-    let bucket = bucket_of(low, high, vertex_count);
-    let head = read_u32(vertex_words, 3, bucket, 2);
+    let bucket = bucket_of(low, high, triangles.len() as u32);
+    let head = read_u32(heads, 1, bucket, 0);
     let link = find_in_bucket(edge_words, head, low, high);
     if link == 0 {
-        add_edge(vertex_words, edge_words, bucket, count, low, high, f);
+        add_edge(heads, edge_words, bucket, count, low, high, f);
         write_u32(triangle_words, 6, f, k, count);
         return Table::Edges(count + 1);
     }
@@ -128,33 +115,24 @@ fn enter_side(
 // The table of a mesh whose triangles were checked. Where an edge lies in more than two triangles the buffers are left as they are then.
 pub fn build(
     triangles: &[u32],
-    vertex_count: u32,
-    vertex_words: &mut [u32],
+    heads: &mut [u32],
     edge_words: &mut [u32],
     triangle_words: &mut [u32],
 ) -> Table
-    requires { ⌜ Mesh (now triangles) «vertex_count»
-        × LongEnough (now triangles) «vertex_count» (length (now «vertex_words»)) (length (now «edge_words»)) (length (now «triangle_words»)) ⌝ }
-    ensures { λ r. ⌜ Built (now (triangles .entry)) «vertex_count» r
-        (now («vertex_words» .entry)) (now («edge_words» .entry)) (now («triangle_words» .entry))
-        (now («vertex_words» .exit)) (now («edge_words» .exit)) (now («triangle_words» .exit)) ⌝ }
+    requires { ⌜ Mesh (now triangles) 65535
+        × LongEnough (now triangles) (length (now heads)) (length (now «edge_words»)) (length (now «triangle_words»)) ⌝ }
+    ensures { λ r. ⌜ Built (now (triangles .entry)) r
+        (now (heads .entry)) (now («edge_words» .entry)) (now («triangle_words» .entry))
+        (now (heads .exit)) (now («edge_words» .exit)) (now («triangle_words» .exit)) ⌝ }
 {
-    zero_u32(vertex_words);
+    zero_u32(heads);
     zero_u32(edge_words);
     zero_u32(triangle_words);
     let sides = triangles.len() as u32;
     let mut count: u32 = 0;
     let mut h: u32 = 0;
     while h < sides {
-        match enter_side(
-            triangles,
-            vertex_count,
-            vertex_words,
-            edge_words,
-            triangle_words,
-            h,
-            count,
-        ) {
+        match enter_side(triangles, heads, edge_words, triangle_words, h, count) {
             Table::Edges(n) => {
                 count = n;
             }

@@ -16,9 +16,9 @@ use Rattle.vec3.specs.Vec.{scaleOf, subOf, dotOf}
 use Rattle.job_checks.specs.Edge.{vertexAt, lenOf, xhatOf, perpendicularOf, altitudeOf}
 use Rattle.buffers.specs.Slots.{slot, fill}
 use Rattle.buffers.proofs.Strides.{slot-at, length-fill, fill-same, fill-other}
-use Rattle.topology.specs.Edges.{Edge, offEnds, corner, edges, triEdge, other, local, third}
+use Rattle.topology.specs.Edges.{offEnds, corner, edges, triEdge, other, local, third}
 use Rattle.topology.specs.Frames.{origin, end, len, xhat, yhat, coordsX, coordsY}
-use Rattle.topology.proofs.Edges.{tri-edge-there}
+use Rattle.topology.proofs.Edges.{tri-edge-there, tri-edge-is}
 use Rattle.frames.specs.Stored.{vectorAt, lengthAt, unitAt, normalAt, inward, originAt, endAt, withLengths, normalOf, withNormals, xOf, otherAt, localAt, thirdAt, yOf}
 use Rattle.frames.specs.Held.{HoldsEdges, HoldsFaces, HoldsSides, HoldsLengths, HoldsNormals}
 use Rattle.frames.proofs.Turns.{local-below}
@@ -83,31 +83,31 @@ module _ (v : List Float) (edgeWords : List ℕ) where
     pub lengths-past : (e : ℕ) → n ≤ e → slot 4 (withLengths v edgeWords n r) e ≡ slot 4 r e
     lengths-past e l = rw (lengths-filled n r) (filled-past 4 lengthRow four n r e l)
 
-  module _ (triangles triangleWords : List ℕ) (edgeReals : List Float) where
-    normalRow : ℕ → List Float
-    normalRow h =
-        let n : Vec3 = normalOf v edgeWords triangles triangleWords edgeReals h in
-        n .x ∷ n .y ∷ n .z ∷ []
+module _ (v : List Float) (triangles triangleWords : List ℕ) (edgeReals : List Float) where
+  normalRow : ℕ → List Float
+  normalRow h =
+      let n : Vec3 = normalOf v triangles triangleWords edgeReals h in
+      n .x ∷ n .y ∷ n .z ∷ []
 
-    normals-filled : (n : ℕ) (r : List Float) → withNormals v edgeWords triangles triangleWords edgeReals n r ≡ filled 3 normalRow n r
-    unfolding withNormals filled normalRow
-    normals-filled zero r = refl
-    normals-filled (suc n) r = ap (λ (x : List Float). fill 3 x n 0 (normalRow n)) (normals-filled n r)
+  normals-filled : (n : ℕ) (r : List Float) → withNormals v triangles triangleWords edgeReals n r ≡ filled 3 normalRow n r
+  unfolding withNormals filled normalRow
+  normals-filled zero r = refl
+  normals-filled (suc n) r = ap (λ (x : List Float). fill 3 x n 0 (normalRow n)) (normals-filled n r)
 
-    three : (h : ℕ) → length (normalRow h) ≡ 3
+  three : (h : ℕ) → length (normalRow h) ≡ 3
+  unfolding normalRow
+  three h = refl
+
+  module _ (n : ℕ) (r : List Float) where
+    normals-at : (h a : ℕ) → h < n → 3 * n ≤ length r → a < 3 → getD (withNormals v triangles triangleWords edgeReals n r) (3 * h + a) nan ≡ getD (normalRow h) a nan
+    normals-at h a l m b = rw (normals-filled n r) (filled-at 3 normalRow three n r h a l m b)
+
+    pub normal-stored : (h : ℕ) → h < n → 3 * n ≤ length r → normalAt (withNormals v triangles triangleWords edgeReals n r) h ≡ normalOf v triangles triangleWords edgeReals h
     unfolding normalRow
-    three h = refl
+    normal-stored h l m = λ i. record { x = normals-at h 0 l m (omega arith) i; y = normals-at h 1 l m (omega arith) i; z = normals-at h 2 l m (omega arith) i }
 
-    module _ (n : ℕ) (r : List Float) where
-      normals-at : (h a : ℕ) → h < n → 3 * n ≤ length r → a < 3 → getD (withNormals v edgeWords triangles triangleWords edgeReals n r) (3 * h + a) nan ≡ getD (normalRow h) a nan
-      normals-at h a l m b = rw (normals-filled n r) (filled-at 3 normalRow three n r h a l m b)
-
-      pub normal-stored : (h : ℕ) → h < n → 3 * n ≤ length r → normalAt (withNormals v edgeWords triangles triangleWords edgeReals n r) h ≡ normalOf v edgeWords triangles triangleWords edgeReals h
-      unfolding normalRow
-      normal-stored h l m = λ i. record { x = normals-at h 0 l m (omega arith) i; y = normals-at h 1 l m (omega arith) i; z = normals-at h 2 l m (omega arith) i }
-
-      pub normals-past : (h : ℕ) → n ≤ h → slot 3 (withNormals v edgeWords triangles triangleWords edgeReals n r) h ≡ slot 3 r h
-      normals-past h l = rw (normals-filled n r) (filled-past 3 normalRow three n r h l)
+    pub normals-past : (h : ℕ) → n ≤ h → slot 3 (withNormals v triangles triangleWords edgeReals n r) h ≡ slot 3 r h
+    normals-past h l = rw (normals-filled n r) (filled-past 3 normalRow three n r h l)
 
 -- `inward` along the computed unit vector is the topology's normal
 inward-is : (o b t : Vec3) → inward o (xhatOf o b) t ≡ scaleOf (perpendicularOf o b t) (one ⊘ altitudeOf o b t)
@@ -138,19 +138,6 @@ module _ (v : List Float) (triangles edgeWords : List ℕ) (held : HoldsEdges tr
     unfolding xOf coordsX
     x-held e l p = λ i. dotOf (subOf p (origin-held e l i)) (long .unit-is e l i)
 
-    module _ (triangleWords : List ℕ) (sides : HoldsSides triangles triangleWords) where
-      normal-held : (h : ℕ) → h < length triangles → normalOf v edgeWords triangles triangleWords edgeReals h ≡ yhat v triangles h
-      unfolding normalOf yhat xhat
-      normal-held h l =
-          let m : triEdge triangles h < length (edges triangles) = tri-edge-there triangles h l in
-          ap (λ (e : ℕ). inward (originAt v edgeWords e) (unitAt edgeReals e) (vertexAt v (corner triangles h 2))) (sides h l)
-          ∙ ((λ i. inward (origin-held (triEdge triangles h) m i) (long .unit-is (triEdge triangles h) m i) (vertexAt v (corner triangles h 2)))
-          ∙ inward-is (origin v triangles (triEdge triangles h)) (end v triangles (triEdge triangles h)) (vertexAt v (corner triangles h 2)))
-
-      -- what `normals` leaves
-      pub normals-held : (r : List Float) → 3 * length triangles ≤ length r → HoldsNormals v triangles (withNormals v edgeWords triangles triangleWords edgeReals (length triangles) r)
-      normals-held r m h l = normal-stored v edgeWords triangles triangleWords edgeReals (length triangles) r h l m ∙ normal-held h l
-
   pub third-held : (e f : ℕ) → e < length (edges triangles) → thirdAt triangles edgeWords e f ≡ third triangles e f
   unfolding thirdAt third
   third-held e f l =
@@ -158,6 +145,19 @@ module _ (v : List Float) (triangles edgeWords : List ℕ) (held : HoldsEdges tr
       λ i. cond (offEnds (getD triangles (z i) 0) (record { low = held .low e l i; high = held .high e l i })) (getD triangles (z i) 0)
       (cond (offEnds (getD triangles (3 * f + 1) 0) (record { low = held .low e l i; high = held .high e l i })) (getD triangles (3 * f + 1) 0)
       (getD triangles (3 * f + 2) 0))
+
+module _ (v : List Float) (triangles : List ℕ) (edgeReals : List Float) (long : HoldsLengths v triangles edgeReals) (triangleWords : List ℕ) (sides : HoldsSides triangles triangleWords) where
+  normal-held : (h : ℕ) → h < length triangles → normalOf v triangles triangleWords edgeReals h ≡ yhat v triangles h
+  unfolding normalOf yhat xhat origin
+  normal-held h l =
+      let m : triEdge triangles h < length (edges triangles) = tri-edge-there triangles h l in
+      (λ i. inward (vertexAt v (sym (tri-edge-is triangles h l) i .low)) (unitAt edgeReals (sides h l i)) (vertexAt v (corner triangles h 2)))
+      ∙ ((λ i. inward (origin v triangles (triEdge triangles h)) (long .unit-is (triEdge triangles h) m i) (vertexAt v (corner triangles h 2)))
+      ∙ inward-is (origin v triangles (triEdge triangles h)) (end v triangles (triEdge triangles h)) (vertexAt v (corner triangles h 2)))
+
+  -- what `normals` leaves
+  pub normals-held : (r : List Float) → 3 * length triangles ≤ length r → HoldsNormals v triangles (withNormals v triangles triangleWords edgeReals (length triangles) r)
+  normals-held r m h l = normal-stored v triangles triangleWords edgeReals (length triangles) r h l m ∙ normal-held h l
 
 pub other-held : (triangles edgeWords : List ℕ) → HoldsFaces triangles edgeWords → (e f : ℕ) → e < length (edges triangles) → otherAt edgeWords e f ≡ other triangles e f
 unfolding otherAt other
@@ -176,7 +176,7 @@ module _ (triangles triangleWords : List ℕ) (sides : HoldsSides triangles tria
       λ i. cond (eqb ((side 0 (omega arith) ∙ ap (triEdge triangles) z) i) e) 0 (cond (eqb (side 1 (omega arith) i) e) 1 2)
 
 -- the normals of a triangle as nine reals, and as three for each side
-nine : (reals : List Float) (f k : ℕ) → vectorAt 9 reals f (3 * k) ≡ normalAt reals (3 * f + k)
+pub nine : (reals : List Float) (f k : ℕ) → vectorAt 9 reals f (3 * k) ≡ normalAt reals (3 * f + k)
 nine reals f k =
     let a : 9 * f + 3 * k ≡ 3 * (3 * f + k) + 0 = omega arith in
     let b : 9 * f + (3 * k + 1) ≡ 3 * (3 * f + k) + 1 = omega arith in

@@ -1,9 +1,8 @@
 -- The numbers as the code computes them, and the turns of the loops. Assumes nothing.
-use Prim.Native.Nat.{ℕ, _+_, _*_, _/_, _%_, _<_, _≤_}
+use Prim.Native.Nat.{ℕ, _+_, _*_, _/_, _%_, _≤_}
 use mathlib.Core.Path.{_≡_, refl, sym, ap, _∙_}
 use mathlib.Core.Bool.{Bool, true, false, cond}
 use mathlib.Core.List.{List, [], _∷_}
-use mathlib.Core.Logic.{⊎-elim}
 use native.Mathlib.Omega.{arith}
 use native.Mathlib.Numerals.{add-one}
 use borrow.Author.Tests.{eq-eqb, ne-eqb}
@@ -14,11 +13,11 @@ use Rattle.float64.specs.Scalar.{one}
 use Rattle.float64.specs.Notation.{_⊘_}
 use Rattle.vec3.specs.declared.Vec3.{Vec3}
 use Rattle.vec3.specs.Vec.{scaleOf, axpyOf, subOf, dotOf, normOf}
-use Rattle.job_checks.specs.Edge.{vertexAt, lenOf, xhatOf}
+use Rattle.job_checks.specs.Edge.{vertexAt, lower, lenOf, xhatOf}
 use Rattle.buffers.specs.declared.FaceId.{FaceId}
 use Rattle.buffers.specs.declared.VertexId.{VertexId}
 use Rattle.buffers.specs.Slots.{fill}
-use Rattle.topology.specs.Edges.{Edge, offEnds, corner}
+use Rattle.topology.specs.Edges.{between, offEnds, corner, sideEdge}
 use Rattle.frames.specs.Stored.{lowAt, highAt, faceAt, sideAt, vectorAt, unitAt, inward, originAt, endAt, withLengths, normalOf, withNormals, xOf, otherAt, localAt, thirdAt, yOf}
 
 pub vector-of : (r : Vec3) (a b c x y z : Float) → r ≡ record { x = a; y = b; z = c } → a ≡ x → b ≡ y → c ≡ z → r ≡ record { x = x; y = y; z = z }
@@ -57,22 +56,29 @@ module _ (v : List Float) (edgeWords : List ℕ) where
   unfolding yOf
   y-steps triangleWords reals e f k p o d u r g a b c h = h ∙ (λ i. dotOf ((c ∙ (λ j. subOf p (a j))) i) ((b ∙ (λ j. vectorAt 9 reals f (3 * g j))) i))
 
-  module _ (triangles triangleWords : List ℕ) (edgeReals : List Float) where
-    pub normal-steps : (h e k : ℕ) (o u t r : Vec3) → e ≡ sideAt triangleWords h → k ≡ getD triangles (3 * (h / 3) + (h % 3 + 2) % 3) 0 → o ≡ originAt v edgeWords e → u ≡ unitAt edgeReals e → t ≡ vertexAt v k → r ≡ inward o u t → r ≡ normalOf v edgeWords triangles triangleWords edgeReals h
-    unfolding normalOf corner
-    normal-steps h e k o u t r a b c d g z =
-        z ∙ (λ i. inward ((c ∙ (λ j. originAt v edgeWords (a j))) i) ((d ∙ (λ j. unitAt edgeReals (a j))) i) ((g ∙ (λ j. vertexAt v (b j))) i))
+-- the start of a side's edge
+pub start-is : (triangles : List ℕ) (h a b r : ℕ) → a ≡ getD triangles (3 * (h / 3) + h % 3) 0 → b ≡ getD triangles (3 * (h / 3) + (h % 3 + 1) % 3) 0 → r ≡ lower a b → r ≡ sideEdge triangles h .low
+unfolding sideEdge between corner
+start-is triangles h a b r ea eb q =
+    let z : (h % 3 + 0) % 3 ≡ h % 3 = omega arith in
+    rw (q, z, ea, eb) refl
 
-    pub normals-start : (r : List Float) → r ≡ withNormals v edgeWords triangles triangleWords edgeReals 0 r
-    unfolding withNormals
-    normals-start r = refl
+module _ (v : List Float) (triangles triangleWords : List ℕ) (edgeReals : List Float) where
+  pub normal-steps : (h e k l : ℕ) (o u t r : Vec3) → e ≡ sideAt triangleWords h → k ≡ getD triangles (3 * (h / 3) + (h % 3 + 2) % 3) 0 → l ≡ sideEdge triangles h .low → o ≡ vertexAt v l → u ≡ unitAt edgeReals e → t ≡ vertexAt v k → r ≡ inward o u t → r ≡ normalOf v triangles triangleWords edgeReals h
+  unfolding normalOf corner
+  normal-steps h e k l o u t r a b s c d g z =
+      z ∙ (λ i. inward ((c ∙ (λ j. vertexAt v (s j))) i) ((d ∙ (λ j. unitAt edgeReals (a j))) i) ((g ∙ (λ j. vertexAt v (b j))) i))
 
-    pub normals-turn : (r₀ r r′ : List Float) (h : ℕ) (n : Vec3) → r ≡ withNormals v edgeWords triangles triangleWords edgeReals h r₀ → n ≡ normalOf v edgeWords triangles triangleWords edgeReals h → r′ ≡ fill 3 r h 0 (n .x ∷ n .y ∷ n .z ∷ []) → r′ ≡ withNormals v edgeWords triangles triangleWords edgeReals (h + 1) r₀
-    unfolding withNormals
-    normals-turn r₀ r r′ h n so-far p q = rw (add-one h) (q ∙ (λ i. fill 3 (so-far i) h 0 (p i .x ∷ p i .y ∷ p i .z ∷ [])))
+  pub normals-start : (r : List Float) → r ≡ withNormals v triangles triangleWords edgeReals 0 r
+  unfolding withNormals
+  normals-start r = refl
 
-    pub normals-done : (r₀ r : List Float) (h n : ℕ) → r ≡ withNormals v edgeWords triangles triangleWords edgeReals h r₀ → h ≤ n → n ≤ h → r ≡ withNormals v edgeWords triangles triangleWords edgeReals n r₀
-    normals-done r₀ r h n p l m = p ∙ ap (λ (k : ℕ). withNormals v edgeWords triangles triangleWords edgeReals k r₀) (let g : h ≡ n = omega arith in g)
+  pub normals-turn : (r₀ r r′ : List Float) (h : ℕ) (n : Vec3) → r ≡ withNormals v triangles triangleWords edgeReals h r₀ → n ≡ normalOf v triangles triangleWords edgeReals h → r′ ≡ fill 3 r h 0 (n .x ∷ n .y ∷ n .z ∷ []) → r′ ≡ withNormals v triangles triangleWords edgeReals (h + 1) r₀
+  unfolding withNormals
+  normals-turn r₀ r r′ h n so-far p q = rw (add-one h) (q ∙ (λ i. fill 3 (so-far i) h 0 (p i .x ∷ p i .y ∷ p i .z ∷ [])))
+
+  pub normals-done : (r₀ r : List Float) (h n : ℕ) → r ≡ withNormals v triangles triangleWords edgeReals h r₀ → h ≤ n → n ≤ h → r ≡ withNormals v triangles triangleWords edgeReals n r₀
+  normals-done r₀ r h n p l m = p ∙ ap (λ (k : ℕ). withNormals v triangles triangleWords edgeReals k r₀) (let g : h ≡ n = omega arith in g)
 
 pub other-here : (w : List ℕ) (e f a b : ℕ) → a ≡ faceAt w e 0 → b ≡ faceAt w e 1 → a ≡ f → b ≡ otherAt w e f
 unfolding otherAt

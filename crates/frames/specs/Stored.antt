@@ -13,7 +13,7 @@ use Rattle.vec3.specs.declared.Vec3.{Vec3}
 use Rattle.vec3.specs.Vec.{scaleOf, axpyOf, subOf, dotOf, normOf}
 use Rattle.job_checks.specs.Edge.{vertexAt, lenOf, xhatOf}
 use Rattle.buffers.specs.Slots.{fill}
-use Rattle.topology.specs.Edges.{Edge, offEnds, corner}
+use Rattle.topology.specs.Edges.{Edge, offEnds, corner, sideEdge}
 
 -- the ends of edge e, and its first and second face
 abbrev pub lowAt : List ℕ → ℕ → ℕ
@@ -68,19 +68,17 @@ module _ (v : List Float) (edgeWords : List ℕ) where
   unfoldable pub xOf : List Float → ℕ → Vec3 → Float
   xOf edgeReals e p = dotOf (subOf p (originAt e)) (unitAt edgeReals e)
 
-  module _ (triangles triangleWords : List ℕ) (edgeReals : List Float) where
-    -- the normal of side h, from its edge's stored unit vector and the vertex that is not on it
-    unfoldable pub normalOf : ℕ → Vec3
-    normalOf h =
-        let e : ℕ = sideAt triangleWords h in
-        inward (originAt e) (unitAt edgeReals e) (vertexAt v (corner triangles h 2))
+module _ (v : List Float) (triangles triangleWords : List ℕ) (edgeReals : List Float) where
+  -- the normal of side h, from its edge's stored unit vector and its triangle's vertices
+  unfoldable pub normalOf : ℕ → Vec3
+  normalOf h = inward (vertexAt v (sideEdge triangles h .low)) (unitAt edgeReals (sideAt triangleWords h)) (vertexAt v (corner triangles h 2))
 
-    -- the reals with the normals of the first n sides written
-    unfoldable pub withNormals : ℕ → List Float → List Float
-    withNormals zero reals = reals
-    withNormals (suc h) reals =
-        let n : Vec3 = normalOf h in
-        fill 3 (withNormals h reals) h 0 (n .x ∷ n .y ∷ n .z ∷ [])
+  -- the reals with the normals of the first n sides written
+  unfoldable pub withNormals : ℕ → List Float → List Float
+  withNormals zero reals = reals
+  withNormals (suc h) reals =
+      let n : Vec3 = normalOf h in
+      fill 3 (withNormals h reals) h 0 (n .x ∷ n .y ∷ n .z ∷ [])
 
 -- the face of edge e that is not f
 unfoldable pub otherAt : List ℕ → ℕ → ℕ → ℕ

@@ -6,6 +6,7 @@ use buffers::VertexId;
 use buffers::read_f64;
 use buffers::read_u32;
 use buffers::write_f64;
+use topology::lower_of;
 use vec3::Vec3;
 ghost use mathlib.Core.Path.{_≡_};
 ghost use mathlib.Core.List.{[], _∷_};
@@ -13,7 +14,7 @@ ghost use Prim.Native.Nat.{_+_, _<_};
 ghost use lib.ListN.{length};
 ghost use Rattle.buffers.specs.Slots.{fill};
 ghost use Rattle.job_checks.specs.Edge.{vertexAt, lenOf, xhatOf};
-ghost use Rattle.topology.specs.Edges.{offEnds};
+ghost use Rattle.topology.specs.Edges.{sideEdge, offEnds};
 ghost use Rattle.frames.specs.Stored.{lowAt, highAt, sideAt, vectorAt, unitAt, inward, originAt, endAt, withLengths, normalOf, withNormals, xOf, otherAt, localAt, thirdAt, yOf};
 
 fn vector(reals: &[f64], stride: u32, slot: u32, field: u32) -> Vec3
@@ -92,20 +93,28 @@ pub fn lengths(vertices: &[f64], edge_words: &[u32], count: u32, edge_reals: &mu
     }
 }
 
-// Of side h; its edge's unit vector is read, not computed again.
+// The vertex where the edge of side h starts.
+fn side_start(triangles: &[u32], h: u32) -> u32
+    ensures { λ r. ⌜ r ≡ sideEdge (now (triangles .entry)) h .low ⌝ }
+{
+    let a = read_u32(triangles, 3, h / 3, h % 3);
+    let b = read_u32(triangles, 3, h / 3, (h % 3 + 1) % 3);
+    lower_of(a, b)
+}
+
+// Of side h; its edge's unit vector is read, not computed again, and the edge's vertices from the triangle, which is at hand.
 fn normal(
     vertices: &[f64],
     triangles: &[u32],
-    edge_words: &[u32],
     triangle_words: &[u32],
     edge_reals: &[f64],
     h: u32,
 ) -> Vec3
-    ensures { λ r. ⌜ r ≡ normalOf (now (vertices .entry)) (now («edge_words» .entry)) (now (triangles .entry)) (now («triangle_words» .entry)) (now («edge_reals» .entry)) h ⌝ }
+    ensures { λ r. ⌜ r ≡ normalOf (now (vertices .entry)) (now (triangles .entry)) (now («triangle_words» .entry)) (now («edge_reals» .entry)) h ⌝ }
 {
     let e = read_u32(triangle_words, 6, h / 3, h % 3);
     let k = read_u32(triangles, 3, h / 3, (h % 3 + 2) % 3);
-    let o = origin(vertices, edge_words, e);
+    let o = vertex(vertices, side_start(triangles, h));
     let xhat = vector(edge_reals, 4, e, 1);
     inward(o, xhat, vertex(vertices, k))
 }
@@ -113,25 +122,17 @@ fn normal(
 pub fn normals(
     vertices: &[f64],
     triangles: &[u32],
-    edge_words: &[u32],
     triangle_words: &[u32],
     edge_reals: &[f64],
     triangle_reals: &mut [f64],
 )
     requires { ⌜ length (now triangles) < 4294967296 ⌝ }
-    ensures { λ r. ⌜ now («triangle_reals» .exit) ≡ withNormals (now (vertices .entry)) (now («edge_words» .entry)) (now (triangles .entry)) (now («triangle_words» .entry)) (now («edge_reals» .entry)) (length (now (triangles .entry))) (now («triangle_reals» .entry)) ⌝ }
+    ensures { λ r. ⌜ now («triangle_reals» .exit) ≡ withNormals (now (vertices .entry)) (now (triangles .entry)) (now («triangle_words» .entry)) (now («edge_reals» .entry)) (length (now (triangles .entry))) (now («triangle_reals» .entry)) ⌝ }
 {
     let sides = triangles.len() as u32;
     let mut h: u32 = 0;
     while h < sides {
-        let n = normal(
-            vertices,
-            triangles,
-            edge_words,
-            triangle_words,
-            edge_reals,
-            h,
-        );
+        let n = normal(vertices, triangles, triangle_words, edge_reals, h);
         store_three(triangle_reals, h, n);
         h += 1;
     }

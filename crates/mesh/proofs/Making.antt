@@ -23,13 +23,13 @@ pub same-buffers : {a a′ b b′ : List ℕ} {c c′ : List Float} {d d′ e e�
 same-buffers p q r s t u = λ i. record { vertex-words = p i; edge-words = q i; edge-reals = r i; round = s i; triangle-words = t i; triangle-reals = u i }
 
 -- what is added to the table, one callee after the other
-pub completed : (v : List Float) (triangles : List ℕ) (n : ℕ) (ew tw vw : List ℕ) (er : List Float) (r : List ℕ) (tr : List Float) (vw′ : List ℕ) (er₁ er′ : List Float) (r′ : List ℕ) (tr₁ tr′ : List Float) → vw′ ≡ withRanges (startOf triangles) (endOf triangles) (length v / 3) vw → r′ ≡ roundOf triangles (length v / 3) (length r) → er₁ ≡ replicate (length er) zero → er′ ≡ withLengths v ew n er₁ → tr₁ ≡ replicate (length tr) zero → tr′ ≡ withNormals v ew triangles tw er′ (length triangles) tr₁ → Completed v triangles n ew tw vw er r tr vw′ er′ r′ tr′
-completed v triangles n ew tw vw er r tr vw′ er₁ er′ r′ tr₁ tr′ a b c d e f =
+pub completed : (v : List Float) (triangles : List ℕ) (n : ℕ) (ew tw vw : List ℕ) (er : List Float) (r : List ℕ) (tr : List Float) (vw₁ vw′ : List ℕ) (er₁ er′ : List Float) (r′ : List ℕ) (tr₁ tr′ : List Float) → vw₁ ≡ replicate (length vw) 0 → vw′ ≡ withRanges (startOf triangles) (endOf triangles) (length v / 3) vw₁ → r′ ≡ roundOf triangles (length v / 3) (length r) → er₁ ≡ replicate (length er) zero → er′ ≡ withLengths v ew n er₁ → tr₁ ≡ replicate (length tr) zero → tr′ ≡ withNormals v triangles tw er′ (length triangles) tr₁ → Completed v triangles n ew tw vw er r tr vw′ er′ r′ tr′
+completed v triangles n ew tw vw er r tr vw₁ vw′ er₁ er′ r′ tr₁ tr′ z a b c d e f =
     record {
-      ranges = a;
+      ranges = a ∙ ap (withRanges (startOf triangles) (endOf triangles) (length v / 3)) z;
       faces-round = b;
       lengths = d ∙ ap (withLengths v ew n) c;
-      normals = f ∙ ap (withNormals v ew triangles tw er′ (length triangles)) e;
+      normals = f ∙ ap (withNormals v triangles tw er′ (length triangles)) e;
     }
 
 -- what an answer of the table says of the mesh
@@ -56,32 +56,32 @@ zeros e = ap (λ (k : ℕ). replicate {A = ℕ} k 0) e
 
 module _ (v : List Float) (triangles vw ew : List ℕ) (er : List Float) (r tw : List ℕ) (tr : List Float) where
   -- an edge in a third triangle
-  module _ (vw′ ew′ tw′ : List ℕ) (after : MeshBuffers) (t : Table) where
-    pub made-third : t ≡ tableOf triangles → t ≡ ThirdFace → length vw′ ≡ length vw → length ew′ ≡ length ew → length tw′ ≡ length tw → after ≡ zeroed (meshBuffers vw′ ew′ er r tw′ tr) → Made v triangles ThirdFace (meshBuffers vw ew er r tw tr) after
+  module _ (r′ ew′ tw′ : List ℕ) (after : MeshBuffers) (t : Table) where
+    pub made-third : t ≡ tableOf triangles → t ≡ ThirdFace → length r′ ≡ length r → length ew′ ≡ length ew → length tw′ ≡ length tw → after ≡ zeroed (meshBuffers vw ew′ er r′ tw′ tr) → Made v triangles ThirdFace (meshBuffers vw ew er r tw tr) after
     unfolding zeroed topologyOf
     made-third is third a b c z =
         record {
           answer = sym third ∙ is;
-          buffers = rw (is-third triangles t is third) (z ∙ same-buffers (zeros a) (zeros b) refl refl (zeros c) refl);
+          buffers = rw (is-third triangles t is third) (z ∙ same-buffers refl (zeros b) refl (zeros a) (zeros c) refl);
         }
 
   -- none
-  module _ (vw₁ ew₁ tw₁ vw₂ r₂ : List ℕ) (er₂ tr₂ : List Float) (t : Table) (n : ℕ) where
-    pub made-filled : Built triangles (length v / 3) t vw ew tw vw₁ ew₁ tw₁ → t ≡ Edges n → Completed v triangles n ew₁ tw₁ vw₁ er r tr vw₂ er₂ r₂ tr₂ → Made v triangles (Edges n) (meshBuffers vw ew er r tw tr) (meshBuffers vw₂ ew₁ er₂ r₂ tw₁ tr₂)
+  module _ (r₁ ew₁ tw₁ vw₂ r₂ : List ℕ) (er₂ tr₂ : List Float) (t : Table) (n : ℕ) where
+    pub made-filled : Built triangles t r ew tw r₁ ew₁ tw₁ → t ≡ Edges n → length r₁ ≡ length r → Completed v triangles n ew₁ tw₁ vw er r₁ tr vw₂ er₂ r₂ tr₂ → Made v triangles (Edges n) (meshBuffers vw ew er r tw tr) (meshBuffers vw₂ ew₁ er₂ r₂ tw₁ tr₂)
     unfolding topologyOf filled
-    made-filled b e c =
+    made-filled b e same c =
         let k = has-edges triangles t (b .answer) n e in
-        let w : Filled triangles (length v / 3) vw ew tw vw₁ ew₁ tw₁ = b .words (k .0) in
-        let l : er₂ ≡ withLengths v (edgeWords triangles (length v / 3) (length ew)) (length (edges triangles)) (replicate (length er) zero) = c .lengths ∙ rw (w .edge-words, k .1) in
+        let w : Filled triangles r ew tw r₁ ew₁ tw₁ = b .words (k .0) in
+        let l : er₂ ≡ withLengths v (edgeWords triangles (length ew)) (length (edges triangles)) (replicate (length er) zero) = c .lengths ∙ rw (w .edge-words, k .1) in
         record {
           answer = sym e ∙ b .answer;
           buffers =
               rw (k .0)
               (same-buffers
-              (c .ranges ∙ ap (withRanges (startOf triangles) (endOf triangles) (length v / 3)) (w .vertex-words))
+              (c .ranges)
               (w .edge-words)
               l
-              (c .faces-round)
+              (c .faces-round ∙ ap (roundOf triangles (length v / 3)) same)
               (w .triangle-words)
-              (c .normals ∙ rw (w .edge-words, w .triangle-words, l)));
+              (c .normals ∙ rw (w .triangle-words, l)));
         }

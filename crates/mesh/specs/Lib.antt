@@ -1,2 +1,3 @@
 pub mod Topology
 pub mod Answer
+pub mod Held

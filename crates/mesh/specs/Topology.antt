@@ -8,13 +8,13 @@ use lib.Ieee.{Float}
 use Rattle.float64.specs.Scalar.{zero}
 use Rattle.topology.specs.Edges.{edges, sharedByThree}
 use Rattle.edge_table.specs.declared.Table.{Table}
-use Rattle.edge_table.specs.Table.{Mesh, tableOf, vertexWords, edgeWords, triangleWords}
+use Rattle.edge_table.specs.Table.{Mesh, tableOf, edgeWords, triangleWords}
 use Rattle.vertex_faces.specs.Ranges.{withRanges, startOf, endOf, roundOf}
 use Rattle.frames.specs.Stored.{withLengths, withNormals}
 
 -- document 01's rooms of the mesh
 pub record MeshBuffers : Type 0 where
-  pub vertex-words : List ℕ  -- three for each vertex: where its faces start and end in `round`, the head of a bucket of edges
+  pub vertex-words : List ℕ  -- three for each vertex: where its faces start and end in `round`; and a zero
   pub edge-words : List ℕ  -- six for each edge: its two vertices, its two faces, no windows, the next edge of its bucket
   pub edge-reals : List Float  -- four for each edge: its length and its unit vector
   pub round : List ℕ  -- the faces round each vertex, one vertex after the other
@@ -48,25 +48,25 @@ module _ (v : List Float) (triangles : List ℕ) where
 
   -- What is added to an edge table of n edges.
   pub record Completed (n : ℕ) (ew tw vertex₀ : List ℕ) (edge₀ : List Float) (round₀ : List ℕ) (triangle₀ : List Float) (vertex : List ℕ) (edge : List Float) (round : List ℕ) (triangle : List Float) : Type 0 where
-    pub ranges : vertex ≡ withRanges (startOf triangles) (endOf triangles) (length v / 3) vertex₀
+    pub ranges : vertex ≡ withRanges (startOf triangles) (endOf triangles) (length v / 3) (replicate (length vertex₀) 0)
     pub faces-round : round ≡ roundOf triangles (length v / 3) (length round₀)
     pub lengths : edge ≡ withLengths v ew n (replicate (length edge₀) zero)
-    pub normals : triangle ≡ withNormals v ew triangles tw edge (length triangles) (replicate (length triangle₀) zero)
+    pub normals : triangle ≡ withNormals v triangles tw edge (length triangles) (replicate (length triangle₀) zero)
 
   -- The topology in buffers, which count by their lengths alone.
   unfoldable pub filled : MeshBuffers → MeshBuffers
   filled m =
       let vertices : ℕ = length v / 3 in
-      let ew : List ℕ = edgeWords triangles vertices (length (m .edge-words)) in
+      let ew : List ℕ = edgeWords triangles (length (m .edge-words)) in
       let tw : List ℕ = triangleWords triangles (length (m .triangle-words)) in
       let er : List Float = withLengths v ew (length (edges triangles)) (replicate (length (m .edge-reals)) zero) in
       meshBuffers
-      (withRanges (startOf triangles) (endOf triangles) vertices (vertexWords triangles vertices (length (m .vertex-words))))
+      (withRanges (startOf triangles) (endOf triangles) vertices (replicate (length (m .vertex-words)) 0))
       ew
       er
       (roundOf triangles vertices (length (m .round)))
       tw
-      (withNormals v ew triangles tw er (length triangles) (replicate (length (m .triangle-reals)) zero))
+      (withNormals v triangles tw er (length triangles) (replicate (length (m .triangle-reals)) zero))
 
   -- The answer and the buffers: refused where an edge lies in more than two triangles.
   unfoldable pub topologyOf : MeshBuffers → MeshBuffers

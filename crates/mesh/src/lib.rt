@@ -74,6 +74,7 @@ fn complete(
         (now («vertex_words» .entry)) (now («edge_reals» .entry)) (now (round .entry)) (now («triangle_reals» .entry))
         (now («vertex_words» .exit)) (now («edge_reals» .exit)) (now (round .exit)) (now («triangle_reals» .exit)) ⌝ }
 {
+    zero_u32(vertex_words);
     vertex_faces::build(triangles, vertex_words, (vertices.len() / 3) as u32, round);
     zero_f64(edge_reals);
     frames::lengths(vertices, edge_words, edges, edge_reals);
@@ -81,7 +82,6 @@ fn complete(
     frames::normals(
         vertices,
         triangles,
-        edge_words,
         triangle_words,
         edge_reals,
         triangle_reals,
@@ -104,13 +104,8 @@ pub fn topology(
         (meshBuffers (now («vertex_words» .entry)) (now («edge_words» .entry)) (now («edge_reals» .entry)) (now (round .entry)) (now («triangle_words» .entry)) (now («triangle_reals» .entry)))
         (meshBuffers (now («vertex_words» .exit)) (now («edge_words» .exit)) (now («edge_reals» .exit)) (now (round .exit)) (now («triangle_words» .exit)) (now («triangle_reals» .exit))) ⌝ }
 {
-    match edge_table::build(
-        triangles,
-        (vertices.len() / 3) as u32,
-        vertex_words,
-        edge_words,
-        triangle_words,
-    ) {
+    // the heads of the table's buckets are no longer wanted where the faces round each vertex are listed
+    match edge_table::build(triangles, round, edge_words, triangle_words) {
         Table::ThirdFace => {
             clear(
                 vertex_words,

@@ -1,12 +1,12 @@
--- Laws of lists one after the other: their lengths, and a change in one of them. Assumes nothing.
+-- Laws of lists one after the other: their lengths, their elements, and a change in one of them. Assumes nothing.
 use Prim.Native.Nat.{ℕ, zero, suc, _+_, _<_, _≤_}
 use mathlib.Core.Path.{_≡_, refl, sym, ap, subst, _∙_}
 use mathlib.Core.List.{List, [], _∷_, _++_}
 use mathlib.Core.Logic.{⊎-elim}
 use native.Mathlib.Nat.{le-of-suc-le-suc, not-suc-le-zero, eq-or-lt-of-le}
 use native.Mathlib.Omega.{arith}
-use lib.ListN.{length, set, replicate, length-append, replicate-append-replicate}
-use lib.Seq.{set-append-left}
+use lib.ListN.{length, getD, set, replicate, length-append, List·getD-append, replicate-append-replicate}
+use lib.Seq.{getD-append-add, set-append-left}
 use Rattle.topology.specs.Rows.{rows}
 
 -- an element of the second list is changed
@@ -27,6 +27,15 @@ module _ (f : ℕ → List ℕ) where
   row-inside (suc n) k l =
       ⊎-elim (λ q. subst (λ (j : ℕ). length (rows f j) + length (f j) ≤ length (rows f (suc n))) (sym q) (omega (arith, length-rows n)))
       (λ m. omega (arith, length-rows n, row-inside n k m))
+      (eq-or-lt-of-le (le-of-suc-le-suc l))
+
+  -- element i of list k
+  pub row-read : (n k i : ℕ) → k < n → i < length (f k) → getD (rows f n) (length (rows f k) + i) 0 ≡ getD (f k) i 0
+  unfolding rows
+  row-read zero k i l m = absurd (not-suc-le-zero l)
+  row-read (suc n) k i l m =
+      ⊎-elim (λ q. subst (λ (x : ℕ). getD (rows f n ++ f n) (length (rows f x) + i) 0 ≡ getD (f x) i 0) (sym q) (getD-append-add (rows f n) (f n) i 0))
+      (λ b. List·getD-append (rows f n) (f n) 0 (length (rows f k) + i) (omega (arith, row-inside n k b)) ∙ row-read n k i b m)
       (eq-or-lt-of-le (le-of-suc-le-suc l))
 
   -- lists of zeros

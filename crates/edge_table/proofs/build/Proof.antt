@@ -11,16 +11,16 @@ use Rattle.edge_table.proofs.build.Statement.{statement}
 use Rattle.edge_table.proofs.build.Tie as tie
 
 abbrev Inv-loop : tie.InvT-loop
-Inv-loop triangles vertex-count vertex-words₀ edge-words₀ triangle-words₀ sides count₀ h₀ vertex-words edge-words triangle-words count h =
+Inv-loop triangles heads₀ edge-words₀ triangle-words₀ sides count₀ h₀ heads edge-words triangle-words count h =
     (h ≤ length triangles)
     × (count ≡ length (edgesOf triangles h))
-    × (length vertex-words ≡ length vertex-words₀)
+    × (length heads ≡ length heads₀)
     × (length edge-words ≡ length edge-words₀)
     × (length triangle-words ≡ length triangle-words₀)
-    × Partial triangles vertex-count h vertex-words edge-words triangle-words
+    × Partial triangles (length triangles) h heads edge-words triangle-words
 
 abbrev μ-loop : tie.MeasureT-loop
-μ-loop triangles vertex-count vertex-words₀ edge-words₀ triangle-words₀ sides count₀ h₀ vertex-words edge-words triangle-words count h = length triangles - h
+μ-loop triangles heads₀ edge-words₀ triangle-words₀ sides count₀ h₀ heads edge-words triangle-words count h = length triangles - h
 
 zero-u32-requires : tie.Need-zero-u32-requires Inv-loop μ-loop
 zero-u32-requires c κs = search needs
@@ -49,7 +49,7 @@ loop-holds c =
     let z₁ = z₂ .before .before .before .before in
     let start = z₁ .before .before .before .before .before .before in
     let a = start .args in
-    (omega arith, sym (none-counted (a .triangles .now) (a .vertex-count)), refl, refl, refl, none-entered (a .triangles .now) (a .vertex-count) _ _ _ (length (a .vertex-words .now)) (length (a .edge-words .now)) (length (a .triangle-words .now)) (z₁ .zero-u32 .ensures) (z₂ .zero-u322 .ensures) (z₃ .zero-u323 .ensures))
+    (omega arith, sym (none-counted (a .triangles .now) (length (a .triangles .now))), refl, refl, refl, none-entered (a .triangles .now) (length (a .triangles .now)) _ _ _ (length (a .heads .now)) (length (a .edge-words .now)) (length (a .triangle-words .now)) (z₁ .zero-u32 .ensures) (z₂ .zero-u322 .ensures) (z₃ .zero-u323 .ensures))
 
 enter-side-requires : tie.Need-enter-side-requires Inv-loop μ-loop
 enter-side-requires c κs =
@@ -64,8 +64,8 @@ enter-side-requires c κs =
     record {
       mesh = start .pre .0;
       long =
-          still-long (a .triangles .now) (a .vertex-count) _ _ _ _ _ _ (start .pre .1)
-          (as-long (i .loop .vertex-words) _ (a .vertex-words .now) (i .loop .inv .2) (z₁ .zero-u32 .ensures))
+          still-long (a .triangles .now) _ _ _ _ _ _ (start .pre .1)
+          (as-long (i .loop .heads) _ (a .heads .now) (i .loop .inv .2) (z₁ .zero-u32 .ensures))
           (as-long (i .loop .edge-words) _ (a .edge-words .now) (i .loop .inv .3) (z₂ .zero-u322 .ensures))
           (as-long (i .loop .triangle-words) _ (a .triangle-words .now) (i .loop .inv .4) (z₃ .zero-u323 .ensures));
       side = test .loop-test .taken;
@@ -98,7 +98,7 @@ returns c =
     let z₁ = z₂ .before .before .before .before in
     let start = z₁ .before .before .before .before .before .before in
     let a = start .args in
-    built-third (a .triangles .now) (a .vertex-count) _ _ _ _ _ _ (turned-third (a .triangles .now) (a .vertex-count) _ _ _ _ _ (entered .enter-side .ensures) (c .enum-told .given .1))
+    built-third (a .triangles .now) (length (a .triangles .now)) _ _ _ _ _ _ (turned-third (a .triangles .now) (length (a .triangles .now)) _ _ _ _ _ (entered .enter-side .ensures) (c .enum-told .given .1))
 
 add-h : tie.Need-add-h Inv-loop μ-loop
 add-h c = search needs
@@ -116,8 +116,8 @@ loop-again c =
     let z₁ = z₂ .before .before .before .before in
     let start = z₁ .before .before .before .before .before .before in
     let a = start .args in
-    let t = turned-on (a .triangles .now) (a .vertex-count) _ _ _ _ _ (entered .enter-side .ensures) _ (c .before .n .given .1) in
-    (omega (arith, entered .before .before .before .before .loop-test .taken), t .0, entered .enter-side .kept .1 .1 .0 ∙ i .loop .inv .2, entered .enter-side .kept .1 .1 .1 .0 ∙ i .loop .inv .3, entered .enter-side .kept .1 .1 .1 .1 .0 ∙ i .loop .inv .4, t .1)
+    let t = turned-on (a .triangles .now) (length (a .triangles .now)) _ _ _ _ _ (entered .enter-side .ensures) _ (c .before .n .given .1) in
+    (omega (arith, entered .before .before .before .before .loop-test .taken), t .0, entered .enter-side .kept .1 .0 ∙ i .loop .inv .2, entered .enter-side .kept .1 .1 .0 ∙ i .loop .inv .3, entered .enter-side .kept .1 .1 .1 .0 ∙ i .loop .inv .4, t .1)
 
 same-length-4 : tie.Need-same-length-4 Inv-loop μ-loop
 same-length-4 c = search needs
@@ -138,8 +138,8 @@ returns-2 c =
     let start = z₁ .before .before .before .before .before .before in
     let a = start .args in
     let e : i .loop .h ≡ length (a .triangles .now) = omega arith in
-    built-all (a .triangles .now) (a .vertex-count) _ _ _ _ _ _
-    (as-long (i .loop .vertex-words) _ (a .vertex-words .now) (i .loop .inv .2) (z₁ .zero-u32 .ensures))
+    built-all (a .triangles .now) (length (a .triangles .now)) _ _ _ _ _ _
+    (as-long (i .loop .heads) _ (a .heads .now) (i .loop .inv .2) (z₁ .zero-u32 .ensures))
     (as-long (i .loop .edge-words) _ (a .edge-words .now) (i .loop .inv .3) (z₂ .zero-u322 .ensures))
     (as-long (i .loop .triangle-words) _ (a .triangle-words .now) (i .loop .inv .4) (z₃ .zero-u323 .ensures))
     (rw e at (i .loop .inv .5))

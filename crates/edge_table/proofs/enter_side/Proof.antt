@@ -1,6 +1,7 @@
 -- `edge_table::enter_side` meets its contract: each way out is a law of Turns. Assumes nothing.
 use Prim.Native.Nat.{_-_}
 use mathlib.Core.Path.{refl}
+use lib.ListN.{length}
 use native.Mathlib.Omega.{arith}
 use borrow.Author.Needs.{needs}
 use Rattle.edge_table.proofs.Turns.{side-is, ends-below, links-fall, side-missing, side-found, few, new-done, found-done, third-done}
@@ -22,6 +23,11 @@ lower-of-requires c κs = search needs
 higher-of-requires : tie.Need-higher-of-requires
 higher-of-requires c κs = search needs
 
+cast-bucket-of : tie.Need-cast-bucket-of
+cast-bucket-of c =
+    let start = c .before .before .before .before .before .before .before .before in
+    omega (arith, start .pre .mesh .whole, start .pre .mesh .few-triangles)
+
 bucket-of-requires : tie.Need-bucket-of-requires
 bucket-of-requires c κs =
     let low = c .before in
@@ -30,7 +36,7 @@ bucket-of-requires c κs =
     let start = first .before .before .before .before .before in
     let a = start .args in
     let r = start .pre in
-    ends-below (a .triangles .now) (a .h) (a .vertex-count) (r .mesh) (r .side) _ _
+    ends-below (a .triangles .now) (a .h) 65535 (r .mesh) (r .side) _ _
     (side-is (a .triangles .now) (a .h) _ _ (first .read-u32 .ensures) (second .read-u322 .ensures) _ _ (low .lower-of .ensures) (c .higher-of .ensures))
 
 read-u32-requires-3 : tie.Need-read-u32-requires-3
@@ -40,7 +46,7 @@ find-in-bucket-requires : tie.Need-find-in-bucket-requires
 find-in-bucket-requires c κs =
     let start = c .before .before .before .before .before .before .before .before .before .before .before .before in
     let a = start .args in
-    links-fall (a .triangles .now) (a .vertex-count) (a .h) (a .vertex-words .now) (a .edge-words .now) (a .triangle-words .now) (start .pre .words)
+    links-fall (a .triangles .now) (length (a .triangles .now)) (a .h) (a .heads .now) (a .edge-words .now) (a .triangle-words .now) (start .pre .words)
 
 add-edge-requires : tie.Need-add-edge-requires
 add-edge-requires c κs =
@@ -55,7 +61,7 @@ add-edge-requires c κs =
     let a = start .args in
     let r = start .pre in
     let q = side-is (a .triangles .now) (a .h) _ _ (first .read-u32 .ensures) (second .read-u322 .ensures) _ _ (low .lower-of .ensures) (high .higher-of .ensures) in
-    omega (arith, few (a .triangles .now) (a .vertex-count) (a .h) (a .vertex-words .now) (a .edge-words .now) (a .triangle-words .now) (r .mesh) (r .long) (r .side) (r .words), r .counted)
+    omega (arith, few (a .triangles .now) (length (a .triangles .now)) (a .h) (a .heads .now) (a .edge-words .now) (a .triangle-words .now) (r .mesh) (r .long) (r .side) refl (r .words), r .counted)
 
 write-u32-requires : tie.Need-write-u32-requires
 write-u32-requires c κs = search needs
@@ -73,7 +79,7 @@ add-t32 c =
     let a = start .args in
     let r = start .pre in
     let q = side-is (a .triangles .now) (a .h) _ _ (first .read-u32 .ensures) (second .read-u322 .ensures) _ _ (low .lower-of .ensures) (high .higher-of .ensures) in
-    record { fits = omega (arith, few (a .triangles .now) (a .vertex-count) (a .h) (a .vertex-words .now) (a .edge-words .now) (a .triangle-words .now) (r .mesh) (r .long) (r .side) (r .words), r .counted) }
+    record { fits = omega (arith, few (a .triangles .now) (length (a .triangles .now)) (a .h) (a .heads .now) (a .edge-words .now) (a .triangle-words .now) (r .mesh) (r .long) (r .side) refl (r .words), r .counted) }
 
 same-length : tie.Need-same-length
 same-length c = search needs
@@ -100,8 +106,8 @@ returns c =
     let a = start .args in
     let r = start .pre in
     let q = side-is (a .triangles .now) (a .h) _ _ (first .read-u32 .ensures) (second .read-u322 .ensures) _ _ (low .lower-of .ensures) (high .higher-of .ensures) in
-    new-done (a .triangles .now) (a .vertex-count) (a .h) (a .vertex-words .now) (a .edge-words .now) (a .triangle-words .now) (r .mesh) (r .long) (r .side) (r .words) _ _ _ _ _ _ _
-    (side-missing (a .triangles .now) (a .vertex-count) (a .h) (a .vertex-words .now) (a .edge-words .now) (a .triangle-words .now) (r .words) _ _ _ _ _ q (bucket .bucket-of .ensures) (head .read-u323 .ensures) (found .find-in-bucket .ensures) (new .if1 .taken))
+    new-done (a .triangles .now) (length (a .triangles .now)) (a .h) (a .heads .now) (a .edge-words .now) (a .triangle-words .now) (r .mesh) (r .long) (r .side) refl (r .words) _ _ _ _ _ _ _
+    (side-missing (a .triangles .now) (length (a .triangles .now)) (a .h) (a .heads .now) (a .edge-words .now) (a .triangle-words .now) (r .words) _ _ _ _ _ q (bucket .bucket-of .ensures) (head .read-u323 .ensures) (found .find-in-bucket .ensures) (new .if1 .taken))
     q (bucket .bucket-of .ensures) (r .counted) (added .add-edge .ensures .0) (added .add-edge .ensures .1) (stored .write-u32 .ensures)
 
 sub-e : tie.Need-sub-e
@@ -130,8 +136,8 @@ returns-2 c =
     let a = start .args in
     let r = start .pre in
     let q = side-is (a .triangles .now) (a .h) _ _ (first .read-u32 .ensures) (second .read-u322 .ensures) _ _ (low .lower-of .ensures) (high .higher-of .ensures) in
-    third-done (a .triangles .now) (a .vertex-count) (a .h) (a .vertex-words .now) (a .edge-words .now) (a .triangle-words .now) (r .mesh) (r .long) (r .side) (r .words) _ _ _ _
-    (side-found (a .triangles .now) (a .vertex-count) (a .h) (a .vertex-words .now) (a .edge-words .now) (a .triangle-words .now) (r .words) _ _ _ _ _ q (bucket .bucket-of .ensures) (head .read-u323 .ensures) (found .find-in-bucket .ensures) (there .if1 .left))
+    third-done (a .triangles .now) (length (a .triangles .now)) (a .h) (a .heads .now) (a .edge-words .now) (a .triangle-words .now) (r .mesh) (r .long) (r .side) refl (r .words) _ _ _ _
+    (side-found (a .triangles .now) (length (a .triangles .now)) (a .h) (a .heads .now) (a .edge-words .now) (a .triangle-words .now) (r .words) _ _ _ _ _ q (bucket .bucket-of .ensures) (head .read-u323 .ensures) (found .find-in-bucket .ensures) (there .if1 .left))
     _ (c .before .read-u324 .ensures) (c .if2 .taken)
 
 write-u32-requires-2 : tie.Need-write-u32-requires-2
@@ -166,8 +172,8 @@ returns-3 c =
     let a = start .args in
     let r = start .pre in
     let q = side-is (a .triangles .now) (a .h) _ _ (first .read-u32 .ensures) (second .read-u322 .ensures) _ _ (low .lower-of .ensures) (high .higher-of .ensures) in
-    found-done (a .triangles .now) (a .vertex-count) (a .h) (a .vertex-words .now) (a .edge-words .now) (a .triangle-words .now) (r .mesh) (r .long) (r .side) (r .words) _ _ _ _ _
-    (side-found (a .triangles .now) (a .vertex-count) (a .h) (a .vertex-words .now) (a .edge-words .now) (a .triangle-words .now) (r .words) _ _ _ _ _ q (bucket .bucket-of .ensures) (head .read-u323 .ensures) (found .find-in-bucket .ensures) (there .if1 .left))
+    found-done (a .triangles .now) (length (a .triangles .now)) (a .h) (a .heads .now) (a .edge-words .now) (a .triangle-words .now) (r .mesh) (r .long) (r .side) refl (r .words) _ _ _ _ _
+    (side-found (a .triangles .now) (length (a .triangles .now)) (a .h) (a .heads .now) (a .edge-words .now) (a .triangle-words .now) (r .words) _ _ _ _ _ q (bucket .bucket-of .ensures) (head .read-u323 .ensures) (found .find-in-bucket .ensures) (there .if1 .left))
     (r .counted)
     _ (one .before .read-u324 .ensures) (one .if2 .left)
     refl (stored .write-u322 .ensures) (numbered .write-u323 .ensures)
@@ -181,6 +187,7 @@ enter-side-spec =
     read-u32-requires-2
     lower-of-requires
     higher-of-requires
+    cast-bucket-of
     bucket-of-requires
     read-u32-requires-3
     find-in-bucket-requires

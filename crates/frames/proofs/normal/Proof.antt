@@ -12,22 +12,25 @@ add-read-u32 c = search needs
 read-u32-requires-2 : tie.Need-read-u32-requires-2
 read-u32-requires-2 c κs = search needs
 
-origin-requires : tie.Need-origin-requires
-origin-requires c κs = search needs
+side-start-requires : tie.Need-side-start-requires
+side-start-requires c κs = search needs
+
+vertex-requires : tie.Need-vertex-requires
+vertex-requires c κs = search needs
 
 vector-requires : tie.Need-vector-requires
 vector-requires c κs = search needs
 
-vertex-requires : tie.Need-vertex-requires
-vertex-requires c κs = search needs
+vertex-requires-2 : tie.Need-vertex-requires-2
+vertex-requires-2 c κs = search needs
 
 inward-requires : tie.Need-inward-requires
 inward-requires c κs = search needs
 
 returns : tie.Need-returns
 returns c =
-    let o = c .before .before .before in
-    normal-steps _ _ _ _ _ _ _ _ _ _ _ _ (o .before .before .read-u32 .ensures) (o .before .read-u322 .ensures) (o .origin .ensures) (c .before .before .vector .ensures) (c .before .vertex .ensures) (c .inward .ensures)
+    let start = c .before .before .before .before in
+    normal-steps _ _ _ _ _ _ _ _ _ _ _ _ (start .before .before .read-u32 .ensures) (start .before .read-u322 .ensures) (start .side-start .ensures) (c .before .before .before .vertex .ensures) (c .before .before .vector .ensures) (c .before .vertex2 .ensures) (c .inward .ensures)
 
 pub normal-spec : {M : Type 1} → statement M
 normal-spec =
@@ -36,8 +39,9 @@ normal-spec =
     read-u32-requires
     add-read-u32
     read-u32-requires-2
-    origin-requires
-    vector-requires
+    side-start-requires
     vertex-requires
+    vector-requires
+    vertex-requires-2
     inward-requires
     returns)

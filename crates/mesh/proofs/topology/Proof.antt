@@ -1,15 +1,15 @@
 -- `mesh::topology` meets its contract. Assumes nothing.
 use native.Mathlib.Omega.{arith}
+use Rattle.edge_table.proofs.Reading.{mesh-most}
 use Rattle.mesh.proofs.Making.{in-range, made-third, made-filled}
 use borrow.Author.Needs.{needs}
 use Rattle.mesh.proofs.topology.Statement.{statement}
 use Rattle.mesh.proofs.topology.Tie as tie
 
-cast-build : tie.Need-cast-build
-cast-build c = search needs
-
 build-requires : tie.Need-build-requires
-build-requires c κs = search needs
+build-requires c κs =
+    let fits = c .before .before .before .before .before .before .before .before .before .before .before .pre in
+    (mesh-most _ _ (fits .mesh), record { heads-fit = fits .round-fits; edges-fit = fits .edges-fit; triangles-fit = fits .triangles-fit })
 
 enum-told : tie.Need-enum-told
 enum-told c = search needs
@@ -23,7 +23,7 @@ enum-known-edges c = search needs
 complete-requires : tie.Need-complete-requires
 complete-requires c κs =
     let fits = c .before .before .before .before .before .before .before .before .before .before .before .before .before .before .before .before .before .before .before .before .before .before .before .before .before .before .before .pre in
-    (in-range _ _ (fits .mesh), (fits .mesh .few-vertices, (omega (arith, fits .vertices-fit, c .before .before .before .before .before .before .before .before .before .before .before .before .before .before .before .build .kept .1 .1 .0), fits .round-fits)))
+    (in-range _ _ (fits .mesh), (fits .mesh .few-vertices, (fits .vertices-fit, omega (arith, fits .round-fits, c .before .before .before .before .before .before .before .before .before .before .before .before .before .before .before .build .kept .1 .0))))
 
 same-length : tie.Need-same-length
 same-length c = search needs
@@ -46,7 +46,7 @@ same-length-6 c = search needs
 returns : tie.Need-returns
 returns c =
     let built = c .before .before .before .before .before .before .before .before .before .before .before .before .before .before .before .before .before .before .before .before .before .before .before .before .before .before .before .build in
-    made-third _ _ _ _ _ _ _ _ _ _ _ _ _ (built .ensures .answer) (c .before .before .before .before .before .before .before .before .before .before .before .before .before .before .before .before .before .before .before .enum-told .given .1) (built .kept .1 .1 .0) (built .kept .1 .1 .1 .0) (built .kept .1 .1 .1 .1 .0) (c .before .before .before .before .before .before .before .before .before .before .before .before .clear .ensures)
+    made-third _ _ _ _ _ _ _ _ _ _ _ _ _ (built .ensures .answer) (c .before .before .before .before .before .before .before .before .before .before .before .before .before .before .before .before .before .before .before .enum-told .given .1) (built .kept .1 .0) (built .kept .1 .1 .0) (built .kept .1 .1 .1 .0) (c .before .before .before .before .before .before .before .before .before .before .before .before .clear .ensures)
 
 same-length-7 : tie.Need-same-length-7
 same-length-7 c = search needs
@@ -67,13 +67,12 @@ same-length-12 : tie.Need-same-length-12
 same-length-12 c = search needs
 
 returns-2 : tie.Need-returns-2
-returns-2 c = made-filled _ _ _ _ _ _ _ _ _ _ _ _ _ _ _ _ _ (c .before .before .before .before .before .before .before .before .before .before .before .before .before .before .before .before .before .before .before .before .before .before .before .before .build .ensures) (c .before .before .before .before .before .before .before .before .before .before .before .before .before .before .before .before .edges .given .1) (c .before .before .before .before .before .before .before .before .complete .ensures)
+returns-2 c = made-filled _ _ _ _ _ _ _ _ _ _ _ _ _ _ _ _ _ (c .before .before .before .before .before .before .before .before .before .before .before .before .before .before .before .before .before .before .before .before .before .before .before .before .build .ensures) (c .before .before .before .before .before .before .before .before .before .before .before .before .before .before .before .before .edges .given .1) (c .before .before .before .before .before .before .before .before .before .before .before .before .before .before .before .before .before .before .before .before .before .before .before .before .build .kept .1 .0) (c .before .before .before .before .before .before .before .before .complete .ensures)
 
 pub topology-spec : {M : Type 1} → statement M
 topology-spec =
     tie.close
     (tie.spec
-    cast-build
     build-requires
     enum-told
     clear-requires

@@ -1,7 +1,7 @@
--- `edge_table::lower_of` meets its contract. Assumes nothing.
+-- `topology::lower_of` meets its contract. Assumes nothing.
 use borrow.Author.Tests.{lt-ltb, le-ltb}
-use Rattle.edge_table.proofs.lower_of.Statement.{statement}
-use Rattle.edge_table.proofs.lower_of.Tie as tie
+use Rattle.topology.proofs.lower_of.Statement.{statement}
+use Rattle.topology.proofs.lower_of.Tie as tie
 
 returns : tie.Need-returns
 returns c = simp (lt-ltb _ _ (c .if1 .taken))

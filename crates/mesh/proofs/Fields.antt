@@ -1,0 +1,142 @@
+-- The buffers of a mesh that was answered hold its topology: every field, read, is the definition's value. Assumes nothing.
+use Prim.Native.Nat.{ℕ, zero, suc, _+_, _*_, _/_, _%_, _<_, _≤_}
+use mathlib.Core.Path.{_≡_, refl, sym, ap, subst, _∙_}
+use mathlib.Core.Bool.{Bool, true, false, cond}
+use mathlib.Core.List.{List}
+use native.Mathlib.Omega.{arith}
+use lib.ListN.{length, getD, replicate, length-replicate, List·getD-append}
+use lib.Ieee.{Float}
+use Rattle.float64.specs.Scalar.{zero as positiveZero}
+use Rattle.job_checks.specs.Job.{Job}
+use Rattle.job_checks.specs.Refusals.{refusalOf}
+use Rattle.topology.specs.Edges.{edges, triEdge, sharedByThree, vertexFaces}
+use Rattle.topology.specs.Frames.{yhat}
+use Rattle.topology.specs.Rows.{rows}
+use Rattle.topology.proofs.Edges.{edge-count}
+use Rattle.topology.proofs.Rows.{row-inside, row-read}
+use Rattle.edge_table.specs.Table.{edgeWords, triangleWords}
+use Rattle.edge_table.proofs.Reading.{low-read, high-read, first-face-read, second-face-read, windows-read, number-read}
+use Rattle.vertex_faces.specs.Ranges.{withRanges, startOf, endOf, roundOf}
+use Rattle.vertex_faces.proofs.Ranges.{read-start, read-end}
+use Rattle.frames.specs.Stored.{vectorAt, withLengths}
+use Rattle.frames.specs.Held.{HoldsEdges, HoldsFaces, HoldsSides, HoldsLengths}
+use Rattle.frames.proofs.Held.{lengths-held, normals-held, nine}
+use Rattle.mesh.specs.declared.OtherCounts.{OtherCounts}
+use Rattle.mesh.specs.declared.Meshed.{Meshed}
+use Rattle.mesh.specs.declared.Meshed.the-variants.{Edges}
+use Rattle.mesh.specs.Topology.{MeshBuffers, Fits, filled, topologyOf}
+use Rattle.mesh.specs.Answer.{numberOf, countsIn, orElse, meshRefusal, afterwards, Answered}
+use Rattle.mesh.specs.Held.{Held}
+use Rattle.mesh.proofs.Answering.{fits}
+
+-- The filled buffers, one after the other.
+module _ (v : List Float) (triangles : List ℕ) (n : ℕ) where
+  module _ (long : 6 * length triangles ≤ n) where
+    edge-slot : (e : ℕ) → e < length (edges triangles) → 6 * e + 6 ≤ n
+    edge-slot e l = omega (arith, edge-count triangles)
+
+    ends-held : HoldsEdges triangles (edgeWords triangles n)
+    ends-held = record { low = λ e l. low-read triangles n e l (edge-slot e l); high = λ e l. high-read triangles n e l (edge-slot e l) }
+
+    faces-held : HoldsFaces triangles (edgeWords triangles n)
+    faces-held = record { first = λ e l. first-face-read triangles n e l (edge-slot e l); second = λ e l. second-face-read triangles n e l (edge-slot e l) }
+
+    windows-held : (e : ℕ) → e < length (edges triangles) → getD (edgeWords triangles n) (6 * e + 4) 0 ≡ 0
+    windows-held e l = windows-read triangles n e l (edge-slot e l)
+
+  sides-held : length triangles ≡ 3 * (length triangles / 3) → 2 * length triangles ≤ n → HoldsSides triangles (triangleWords triangles n)
+  sides-held whole long h l =
+      let z : 3 * (h / 3) + h % 3 ≡ h = omega arith in
+      number-read triangles n (h / 3) (h % 3) (omega arith) (omega arith) (omega arith) ∙ ap (triEdge triangles) z
+
+  faces-round-held : (k i : ℕ) → k < length v / 3 → i < length (vertexFaces triangles k) → getD (roundOf triangles (length v / 3) n) (startOf triangles k + i) 0 ≡ getD (vertexFaces triangles k) i 0
+  unfolding roundOf startOf
+  faces-round-held k i l m =
+      List·getD-append (rows (vertexFaces triangles) (length v / 3)) _ 0 (length (rows (vertexFaces triangles) k) + i) (omega (arith, row-inside (vertexFaces triangles) (length v / 3) k l))
+      ∙ row-read (vertexFaces triangles) (length v / 3) k i l m
+
+  module _ (k : ℕ) (l : k < length v / 3) (long : 3 * (length v / 3) ≤ n) where
+    zeros-long : 3 * (length v / 3) ≤ length (replicate {A = ℕ} n 0)
+    zeros-long = omega (arith, length-replicate {A = ℕ} n 0)
+
+    start-held : getD (withRanges (startOf triangles) (endOf triangles) (length v / 3) (replicate n 0)) (3 * k + 0) 0 ≡ startOf triangles k
+    start-held =
+        let z : 3 * k + 0 ≡ 3 * k = omega arith in
+        rw z (read-start (startOf triangles) (endOf triangles) (replicate n 0) k (length v / 3) l zeros-long)
+
+    end-held : getD (withRanges (startOf triangles) (endOf triangles) (length v / 3) (replicate n 0)) (3 * k + 1) 0 ≡ endOf triangles k
+    end-held = read-end (startOf triangles) (endOf triangles) (replicate n 0) k (length v / 3) l zeros-long
+
+module _ (v : List Float) (triangles : List ℕ) (m : MeshBuffers) where
+  abbrev FitsIn : Type 0
+  FitsIn = Fits v triangles (length (m .vertex-words)) (length (m .edge-words)) (length (m .edge-reals)) (length (m .round)) (length (m .triangle-words)) (length (m .triangle-reals))
+
+  abbrev edgeReals : List Float
+  edgeReals = withLengths v (edgeWords triangles (length (m .edge-words))) (length (edges triangles)) (replicate (length (m .edge-reals)) positiveZero)
+
+  module _ (fit : FitsIn) where
+    lengths-of : HoldsLengths v triangles edgeReals
+    lengths-of =
+        lengths-held v triangles (edgeWords triangles (length (m .edge-words))) (ends-held v triangles (length (m .edge-words)) (fit .edges-fit)) (replicate (length (m .edge-reals)) positiveZero)
+        (omega (arith, edge-count triangles, fit .edge-reals-fit, length-replicate (length (m .edge-reals)) positiveZero))
+
+    sides-of : HoldsSides triangles (triangleWords triangles (length (m .triangle-words)))
+    sides-of = sides-held v triangles (length (m .triangle-words)) (fit .mesh .whole) (fit .triangles-fit)
+
+    filled-held : Held v triangles (filled v triangles m)
+    unfolding filled
+    filled-held =
+        record {
+          ends = ends-held v triangles (length (m .edge-words)) (fit .edges-fit);
+          faces = faces-held v triangles (length (m .edge-words)) (fit .edges-fit);
+          no-windows = windows-held v triangles (length (m .edge-words)) (fit .edges-fit);
+          lengths = lengths-of;
+          sides = sides-of;
+          normals =
+              normals-held v triangles edgeReals lengths-of (triangleWords triangles (length (m .triangle-words))) sides-of (replicate (length (m .triangle-reals)) positiveZero)
+              (omega (arith, fit .triangle-reals-fit, length-replicate (length (m .triangle-reals)) positiveZero));
+          start = λ k l. start-held v triangles (length (m .vertex-words)) k l (fit .vertices-fit);
+          end = λ k l. end-held v triangles (length (m .vertex-words)) k l (fit .vertices-fit);
+          faces-round = faces-round-held v triangles (length (m .round));
+        }
+
+-- no refusal of either kind
+none-of-both : (k : ℕ) (b : Bool) → 0 ≡ orElse k (cond b 10 0) → (k ≡ 0) × (b ≡ false)
+unfolding orElse
+none-of-both zero true e = absurd (omega (arith, e))
+none-of-both zero false e = (refl, refl)
+none-of-both (suc k) b e = absurd (omega (arith, e))
+
+after-none : (v : List Float) (triangles : List ℕ) (m after : MeshBuffers) (k : ℕ) → k ≡ 0 → sharedByThree triangles ≡ false → after ≡ afterwards k m (topologyOf v triangles m) → after ≡ filled v triangles m
+unfolding afterwards topologyOf
+after-none v triangles m after k z s e = e ∙ rw (z, s) refl
+
+same-number : {r : Meshed} {n k : ℕ} → r ≡ Edges n → r ≡ Edges k → n ≡ k
+same-number e f = cc
+
+-- What an answer with n edges says, by the contract of `build`.
+module _ (j : Job) (others : OtherCounts) (r : Meshed) (before after : MeshBuffers) (answered : Answered j others r before after) (n : ℕ) (e : r ≡ Edges n) where
+  unrefused : 0 ≡ meshRefusal j (countsIn before others)
+  unrefused = ap numberOf (sym e) ∙ answered .number
+
+  both : (refusalOf j (countsIn before others) ≡ 0) × (sharedByThree (j .triangles) ≡ false)
+  unfolding meshRefusal
+  both = none-of-both (refusalOf j (countsIn before others)) (sharedByThree (j .triangles)) unrefused
+
+  pub counted-edges : n ≡ length (edges (j .triangles))
+  counted-edges = same-number e (answered .edge-count (sym unrefused))
+
+  pub held : Held (j .vertices) (j .triangles) after
+  held =
+      subst (Held (j .vertices) (j .triangles)) (sym (after-none (j .vertices) (j .triangles) before after (refusalOf j (countsIn before others)) (both .0) (both .1) (answered .buffers)))
+      (filled-held (j .vertices) (j .triangles) before (fits j others before (both .0)))
+
+-- The edge and the normal of side k of face f, as the readers of the buffers have them: six words and nine reals for each triangle.
+module _ (v : List Float) (triangles : List ℕ) (m : MeshBuffers) (h : Held v triangles m) (f k : ℕ) (l : k < 3) (inside : 3 * f + k < length triangles) where
+  pub side-edge : getD (m .triangle-words) (6 * f + k) 0 ≡ triEdge triangles (3 * f + k)
+  side-edge =
+      let z : 6 * f + k ≡ 6 * ((3 * f + k) / 3) + (3 * f + k) % 3 = omega arith in
+      ap (λ (i : ℕ). getD (m .triangle-words) i 0) z ∙ h .sides (3 * f + k) inside
+
+  pub side-normal : vectorAt 9 (m .triangle-reals) f (3 * k) ≡ yhat v triangles (3 * f + k)
+  side-normal = nine (m .triangle-reals) f k ∙ h .normals (3 * f + k) inside
