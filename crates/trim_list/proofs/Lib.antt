@@ -1,3 +1,4 @@
 pub mod Steps
+pub mod Offers
 pub mod Loop
 pub mod Whole

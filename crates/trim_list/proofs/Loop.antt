@@ -14,12 +14,12 @@ use Rattle.trim_state.specs.Follows.{Follows}
 use Rattle.trim_state.proofs.Follows.{follows-empty}
 use Rattle.live_windows.proofs.Standing.{no-live}
 use Rattle.trim_run.specs.declared.Op.{Op}
-use Rattle.trim_run.specs.Operations.{Operation, operationAt, operations, candidateOf, candidates, asOperation}
+use Rattle.trim_run.specs.Operations.{Operation, operationAt, operations, candidateOf, candidates, asOperation, DoublesOf}
 use Rattle.trim_run.specs.Run.{operate, Run, onward, runFrom}
 use Rattle.trim_run.specs.Run.{ran as Run·ran}
 use Rattle.trim_run.specs.Run.{ended as Run·ended}
 use Rattle.trim_run.specs.Demand3.{Demand3}
-use Rattle.trim_run.proofs.Follow.{DoublesOf, operate-follows, demand3-follows}
+use Rattle.trim_run.proofs.Follow.{operate-follows, demand3-follows}
 use Rattle.trim_list.specs.declared.Step.{Step}
 use Rattle.trim_list.specs.declared.Step.the-variants.{Stopped, Went}
 use Rattle.trim_list.specs.declared.Ran.the-variants.{Done, Ended}

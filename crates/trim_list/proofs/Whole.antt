@@ -39,6 +39,9 @@ least-fourth a b c d x h = omega (arith, h)
 least-last : (a b x : ℕ) → x ≡ min a b → x ≤ b
 least-last a b x h = omega (arith, h)
 
+pub edges-same : (ends : List ℕ) (lens : List Float) (edges zeroed : List ℕ) (m : ℕ) → length zeroed ≡ length edges → m ≡ edgeCount ends lens edges → m ≡ edgeCount ends lens zeroed
+edges-same ends lens edges zeroed m h k = rw h k
+
 one-slot : (x n : ℕ) → x ≤ slotsOf n 1 → x ≤ n
 one-slot x n h = omega (arith, h)
 

@@ -11,11 +11,10 @@ use Rattle.heap.specs.Queue.{queue}
 use Rattle.trim_model.specs.Model.{Candidate}
 use Rattle.trim_state.specs.State.{State, Result, stopped, went, Mesh}
 use Rattle.trim_state.specs.Follows.{Follows}
-use Rattle.trim_run.specs.Operations.{Operation, touch, operations, candidates}
+use Rattle.trim_run.specs.Operations.{Operation, touch, operations, candidates, DoublesOf}
 use Rattle.trim_run.specs.Run.{operate, Run, ran, ended, runFrom, start}
 use Rattle.trim_run.specs.Demand3.{Demand3}
 use Rattle.trim_run.specs.Represents.{Represents}
-use Rattle.trim_run.proofs.Follow.{DoublesOf}
 use Rattle.trim_list.specs.declared.Step.{Step}
 use Rattle.trim_list.specs.declared.Step.the-variants.{Stopped, Went}
 use Rattle.trim_list.specs.declared.Ran.{Ran}

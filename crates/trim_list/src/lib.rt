@@ -126,6 +126,7 @@ fn offer(
     requires { ⌜ Ready m made (slices (now edges) (now words) (now reals) (now keys) (now events) (now vertex)) (cuts (now pts) (now out) (now keep) (now next)) ⌝ }
     ensures { λ r. ⌜ Operated (settingOf (cuts (now (pts .entry)) (now (out .entry)) (now (keep .entry)) (now (next .entry))) (slices (now (edges .entry)) (now (words .entry)) (now (reals .entry)) (now (keys .entry)) (now (events .entry)) (now (vertex .entry))) limit (now (flags .entry)) (now (ends .entry)) (now (lens .entry)) m) (Operations·offer (asCandidate c)) made queued (slices (now (edges .entry)) (now (words .entry)) (now (reals .entry)) (now (keys .entry)) (now (events .entry)) (now (vertex .entry))) r (slices (now (edges .exit)) (now (words .exit)) (now (reals .exit)) (now (keys .exit)) (now (events .exit)) (now (vertex .exit))) ⌝ }
 {
+    let src = c.src;
     let l = read_f64(lens, 1, c.edge.0, 0);
     let number = trim_run::refusal(m, c.edge, l, c.b0, c.b1);
     if number != 0 {
@@ -151,7 +152,7 @@ fn offer(
         c.queued,
         c.b0,
         c.b1,
-        c.src,
+        src,
         l,
         VertexId(low),
         VertexId(high),

@@ -26,21 +26,15 @@ use Rattle.trim_state.specs.Follows.{Follows}
 use Rattle.trim_state.proofs.Follows.{follows-unqueue, follows-demand3}
 use Rattle.trim_state.proofs.Made.{Made, act-made, After, finish-after, add-after}
 use Rattle.live_windows.specs.Live.{unqueuedIn}
-use Rattle.trim_run.specs.Operations.{Operation, offer, pop, touch, unknown, candidateOf, candidates}
+use Rattle.trim_run.specs.Operations.{Operation, offer, pop, touch, unknown, candidateOf, candidates, Doubles, DoublesOf}
 use Rattle.trim_run.specs.Run.{taken, popped, hasLength, isOnEdge, offering, operate}
 use Rattle.trim_run.specs.Demand3.{Demand3}
 
--- the numbers that a list's slices hold are doubles
-pub record Doubles (len : ℕ → Float) (c : Candidate) : Type 0 where
-  pub start : T (fits binary64 (c .b0))
-  pub end : T (fits binary64 (c .b1))
-  pub length : T (fits binary64 (len (c .edge)))
-
-and-left : (a b : Bool) → T (a && b) → T a
+pub and-left : (a b : Bool) → T (a && b) → T a
 and-left true b h = tt
 and-left false b h = h
 
-and-right : (a b : Bool) → T (a && b) → T b
+pub and-right : (a b : Bool) → T (a && b) → T b
 and-right true b h = h
 and-right false b h = absurd h
 
@@ -72,13 +66,6 @@ taken-same x live e = by-cases (λ (b : Bool). map unqueued (cond b (unqueuedIn 
 append-none : {A : Type 0} (l : List A) → l ++ [] ≡ l
 append-none [] = refl
 append-none (x ∷ l) = ap (λ (m : List _). x ∷ m) (append-none l)
-
--- what is asked of an operation's numbers
-abbrev pub DoublesOf : (ℕ → Float) → Operation → Type 0
-DoublesOf len (offer c) = Doubles len c
-DoublesOf len pop = Unit {0}
-DoublesOf len (touch v d) = Unit {0}
-DoublesOf len unknown = Unit {0}
 
 module _ (cuts windows : ℕ) (limit : Float) (flags : List ℕ) (mesh : Mesh) (edges vertices : ℕ) (cs : List Candidate) (s : State) (F : Follows limit (mesh .len) cs (s .stock .made) (s .live)) where
   -- the state follows the model with more candidates

@@ -4,9 +4,9 @@
 use Prim.Native.Nat.{ℕ, zero, suc, _+_, _*_}
 use mathlib.Core.Bool.{Bool, cond, _&&_}
 use mathlib.Core.List.{List, [], _∷_, _++_}
-use lib.Dec.{eqb}
+use lib.Dec.{T, eqb}
 use lib.ListN.{getD}
-use lib.Ieee.{Float, nan}
+use lib.Ieee.{Float, nan, binary64, fits}
 use Rattle.float64.specs.Notation.{if_then_else_}
 use Rattle.source.specs.declared.Src.{Src}
 use Rattle.source.specs.declared.Src.the-variants.{Point, Line}
@@ -80,3 +80,16 @@ asOperation (Add c) = offer (asCandidate c)
 asOperation Pop = pop
 asOperation (Touch v d) = touch (v .0) d
 asOperation Unknown = unknown
+
+-- the numbers of a candidate and its edge are doubles, as those that slices hold are
+pub record Doubles (len : ℕ → Float) (c : Candidate) : Type 0 where
+  pub start : T (fits binary64 (c .b0))
+  pub end : T (fits binary64 (c .b1))
+  pub length : T (fits binary64 (len (c .edge)))
+
+-- and so are those of an operation
+abbrev pub DoublesOf : (ℕ → Float) → Operation → Type 0
+DoublesOf len (offer c) = Doubles len c
+DoublesOf len pop = Unit {0}
+DoublesOf len (touch v d) = Unit {0}
+DoublesOf len unknown = Unit {0}

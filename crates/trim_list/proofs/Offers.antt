@@ -1,0 +1,131 @@
+-- An offer: it is refused by its number, or it is added. Assumes nothing.
+use Prim.Native.Nat.{ℕ, _*_, _+_, _≤_, _<_}
+use native.Mathlib.Omega.{arith}
+use mathlib.Core.Bool.{Bool, true, false, cond, _&&_}
+use mathlib.Core.List.{List}
+use mathlib.Core.Logic.{_≢_}
+use mathlib.Core.Path.{_≡_, refl, sym, ap, subst, _∙_}
+use lib.Dec.{T, ltb, ltb→lt}
+use lib.ListN.{length, getD}
+use lib.Ieee.{Float, nan, binary64, fits}
+use Rattle.buffers.specs.Slots.{slotsOf}
+use Rattle.windows.specs.Windows.{capacityOf}
+use Rattle.heap.specs.Queue.{queue}
+use Rattle.chains.specs.Chains.{links}
+use Rattle.trim_model.specs.Model.{Candidate}
+use Rattle.trim_state.specs.State.{State, Result, stopped, went, addOf}
+use Rattle.trim_state.specs.Follows.{Follows}
+use Rattle.trim_cut.specs.Cut.{Sizes}
+use Rattle.trim_split.specs.Running.{place, End}
+use Rattle.trim_split.specs.Running.{Ready as Running·Ready}
+use Rattle.trim_split.specs.declared.Counts.{Counts}
+use Rattle.trim.specs.declared.Added.{Added}
+use Rattle.trim.specs.declared.Added.the-variants.{Stopped as Added·Stopped, Went as Added·Went}
+use Rattle.trim.specs.Adding.{Given, Adds, Bounded, endOf}
+use Rattle.trim_run.specs.Operations.{offer, Doubles}
+use Rattle.trim_run.specs.Run.{hasLength, isOnEdge, refusalOf, offering, operate}
+use Rattle.trim_run.specs.Represents.{Checked}
+use Rattle.trim_run.proofs.Follow.{and-left, and-right, proper}
+use Rattle.trim_list.specs.declared.Step.the-variants.{Stopped, Went}
+use Rattle.trim_list.specs.Lists.{Slices, Cuts, Setting, settingOf, Ready, Stands, Says, Operated}
+
+-- ---- by the answers of two tests
+refused : (a b : Bool) (n : ℕ) (r : Result) → n ≡ cond a (cond b 0 42) 41 → n ≢ 0 → cond a (cond b r (stopped 42)) (stopped 41) ≡ stopped n
+refused true true n r h k = absurd (k h)
+refused true false n r h k = ap stopped (sym h)
+refused false b n r h k = ap stopped (sym h)
+
+passed-first : (a b : Bool) → _≡_ {A = ℕ} 0 (cond a (cond b 0 42) 41) → T a
+passed-first true b h = tt
+passed-first false b h = absurd (let z : ⊥ = omega (arith, h) in z)
+
+passed-second : (a b : Bool) → _≡_ {A = ℕ} 0 (cond a (cond b 0 42) 41) → T b
+passed-second true true h = tt
+passed-second true false h = absurd (let z : ⊥ = omega (arith, h) in z)
+passed-second false b h = absurd (let z : ⊥ = omega (arith, h) in z)
+
+passed-both : (a b : Bool) (r : Result) → _≡_ {A = ℕ} 0 (cond a (cond b 0 42) 41) → cond a (cond b r (stopped 42)) (stopped 41) ≡ r
+passed-both true true r h = refl
+passed-both true false r h = absurd (let z : ⊥ = omega (arith, h) in z)
+passed-both false b r h = absurd (let z : ⊥ = omega (arith, h) in z)
+
+-- ---- the candidate c, of an edge whose length is l
+module _ (limit : Float) (flags ends : List ℕ) (lens : List Float) (m : ℕ) (b : Slices) (x : Cuts) (made queued : ℕ) (c : Candidate) (l : Float) (long : l ≡ getD lens (1 * c .edge + 0) nan) where
+  abbrev g : Setting
+  g = settingOf x b limit flags ends lens m
+
+  abbrev first : Bool
+  first = ltb (c .edge) m && hasLength l
+
+  abbrev second : Bool
+  second = isOnEdge l (c .b0) && isOnEdge l (c .b1)
+
+  abbrev added : State → Result
+  added s = addOf (g .cuts) (g .windows) limit flags (g .mesh) c s
+
+  doubles : (number : ℕ) → Checked m (c .edge) l (c .b0) (c .b1) number → Doubles (g .mesh .len) c
+  doubles number h = record { start = h .start; end = h .end; length = subst (λ (z : Float). T (fits binary64 z)) long (h .length) }
+
+  -- by the tests on the length that was read
+  offering-is : (s : State) → operate (g .cuts) (g .windows) limit flags (g .mesh) m (g .vertices) (offer c) s ≡ cond first (cond second (added s) (stopped 42)) (stopped 41)
+  unfolding operate offering
+  offering-is s = ap (λ (z : Float). cond (ltb (c .edge) m && hasLength z) (cond (isOnEdge z (c .b0) && isOnEdge z (c .b1)) (added s) (stopped 42)) (stopped 41)) (sym long)
+
+  pub offer-refused : (number : ℕ) → Checked m (c .edge) l (c .b0) (c .b1) number → number ≢ 0 → Operated g (offer c) made queued b (Stopped number) b
+  offer-refused number h k = record { doubles = doubles number h; fits = tt; says = λ s cs S F. offering-is s ∙ refused first second number (added s) (h .number) k }
+
+  -- it is refused by no number
+  module _ (number : ℕ) (checked : Checked m (c .edge) l (c .b0) (c .b1) number) (none : number ≡ 0) where
+    is : _≡_ {A = ℕ} 0 (cond first (cond second 0 42) 41)
+    is = sym none ∙ checked .number
+
+    pub offer-there : c .edge < m
+    offer-there = ltb→lt (c .edge) m (and-left (ltb (c .edge) m) (hasLength l) (passed-first first second is))
+
+    -- of the ends that were read
+    module _ (low high : ℕ) (isLow : low ≡ getD ends (2 * c .edge + 0) 0) (isHigh : high ≡ getD ends (2 * c .edge + 1) 0) where
+      given : (s : State) (cs : List Candidate) → Stands m made queued b s → Follows limit (g .mesh .len) cs (s .stock .made) (s .live)
+          → Given (g .cuts) (g .windows) limit flags l low high c m (g .mesh) cs s (place made queued 0 (links (b .edges) (b .words)) (b .reals) (queue (b .keys) (b .events)) (b .vertex))
+      given s cs S F = record {
+        there = offer-there;
+        long = sym long;
+        low = sym isLow;
+        high = sym isHigh;
+        holds = S .holds;
+        same = S .stock;
+        follows = F;
+        proper =
+            let d = doubles number checked in
+            let on = passed-second first second is in
+            proper (g .mesh .len) c d
+            (subst (λ (z : Float). T (hasLength z)) long (and-right (ltb (c .edge) m) (hasLength l) (passed-first first second is)))
+            (subst (λ (z : Float). T (isOnEdge z (c .b0))) long (and-left (isOnEdge l (c .b0)) (isOnEdge l (c .b1)) on))
+            (subst (λ (z : Float). T (isOnEdge z (c .b1))) long (and-right (isOnEdge l (c .b0)) (isOnEdge l (c .b1)) on));
+      }
+
+      -- what `add` ensures of its answer
+      abbrev AddsTo : Added → Slices → Type 0
+      AddsTo r b′ = Adds (g .cuts) (g .windows) limit flags l low high c (place made queued 0 (links (b .edges) (b .words)) (b .reals) (queue (b .keys) (b .events)) (b .vertex))
+          (endOf r (links (b′ .edges) (b′ .words)) (b′ .reals) (queue (b′ .keys) (b′ .events)) (b′ .vertex))
+
+      adds : (s : State) → operate (g .cuts) (g .windows) limit flags (g .mesh) m (g .vertices) (offer c) s ≡ added s
+      adds s = offering-is s ∙ passed-both first second (added s) is
+
+      pub offer-stopped : (n : ℕ) (b′ : Slices) → AddsTo (Added·Stopped n) b′ → Operated g (offer c) made queued b (Stopped n) b′
+      offer-stopped n b′ h = record { doubles = doubles number checked; fits = tt; says = λ s cs S F. adds s ∙ h m (g .mesh) cs s (given s cs S F) }
+
+      pub offer-went : (now : Counts) (b′ : Slices) → Bounded (g .windows) (Added·Went now) → AddsTo (Added·Went now) b′ → Operated g (offer c) made queued b (Went (now .made) (now .queued)) b′
+      offer-went now b′ fits h = record {
+        doubles = doubles number checked;
+        fits = fits;
+        says = λ s cs S F.
+            let r = h m (g .mesh) cs s (given s cs S F) in
+            record { state = record { live = r .live; stock = _ }; is = adds s ∙ r .is; stands = record { holds = r .holds; stock = refl } };
+      }
+
+    -- what `add` requires
+    pub offer-ready : Ready m made b x → Running·Ready (c .edge) made 0 (b .edges) (b .words) (b .reals)
+    offer-ready r = record { fits = r .fits; linked = omega arith; edge = omega (arith, offer-there, r .edges) }
+
+pub offer-sizes : (m made : ℕ) (b : Slices) (x : Cuts) → Ready m made b x → Sizes (length (x .pts)) (x .keep) (x .out) (x .next)
+offer-sizes m made b x r = record { keeps = r .keeps; outs = r .outs; nexts = r .nexts }

@@ -1,0 +1,134 @@
+-- `trim_list::operate` meets its contract. Assumes nothing.
+use mathlib.Core.Path.{refl}
+use Rattle.trim_run.specs.declared.Op.the-variants.{Add, Pop, Touch, Unknown}
+use Rattle.trim_list.specs.declared.Step.the-variants.{Stopped, Went}
+use Rattle.trim_list.specs.Lists.{slices, cuts, settingOf}
+use Rattle.trim_list.proofs.Steps.{of-op, op-unknown, op-pop, op-touch}
+use borrow.Author.Needs.{needs}
+use Rattle.trim_list.proofs.operate.Statement.{statement}
+use Rattle.trim_list.proofs.operate.Tie as tie
+
+enum-known-op : tie.Need-enum-known-op
+enum-known-op c = search needs
+
+offer-requires : tie.Need-offer-requires
+offer-requires c κs = search needs
+
+enum-told : tie.Need-enum-told
+enum-told c = search needs
+
+pop-requires : tie.Need-pop-requires
+pop-requires c κs = search needs
+
+enum-known-op-2 : tie.Need-enum-known-op-2
+enum-known-op-2 c = search needs
+
+touch-requires : tie.Need-touch-requires
+touch-requires c κs = search needs
+
+enum-told-2 : tie.Need-enum-told-2
+enum-told-2 c = search needs
+
+same-length : tie.Need-same-length
+same-length c = search needs
+
+same-length-2 : tie.Need-same-length-2
+same-length-2 c = search needs
+
+same-length-3 : tie.Need-same-length-3
+same-length-3 c = search needs
+
+same-length-4 : tie.Need-same-length-4
+same-length-4 c = search needs
+
+same-length-5 : tie.Need-same-length-5
+same-length-5 c = search needs
+
+same-length-6 : tie.Need-same-length-6
+same-length-6 c = search needs
+
+same-length-7 : tie.Need-same-length-7
+same-length-7 c = search needs
+
+same-length-8 : tie.Need-same-length-8
+same-length-8 c = search needs
+
+same-length-9 : tie.Need-same-length-9
+same-length-9 c = search needs
+
+same-length-10 : tie.Need-same-length-10
+same-length-10 c = search needs
+
+returns : tie.Need-returns
+returns c =
+    let a = c .before .before .before .before .before .before .before .before .before .before .before .before .before .before .before .before .before .before .before .before .before .before .before .before .before .before .before .before .before .before .before .before .before .before .before .before .before .before .before .before .before .before .before .before .before .before .before .args in
+    of-op (settingOf (cuts (a .pts .now) (a .out .now) (a .keep .now) (a .next .now)) (slices (a .edges .now) (a .words .now) (a .reals .now) (a .keys .now) (a .events .now) (a .vertex .now)) (a .limit) (a .flags .now) (a .ends .now) (a .lens .now) (a .m)) (a .made) (a .queued) (a .op) (Add (c .before .before .before .before .before .before .before .before .before .before .before .before .before .before .before .before .before .before .before .before .before .before .before .before .before .before .before .before .before .before .before .before .op .given .0 .0)) (c .before .before .before .before .before .before .before .before .before .before .before .before .before .before .before .before .before .before .before .before .before .before .before .before .before .before .before .before .before .before .before .before .op .given .1) (slices (a .edges .now) (a .words .now) (a .reals .now) (a .keys .now) (a .events .now) (a .vertex .now)) (c .before .before .before .before .before .before .before .before .before .before .before .before .before .before .before .before .before .before .before .before .offer .result) (slices (c .before .before .before .before .before .before .before .before .before .before .before .before .before .before .before .before .before .before .before .before .offer .last .1 .1 .1 .1 .1 .1 .0) (c .before .before .before .before .before .before .before .before .before .before .before .before .before .before .before .before .before .before .before .before .offer .last .1 .1 .1 .1 .1 .1 .1 .0) (c .before .before .before .before .before .before .before .before .before .before .before .before .before .before .before .before .before .before .before .before .offer .last .1 .1 .1 .1 .1 .1 .1 .1 .0) (c .before .before .before .before .before .before .before .before .before .before .before .before .before .before .before .before .before .before .before .before .offer .last .1 .1 .1 .1 .1 .1 .1 .1 .1 .0) (c .before .before .before .before .before .before .before .before .before .before .before .before .before .before .before .before .before .before .before .before .offer .last .1 .1 .1 .1 .1 .1 .1 .1 .1 .1 .0) (c .before .before .before .before .before .before .before .before .before .before .before .before .before .before .before .before .before .before .before .before .offer .last .1 .1 .1 .1 .1 .1 .1 .1 .1 .1 .1 .0)) (c .before .before .before .before .before .before .before .before .before .before .before .before .before .before .before .before .before .before .before .before .offer .ensures)
+
+same-length-11 : tie.Need-same-length-11
+same-length-11 c = search needs
+
+same-length-12 : tie.Need-same-length-12
+same-length-12 c = search needs
+
+same-length-13 : tie.Need-same-length-13
+same-length-13 c = search needs
+
+same-length-14 : tie.Need-same-length-14
+same-length-14 c = search needs
+
+returns-2 : tie.Need-returns-2
+returns-2 c =
+    let a = c .before .before .before .before .before .before .before .before .before .before .before .before .before .before .before .before .before .before .before .before .before .before .before .before .before .before .args in
+    of-op (settingOf (cuts (a .pts .now) (a .out .now) (a .keep .now) (a .next .now)) (slices (a .edges .now) (a .words .now) (a .reals .now) (a .keys .now) (a .events .now) (a .vertex .now)) (a .limit) (a .flags .now) (a .ends .now) (a .lens .now) (a .m)) (a .made) (a .queued) (a .op) Pop (c .before .before .before .before .before .before .before .before .before .before .before .enum-told .given .1) (slices (a .edges .now) (a .words .now) (a .reals .now) (a .keys .now) (a .events .now) (a .vertex .now)) (Went (a .made) (c .before .before .before .before .before .before .pop .result)) (slices (a .edges .now) (c .before .before .before .before .before .before .pop .last .0) (a .reals .now) (c .before .before .before .before .before .before .pop .last .1 .1 .0) (c .before .before .before .before .before .before .pop .last .1 .1 .1 .0) (a .vertex .now)) (op-pop (settingOf (cuts (a .pts .now) (a .out .now) (a .keep .now) (a .next .now)) (slices (a .edges .now) (a .words .now) (a .reals .now) (a .keys .now) (a .events .now) (a .vertex .now)) (a .limit) (a .flags .now) (a .ends .now) (a .lens .now) (a .m)) (a .made) (a .queued) (c .before .before .before .before .before .before .before .before .before .before .before .before .before .before .before .before .before .before .before .before .before .before .before .before .before .before .pre .fits) (a .edges .now) (a .words .now) (a .reals .now) (a .keys .now) (a .events .now) (a .vertex .now) (c .before .before .before .before .before .before .pop .last .0) (c .before .before .before .before .before .before .pop .last .1 .1 .0) (c .before .before .before .before .before .before .pop .last .1 .1 .1 .0) (c .before .before .before .before .before .before .pop .result) (c .before .before .before .before .before .before .pop .ensures))
+
+same-length-15 : tie.Need-same-length-15
+same-length-15 c = search needs
+
+same-length-16 : tie.Need-same-length-16
+same-length-16 c = search needs
+
+same-length-17 : tie.Need-same-length-17
+same-length-17 c = search needs
+
+returns-3 : tie.Need-returns-3
+returns-3 c =
+    let a = c .before .before .before .before .before .before .before .before .before .before .before .before .before .before .before .before .before .before .before .before .before .before .before .before .before .before .args in
+    of-op (settingOf (cuts (a .pts .now) (a .out .now) (a .keep .now) (a .next .now)) (slices (a .edges .now) (a .words .now) (a .reals .now) (a .keys .now) (a .events .now) (a .vertex .now)) (a .limit) (a .flags .now) (a .ends .now) (a .lens .now) (a .m)) (a .made) (a .queued) (a .op) (Touch (c .before .before .before .before .before .before .before .before .before .before .before .op2 .given .0 .0) (c .before .before .before .before .before .before .before .before .before .before .before .op2 .given .0 .1 .0)) (c .before .before .before .before .before .before .before .before .before .before .before .op2 .given .1) (slices (a .edges .now) (a .words .now) (a .reals .now) (a .keys .now) (a .events .now) (a .vertex .now)) (c .before .before .before .before .before .before .touch .result) (slices (a .edges .now) (a .words .now) (a .reals .now) (c .before .before .before .before .before .before .touch .last .1 .1 .1 .1 .0) (c .before .before .before .before .before .before .touch .last .1 .1 .1 .1 .1 .0) (c .before .before .before .before .before .before .touch .last .1 .1 .1 .1 .1 .1 .0)) (op-touch (settingOf (cuts (a .pts .now) (a .out .now) (a .keep .now) (a .next .now)) (slices (a .edges .now) (a .words .now) (a .reals .now) (a .keys .now) (a .events .now) (a .vertex .now)) (a .limit) (a .flags .now) (a .ends .now) (a .lens .now) (a .m)) (a .made) (a .queued) (c .before .before .before .before .before .before .before .before .before .before .before .before .before .before .before .before .before .before .before .before .before .before .before .before .before .before .pre .fits) (a .edges .now) (a .words .now) (a .reals .now) (a .keys .now) (a .events .now) (a .vertex .now) (c .before .before .before .before .before .before .before .before .before .before .before .op2 .given .0 .0 .0) (c .before .before .before .before .before .before .before .before .before .before .before .op2 .given .0 .1 .0) refl (c .before .before .before .before .before .before .touch .result) (c .before .before .before .before .before .before .touch .last .1 .1 .1 .1 .0) (c .before .before .before .before .before .before .touch .last .1 .1 .1 .1 .1 .0) (c .before .before .before .before .before .before .touch .last .1 .1 .1 .1 .1 .1 .0) (c .before .before .before .before .before .before .touch .ensures))
+
+returns-4 : tie.Need-returns-4
+returns-4 c =
+    let a = c .before .before .before .before .before .before .before .before .before .before .before .before .before .before .before .args in
+    of-op (settingOf (cuts (a .pts .now) (a .out .now) (a .keep .now) (a .next .now)) (slices (a .edges .now) (a .words .now) (a .reals .now) (a .keys .now) (a .events .now) (a .vertex .now)) (a .limit) (a .flags .now) (a .ends .now) (a .lens .now) (a .m)) (a .made) (a .queued) (a .op) Unknown (c .enum-told2 .given .1) (slices (a .edges .now) (a .words .now) (a .reals .now) (a .keys .now) (a .events .now) (a .vertex .now)) (Stopped 40) (slices (a .edges .now) (a .words .now) (a .reals .now) (a .keys .now) (a .events .now) (a .vertex .now)) (op-unknown (settingOf (cuts (a .pts .now) (a .out .now) (a .keep .now) (a .next .now)) (slices (a .edges .now) (a .words .now) (a .reals .now) (a .keys .now) (a .events .now) (a .vertex .now)) (a .limit) (a .flags .now) (a .ends .now) (a .lens .now) (a .m)) (a .made) (a .queued) (slices (a .edges .now) (a .words .now) (a .reals .now) (a .keys .now) (a .events .now) (a .vertex .now)))
+
+pub operate-spec : {M : Type 1} → statement M
+operate-spec =
+    tie.close
+    (tie.spec
+    enum-known-op
+    offer-requires
+    enum-told
+    pop-requires
+    enum-known-op-2
+    touch-requires
+    enum-told-2
+    same-length
+    same-length-2
+    same-length-3
+    same-length-4
+    same-length-5
+    same-length-6
+    same-length-7
+    same-length-8
+    same-length-9
+    same-length-10
+    returns
+    same-length-11
+    same-length-12
+    same-length-13
+    same-length-14
+    returns-2
+    same-length-15
+    same-length-16
+    same-length-17
+    returns-3
+    returns-4)
