@@ -361,10 +361,8 @@ fn holds(
     false
 }
 
-// How many vertices, edges and steps the record at number k has, and how many slots its buffers.
+// How many steps the record at number k has, and how many slots its buffers.
 struct Sizes {
-    vertices: u32,
-    edges: u32,
     steps: u32,
     windows: u32,
     events: u32,
@@ -375,8 +373,6 @@ fn read_sizes(s: &[u8], k: usize) -> Sizes
     requires { ⌜ k < 400_000 ⌝ }
 {
     Sizes {
-        vertices: number(s, k + 1),
-        edges: number(s, k + 2),
         steps: number(s, k + 3),
         windows: number(s, k + 4),
         events: number(s, k + 5),
@@ -384,152 +380,8 @@ fn read_sizes(s: &[u8], k: usize) -> Sizes
     }
 }
 
-// The same, in buffers of the sizes that the record says, at the fronts of longer slices.
-fn holds_in_cuts(
-    s: &[u8],
-    k: usize,
-    limit: f64,
-    z: Sizes,
-    ops: &[u32],
-    args: &[f64],
-    ends: &[u32],
-    lens: &[f64],
-    flags: &[u8],
-    edges: &mut [u32],
-    words: &mut [u32],
-    reals: &mut [f64],
-    keys: &mut [f64],
-    events: &mut [u32],
-    vertex: &mut [f64],
-    pts: &mut [f64],
-    out: &mut [f64],
-    keep: &mut [f64],
-    next: &mut [f64],
-) -> bool {
-    let single = at_most(z.cuts as usize, pts.len());
-    let to_out = at_most(2 * (z.cuts as usize), out.len());
-    let to_keep = at_most(2 * (z.cuts as usize), keep.len());
-    let to_next = at_most(2 * (z.cuts as usize), next.len());
-    holds(
-        s,
-        k,
-        limit,
-        ops,
-        args,
-        ends,
-        lens,
-        flags,
-        edges,
-        words,
-        reals,
-        keys,
-        events,
-        vertex,
-        &mut pts[..single],
-        &mut out[..to_out],
-        &mut keep[..to_keep],
-        &mut next[..to_next],
-    )
-}
-
-fn holds_in_windows(
-    s: &[u8],
-    k: usize,
-    limit: f64,
-    z: Sizes,
-    ops: &[u32],
-    args: &[f64],
-    ends: &[u32],
-    lens: &[f64],
-    flags: &[u8],
-    edges: &mut [u32],
-    words: &mut [u32],
-    reals: &mut [f64],
-    keys: &mut [f64],
-    events: &mut [u32],
-    vertex: &mut [f64],
-    pts: &mut [f64],
-    out: &mut [f64],
-    keep: &mut [f64],
-    next: &mut [f64],
-) -> bool {
-    let to_words = at_most(4 * (z.windows as usize), words.len());
-    let to_reals = at_most(6 * (z.windows as usize), reals.len());
-    let to_keys = at_most(z.events as usize, keys.len());
-    let to_events = at_most(2 * (z.events as usize), events.len());
-    holds_in_cuts(
-        s,
-        k,
-        limit,
-        z,
-        ops,
-        args,
-        ends,
-        lens,
-        flags,
-        edges,
-        &mut words[..to_words],
-        &mut reals[..to_reals],
-        &mut keys[..to_keys],
-        &mut events[..to_events],
-        vertex,
-        pts,
-        out,
-        keep,
-        next,
-    )
-}
-
-fn holds_of_edges(
-    s: &[u8],
-    k: usize,
-    limit: f64,
-    z: Sizes,
-    ops: &[u32],
-    args: &[f64],
-    ends: &[u32],
-    lens: &[f64],
-    flags: &[u8],
-    edges: &mut [u32],
-    words: &mut [u32],
-    reals: &mut [f64],
-    keys: &mut [f64],
-    events: &mut [u32],
-    vertex: &mut [f64],
-    pts: &mut [f64],
-    out: &mut [f64],
-    keep: &mut [f64],
-    next: &mut [f64],
-) -> bool {
-    let to_ends = at_most(2 * (z.edges as usize), ends.len());
-    let to_lens = at_most(z.edges as usize, lens.len());
-    let to_flags = at_most(z.vertices as usize, flags.len());
-    let to_edges = at_most(6 * (z.edges as usize), edges.len());
-    let to_vertex = at_most(2 * (z.vertices as usize), vertex.len());
-    holds_in_windows(
-        s,
-        k,
-        limit,
-        z,
-        ops,
-        args,
-        &ends[..to_ends],
-        &lens[..to_lens],
-        &flags[..to_flags],
-        &mut edges[..to_edges],
-        words,
-        reals,
-        keys,
-        events,
-        &mut vertex[..to_vertex],
-        pts,
-        out,
-        keep,
-        next,
-    )
-}
-
-fn holds_of_steps(
+// The same, in buffers of the sizes that the record says: of each, one slice is cut, and the others are longer.
+fn holds_in(
     s: &[u8],
     k: usize,
     limit: f64,
@@ -551,24 +403,25 @@ fn holds_of_steps(
     next: &mut [f64],
 ) -> bool {
     let to_ops = at_most(4 * (z.steps as usize), ops.len());
-    let to_args = at_most(5 * (z.steps as usize), args.len());
-    holds_of_edges(
+    let to_words = at_most(4 * (z.windows as usize), words.len());
+    let to_keys = at_most(z.events as usize, keys.len());
+    let to_pts = at_most(z.cuts as usize, pts.len());
+    holds(
         s,
         k,
         limit,
-        z,
         &ops[..to_ops],
-        &args[..to_args],
+        args,
         ends,
         lens,
         flags,
         edges,
-        words,
+        &mut words[..to_words],
         reals,
-        keys,
+        &mut keys[..to_keys],
         events,
         vertex,
-        pts,
+        &mut pts[..to_pts],
         out,
         keep,
         next,
@@ -599,7 +452,7 @@ fn holds_in_arrays(
     let mut out = [7.0f64; 2048];
     let mut keep = [7.0f64; 2048];
     let mut next = [7.0f64; 2048];
-    holds_of_steps(
+    holds_in(
         s,
         k,
         limit,

@@ -1,12 +1,15 @@
--- `trim_vectors::holds_in_cuts` is safe and ends. A slice's front has as many elements as it is cut to. Assumes nothing.
+-- `trim_vectors::holds_in` is safe and ends. A slice's front has as many elements as it is cut to. Assumes nothing.
 use mathlib.Core.Path.{sym}
 use lib.Seq.{length-take-le}
 use borrow.Author.Needs.{needs}
-use Rattle.trim_vectors.proofs.holds_in_cuts.Statement.{statement}
-use Rattle.trim_vectors.proofs.holds_in_cuts.Tie as tie
+use Rattle.trim_vectors.proofs.holds_in.Statement.{statement}
+use Rattle.trim_vectors.proofs.holds_in.Tie as tie
 
 cast-at-most : tie.Need-cast-at-most
 cast-at-most c = search needs
+
+mul-at-most : tie.Need-mul-at-most
+mul-at-most c = search needs
 
 at-most-requires : tie.Need-at-most-requires
 at-most-requires c κs = search needs
@@ -14,8 +17,8 @@ at-most-requires c κs = search needs
 cast-at-most-2 : tie.Need-cast-at-most-2
 cast-at-most-2 c = search needs
 
-mul-at-most : tie.Need-mul-at-most
-mul-at-most c = search needs
+mul-at-most-2 : tie.Need-mul-at-most-2
+mul-at-most-2 c = search needs
 
 at-most-requires-2 : tie.Need-at-most-requires-2
 at-most-requires-2 c κs = search needs
@@ -23,41 +26,32 @@ at-most-requires-2 c κs = search needs
 cast-at-most-3 : tie.Need-cast-at-most-3
 cast-at-most-3 c = search needs
 
-mul-at-most-2 : tie.Need-mul-at-most-2
-mul-at-most-2 c = search needs
-
 at-most-requires-3 : tie.Need-at-most-requires-3
 at-most-requires-3 c κs = search needs
 
 cast-at-most-4 : tie.Need-cast-at-most-4
 cast-at-most-4 c = search needs
 
-mul-at-most-3 : tie.Need-mul-at-most-3
-mul-at-most-3 c = search needs
-
 at-most-requires-4 : tie.Need-at-most-requires-4
 at-most-requires-4 c κs = search needs
-
-slice-relend-prefix-holds : tie.Need-slice-relend-prefix-holds
-slice-relend-prefix-holds c = search needs
 
 slice-aggregate-holds : tie.Need-slice-aggregate-holds
 slice-aggregate-holds c = sym (length-take-le _ _ (search needs))
 
-slice-relend-prefix-holds-2 : tie.Need-slice-relend-prefix-holds-2
-slice-relend-prefix-holds-2 c = search needs
+slice-relend-prefix-holds : tie.Need-slice-relend-prefix-holds
+slice-relend-prefix-holds c = search needs
 
 slice-aggregate-holds-2 : tie.Need-slice-aggregate-holds-2
 slice-aggregate-holds-2 c = sym (length-take-le _ _ (search needs))
 
-slice-relend-prefix-holds-3 : tie.Need-slice-relend-prefix-holds-3
-slice-relend-prefix-holds-3 c = search needs
+slice-relend-prefix-holds-2 : tie.Need-slice-relend-prefix-holds-2
+slice-relend-prefix-holds-2 c = search needs
 
 slice-aggregate-holds-3 : tie.Need-slice-aggregate-holds-3
 slice-aggregate-holds-3 c = sym (length-take-le _ _ (search needs))
 
-slice-relend-prefix-holds-4 : tie.Need-slice-relend-prefix-holds-4
-slice-relend-prefix-holds-4 c = search needs
+slice-relend-prefix-holds-3 : tie.Need-slice-relend-prefix-holds-3
+slice-relend-prefix-holds-3 c = search needs
 
 slice-aggregate-holds-4 : tie.Need-slice-aggregate-holds-4
 slice-aggregate-holds-4 c = sym (length-take-le _ _ (search needs))
@@ -98,28 +92,26 @@ same-length-10 c = search needs
 returns : tie.Need-returns
 returns c = search needs
 
-pub holds-in-cuts-spec : {M : Type 1} → statement M
-holds-in-cuts-spec =
+pub holds-in-spec : {M : Type 1} → statement M
+holds-in-spec =
     tie.close
     (tie.spec
     cast-at-most
+    mul-at-most
     at-most-requires
     cast-at-most-2
-    mul-at-most
+    mul-at-most-2
     at-most-requires-2
     cast-at-most-3
-    mul-at-most-2
     at-most-requires-3
     cast-at-most-4
-    mul-at-most-3
     at-most-requires-4
-    slice-relend-prefix-holds
     slice-aggregate-holds
-    slice-relend-prefix-holds-2
+    slice-relend-prefix-holds
     slice-aggregate-holds-2
-    slice-relend-prefix-holds-3
+    slice-relend-prefix-holds-2
     slice-aggregate-holds-3
-    slice-relend-prefix-holds-4
+    slice-relend-prefix-holds-3
     slice-aggregate-holds-4
     holds-requires
     same-length
