@@ -1,20 +1,11 @@
 -- What the trimming of windows asks of `better`. Definitions only.
-use mathlib.Core.List.{List, [], _∷_}
+use mathlib.Core.List.{List}
 use lib.Dec.{T}
 use lib.Ieee.{Float, binary64, lt, le, fits}
 use lib.Ieee.Scale.{finite}
+pub use Rattle.nat_laws.specs.Lists.{All, Pairs}
 use Rattle.source.specs.declared.Src.{Src}
 use Rattle.better.specs.Stretches.{Interval}
-
-module _ {A : Type 0} where
-  -- each element of a list, and each two, the earlier first
-  abbrev pub All : (A → Type 0) → List A → Type 0
-  All P [] = Unit {0}
-  All P (x ∷ xs) = P x × All P xs
-
-  abbrev pub Pairs : (A → A → Type 0) → List A → Type 0
-  Pairs R [] = Unit {0}
-  Pairs R (x ∷ xs) = All (R x) xs × Pairs R xs
 
 -- a point of an edge: a finite double
 pub record Point (x : Float) : Type 0 where

@@ -4,10 +4,15 @@ use native.Mathlib.Omega.{arith}
 use native.Mathlib.Numerals.{add-one}
 use mathlib.Core.Path.{_≡_, refl, ap}
 use mathlib.Core.List.{List, [], _∷_}
-use lib.ListN.{length, replicate, drop, take, set, length-replicate}
+use lib.ListN.{length, getD, replicate, drop, take, set, length-replicate}
 use Rattle.buffers.specs.Zero.{zeroFrom}
 
 module _ {A : Type 0} (z : A) where
+  pub zero-at : (n p : ℕ) → getD (replicate n z) p z ≡ z
+  zero-at zero p = refl
+  zero-at (suc n) zero = refl
+  zero-at (suc n) (suc p) = zero-at n p
+
   pub zero-whole : (l : List A) → zeroFrom z 0 l ≡ replicate (length l) z
   unfolding zeroFrom
   zero-whole l = refl

@@ -12,24 +12,16 @@ use lib.Dec.{eqb}
 use lib.ListN.{getD, set, length, replicate, length-set}
 use lib.Seq.{getD-set-same, getD-set-other}
 use lib.Ieee.{Float}
+use Rattle.nat_laws.specs.Lists.{All}
+use Rattle.nat_laws.proofs.Lists.{all-of, all-map, all-map2, all-append, all-left, all-right}
 use Rattle.buffers.specs.Slots.{slot}
+use Rattle.buffers.proofs.Zeroing.{zero-at}
 use Rattle.buffers.proofs.Strides.{slot-at, other-fields, other-slot}
 use Rattle.windows.specs.declared.WindowRecord.{WindowRecord}
 use Rattle.windows.specs.Windows.{linkWith, flagsOf, hasFlag, winAt, windowAt, wordsWith, flagsWith, relinked}
 use Rattle.windows.proofs.WindowList.{stored-edge, stored-other, length-stored}
-use Rattle.chains.proofs.Paths.{each-other, path-in, path-same, path-set, path-drop, path-once, out-append, front-out, front-of, front-set, splice, unlinked, clear-is, path-after, Apart, unlink-path, unlink-front, length-unlinked, unlinked-none, apart-rest, apart-less, apart-front}
-use Rattle.chains.specs.Chains.{Links, links, headOf, edgeOf, nextOf, linkIn, linkAt, withLink, inserted, cleared, removed, Each, Path, Out, Belongs, AllBelong, Before, firstLink, OnEdge, Chains}
-
--- what holds of every window holds of each of a list
-each : (P : ℕ → Type 0) (is : List ℕ) → ((i : ℕ) → P i) → Each P is
-unfolding Each
-each P [] f = tt
-each P (i ∷ is) f = (f i, each P is f)
-
-each-map : (P Q : ℕ → Type 0) (is : List ℕ) → ((i : ℕ) → P i → Q i) → Each P is → Each Q is
-unfolding Each
-each-map P Q [] f h = tt
-each-map P Q (i ∷ is) f h = (f i (h .0), each-map P Q is f (h .1))
+use Rattle.chains.proofs.Paths.{path-in, path-same, path-set, path-drop, path-once, front-out, front-of, front-set, splice, unlinked, clear-is, path-after, Apart, unlink-path, unlink-front, length-unlinked, unlinked-none, apart-rest, apart-less, apart-front}
+use Rattle.chains.specs.Chains.{Links, links, headOf, edgeOf, nextOf, linkIn, linkAt, withLink, inserted, cleared, removed, Path, Out, Belongs, AllBelong, Before, firstLink, OnEdge, Chains}
 
 -- ---- an insertion and a removal change nothing of the windows but links, and nothing of the edges but one head
 pub record OnlyLinks (w w′ : List ℕ) : Type 0 where
@@ -128,21 +120,15 @@ length-flags : (w : List ℕ) (k : ℕ) (alive queued : Bool) → length (flagsW
 unfolding flagsWith
 length-flags w k alive queued = simp length-set
 
-zeros : (n i : ℕ) → _≡_ {A = ℕ} (getD (replicate n 0) i 0) 0
-zeros zero i = refl
-zeros (suc n) zero = refl
-zeros (suc n) (suc i) = zeros n i
-
 module _ (made : ℕ) where
   -- ---- windows stay their edge's
   belongs-same : (w w′ : List ℕ) (e i : ℕ) → length w′ ≡ length w → edgeOf w′ i ≡ edgeOf w i → Belongs made w e i → Belongs made w′ e i
   belongs-same w w′ e i n h g = record { edge = h ∙ g .edge; made = g .made; there = rw n (g .there) }
 
   -- whose a window is depends on nothing but its edge and the length
-  pub all-same : (w w′ : List ℕ) (e : ℕ) (is : List ℕ) → length w′ ≡ length w → Each (λ i. edgeOf w′ i ≡ edgeOf w i) is → AllBelong made w e is → AllBelong made w′ e is
-  unfolding AllBelong Each
-  all-same w w′ e [] n h g = tt
-  all-same w w′ e (i ∷ is) n h g = (belongs-same w w′ e i n (h .0) (g .0), all-same w w′ e is n (h .1) (g .1))
+  pub all-same : (w w′ : List ℕ) (e : ℕ) (is : List ℕ) → length w′ ≡ length w → All (λ i. edgeOf w′ i ≡ edgeOf w i) is → AllBelong made w e is → AllBelong made w′ e is
+  all-same w w′ e is n =
+      all-map2 {P = λ i. edgeOf w′ i ≡ edgeOf w i} {Q = Belongs made w e} {R = Belongs made w′ e} (λ i. belongs-same w w′ e i n) is
 
   -- so a change of links changes it for none
   belongs-set : (w : List ℕ) (e i k v : ℕ) → Belongs made w e i → Belongs made (linkWith w k v) e i
@@ -151,23 +137,11 @@ module _ (made : ℕ) where
   pub all-set : (w : List ℕ) (e : ℕ) (is : List ℕ) (k v : ℕ) → AllBelong made w e is → AllBelong made (linkWith w k v) e is
   all-set w e is k v =
       all-same w (linkWith w k v) e is (simp length-set)
-      (each (λ i. edgeOf (linkWith w k v) i ≡ edgeOf w i) is (λ i. other-fields 4 w k i 3 0 v 0 (λ z. omega (arith, z)) (omega arith) (omega arith)))
+      (all-of (λ i. edgeOf (linkWith w k v) i ≡ edgeOf w i) is (λ i. other-fields 4 w k i 3 0 v 0 (λ z. omega (arith, z)) (omega arith) (omega arith)))
 
   -- a window of another edge is not among them, so chains never meet
   pub elsewhere : (w : List ℕ) (e : ℕ) (is : List ℕ) (k : ℕ) → edgeOf w k ≢ e → AllBelong made w e is → Out k is
-  unfolding AllBelong Out
-  elsewhere w e [] k d h = tt
-  elsewhere w e (i ∷ is) k d h = (λ z. d (ap (edgeOf w) z ∙ h .0 .edge), elsewhere w e is k d (h .1))
-
-  pub all-append : (w : List ℕ) (e : ℕ) (xs ys : List ℕ) → AllBelong made w e (xs ++ ys) → AllBelong made w e xs × AllBelong made w e ys
-  unfolding AllBelong
-  all-append w e [] ys h = (tt, h)
-  all-append w e (x ∷ xs) ys h = ((h .0, all-append w e xs ys (h .1) .0), all-append w e xs ys (h .1) .1)
-
-  pub all-join : (w : List ℕ) (e : ℕ) (xs ys : List ℕ) → AllBelong made w e xs → AllBelong made w e ys → AllBelong made w e (xs ++ ys)
-  unfolding AllBelong
-  all-join w e [] ys p q = q
-  all-join w e (x ∷ xs) ys p q = (p .0, all-join w e xs ys (p .1) q)
+  elsewhere w e is k d = all-map {P = Belongs made w e} {Q = λ i. k ≢ i} (λ i h z. d (ap (edgeOf w) z ∙ h .edge)) is
 
   -- ---- the other chains stay
   module _ (b : Links) (e e′ : ℕ) (ne : e ≢ e′) (is : List ℕ) where
@@ -189,10 +163,8 @@ module _ (made : ℕ) where
   before-set w e (suc k) j v h = belongs-set w e k j v h
 
   -- below the count every window made is counted
-  pub all-counted : (count : ℕ) → made ≤ count → (w : List ℕ) (e : ℕ) (is : List ℕ) → AllBelong made w e is → Each (λ i. i < count) is
-  unfolding AllBelong Each
-  all-counted count c w e [] h = tt
-  all-counted count c w e (i ∷ is) h = (omega (arith, c, h .0 .made), all-counted count c w e is (h .1))
+  pub all-counted : (count : ℕ) → made ≤ count → (w : List ℕ) (e : ℕ) (is : List ℕ) → AllBelong made w e is → All (λ i. i < count) is
+  all-counted count c w e is = all-map {P = Belongs made w e} {Q = λ i. i < count} (λ i h. omega (arith, c, h .made)) is
 
   pub insert-frame : (count : ℕ) (b : Links) (e e′ k j : ℕ) (is : List ℕ) → e ≢ e′ → Before made (b .words) e k → Belongs made (b .words) e j → OnEdge made b e′ is → OnEdge made (inserted count b e k j) e′ is
   unfolding inserted
@@ -202,7 +174,7 @@ module _ (made : ℕ) where
 
   -- ---- an insertion
   pub insert-head : (count : ℕ) → made ≤ count → (b : Links) (e j : ℕ) (zs : List ℕ) → 6 * e + 6 ≤ length (b .edges) → Belongs made (b .words) e j → Out j zs → OnEdge made b e zs → OnEdge made (inserted count b e 0 j) e (j ∷ zs)
-  unfolding inserted withLink linkAt Path AllBelong
+  unfolding inserted withLink linkAt Path
   insert-head count c b e j zs h g out o =
       let w = b .words in
       let l = headOf (b .edges) e in
@@ -217,22 +189,22 @@ module _ (made : ℕ) where
       })
 
   pub insert-after : (count : ℕ) → made ≤ count → (b : Links) (e k j : ℕ) (xs zs : List ℕ) → Belongs made (b .words) e j → Out j (xs ++ k ∷ zs) → OnEdge made b e (xs ++ k ∷ zs) → OnEdge made (inserted count b e (suc k) j) e (xs ++ k ∷ j ∷ zs)
-  unfolding inserted withLink linkAt Path Out AllBelong
+  unfolding inserted withLink linkAt Path
   insert-after count c b e k j xs zs g out o =
       let w = b .words in
       let l = headOf (b .edges) e in
       let v = nextOf w k in
       let f = front-out w l xs k zs (o .path) in
-      let oj = out-append j xs (k ∷ zs) out in
-      let m = all-append w e xs (k ∷ zs) (o .belong) in
-      let bound : 4 * k + 4 ≤ length (linkWith w j v) = simp length-set (m .1 .0 .there) in
+      let oj = all-right (λ i. j ≢ i) xs (k ∷ zs) out in
+      let m = all-right (Belongs made w e) xs (k ∷ zs) (o .belong) in
+      let bound : 4 * k + 4 ≤ length (linkWith w j v) = simp length-set (m .0 .there) in
       let rest : Path (linkWith w j v) (suc j) (j ∷ zs) =
-      (refl, rw (getD-set-same w (4 * j + 3) v 0 (omega (arith, g .there))) (path-set w v zs j v (oj .1 .1) (path-drop w l xs k zs (o .path)))) in
-      let all : AllBelong made w e (xs ++ k ∷ j ∷ zs) = all-join w e xs (k ∷ j ∷ zs) (m .0) (m .1 .0, (g, m .1 .1)) in
-      let r : linkIn count v ≡ v = path-in count w v zs (all-counted count c w e zs (m .1 .1)) (path-drop w l xs k zs (o .path)) in
+      (refl, rw (getD-set-same w (4 * j + 3) v 0 (omega (arith, g .there))) (path-set w v zs j v (oj .1) (path-drop w l xs k zs (o .path)))) in
+      let all : AllBelong made w e (xs ++ k ∷ j ∷ zs) = all-append (Belongs made w e) xs (k ∷ j ∷ zs) (all-left (Belongs made w e) xs (k ∷ zs) (o .belong)) (m .0, (g, m .1)) in
+      let r : linkIn count v ≡ v = path-in count w v zs (all-counted count c w e zs (m .1)) (path-drop w l xs k zs (o .path)) in
       rw r
       (record {
-        path = splice (linkWith w j v) l xs k (j ∷ zs) (suc j) bound (f .0) (λ z. oj .1 .0 (sym z), f .1) (front-set w l xs k j v (oj .0) (front-of w l xs k zs (o .path))) rest;
+        path = splice (linkWith w j v) l xs k (j ∷ zs) (suc j) bound (f .0) (λ z. oj .0 (sym z), f .1) (front-set w l xs k j v (all-left (λ i. j ≢ i) xs (k ∷ zs) out) (front-of w l xs k zs (o .path))) rest;
         belong = all-set (linkWith w j v) e (xs ++ k ∷ j ∷ zs) k (suc j) (all-set w e (xs ++ k ∷ j ∷ zs) j v all);
       })
 
@@ -247,30 +219,30 @@ module _ (made : ℕ) where
   remove-head count c n b e ys zs h f o =
       let w = b .words in
       let l = headOf (b .edges) e in
-      let r : cleared count n w (linkIn count l) (firstLink zs) ≡ unlinked w ys = clear-is count n w l ys zs (all-counted count c w e ys (all-append w e ys zs (o .belong) .0)) h (o .path) in
+      let r : cleared count n w (linkIn count l) (firstLink zs) ≡ unlinked w ys = clear-is count n w l ys zs (all-counted count c w e ys (all-left (Belongs made w e) ys zs (o .belong))) h (o .path) in
       rw r
       (record {
         path = rw (getD-set-same (b .edges) (6 * e + 4) (firstLink zs) 0 (omega arith)) (unlink-path zs w (firstLink zs) ys (apart-rest w l ys zs (o .path)) (path-after w l ys zs (o .path)));
-        belong = unlink-all zs w e ys (all-append w e ys zs (o .belong) .1);
+        belong = unlink-all zs w e ys (all-right (Belongs made w e) ys zs (o .belong));
       })
 
   pub remove-after : (count : ℕ) → made ≤ count → (n : ℕ) (b : Links) (e k : ℕ) (xs ys zs : List ℕ) → length ys ≤ n → OnEdge made b e (xs ++ k ∷ (ys ++ zs)) → OnEdge made (removed count n b e (suc k) (firstLink zs)) e (xs ++ k ∷ zs)
-  unfolding removed withLink linkAt AllBelong
+  unfolding removed withLink linkAt
   remove-after count c n b e k xs ys zs h o =
       let w = b .words in
       let l = headOf (b .edges) e in
       let p : Path w l (xs ++ k ∷ (ys ++ zs)) = o .path in
       let q : Path w (nextOf w k) (ys ++ zs) = path-drop w l xs k (ys ++ zs) p in
       let f = front-out w l xs k (ys ++ zs) p in
-      let m = all-append w e xs (k ∷ (ys ++ zs)) (o .belong) in
+      let m = all-right (Belongs made w e) xs (k ∷ (ys ++ zs)) (o .belong) in
       let a : Apart ys (xs ++ (k ∷ [])) = apart-front w l (xs ++ (k ∷ [])) ys zs (rw append-assoc p) in
-      let bound : 4 * k + 4 ≤ length (unlinked w ys) = rw (length-unlinked w ys) (m .1 .0 .there) in
-      let all : AllBelong made w e (xs ++ k ∷ zs) = all-join w e xs (k ∷ zs) (m .0) (m .1 .0, all-append w e ys zs (m .1 .1) .1) in
+      let bound : 4 * k + 4 ≤ length (unlinked w ys) = rw (length-unlinked w ys) (m .0 .there) in
+      let all : AllBelong made w e (xs ++ k ∷ zs) = all-append (Belongs made w e) xs (k ∷ zs) (all-left (Belongs made w e) xs (k ∷ (ys ++ zs)) (o .belong)) (m .0, all-right (Belongs made w e) ys zs (m .1)) in
       let r : cleared count n w (linkIn count (nextOf w k)) (firstLink zs) ≡ unlinked w ys =
-      clear-is count n w (nextOf w k) ys zs (all-counted count c w e ys (all-append w e ys zs (m .1 .1) .0)) h q in
+      clear-is count n w (nextOf w k) ys zs (all-counted count c w e ys (all-left (Belongs made w e) ys zs (m .1))) h q in
       rw r
       (record {
-        path = splice (unlinked w ys) l xs k zs (firstLink zs) bound (f .0) (out-append k ys zs (f .1) .1)
+        path = splice (unlinked w ys) l xs k zs (firstLink zs) bound (f .0) (all-right (λ i. k ≢ i) ys zs (f .1))
             (unlink-front xs w l k ys (apart-less xs (k ∷ []) ys a) (front-of w l xs k (ys ++ zs) p))
             (unlink-path zs w (firstLink zs) ys (apart-rest w (nextOf w k) ys zs q) (path-after w (nextOf w k) ys zs q));
         belong = all-set (unlinked w ys) e (xs ++ k ∷ zs) k (firstLink zs) (unlink-all (xs ++ k ∷ zs) w e ys all);
@@ -278,7 +250,7 @@ module _ (made : ℕ) where
 
   -- and the other chains stay
   unlink-frame : (b : Links) (e e′ : ℕ) (is ys : List ℕ) → e ≢ e′ → AllBelong made (b .words) e ys → OnEdge made b e′ is → OnEdge made (links (b .edges) (unlinked (b .words) ys)) e′ is
-  unfolding unlinked AllBelong
+  unfolding unlinked
   unlink-frame b e e′ is [] ne h o = o
   unlink-frame b e e′ is (y ∷ ys) ne h o =
       unlink-frame (links (b .edges) (linkWith (b .words) y 0)) e e′ is ys ne (all-set (b .words) e ys y 0 (h .1)) (set-frame b e e′ ne is y 0 (h .0) o)
@@ -326,16 +298,31 @@ module _ (made : ℕ) where
       insert-frame count (removed count n b e k v) e e′ k j is ne (before-removed count n b e k v e k h) (belongs-removed count n b e k v e j g) (remove-frame count c n b e e′ k ys zs is ne h m p a o)
 
   -- ---- a window that was taken out has no link
-  pub removed-none : (count n : ℕ) (b : Links) (e k i : ℕ) (us vs zs : List ℕ) → Each (λ x. x < count) (us ++ i ∷ vs) → length (us ++ i ∷ vs) ≤ n
-      → Path (b .words) (linkAt b e k) ((us ++ i ∷ vs) ++ zs) → 4 * i + 4 ≤ length (b .words) → nextOf (removed count n b e k (firstLink zs) .words) i ≡ 0
-  unfolding removed withLink linkAt Path Out
-  removed-none count n b e zero i us vs zs c m p h = rw (clear-is count n (b .words) (linkAt b e 0) (us ++ i ∷ vs) zs c m p) (unlinked-none (b .words) us i vs h)
-  removed-none count n b e (suc k) i us vs zs c m p h =
+  pub removed-none : (count : ℕ) → made ≤ count → (n : ℕ) (b : Links) (e k i : ℕ) (us vs zs : List ℕ) → length (us ++ i ∷ vs) ≤ n
+      → Path (b .words) (linkAt b e k) ((us ++ i ∷ vs) ++ zs) → AllBelong made (b .words) e (us ++ i ∷ vs) → nextOf (removed count n b e k (firstLink zs) .words) i ≡ 0
+  unfolding removed withLink linkAt Path
+  removed-none count c n b e zero i us vs zs m p a =
+      rw (clear-is count n (b .words) (linkAt b e 0) (us ++ i ∷ vs) zs (all-counted count c (b .words) e (us ++ i ∷ vs) a) m p)
+      (unlinked-none (b .words) us i vs (all-right (Belongs made (b .words) e) us (i ∷ vs) a .0 .there))
+  removed-none count c n b e (suc k) i us vs zs m p a =
       let w = unlinked (b .words) (us ++ i ∷ vs) in
       let out : Out k ((us ++ i ∷ vs) ++ zs) = path-once (b .words) (suc k) k ((us ++ i ∷ vs) ++ zs) (refl, p) in
-      let ne : k ≢ i = out-append k us (i ∷ vs) (out-append k (us ++ i ∷ vs) zs out .0) .1 .0 in
-      rw (clear-is count n (b .words) (linkAt b e (suc k)) (us ++ i ∷ vs) zs c m p)
-      (other-slot 4 w k i 3 3 (firstLink zs) 0 ne (omega arith) (omega arith) ∙ unlinked-none (b .words) us i vs h)
+      let ne : k ≢ i = all-right (λ x. k ≢ x) us (i ∷ vs) (all-left (λ x. k ≢ x) (us ++ i ∷ vs) zs out) .0 in
+      rw (clear-is count n (b .words) (linkAt b e (suc k)) (us ++ i ∷ vs) zs (all-counted count c (b .words) e (us ++ i ∷ vs) a) m p)
+      (other-slot 4 w k i 3 3 (firstLink zs) 0 ne (omega arith) (omega arith) ∙ unlinked-none (b .words) us i vs (all-right (Belongs made (b .words) e) us (i ∷ vs) a .0 .there))
+
+  pub head-unlinked : (count : ℕ) → made ≤ count → (n : ℕ) (b : Links) (e i : ℕ) (us vs zs : List ℕ) → length (us ++ i ∷ vs) ≤ n
+      → OnEdge made b e ((us ++ i ∷ vs) ++ zs) → nextOf (removed count n b e 0 (firstLink zs) .words) i ≡ 0
+  unfolding linkAt
+  head-unlinked count c n b e i us vs zs m o = removed-none count c n b e 0 i us vs zs m (o .path) (all-left (Belongs made (b .words) e) (us ++ i ∷ vs) zs (o .belong))
+
+  pub after-unlinked : (count : ℕ) → made ≤ count → (n : ℕ) (b : Links) (e k i : ℕ) (xs us vs zs : List ℕ) → length (us ++ i ∷ vs) ≤ n
+      → OnEdge made b e (xs ++ k ∷ ((us ++ i ∷ vs) ++ zs)) → nextOf (removed count n b e (suc k) (firstLink zs) .words) i ≡ 0
+  unfolding linkAt
+  after-unlinked count c n b e k i xs us vs zs m o =
+      let ys = us ++ i ∷ vs in
+      removed-none count c n b e (suc k) i us vs zs m (path-drop (b .words) (headOf (b .edges) e) xs k (ys ++ zs) (o .path))
+      (all-left (Belongs made (b .words) e) ys zs (all-right (Belongs made (b .words) e) xs (k ∷ (ys ++ zs)) (o .belong) .1))
 
   -- ---- all chains at once: one becomes another list, and the others stay
   pub chains-after : (m : ℕ) (b b′ : Links) (on : ℕ → List ℕ) (e : ℕ) (new : List ℕ) → Chains made m b on → OnEdge made b′ e new
@@ -347,27 +334,26 @@ module _ (made : ℕ) where
 
   -- two chains that share a window are of one edge
   pub never-meet : (b : Links) (e e′ i : ℕ) (xs ys xs′ ys′ : List ℕ) → OnEdge made b e (xs ++ i ∷ ys) → OnEdge made b e′ (xs′ ++ i ∷ ys′) → e ≡ e′
-  unfolding AllBelong
   never-meet b e e′ i xs ys xs′ ys′ o o′ =
-      sym (all-append (b .words) e xs (i ∷ ys) (o .belong) .1 .0 .edge) ∙ all-append (b .words) e′ xs′ (i ∷ ys′) (o′ .belong) .1 .0 .edge
+      sym (all-right (Belongs made (b .words) e) xs (i ∷ ys) (o .belong) .0 .edge) ∙ all-right (Belongs made (b .words) e′) xs′ (i ∷ ys′) (o′ .belong) .0 .edge
 
   -- ---- at first there is no window
   pub no-windows : (m : ℕ) (b : Links) → ((e : ℕ) → e < m → headOf (b .edges) e ≡ 0) → Chains made m b (λ e. [])
-  unfolding Path AllBelong
+  unfolding Path
   no-windows m b h e l = record { path = h e l; belong = tt }
 
   pub zeroed-heads : (m n : ℕ) (w : List ℕ) → Chains made m (links (replicate n 0) w) (λ e. [])
-  zeroed-heads m n w = no-windows m (links (replicate n 0) w) (λ e l. zeros n (6 * e + 4))
+  zeroed-heads m n w = no-windows m (links (replicate n 0) w) (λ e l. zero-at 0 n (6 * e + 4))
 
   -- ---- a chain depends on nothing but its head, the edges and links of its windows, and the length
   pub chain-same : (b b′ : Links) (e : ℕ) (is : List ℕ) → headOf (b′ .edges) e ≡ headOf (b .edges) e → length (b′ .words) ≡ length (b .words)
-      → Each (Agrees (b .words) (b′ .words)) is → OnEdge made b e is → OnEdge made b′ e is
+      → All (Agrees (b .words) (b′ .words)) is → OnEdge made b e is → OnEdge made b′ e is
   chain-same b b′ e is h n a o =
       let w = b .words in
       let w′ = b′ .words in
       record {
-        path = rw h (path-same w w′ (headOf (b .edges) e) is (each-map (Agrees w w′) (λ i. nextOf w′ i ≡ nextOf w i) is (λ i g. g .next) a) (o .path));
-        belong = all-same w w′ e is n (each-map (Agrees w w′) (λ i. edgeOf w′ i ≡ edgeOf w i) is (λ i g. g .edge) a) (o .belong);
+        path = rw h (path-same w w′ (headOf (b .edges) e) is (all-map {P = Agrees w w′} {Q = λ i. nextOf w′ i ≡ nextOf w i} (λ i g. g .next) is a) (o .path));
+        belong = all-same w w′ e is n (all-map {P = Agrees w w′} {Q = λ i. edgeOf w′ i ≡ edgeOf w i} (λ i g. g .edge) is a) (o .belong);
       }
 
   -- a store of flags; a store of a trimmed range leaves the words alone
@@ -375,25 +361,22 @@ module _ (made : ℕ) where
   flags-frame b k alive queued e is =
       let w = b .words in
       let w′ = flagsWith w k alive queued in
-      chain-same b (links (b .edges) w′) e is refl (length-flags w k alive queued) (each (Agrees w w′) is (flags-agree w k alive queued))
+      chain-same b (links (b .edges) w′) e is refl (length-flags w k alive queued) (all-of (Agrees w w′) is (flags-agree w k alive queued))
 
   -- ---- a window is made: the next number is on no chain, so the chains stay, and the new window is its edge's
   pub new-out : (w : List ℕ) (e : ℕ) (is : List ℕ) → AllBelong made w e is → Out made is
-  unfolding AllBelong Out
-  new-out w e [] h = tt
-  new-out w e (i ∷ is) h = (λ z. omega (arith, z, h .0 .made), new-out w e is (h .1))
+  new-out w e is = all-map {P = Belongs made w e} {Q = λ i. made ≢ i} (λ i h z. omega (arith, z, h .made)) is
 
   pub all-grown : (w : List ℕ) (e : ℕ) (is : List ℕ) → AllBelong made w e is → AllBelong (suc made) w e is
-  unfolding AllBelong
-  all-grown w e [] h = tt
-  all-grown w e (i ∷ is) h = (record { edge = h .0 .edge; made = omega (arith, h .0 .made); there = h .0 .there }, all-grown w e is (h .1))
+  all-grown w e is =
+      all-map {P = Belongs made w e} {Q = Belongs (suc made) w e} (λ i h. record { edge = h .edge; made = omega (arith, h .made); there = h .there }) is
 
   pub store-frame : (b : Links) (x : WindowRecord) (e : ℕ) (is : List ℕ) → OnEdge made b e is → OnEdge (suc made) (links (b .edges) (wordsWith (b .words) made x)) e is
   store-frame b x e is o =
       let w = b .words in
       let w′ = wordsWith w made x in
       let other : (i : ℕ) → made ≢ i → Agrees w w′ i = λ i ne. slot-agrees w w′ i (stored-other w made x i ne) in
-      let kept : OnEdge made (links (b .edges) w′) e is = chain-same b (links (b .edges) w′) e is refl (length-stored w made x) (each-other (Agrees w w′) made is other (new-out w e is (o .belong))) o in
+      let kept : OnEdge made (links (b .edges) w′) e is = chain-same b (links (b .edges) w′) e is refl (length-stored w made x) (all-map {P = λ i. made ≢ i} {Q = Agrees w w′} other is (new-out w e is (o .belong))) o in
       record { path = kept .path; belong = all-grown w′ e is (kept .belong) }
 
   pub stored-belongs : (w : List ℕ) (x : WindowRecord) → 4 * made + 4 ≤ length w → Belongs (suc made) (wordsWith w made x) (x .edge .0) made

@@ -7,6 +7,7 @@ use mathlib.Core.Logic.{_≢_}
 use mathlib.Core.Path.{_≡_}
 use lib.Dec.{eqb, leb}
 use lib.ListN.{getD, set, length}
+use Rattle.nat_laws.specs.Lists.{All}
 use Rattle.windows.specs.Windows.{linkOf, linkWith}
 use Rattle.windows.specs.Windows.{edgeOf as Windows·edgeOf}
 
@@ -74,15 +75,9 @@ unfoldable pub Path : List ℕ → ℕ → List ℕ → Type 0
 Path w l [] = l ≡ 0
 Path w l (i ∷ is) = (l ≡ suc i) × Path w (nextOf w i) is
 
--- P holds of each of the list
-unfoldable pub Each : (ℕ → Type 0) → List ℕ → Type 0
-Each P [] = Unit {0}
-Each P (i ∷ is) = P i × Each P is
-
 -- i is none of the list
-unfoldable pub Out : ℕ → List ℕ → Type 0
-Out i [] = Unit {0}
-Out i (j ∷ js) = (i ≢ j) × Out i js
+abbrev pub Out : ℕ → List ℕ → Type 0
+Out i is = All (λ j. i ≢ j) is
 
 -- one of the first n windows, of edge e, whose slot is there; n is the number of windows made, at most what the buffer counts for
 pub record Belongs (n : ℕ) (w : List ℕ) (e i : ℕ) : Type 0 where
@@ -90,9 +85,8 @@ pub record Belongs (n : ℕ) (w : List ℕ) (e i : ℕ) : Type 0 where
   pub made : i < n
   pub there : 4 * i + 4 ≤ length w
 
-unfoldable pub AllBelong : ℕ → List ℕ → ℕ → List ℕ → Type 0
-AllBelong n w e [] = Unit {0}
-AllBelong n w e (i ∷ is) = Belongs n w e i × AllBelong n w e is
+abbrev pub AllBelong : ℕ → List ℕ → ℕ → List ℕ → Type 0
+AllBelong n w e is = All (Belongs n w e) is
 
 -- `before` is none, or a window of edge e
 unfoldable pub Before : ℕ → List ℕ → ℕ → ℕ → Type 0

@@ -1,30 +1,17 @@
 -- Laws of buffers read field by field: what a write leaves, and the list that the fields make. Assumes nothing.
-use Prim.Native.Nat.{ℕ, zero, suc, _+_, _*_, _/_, _%_, _<_, _≤_}
-use mathlib.Core.Path.{_≡_, refl, sym, ap, _∙_}
-use mathlib.Core.List.{List, [], _∷_}
-use mathlib.Core.Logic.{⊎-elim}
+use Prim.Native.Nat.{ℕ, _+_, _*_, _/_, _%_, _<_, _≤_}
+use mathlib.Core.Path.{_≡_, sym, ap, _∙_}
+use mathlib.Core.List.{List}
 use native.Mathlib.Decide.{ℕ-discrete}
-use native.Mathlib.Nat.{le-of-suc-le-suc, not-suc-le-zero, eq-or-lt-of-le, mod-lt, div-add-mod, mul-add-div, mul-add-mod-self-left, div-eq-of-lt, mod-eq-of-lt}
+use native.Mathlib.Nat.{mod-lt, div-add-mod, mul-add-div, mul-add-mod-self-left, div-eq-of-lt, mod-eq-of-lt}
 use native.Mathlib.Omega.{arith}
-use lib.ListN.{length, getD, set, replicate, length-append, List·getD-append}
-use lib.Seq.{ext-getD, getD-at, getD-set-same, getD-set-other}
+use lib.ListN.{length, getD, set}
+use lib.Seq.{ext-getD, getD-set-same, getD-set-other}
+use Rattle.nat_laws.proofs.Lists.{length-listOf, getD-listOf}
 use Rattle.buffers.specs.Slots.{fill}
 use Rattle.buffers.proofs.Strides.{apart, slot-at, fill-same, fill-other}
-use Rattle.edge_table.specs.Words.{listOf, wordsOf}
+use Rattle.edge_table.specs.Words.{wordsOf}
 use Rattle.edge_table.specs.Sides.{Holds}
-
-pub length-listOf : (n : ℕ) (f : ℕ → ℕ) → length (listOf n f) ≡ n
-unfolding listOf
-length-listOf zero f = refl
-length-listOf (suc n) f = length-append (listOf n f) (f n ∷ []) ∙ omega (arith, length-listOf n f)
-
-pub getD-listOf : (n : ℕ) (f : ℕ → ℕ) (p : ℕ) → p < n → getD (listOf n f) p 0 ≡ f p
-unfolding listOf
-getD-listOf zero f p l = absurd (not-suc-le-zero l)
-getD-listOf (suc n) f p l =
-    ⊎-elim (λ q. getD-at (listOf n f) (f n) [] 0 p (length-listOf n f ∙ sym q) ∙ ap f (sym q))
-    (λ m. List·getD-append (listOf n f) (f n ∷ []) 0 p (omega (arith, length-listOf n f)) ∙ getD-listOf n f p m)
-    (eq-or-lt-of-le (le-of-suc-le-suc l))
 
 module _ (n s : ℕ) (word : ℕ → ℕ → ℕ) where
   pub length-words : length (wordsOf n s word) ≡ n
@@ -38,20 +25,14 @@ module _ (n s : ℕ) (word : ℕ → ℕ → ℕ) where
       let k : 0 < s = omega arith in
       let d : (s * i + a) / s ≡ i = mul-add-div k i a ∙ omega (arith, div-eq-of-lt l) in
       let r : (s * i + a) % s ≡ a = mul-add-mod-self-left s i a ∙ mod-eq-of-lt l in
-      getD-listOf n (λ (p : ℕ). word (p / s) (p % s)) (s * i + a) m ∙ (ap (λ (z : ℕ). word z ((s * i + a) % s)) d ∙ ap (word i) r)
+      getD-listOf n (λ (p : ℕ). word (p / s) (p % s)) (s * i + a) 0 m ∙ (ap (λ (z : ℕ). word z ((s * i + a) % s)) d ∙ ap (word i) r)
 
   -- a buffer that holds the fields is that list
   pub words-are : (l : List ℕ) → 0 < s → length l ≡ n → Holds s l word → l ≡ wordsOf n s word
   unfolding wordsOf
   words-are l k e holds =
       ext-getD 0 l (wordsOf n s word) (e ∙ sym length-words) (λ p m.
-      ap (λ (z : ℕ). getD l z 0) (sym (div-add-mod p s)) ∙ (holds (p / s) (p % s) (mod-lt p k) ∙ sym (getD-listOf n (λ (q : ℕ). word (q / s) (q % s)) p (omega arith))))
-
--- a zeroed buffer
-pub zero-at : (n p : ℕ) → getD {A = ℕ} (replicate n 0) p 0 ≡ 0
-zero-at zero p = refl
-zero-at (suc n) zero = refl
-zero-at (suc n) (suc p) = zero-at n p
+      ap (λ (z : ℕ). getD l z 0) (sym (div-add-mod p s)) ∙ (holds (p / s) (p % s) (mod-lt p k) ∙ sym (getD-listOf n (λ (q : ℕ). word (q / s) (q % s)) p 0 (omega arith))))
 
 module _ (s : ℕ) (l : List ℕ) (F G : ℕ → ℕ → ℕ) (holds : Holds s l F) (i : ℕ) where
   -- one field is written

@@ -16,7 +16,8 @@ use Rattle.edge_table.specs.declared.Table.the-variants.{Edges, ThirdFac
 use Rattle.edge_table.specs.Words.{lastIn, vertexWord, edgeWord, triangleWord}
 use Rattle.edge_table.specs.Table.{LongEnough, Filled, Built, tableOf, vertexWords, edgeWords, triangleWords}
 use Rattle.edge_table.specs.Sides.{Partial, Turned, facesSoFar, numberSoFar}
-use Rattle.edge_table.proofs.Holding.{zero-at, words-are}
+use Rattle.buffers.proofs.Zeroing.{zero-at}
+use Rattle.edge_table.proofs.Holding.{words-are}
 
 module _ (triangles : List ℕ) (v : ℕ) where
   no-heads : (b a : ℕ) → vertexWord v [] b a ≡ 0
@@ -37,9 +38,9 @@ module _ (triangles : List ℕ) (v : ℕ) where
   none-entered vertex edge triangle n m k ev ee et =
       rw (ev, ee, et)
       record {
-        vertex-words = λ i a l. zero-at n (3 * i + a) ∙ sym (no-heads i a);
-        edge-words = λ i a l. zero-at m (6 * i + a) ∙ sym (no-edges (facesSoFar triangles 0) i a);
-        triangle-words = λ i a l. zero-at k (6 * i + a) ∙ sym (no-numbers (numberSoFar triangles 0) i a);
+        vertex-words = λ i a l. zero-at 0 n (3 * i + a) ∙ sym (no-heads i a);
+        edge-words = λ i a l. zero-at 0 m (6 * i + a) ∙ sym (no-edges (facesSoFar triangles 0) i a);
+        triangle-words = λ i a l. zero-at 0 k (6 * i + a) ∙ sym (no-numbers (numberSoFar triangles 0) i a);
         two-faces = λ e l. absurd (omega arith);
       }
 

@@ -2,15 +2,11 @@
 -- In a link the number of an edge stands plus one, and 0 is none.
 use Prim.Native.Nat.{ℕ, zero, suc, _+_, _*_, _/_, _%_}
 use mathlib.Core.Bool.{cond, _&&_}
-use mathlib.Core.List.{List, [], _∷_, _++_}
+use mathlib.Core.List.{List, [], _∷_}
 use lib.Dec.{ltb, eqb}
 use lib.ListN.{length, getD}
+use Rattle.nat_laws.specs.Lists.{listOf}
 use Rattle.topology.specs.Edges.{Edge, noEdge, noFace}
-
--- the list of f 0, f 1, .. up to n of them
-unfoldable pub listOf : ℕ → (ℕ → ℕ) → List ℕ
-listOf zero f = []
-listOf (suc n) f = listOf n f ++ (f n ∷ [])
 
 -- a buffer of n words in slots of s: word p is field p % s of slot p / s
 unfoldable pub wordsOf : ℕ → ℕ → (ℕ → ℕ → ℕ) → List ℕ

@@ -1,5 +1,4 @@
 -- The order of floats, for all values, infinities and both zeros included: `le`, `lt` and `eq` as an order of the numbers, that is of all values but the NaN. Assumes nothing.
---     tests       holds, fails (from the equations that a branch of code gives)
 --     number      Number x (no NaN), le-number-l, le-number-r, lt-number-l, lt-number-r, eq-number-l, eq-number-r (a comparison that holds has numbers on both sides), finite-number, zero-finite
 --     order       le-refl, le-trans, lt-trans, lt-le-trans, le-lt-trans, lt-irrefl, lt-le, eq-le
 --     totality    le-total, le-or-lt, not-le-lt, not-lt-le, lt-not-le; le-is (`le` is the negation of `lt` the other way, as an equation)
@@ -18,17 +17,11 @@ use lib.Ieee.{Float, nan, inf, fin, binary64, up, down, lt, le, eq, neg, isNan, 
 use lib.Ieee.Fits.{down-pos, and-i, eq→eqb}
 use lib.Ieee.Bits.{is-true, is-false}
 use lib.Ieee.Scale.{finite}
+use Rattle.nat_laws.proofs.Tests.{or-l, or-r, or-split}
 use Rattle.float64.specs.Scalar.{zero, negative}
 use Rattle.float64.specs.TotalOrder.{totalKey, totalLess}
 use Rattle.float64.proofs.TotalOrder.{totalKey-less, totalKey-injective}
-use Rattle.float_laws.proofs.Signed.{signed, unsigned, signed-trans, signed-total, signed-flip, level-sym, level-zeros, below-no, below-yes, or-l, or-r, or-split, zero-of}
-
--- ---- what the equations on tests say that a proof about code has
-pub holds : (b : Bool) → b ≡ true → T b
-holds b e = subst T (sym e) tt
-
-pub fails : (b : Bool) → b ≡ false → T (not b)
-fails b e = subst (λ (c : Bool). T (not c)) (sym e) tt
+use Rattle.float_laws.proofs.Signed.{signed, unsigned, signed-trans, signed-total, signed-flip, level-sym, level-zeros, below-no, below-yes, zero-of}
 
 -- any value but the NaN
 abbrev pub Number : Float → Type 0

@@ -10,6 +10,7 @@ use lib.Dec.{T, ltb, eqb, ltb→lt, lt→ltb, eqb→eq, nltb→le}
 use lib.Ieee.{below, level}
 use lib.Ieee.Fits.{and-l, and-r, and-i, eq→eqb}
 use lib.Ieee.Positive.{through}
+use Rattle.nat_laws.proofs.Tests.{or-split, or-l, or-r}
 
 -- ±a ≤ ±b
 abbrev pub SLe : Bool → ℕ → Bool → ℕ → Type 0
@@ -17,19 +18,6 @@ SLe false a false b = a ≤ b
 SLe false a true b = (a ≡ 0) × (b ≡ 0)
 SLe true a false b = Unit {0}
 SLe true a true b = b ≤ a
-
--- ---- either test
-pub or-split : (a b : Bool) → T (a || b) → T a ⊎ T b
-or-split true b t = inl tt
-or-split false b t = inr t
-
-pub or-l : (a b : Bool) → T a → T (a || b)
-or-l true b t = tt
-or-l false b t = absurd t
-
-pub or-r : (a b : Bool) → T b → T (a || b)
-or-r true b t = tt
-or-r false b t = t
 
 -- ---- the tests of `lt` and `eq`
 -- ±a = ∓b only where both are zero

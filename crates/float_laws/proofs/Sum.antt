@@ -182,13 +182,10 @@ add-comm f (fin s m e) nan = refl
 add-comm f (fin s m e) (inf t) = refl
 add-comm f (fin s m e) (fin t n d) = sum-comm f s (m * up e * down d) t (n * up d * down e) (down e * down d) ∙ ap (λ (c : ℕ). sum f t (n * up d * down e) s (m * up e * down d) c) (mul-comm (down e) (down d))
 
-none : (a : ℕ) → a - a ≡ 0
-none a = omega arith
-
 sum-self : (f : Format) (s : Bool) (a c : ℕ) → sum f s a (not s) a c ≡ round f false 0 c
 unfolding sum
-sum-self f false a c = rw (le-ltb a a (le-refl a)) (ap (λ (n : ℕ). round f false n c) (none a))
-sum-self f true a c = rw (le-ltb a a (le-refl a)) (ap (λ (n : ℕ). round f false n c) (none a))
+sum-self f false a c = rw (le-ltb a a (le-refl a)) (ap (λ (n : ℕ). round f false n c) (nat.sub-self a))
+sum-self f true a c = rw (le-ltb a a (le-refl a)) (ap (λ (n : ℕ). round f false n c) (nat.sub-self a))
 
 pub sub-self : (f : Format) (x : Float) → T (finite x) → sub f x x ≡ zero
 unfolding sub add neg
@@ -199,10 +196,7 @@ sub-self f (fin s m e) h = sum-self f s (m * up e * down e) (down e * down e) �
 sum-zero : (f : Format) (s : Bool) (a c : ℕ) → sum f s a true 0 c ≡ round f s a c
 unfolding sum
 sum-zero f true a c = ap (λ (n : ℕ). round f true n c) (add-zero a)
-sum-zero f false a c = rw (le-ltb a 0 zero-le) (ap (λ (n : ℕ). round f false n c) (same a))
-  where
-    same : (a : ℕ) → a - 0 ≡ a
-    same a = omega arith
+sum-zero f false a c = rw (le-ltb a 0 zero-le) (ap (λ (n : ℕ). round f false n c) (nat.sub-zero a))
 
 sub-zero-is : (f : Format) (s : Bool) (m : ℕ) (e : ℤ) → sub f (fin s m e) zero ≡ round f s (m * up e) (down e)
 unfolding sub add neg

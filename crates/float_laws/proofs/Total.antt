@@ -12,7 +12,7 @@ use borrow.Author.Tests.{le-ltb}
 use Rattle.float64.specs.Scalar.{negative}
 use Rattle.float64.specs.TotalOrder.{totalKey, totalLess}
 use Rattle.float64.proofs.TotalOrder.{totalKey-less}
-use Rattle.float_laws.proofs.Signed.{or-l, or-split}
+use Rattle.nat_laws.proofs.Tests.{or-l, or-split}
 use Rattle.float_laws.proofs.Order.{Number, lt-le, eq-le, not-lt-le}
 
 pub total-lt : (x y : Float) → T (lt x y) → T (totalLess x y)

@@ -2,4 +2,5 @@ pub mod OrderLaws
 pub mod HeapOrder
 pub mod Turns
 pub mod SameAnswers
+pub mod AnyQueue
 pub mod Answers

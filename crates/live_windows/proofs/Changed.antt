@@ -20,10 +20,10 @@ use Rattle.better.specs.Claim.{All}
 use Rattle.source.specs.Distance.{lowestOf}
 use Rattle.trim_model.specs.Windows.{Window, part, unqueued}
 use Rattle.trim_state.specs.State.{put}
-use Rattle.live_windows.specs.Live.{liveOf, nums, Alive, Stands, Holds, bare, winsOf, adjust, popped, ranged, unqueuedIn, Loads, Trims, Unqueues}
+use Rattle.live_windows.specs.Live.{liveOf, nums, Alive, Complete, Stands, Holds, bare, winsOf, adjust, popped, ranged, unqueuedIn, Loads, Trims, Unqueues}
 use Rattle.live_windows.proofs.Places.{nums-cons}
 use Rattle.live_windows.proofs.Stored.{Same, same-alive, others, wins-adjust}
-use Rattle.live_windows.proofs.Standing.{at-edge, holds-put, stands-both, around, not-there}
+use Rattle.live_windows.proofs.Standing.{at-edge, holds-put, stands-both, around, not-there, complete-at}
 use Rattle.buffers.proofs.Strides.{fill-outside}
 
 -- ---- a window is read
@@ -38,6 +38,11 @@ loaded w f i x h = record { is = h; live = λ n m edges e live xs u zs l H d g. 
       )
 
 -- ---- a window is trimmed
+-- edges and flags are in the words
+reals-complete : (n : ℕ) (w : List ℕ) (f f′ : List Float) (e : ℕ) (is : List ℕ) → Complete n w f e is → Complete n w f′ e is
+unfolding windowAt
+reals-complete n w f f′ e is c = c
+
 module _ (f : List Float) (i : ℕ) (b0 b1 low : Float) (there : 6 * i + 6 ≤ length f) where
   abbrev f1 : List Float
   f1 = rangeWith f i b0 b1 low
@@ -65,6 +70,7 @@ module _ (f : List Float) (i : ℕ) (b0 b1 low : Float) (there : 6 * i + 6 ≤ l
       (subst (λ l. OnEdge n b e (nums xs ++ l)) (sym (nums-cons (ranged u b0 b1 low) zs)) (a .chain))
       (others w f w f1 i xs out (trim-others w) (a .front))
       (trim-alive w u g (a .here), others w f w f1 i zs out′ (trim-others w) (a .rest))
+      (subst (λ l. Complete n w f1 e (nums xs ++ l)) (sym (nums-cons (ranged u b0 b1 low) zs)) (reals-complete n w f f1 e (nums xs ++ u .num ∷ nums zs) (a .complete)))
 
   pub trim-done : (f′ : List Float) → f′ ≡ f1 → Trims f f′ i b0 b1 low
   unfolding rangeWith
@@ -81,6 +87,7 @@ module _ (f : List Float) (i : ℕ) (b0 b1 low : Float) (there : 6 * i + 6 ≤ l
               (λ x ne k. record {
                 chain = H x k .chain;
                 windows = others w f w f1 i (live x) (not-there n b f e x i (live x) ne (subst (Belongs n w e) (sym g) (a .belongs)) (H x k)) (trim-others w) (H x k .windows);
+                complete = reals-complete n w f f1 x (nums (live x)) (H x k .complete);
               }),
           wins-adjust n w f w f1 i (λ x. trimmed x b0 b1 low) (trim-others w) (trim-here w),
         )
@@ -126,6 +133,10 @@ module _ (w : List ℕ) (i : ℕ) (alive : Bool) (there : 4 * i + 4 ≤ length w
     go (yes d) = rw (eq-eqb (u .num) i d) (pop-alive f u d (a .0))
     go (no d) = rw (ne-eqb (u .num) i d) (same-alive w f w1 f u (pop-others f (u .num) (λ z. d (sym z))) (a .0))
 
+  pop-complete : (n : ℕ) (f : List Float) (e : ℕ) (is : List ℕ) → Complete n w f e is → Complete n w1 f e is
+  unfolding reflagged
+  pop-complete n f e is c = complete-at n w f w1 f i e is (pop-others f) c (λ l g a. c i l (sym (ap (λ x. x .edge .0) (pop-is f)) ∙ g) (sym (ap (λ x. x .alive) (pop-is f)) ∙ a))
+
   pub unqueue-done : (w′ : List ℕ) → w′ ≡ w1 → Unqueues w w′ i
   unfolding flagsWith
   unqueue-done w′ h = subst (λ z. Unqueues w z i) (sym h) (record {
@@ -134,6 +145,7 @@ module _ (w : List ℕ) (i : ℕ) (alive : Bool) (there : 4 * i + 4 ≤ length w
       (λ e l. record {
         chain = subst (OnEdge n (links edges w1) e) (sym (nums-unqueued i (live e))) (flags-frame n (links edges w) i alive false e (nums (live e)) (H e l .chain));
         windows = pop-all f (live e) (H e l .windows);
+        complete = subst (Complete n w1 f e) (sym (nums-unqueued i (live e))) (pop-complete n f e (nums (live e)) (H e l .complete));
       }),
       wins-adjust n w f w1 f i popped (pop-others f) (pop-here f),
     );

@@ -1,7 +1,7 @@
 -- A window is taken out. Assumes nothing.
 use Prim.Native.Nat.{ℕ, _+_, _*_, _≤_, _<_}
 use native.Mathlib.Omega.{arith}
-use mathlib.Core.Bool.{Bool, false}
+use mathlib.Core.Bool.{Bool, true, false}
 use mathlib.Core.Path.{_≡_, sym, ap, subst, _∙_}
 use mathlib.Core.List.{List, [], _∷_, _++_}
 use mathlib.Core.Logic.{_≢_}
@@ -12,14 +12,15 @@ use Rattle.windows.specs.declared.WindowRecord.{WindowRecord}
 use Rattle.windows.specs.Windows.{hasFlag, windowAt, flagsWith, reflagged, relinked}
 use Rattle.windows.proofs.WindowList.{flags-same, flags-other, link-same, link-other}
 use Rattle.chains.proofs.Turns.{link-in}
+use Rattle.nat_laws.proofs.Lists.{all-append}
 use Rattle.chains.specs.Chains.{Links, linkIn, links, headOf, nextOf, withLink, Path, Out, Belongs, OnEdge}
 use Rattle.chains.proofs.Paths.{path-first, path-set, path-drop}
 use Rattle.chains.proofs.OnEdges.{only-with, head-with, all-set, set-frame, with-frame, flags-frame}
 use Rattle.trim_model.specs.Windows.{Window}
-use Rattle.live_windows.specs.Live.{nums, lastLink, Stands, bare, winsOf, adjust, dead, Kills}
+use Rattle.live_windows.specs.Live.{nums, lastLink, Complete, Stands, bare, winsOf, adjust, dead, Kills}
 use Rattle.live_windows.proofs.Places.{first-in, point, before-is}
 use Rattle.live_windows.proofs.Stored.{Same, others, Behind, with-bare, wins-adjust}
-use Rattle.live_windows.proofs.Standing.{Around, at-edge, holds-put, stands-both, around, not-there, behind-is, last-out, out-both, with-words, with-belongs}
+use Rattle.live_windows.proofs.Standing.{Around, at-edge, holds-put, stands-both, around, not-there, behind-is, last-out, with-words, with-belongs, not-both, out-more, complete-but, complete-at}
 
 -- ---- a window is taken out
 module _ (n : ℕ) (b : Links) (e k i v : ℕ) (q : Bool) (p : 4 * i + 4 ≤ length (b .words)) (r : 6 * e + 6 ≤ length (b .edges)) (kn : k ≤ n) (il : i < n)
@@ -64,14 +65,13 @@ module _ (n : ℕ) (b : Links) (e k i v : ℕ) (q : Bool) (p : 4 * i + 4 ≤ len
     v-is = read ∙ link-in n (nextOf (b .words) i) (rw (path-first (b .words) (nextOf (b .words) i) (nums zs) rest-path) (first-in n (b .words) e (nums zs) (a .belong-rest)))
 
     kill-apart : (front : List ℕ) (j : ℕ) → nums xs ≡ front ++ (j ∷ []) → Out j (nums zs)
-    unfolding Out
     kill-apart front j d = last-out n b e (nums xs) (i ∷ nums zs) front j o d .1 .1
 
     k1 : OnEdge n kb e (nums xs ++ nums zs)
     k1 = point n b e k (nums xs) (i ∷ nums zs) (nums zs) v r kq o (subst (λ l. Path (b .words) l (nums zs)) (sym v-is) rest-path) (a .belong-rest) kill-apart
 
     i-out : Out i (nums xs ++ nums zs)
-    i-out = subst (λ j. Out j (nums xs ++ nums zs)) (sym g) (out-both (u .num) (nums xs) (nums zs) (a .out-front) (a .out-rest))
+    i-out = subst (λ j. Out j (nums xs ++ nums zs)) (sym g) (all-append (λ j. u .num ≢ j) (nums xs) (nums zs) (a .out-front) (a .out-rest))
 
     k2 : OnEdge n (links (kb .edges) kw) e (nums xs ++ nums zs)
     k2 = record {
@@ -93,10 +93,21 @@ module _ (n : ℕ) (b : Links) (e k i v : ℕ) (q : Bool) (p : 4 * i + 4 ≤ len
         ap bare (flags-same kw f i false q length-kw ∙ ap (λ z. reflagged z false q) (link-same (kb .words) f i 0 length-kb))
         ∙ kill-bare (windowAt (b .words) f i) (windowAt (kb .words) f i) (kill-link i) (queued-is f)
 
+    kill-dead : windowAt kw2 f i .alive ≡ false
+    unfolding bare relinked reflagged
+    kill-dead = ap (λ x. x .alive) kill-here
+
+    kill-complete : Complete n kw2 f e (nums xs ++ nums zs)
+    kill-complete j l g′ b′ =
+        let ne : i ≢ j = λ d. not-both (windowAt kw2 f i .alive) (subst (λ z. windowAt kw2 f z .alive ≡ true) (sym d) b′) kill-dead in
+        let c : Complete n (b .words) f e (nums xs ++ i ∷ nums zs) = subst (λ z. Complete n (b .words) f e (nums xs ++ z ∷ nums zs)) (sym g) (a .complete) in
+        λ h. complete-but n (b .words) f kw2 f i e (nums xs ++ i ∷ nums zs) kill-same c j ne l g′ b′ (out-more j i (nums xs) (nums zs) (λ d. ne (sym d)) h)
+
     kill-stands : Stands n kb2 f e (xs ++ zs)
     kill-stands = stands-both n kb2 f e xs zs (flags-frame n (links (kb .edges) kw) i false q e (nums xs ++ nums zs) k2)
         (others (b .words) f kw2 f i xs (subst (λ j. Out j (nums xs)) (sym g) (a .out-front)) kill-same (a .front))
         (others (b .words) f kw2 f i zs (subst (λ j. Out j (nums zs)) (sym g) (a .out-rest)) kill-same (a .rest))
+        kill-complete
 
     i-belongs : Belongs n (b .words) e i
     i-belongs = subst (Belongs n (b .words) e) (sym g) (a .belongs)
@@ -107,6 +118,7 @@ module _ (n : ℕ) (b : Links) (e k i v : ℕ) (q : Bool) (p : 4 * i + 4 ≤ len
         record {
           chain = flags-frame n (links (kb .edges) kw) i false q z (nums us) (set-frame n kb e z ne (nums us) i 0 (with-belongs n b e k v i i-belongs) k3);
           windows = others (b .words) f kw2 f i us (not-there n b f e z i us ne i-belongs t) kill-same (t .windows);
+          complete = complete-at n (b .words) f kw2 f i z (nums us) kill-same (t .complete) (λ l g′ b′. absurd (not-both (windowAt kw2 f i .alive) b′ kill-dead));
         }
 
     kill-wins : winsOf n kw2 f ≡ adjust i dead (winsOf n (b .words) f)

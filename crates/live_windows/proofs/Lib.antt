@@ -4,6 +4,7 @@ pub mod Walks
 pub mod Lists
 pub mod Seats
 pub mod Standing
+pub mod Fronts
 pub mod Changed
 pub mod Made
 pub mod Killed

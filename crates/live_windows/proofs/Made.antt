@@ -1,6 +1,7 @@
 -- A window is made. Assumes nothing.
-use Prim.Native.Nat.{ℕ, suc, _+_, _*_, _≤_, _<_}
+use Prim.Native.Nat.{ℕ, suc, _+_, _*_, _≤_}
 use native.Mathlib.Omega.{arith}
+use native.Mathlib.Decide.{ℕ-discrete}
 use mathlib.Core.Bool.{Bool}
 use mathlib.Core.Path.{_≡_, refl, sym, ap, subst, _∙_}
 use mathlib.Core.List.{List, [], _∷_, _++_}
@@ -9,21 +10,21 @@ use lib.ListN.{length, drop}
 use lib.Ieee.{Float}
 use Rattle.buffers.specs.declared.EdgeId.{EdgeId}
 use Rattle.buffers.specs.declared.FaceId.{FaceId}
-use Rattle.source.specs.declared.Src.{Src}
 use Rattle.source.specs.declared.Win.{Win}
 use Rattle.windows.specs.declared.WindowRecord.{WindowRecord}
 use Rattle.windows.specs.Windows.{realsOf, windowAt, wordsWith, realsWith, relinked}
 use Rattle.windows.proofs.WindowList.{length-realsOf, link-is, load-same, load-other}
-use Rattle.chains.specs.Chains.{Links, linkIn, links, headOf, nextOf, linkAt, withLink, Path, Out, AllBelong, firstLink, OnEdge}
+use Rattle.nat_laws.specs.Lists.{listOf}
+use Rattle.nat_laws.proofs.Lists.{all-left, all-right}
+use Rattle.chains.specs.Chains.{Links, linkIn, links, headOf, nextOf, linkAt, withLink, Path, Out, Belongs, AllBelong, firstLink, OnEdge}
 use Rattle.chains.proofs.Paths.{path-after}
-use Rattle.chains.proofs.OnEdges.{head-with, all-append, with-frame, store-frame, stored-belongs, new-out}
+use Rattle.chains.proofs.OnEdges.{head-with, with-frame, store-frame, stored-belongs, new-out}
 use Rattle.better.specs.Claim.{All}
 use Rattle.trim_model.specs.Windows.{Window}
-use Rattle.trim_model.proofs.Lists.{all-left, all-right}
-use Rattle.live_windows.specs.Live.{liveOf, nums, lastLink, Alive, Stands, bare, winsOf, windowOf, Makes}
-use Rattle.live_windows.proofs.Places.{nums-cons, next-is, point, before-is}
+use Rattle.live_windows.specs.Live.{liveOf, nums, lastLink, Alive, In, Complete, Stands, bare, winsOf, windowOf, Makes}
+use Rattle.live_windows.proofs.Places.{nums-append, nums-cons, next-is, point, before-is}
 use Rattle.live_windows.proofs.Stored.{Same, others, Behind, with-bare, wins-same}
-use Rattle.live_windows.proofs.Standing.{at-edge, holds-put, chain-both, stands-both, behind-is, last-out, with-words}
+use Rattle.live_windows.proofs.Standing.{at-edge, holds-put, chain-both, stands-both, behind-is, last-out, with-words, out-less, in-it, complete-but}
 use Rattle.buffers.proofs.Strides.{fill-outside}
 
 -- ---- a window is made
@@ -72,11 +73,9 @@ module _ (n : ℕ) (b : Links) (f : List Float) (e : EdgeId) (k v : ℕ) (into :
     new-path = (refl, subst (λ l. Path mw l (nums zs)) (sym (next-new ∙ v-is)) (path-after mw (headOf (b .edges) (e .0)) (nums xs) (nums zs) (o1 .path)))
 
     new-belong : AllBelong (suc n) mw (e .0) (n ∷ nums zs)
-    unfolding AllBelong
-    new-belong = (stored-belongs n (b .words) x p, all-append (suc n) mw (e .0) (nums xs) (nums zs) (o1 .belong) .1)
+    new-belong = (stored-belongs n (b .words) x p, all-right (Belongs (suc n) mw (e .0)) (nums xs) (nums zs) (o1 .belong))
 
     new-apart : (front : List ℕ) (i : ℕ) → nums xs ≡ front ++ (i ∷ []) → Out i (n ∷ nums zs)
-    unfolding Out
     new-apart front i d =
         let h = last-out n b (e .0) (nums xs) (nums zs) front i o d in
         let l = h .0 .made in
@@ -104,21 +103,40 @@ module _ (n : ℕ) (b : Links) (f : List Float) (e : EdgeId) (k v : ℕ) (into :
     unfolding bare relinked
     new-alive = record { alive = ap (λ z. z .alive) made-new; same = ap (λ z. liveOf z n) made-new }
 
+    -- the new window is of edge e
+    made-edge : windowAt (mb2 .words) mf n .edge .0 ≡ e .0
+    unfolding bare relinked
+    made-edge = ap (λ z. z .edge .0) made-new
+
+    -- the windows made before are on the lists as they were
+    made-complete : (z : ℕ) (is : List ℕ) → Complete n (b .words) f z is → (windowAt (mb2 .words) mf n .edge .0 ≡ z → In n is) → Complete (suc n) (mb2 .words) mf z is
+    made-complete z is c h i l g a = go (ℕ-discrete n i) where
+      go : Dec (n ≡ i) → In i is
+      go (yes d) = subst (λ j. windowAt (mb2 .words) mf j .edge .0 ≡ z → In j is) d h g
+      go (no d) = complete-but n (b .words) f (mb2 .words) mf n z is made-same c i d (omega (arith, d, l)) g a
+
+    made-all : Complete (suc n) (mb2 .words) mf (e .0) (nums xs ++ n ∷ nums zs)
+    made-all =
+        let c : Complete n (b .words) f (e .0) (nums xs ++ nums zs) = subst (Complete n (b .words) f (e .0)) (nums-append xs zs) (s .complete) in
+        made-complete (e .0) (nums xs ++ n ∷ nums zs) (λ i l g a o. c i l g a (out-less i n (nums xs) (nums zs) o)) (λ g. in-it n (nums xs) (nums zs))
+
     made-stands : Stands (suc n) mb2 mf (e .0) (xs ++ liveOf y n ∷ zs)
     made-stands =
         let w = mb2 .words in
         let all : All (Alive w mf) (xs ++ zs) = others (b .words) f w mf n (xs ++ zs) (new-out n (b .words) (e .0) (nums (xs ++ zs)) (s .chain .belong)) made-same (s .windows) in
         stands-both (suc n) mb2 mf (e .0) xs (liveOf y n ∷ zs) (subst (λ l. OnEdge (suc n) mb2 (e .0) (nums xs ++ l)) (sym (nums-cons (liveOf y n) zs)) made-chain)
         (all-left (Alive w mf) xs zs all) (new-alive, all-right (Alive w mf) xs zs all)
+        (subst (λ l. Complete (suc n) w mf (e .0) (nums xs ++ l)) (sym (nums-cons (liveOf y n) zs)) made-all)
 
     made-other : (z : ℕ) (us : List Window) → e .0 ≢ z → Stands n b f z us → Stands (suc n) mb2 mf z us
     made-other z us ne t = record {
       chain = with-frame (suc n) mb (e .0) z ne (nums us) k (suc n) (before-is (suc n) mb (e .0) k (nums xs) (nums zs) kq o1) (store-frame n b x z (nums us) (t .chain));
       windows = others (b .words) f (mb2 .words) mf n us (new-out n (b .words) z (nums us) (t .chain .belong)) made-same (t .windows);
+      complete = made-complete z (nums us) (t .complete) (λ g. absurd (ne (sym made-edge ∙ g)));
     }
 
     made-wins : winsOf (suc n) (mb2 .words) mf ≡ winsOf n (b .words) f ++ (y ∷ [])
-    unfolding winsOf
+    unfolding winsOf listOf
     made-wins =
         ap (λ l. l ++ (bare (windowAt (mb2 .words) mf n) ∷ [])) (wins-same n (b .words) f (mb2 .words) mf (λ j l. made-same j (λ z. omega (arith, z, l))))
         ∙ ap (λ z. winsOf n (b .words) f ++ (z ∷ [])) made-new

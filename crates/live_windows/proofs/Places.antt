@@ -11,9 +11,11 @@ use lib.Dec.{eqb}
 use lib.ListN.{length}
 use lib.Seq.{getD-set-same, append-snoc}
 use Rattle.chains.proofs.Turns.{link-in}
-use Rattle.chains.specs.Chains.{Links, linkIn, links, headOf, nextOf, linkAt, withLink, Each, Path, Out, AllBelong, Before, firstLink, OnEdge}
+use Rattle.nat_laws.specs.Lists.{All, Pairs}
+use Rattle.nat_laws.proofs.Lists.{all-map2, all-append, all-left, all-right}
+use Rattle.chains.specs.Chains.{Links, linkIn, headOf, nextOf, linkAt, withLink, Path, Out, Belongs, AllBelong, Before, firstLink, OnEdge}
 use Rattle.chains.proofs.Paths.{path-once, path-first, front-out, front-of, splice}
-use Rattle.chains.proofs.OnEdges.{all-set, all-append, all-join, all-counted}
+use Rattle.chains.proofs.OnEdges.{all-set, all-counted}
 use Rattle.trim_model.specs.Windows.{Window}
 use Rattle.live_windows.specs.Live.{nums, endLink}
 
@@ -60,7 +62,7 @@ head-path b e is p = p
 
 module _ (made : ℕ) where
   pub first-in : (w : List ℕ) (e : ℕ) (zs : List ℕ) → AllBelong made w e zs → firstLink zs ≤ made
-  unfolding AllBelong firstLink
+  unfolding firstLink
   first-in w e [] h = omega arith
   first-in w e (z ∷ zs) h = let a = h .0 .made in omega arith
 
@@ -69,7 +71,7 @@ module _ (made : ℕ) where
   next-is b e k xs zs h o =
       let p : Path (b .words) (linkAt b e 0) (xs ++ zs) = head-path b e (xs ++ zs) (o .path) in
       let f : linkAt b e k ≡ firstLink zs = ap (linkAt b e) h ∙ path-first (b .words) (linkAt b e (endLink 0 xs)) zs (path-behind b e 0 xs zs p) in
-      ap (linkIn made) f ∙ link-in made (firstLink zs) (first-in (b .words) e zs (all-append made (b .words) e xs zs (o .belong) .1))
+      ap (linkIn made) f ∙ link-in made (firstLink zs) (first-in (b .words) e zs (all-right (Belongs made (b .words) e) xs zs (o .belong)))
 
   -- ---- the link behind xs points at another path
   point-head : (b : Links) (e : ℕ) (vs : List ℕ) (v : ℕ) → 6 * e + 6 ≤ length (b .edges) → Path (b .words) v vs → AllBelong made (b .words) e vs → OnEdge made (withLink b e 0 v) e vs
@@ -78,14 +80,14 @@ module _ (made : ℕ) where
 
   point-after : (b : Links) (e k : ℕ) (front ys vs : List ℕ) (v : ℕ) → OnEdge made b e (front ++ k ∷ ys) → Path (b .words) v vs → AllBelong made (b .words) e vs → Out k vs
       → OnEdge made (withLink b e (suc k) v) e (front ++ k ∷ vs)
-  unfolding withLink AllBelong
+  unfolding withLink
   point-after b e k front ys vs v o p a out =
       let w = b .words in
       let l = headOf (b .edges) e in
-      let m = all-append made w e front (k ∷ ys) (o .belong) in
+      let m = all-right (Belongs made w e) front (k ∷ ys) (o .belong) in
       record {
-        path = splice w l front k vs v (m .1 .0 .there) (front-out w l front k ys (o .path) .0) out (front-of w l front k ys (o .path)) p;
-        belong = all-set made w e (front ++ k ∷ vs) k v (all-join made w e front (k ∷ vs) (m .0) (m .1 .0, a));
+        path = splice w l front k vs v (m .0 .there) (front-out w l front k ys (o .path) .0) out (front-of w l front k ys (o .path)) p;
+        belong = all-set made w e (front ++ k ∷ vs) k v (all-append (Belongs made w e) front (k ∷ vs) (all-left (Belongs made w e) front (k ∷ ys) (o .belong)) (m .0, a));
       }
 
   pub point : (b : Links) (e k : ℕ) (xs ys vs : List ℕ) (v : ℕ) → 6 * e + 6 ≤ length (b .edges) → k ≡ endLink 0 xs → OnEdge made b e (xs ++ ys) → Path (b .words) v vs → AllBelong made (b .words) e vs
@@ -102,30 +104,27 @@ module _ (made : ℕ) where
 
   -- ---- the last of xs is a window of the edge
   pub before-is : (b : Links) (e k : ℕ) (xs ys : List ℕ) → k ≡ endLink 0 xs → OnEdge made b e (xs ++ ys) → Before made (b .words) e k
-  unfolding endLink Before AllBelong
+  unfolding endLink Before
   before-is b e k [] ys q o = rw q tt
   before-is b e k (x ∷ xs) ys q o =
       let s = snoc x xs in
-      let a : AllBelong made (b .words) e (s .front ++ (s .end ∷ [])) = subst (AllBelong made (b .words) e) (s .is-it) (all-append made (b .words) e (x ∷ xs) ys (o .belong) .0) in
-      rw (q ∙ s .link 0) (all-append made (b .words) e (s .front) (s .end ∷ []) a .1 .0)
+      let a : AllBelong made (b .words) e (s .front ++ (s .end ∷ [])) = subst (AllBelong made (b .words) e) (s .is-it) (all-left (Belongs made (b .words) e) (x ∷ xs) ys (o .belong)) in
+      rw (q ∙ s .link 0) (all-right (Belongs made (b .words) e) (s .front) (s .end ∷ []) a .0)
 
 -- ---- numbers below n that all differ are at most n
-unfoldable Differ : List ℕ → Type 0
-Differ [] = Unit {0}
-Differ (i ∷ is) = Out i is × Differ is
+abbrev Differ : List ℕ → Type 0
+Differ is = Pairs (λ i j. i ≢ j) is
 
 -- the first i taken out
 unfoldable less : ℕ → List ℕ → List ℕ
 less i [] = []
 less i (j ∷ js) = cond (eqb i j) js (j ∷ less i js)
 
-below-less : (n : ℕ) (is : List ℕ) → Each (λ i. i < suc n) is → Out n is → Each (λ i. i < n) is
-unfolding Each Out
-below-less n [] h o = tt
-below-less n (i ∷ is) h o = let a = h .0 in let d = o .0 in (omega arith, below-less n is (h .1) (o .1))
+below-less : (n : ℕ) (is : List ℕ) → All (λ i. i < suc n) is → Out n is → All (λ i. i < n) is
+below-less n is = all-map2 {P = λ i. i < suc n} {Q = λ i. n ≢ i} {R = λ i. i < n} (λ i a d. omega (arith, a, d)) is
 
 out-less : (x i : ℕ) (is : List ℕ) → Out x is → Out x (less i is)
-unfolding less Out
+unfolding less
 out-less x i [] o = tt
 out-less x i (j ∷ js) o = go (eqb i j) (out-less x i js (o .1)) where
   go : (c : Bool) → Out x (less i js) → Out x (cond c js (j ∷ less i js))
@@ -133,18 +132,18 @@ out-less x i (j ∷ js) o = go (eqb i j) (out-less x i js (o .1)) where
   go false r = (o .0, r)
 
 differ-less : (i : ℕ) (is : List ℕ) → Differ is → Differ (less i is)
-unfolding less Differ
+unfolding less
 differ-less i [] d = tt
 differ-less i (j ∷ js) d = go (eqb i j) (differ-less i js (d .1)) where
   go : (c : Bool) → Differ (less i js) → Differ (cond c js (j ∷ less i js))
   go true r = d .1
   go false r = (out-less j i js (d .0), r)
 
-each-less : (n : ℕ) (is : List ℕ) → Each (λ i. i < suc n) is → Differ is → Each (λ i. i < n) (less n is)
-unfolding less Differ Each
+each-less : (n : ℕ) (is : List ℕ) → All (λ i. i < suc n) is → Differ is → All (λ i. i < n) (less n is)
+unfolding less
 each-less n [] h d = tt
 each-less n (j ∷ js) h d = go (ℕ-discrete n j) (each-less n js (h .1) (d .1)) where
-  go : Dec (n ≡ j) → Each (λ i. i < n) (less n js) → Each (λ i. i < n) (cond (eqb n j) js (j ∷ less n js))
+  go : Dec (n ≡ j) → All (λ i. i < n) (less n js) → All (λ i. i < n) (cond (eqb n j) js (j ∷ less n js))
   go (yes e) r = rw (eq-eqb n j e) (below-less n js (h .1) (subst (λ k. Out k js) (sym e) (d .0)))
   go (no e) r = rw (ne-eqb n j e) (omega (arith, e, h .0), r)
 
@@ -156,14 +155,13 @@ length-less i (j ∷ js) = go (eqb i j) (length-less i js) where
   go true r = omega arith
   go false r = omega arith
 
-at-most : (n : ℕ) (is : List ℕ) → Each (λ i. i < n) is → Differ is → length is ≤ n
-unfolding Each
+at-most : (n : ℕ) (is : List ℕ) → All (λ i. i < n) is → Differ is → length is ≤ n
 at-most zero [] h d = omega arith
 at-most zero (i ∷ is) h d = let a = h .0 in absurd (omega arith)
 at-most (suc n) is h d = omega (arith, length-less n is, at-most n (less n is) (each-less n is h d) (differ-less n is d))
 
 differ-path : (w : List ℕ) (l : ℕ) (is : List ℕ) → Path w l is → Differ is
-unfolding Differ Path
+unfolding Path
 differ-path w l [] p = tt
 differ-path w l (i ∷ is) p = (path-once w l i is p, differ-path w (nextOf w i) is (p .1))
 

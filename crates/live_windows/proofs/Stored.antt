@@ -6,9 +6,10 @@ use mathlib.Core.Bool.{true, cond}
 use mathlib.Core.Path.{_≡_, refl, sym, ap, subst, _∙_}
 use mathlib.Core.List.{List, [], _∷_, _++_}
 use mathlib.Core.Logic.{_≢_}
-use lib.ListN.{length, getD, set, length-append, List·getD-append}
-use lib.Seq.{getD-at}
+use lib.ListN.{length, getD, set, length-append}
 use lib.Ieee.{Float}
+use Rattle.nat_laws.specs.Lists.{listOf}
+use Rattle.nat_laws.proofs.Lists.{length-listOf, getD-listOf, listOf-same}
 use Rattle.windows.specs.declared.WindowRecord.{WindowRecord}
 use Rattle.windows.specs.Windows.{windowAt, relinked}
 use Rattle.windows.proofs.WindowList.{link-same, link-other}
@@ -27,7 +28,7 @@ same-alive w f w′ f′ u s a = record { alive = ap (λ x. x .alive) s ∙ a .a
 
 -- where nothing but window k changed, the others stand as they stood
 pub others : (w : List ℕ) (f : List Float) (w′ : List ℕ) (f′ : List Float) (k : ℕ) (us : List Window) → Out k (nums us) → ((j : ℕ) → k ≢ j → Same w f w′ f′ j) → All (Alive w f) us → All (Alive w′ f′) us
-unfolding nums Out
+unfolding nums
 others w f w′ f′ k [] o h a = tt
 others w f w′ f′ k (u ∷ us) o h a = (same-alive w f w′ f′ u (h (u .num) (o .0)) (a .0), others w f w′ f′ k us (o .1) h (a .1))
 
@@ -74,22 +75,14 @@ module _ {A : Type 0} (g : A → A) where
   adjust-out (suc k) (x ∷ l) h = ap (λ t. x ∷ t) (adjust-out k l (omega arith))
 
 -- ---- the list of all windows
-pub length-wins : (n : ℕ) (w : List ℕ) (f : List Float) → length (winsOf n w f) ≡ n
-unfolding winsOf
-length-wins zero w f = refl
-length-wins (suc n) w f = length-append (winsOf n w f) (bare (windowAt w f n) ∷ []) ∙ simp (length-wins n w f) (omega arith)
-
 pub wins-same : (n : ℕ) (w : List ℕ) (f : List Float) (w′ : List ℕ) (f′ : List Float) → ((j : ℕ) → j < n → Same w f w′ f′ j) → winsOf n w′ f′ ≡ winsOf n w f
 unfolding winsOf
-wins-same zero w f w′ f′ h = refl
-wins-same (suc n) w f w′ f′ h =
-    ap (λ l. l ++ (bare (windowAt w′ f′ n) ∷ [])) (wins-same n w f w′ f′ (λ j l. h j (omega arith)))
-    ∙ ap (λ x. winsOf n w f ++ (x ∷ [])) (h n (omega arith))
+wins-same n w f w′ f′ = listOf-same n (λ i. bare (windowAt w f i)) (λ i. bare (windowAt w′ f′ i))
 
 -- where one window changed, element k alone changed
 pub wins-adjust : (n : ℕ) (w : List ℕ) (f : List Float) (w′ : List ℕ) (f′ : List Float) (k : ℕ) (g : WindowRecord → WindowRecord) → ((j : ℕ) → k ≢ j → Same w f w′ f′ j)
     → bare (windowAt w′ f′ k) ≡ g (bare (windowAt w f k)) → winsOf n w′ f′ ≡ adjust k g (winsOf n w f)
-unfolding winsOf
+unfolding winsOf listOf
 wins-adjust zero w f w′ f′ k g h c = sym (adjust-out g k [] (omega arith))
 wins-adjust (suc n) w f w′ f′ k g h c = go (ℕ-discrete k n) (decLe n k) (wins-adjust n w f w′ f′ k g h c) where
   l : List WindowRecord
@@ -100,22 +93,18 @@ wins-adjust (suc n) w f w′ f′ k g h c = go (ℕ-discrete k n) (decLe n k) (w
 
   go : Dec (k ≡ n) → Dec (n ≤ k) → winsOf n w′ f′ ≡ adjust k g l → winsOf n w′ f′ ++ (bare (windowAt w′ f′ n) ∷ []) ≡ adjust k g (l ++ (x ∷ []))
   go (yes e) s ih =
-      ap (λ t. t ++ (bare (windowAt w′ f′ n) ∷ [])) (ih ∙ adjust-out g k l (rw (length-wins n w f) (omega arith)))
+      ap (λ t. t ++ (bare (windowAt w′ f′ n) ∷ [])) (ih ∙ adjust-out g k l (rw (length-listOf n (λ i. bare (windowAt w f i))) (omega arith)))
       ∙ ap (λ t. l ++ (t ∷ [])) (subst (λ i. bare (windowAt w′ f′ i) ≡ g (bare (windowAt w f i))) e c)
-      ∙ sym (adjust-end g k l x (e ∙ sym (length-wins n w f)))
+      ∙ sym (adjust-end g k l x (e ∙ sym (length-listOf n (λ i. bare (windowAt w f i)))))
   go (no e) (yes s) ih =
-      ap (λ t. t ++ (bare (windowAt w′ f′ n) ∷ [])) (ih ∙ adjust-out g k l (rw (length-wins n w f) s))
+      ap (λ t. t ++ (bare (windowAt w′ f′ n) ∷ [])) (ih ∙ adjust-out g k l (rw (length-listOf n (λ i. bare (windowAt w f i))) s))
       ∙ ap (λ t. l ++ (t ∷ [])) (h n e)
-      ∙ sym (adjust-out g k (l ++ (x ∷ [])) (rw (length-append l (x ∷ []), length-wins n w f) (omega (arith, e))))
+      ∙ sym (adjust-out g k (l ++ (x ∷ [])) (rw (length-append l (x ∷ []), length-listOf n (λ i. bare (windowAt w f i))) (omega (arith, e))))
   go (no e) (no s) ih =
       ap (λ t. t ++ (bare (windowAt w′ f′ n) ∷ [])) ih
       ∙ ap (λ t. adjust k g l ++ (t ∷ [])) (h n e)
-      ∙ sym (adjust-left g k l (x ∷ []) (rw (length-wins n w f) (omega arith)))
+      ∙ sym (adjust-left g k l (x ∷ []) (rw (length-listOf n (λ i. bare (windowAt w f i))) (omega arith)))
 
 pub wins-at : (n : ℕ) (w : List ℕ) (f : List Float) (i : ℕ) (d : WindowRecord) → i < n → getD (winsOf n w f) i d ≡ bare (windowAt w f i)
 unfolding winsOf
-wins-at zero w f i d h = absurd (omega arith)
-wins-at (suc n) w f i d h = go (ℕ-discrete i n) (λ l. wins-at n w f i d l) where
-  go : Dec (i ≡ n) → (i < n → getD (winsOf n w f) i d ≡ bare (windowAt w f i)) → getD (winsOf n w f ++ (bare (windowAt w f n) ∷ [])) i d ≡ bare (windowAt w f i)
-  go (yes e) r = getD-at (winsOf n w f) (bare (windowAt w f n)) [] d i (length-wins n w f ∙ sym e) ∙ ap (λ k. bare (windowAt w f k)) (sym e)
-  go (no e) r = List·getD-append (winsOf n w f) (bare (windowAt w f n) ∷ []) d i (rw (length-wins n w f) (omega (arith, e))) ∙ r (omega (arith, e))
+wins-at n w f i d = getD-listOf n (λ j. bare (windowAt w f j)) i d

@@ -11,12 +11,11 @@ use Rattle.float64.specs.TotalOrder.{totalLess}
 use Rattle.float64.specs.Notation.{_⊖_}
 use Rattle.windows.proofs.WindowList.{b0-is, b1-is}
 use Rattle.chains.proofs.Turns.{link-in, link-le}
-use Rattle.chains.specs.Chains.{Links, linkIn, linkAt, Path, AllBelong, OnEdge}
-use Rattle.chains.proofs.OnEdges.{all-append}
+use Rattle.nat_laws.proofs.Lists.{all-map, all-right}
+use Rattle.chains.specs.Chains.{Links, linkIn, linkAt, Path, Belongs, AllBelong, OnEdge}
 use Rattle.better.specs.Claim.{All}
 use Rattle.trim_model.specs.Windows.{Window, takeWhile}
 use Rattle.trim_model.specs.Add.{passes}
-use Rattle.trim_model.proofs.Lists.{all-map, all-right}
 use Rattle.live_windows.specs.Live.{nums, endLink, lastLink, Alive, Stands, sortsBefore, Follows, Walked}
 use Rattle.live_windows.proofs.Places.{nums-append, end-append, head-path, path-behind, next-is, short}
 
@@ -69,7 +68,7 @@ module _ (p : ℕ → Bool) (n : ℕ) (b : Links) (e : ℕ) where
   -- ---- on the live windows of an edge
   walk-is : (q : Window → Bool) (zs : List Window) (left k : ℕ) → Path (b .words) (linkAt b e k) (nums zs) → AllBelong n (b .words) e (nums zs) → All (λ u. p (u .num) ≡ q u) zs
       → length (nums zs) ≤ left → walkOn left k ≡ endLink k (nums (takeWhile q zs))
-  unfolding nums Path endLink AllBelong takeWhile linkAt walkOn
+  unfolding nums Path endLink takeWhile linkAt walkOn
   walk-is q [] left k h a t m = walk-end left k 0 (sym (ap (linkIn n) h ∙ link-in n 0 (omega arith))) refl
   walk-is q (u ∷ us) zero k h a t m = absurd (omega arith)
   walk-is q (u ∷ us) (suc left) k h a t m =
@@ -88,7 +87,7 @@ module _ (p : ℕ → Bool) (q : Window → Bool) (f : List Float) where
     go xs zs s g =
         let o : OnEdge n b e (nums xs ++ nums zs) = subst (OnEdge n b e) (nums-append xs zs) (s .chain) in
         let path : Path (b .words) (linkAt b e (lastLink xs)) (nums zs) = path-behind b e 0 (nums xs) (nums zs) (head-path b e (nums xs ++ nums zs) (o .path)) in
-        let a : AllBelong n (b .words) e (nums zs) = all-append n (b .words) e (nums xs) (nums zs) (o .belong) .1 in
+        let a : AllBelong n (b .words) e (nums zs) = all-right (Belongs n (b .words) e) (nums xs) (nums zs) (o .belong) in
         ap (walkOn p n b e n) g
         ∙ walk-is p n b e q zs n (lastLink xs) path a (all-map t zs (all-right (Alive (b .words) f) xs zs (s .windows))) (short n (b .words) e (linkAt b e (lastLink xs)) (nums zs) path a)
         ∙ sym (ap (endLink 0) (nums-append xs (takeWhile q zs)) ∙ end-append 0 (nums xs) (nums (takeWhile q zs)))
@@ -107,15 +106,15 @@ module _ (w : List ℕ) (f : List Float) (u : Window) (a : Alive w f u) where
   end-is : getD f (6 * u .num + 1) nan ≡ u .b1
   end-is = sym (b1-is w f (u .num)) ∙ ap (λ v. v .b1) (a .same)
 
-  passes-is : (b0 lo : Float) → passesAt b0 lo f (u .num) ≡ (lt (u .b0) b0 && not (lt lo (u .b1)))
+  pub passes-is : (b0 lo : Float) → passesAt b0 lo f (u .num) ≡ (lt (u .b0) b0 && not (lt lo (u .b1)))
   passes-is b0 lo = ap (λ x. lt x b0 && not (lt lo (getD f (6 * u .num + 1) nan))) start-is ∙ ap (λ x. lt (u .b0) b0 && not (lt lo x)) end-is
 
   starts-is : (b0 : Float) → startsAt b0 f (u .num) ≡ totalLess (u .b0) b0
   starts-is b0 = ap (λ x. totalLess x b0) start-is
 
 -- what the loops come to
-pub passed : (tiny b0 : Float) (f : List Float) (n : ℕ) (b : Links) (e r : ℕ) → r ≤ n → r ≡ walkOn (passesAt b0 (b0 ⊖ tiny) f) n b e n 0 → Walked (passes tiny b0) n b f e 0 r
-passed tiny b0 f n b e r h i = walked (passesAt b0 (b0 ⊖ tiny) f) (passes tiny b0) f n b e 0 r (λ u a. passes-is (b .words) f u a b0 (b0 ⊖ tiny)) h i
+pub passed : (tiny b0 : Float) (f : List Float) (n : ℕ) (b : Links) (e k r : ℕ) → r ≤ n → r ≡ walkOn (passesAt b0 (b0 ⊖ tiny) f) n b e n k → Walked (passes tiny b0) n b f e k r
+passed tiny b0 f n b e k r h i = walked (passesAt b0 (b0 ⊖ tiny) f) (passes tiny b0) f n b e k r (λ u a. passes-is (b .words) f u a b0 (b0 ⊖ tiny)) h i
 
 pub seated : (b0 : Float) (f : List Float) (n : ℕ) (b : Links) (e k r : ℕ) → r ≤ n → r ≡ walkOn (startsAt b0 f) n b e n k → Walked (sortsBefore b0) n b f e k r
 seated b0 f n b e k r h i = walked (startsAt b0 f) (sortsBefore b0) f n b e k r (λ u a. starts-is (b .words) f u a b0) h i

@@ -5,16 +5,17 @@ use mathlib.Core.List.{List, [], _∷_, _++_}
 use mathlib.Core.Logic.{_≢_}
 use mathlib.Core.Path.{_≡_}
 use lib.Dec.{eqb}
-use lib.ListN.{getD, drop}
+use lib.ListN.{getD, set, drop}
 use lib.Ieee.{Float}
 use Rattle.float64.specs.TotalOrder.{totalLess}
 use Rattle.float64.specs.Notation.{if_then_else_}
+use Rattle.nat_laws.specs.Lists.{listOf}
 use Rattle.buffers.specs.declared.EdgeId.{EdgeId}
 use Rattle.buffers.specs.declared.FaceId.{FaceId}
 use Rattle.source.specs.declared.Win.{Win}
 use Rattle.windows.specs.declared.WindowRecord.{WindowRecord}
 use Rattle.windows.specs.Windows.{windowAt, trimmed, reflagged, relinked}
-use Rattle.chains.specs.Chains.{Links, links, linkIn, linkAt, OnEdge, firstLink}
+use Rattle.chains.specs.Chains.{Links, links, linkIn, linkAt, Out, OnEdge, firstLink}
 use Rattle.better.specs.Claim.{All}
 use Rattle.trim_model.specs.Windows.{Window, unqueued, takeWhile}
 use Rattle.trim_state.specs.State.{put}
@@ -42,10 +43,19 @@ pub record Alive (w : List ℕ) (f : List Float) (u : Window) : Type 0 where
   pub alive : windowAt w f (u .num) .alive ≡ true
   pub same : liveOf (windowAt w f (u .num)) (u .num) ≡ u
 
--- us are the windows of edge e in order, of the first n
+-- i is one of the list
+abbrev pub In : ℕ → List ℕ → Type 0
+In i is = Out i is → ⊥
+
+-- of the first n windows, those alive on edge e are all in the list
+abbrev pub Complete : ℕ → List ℕ → List Float → ℕ → List ℕ → Type 0
+Complete n w f e is = (i : ℕ) → i < n → windowAt w f i .edge .0 ≡ e → windowAt w f i .alive ≡ true → In i is
+
+-- us are the windows of edge e in order, of the first n, and all of them that are alive
 pub record Stands (n : ℕ) (b : Links) (f : List Float) (e : ℕ) (us : List Window) : Type 0 where
   pub chain : OnEdge n b e (nums us)
   pub windows : All (Alive (b .words) f) us
+  pub complete : Complete n (b .words) f e (nums us)
 
 -- the Rust's `on_edge` of m edges
 abbrev pub Holds : ℕ → ℕ → Links → List Float → (ℕ → List Window) → Type 0
@@ -58,8 +68,7 @@ bare x = relinked x (cond (x .alive) 0 (x .link))
 
 -- the Rust's `wins`: the first n windows
 unfoldable pub winsOf : ℕ → List ℕ → List Float → List WindowRecord
-winsOf zero w f = []
-winsOf (suc n) w f = winsOf n w f ++ (bare (windowAt w f n) ∷ [])
+winsOf n w f = listOf n (λ i. bare (windowAt w f i))
 
 -- element k changed
 unfoldable pub adjust : {A : Type 0} → ℕ → (A → A) → List A → List A
@@ -105,6 +114,30 @@ pub record Follows (n : ℕ) (b : Links) (e k r : ℕ) : Type 0 where
 pub record Walked (p : Window → Bool) (n : ℕ) (b : Links) (f : List Float) (e k r : ℕ) : Type 0 where
   pub made : r ≤ n
   pub last : (m : ℕ) (live : ℕ → List Window) (xs zs : List Window) → e < m → Holds n m b f live → live e ≡ xs ++ zs → k ≡ lastLink xs → r ≡ lastLink (xs ++ takeWhile p zs)
+
+-- what stands before a window that passes p passes too
+abbrev pub Leads : (Window → Bool) → List Window → Type 0
+Leads p us = (xs : List Window) (u : Window) (zs : List Window) → us ≡ xs ++ u ∷ zs → p u ≡ true → All (λ v. p v ≡ true) xs
+
+-- r is the link of the last of some first windows of us, which all pass p, or 0 for none of them
+pub record Lead (p : Window → Bool) (us : List Window) (r : ℕ) : Type 0 where
+  pub xs : List Window
+  pub zs : List Window
+  pub is : us ≡ xs ++ zs
+  pub link : r ≡ lastLink xs
+  pub pass : All (λ u. p u ≡ true) xs
+
+-- a walk along those of edge e that pass p may start behind link r
+pub record Begins (p : Window → Bool) (n : ℕ) (b : Links) (f : List Float) (e r : ℕ) : Type 0 where
+  pub made : r ≤ n
+  pub lead : (m : ℕ) (live : ℕ → List Window) → e < m → Holds n m b f live → Leads p (live e) → Lead p (live e) r
+
+-- r is the link of the last of those first windows of edge e that pass p, or 0, and the edge remembers it
+pub record Fronted (p : Window → Bool) (n : ℕ) (b : Links) (f : List Float) (edges′ : List ℕ) (e r : ℕ) : Type 0 where
+  pub edges : edges′ ≡ set (b .edges) (6 * e + 5) r
+  pub made : r ≤ n
+  pub holds : (m : ℕ) (g : List Float) (live : ℕ → List Window) → Holds n m b g live → Holds n m (links edges′ (b .words)) g live
+  pub last : (m : ℕ) (live : ℕ → List Window) → e < m → Holds n m b f live → Leads p (live e) → r ≡ lastLink (takeWhile p (live e))
 
 -- x is the window of number i
 pub record Loads (w : List ℕ) (f : List Float) (i : ℕ) (x : WindowRecord) : Type 0 where

@@ -19,7 +19,7 @@ ghost use Rattle.buffers.specs.Slots.{slotsOf};
 ghost use Rattle.windows.specs.Windows.{capacityOf};
 ghost use Rattle.chains.specs.Chains.{links};
 ghost use Rattle.trim_model.specs.Add.{passes};
-ghost use Rattle.live_windows.specs.Live.{windowOf, sortsBefore, Follows, Walked, Loads, Makes, Trims, Kills, Unqueues};
+ghost use Rattle.live_windows.specs.Live.{windowOf, sortsBefore, Follows, Walked, Begins, Fronted, Loads, Makes, Trims, Kills, Unqueues};
 
 // The link that follows `before` on the chain of an edge.
 pub fn next_link(
@@ -59,8 +59,8 @@ fn starts_by(reals: &[f64], i: u32, b0: f64) -> bool
     float64::total_less(start, b0)
 }
 
-// The walk from the head to the first window that a new one, which starts at b0, may share something with: the link of the last window passed.
-pub fn pass_front(
+// Where a walk along the front may start: behind the window that the last one ended at, if that is alive, still of this edge, and passed once more, or at the head.
+fn remembered(
     edges: &[u32],
     words: &[u32],
     reals: &[f64],
@@ -69,11 +69,44 @@ pub fn pass_front(
     b0: f64,
     tiny: f64,
 ) -> u32
-    requires { ⌜ (made ≤ capacityOf (length (now words)) (length (now reals))) × (e .0 < slotsOf (length (now edges)) 6) ⌝ }
-    ensures { λ r. ⌜ Walked (passes tiny b0) made (links (now (edges .entry)) (now (words .entry))) (now (reals .entry)) (e .0) 0 r ⌝ }
+    ensures { λ r. ⌜ Begins (passes tiny b0) made (links (now (edges .entry)) (now (words .entry))) (now (reals .entry)) (e .0) r ⌝ }
+{
+    let link = read_u32(edges, 6, e.0, 5);
+    let at = chains::within(link, made);
+    if at == 0 {
+        return 0;
+    }
+    let edge = read_u32(words, 4, at - 1, 0);
+    if edge != e.0 {
+        return 0;
+    }
+    let flags = read_u32(words, 4, at - 1, 2);
+    let alive = windows::has_flag(flags, 2);
+    if alive {
+        let go = passes_by(reals, at - 1, b0, b0 - tiny);
+        if go {
+            return at;
+        }
+    }
+    0
+}
+
+// The walk from a link to the first window that a new one, which starts at b0, may share something with: the link of the last window passed.
+fn pass_from(
+    edges: &[u32],
+    words: &[u32],
+    reals: &[f64],
+    made: u32,
+    e: EdgeId,
+    from: u32,
+    b0: f64,
+    tiny: f64,
+) -> u32
+    requires { ⌜ (made ≤ capacityOf (length (now words)) (length (now reals))) × ((e .0 < slotsOf (length (now edges)) 6) × (from ≤ made)) ⌝ }
+    ensures { λ r. ⌜ Walked (passes tiny b0) made (links (now (edges .entry)) (now (words .entry))) (now (reals .entry)) (e .0) from r ⌝ }
 {
     let lo = b0 - tiny;
-    let mut before: u32 = 0;
+    let mut before = from;
     let mut left = made;
     while 0 < left {
         let at = next_link(edges, words, reals, made, e, before);
@@ -89,6 +122,25 @@ pub fn pass_front(
         }
     }
     before
+}
+
+// The link of the last window that a new one, which starts at b0, passes from the head on. The edge remembers it, since the next new window mostly starts near.
+pub fn pass_front(
+    edges: &mut [u32],
+    words: &[u32],
+    reals: &[f64],
+    made: u32,
+    e: EdgeId,
+    b0: f64,
+    tiny: f64,
+) -> u32
+    requires { ⌜ (made ≤ capacityOf (length (now words)) (length (now reals))) × (e .0 < slotsOf (length (now edges)) 6) ⌝ }
+    ensures { λ r. ⌜ Fronted (passes tiny b0) made (links (now (edges .entry)) (now (words .entry))) (now (reals .entry)) (now (edges .exit)) (e .0) r ⌝ }
+{
+    let from = remembered(edges, words, reals, made, e, b0, tiny);
+    let last = pass_from(edges, words, reals, made, e, from, b0, tiny);
+    write_u32(edges, 6, e.0, 5, last);
+    last
 }
 
 // The walk from a link to where a window that starts at b0 is to stand, before those that start there: the link of the last window before it.

@@ -1,7 +1,7 @@
 -- Laws of looking an edge up and of entering it. Assumes nothing.
-use Prim.Native.Nat.{ℕ, suc, _+_, _<_, _≤_}
+use Prim.Native.Nat.{ℕ, suc, _<_, _≤_}
 use mathlib.Core.Path.{_≡_, refl, sym, ap, subst, _∙_}
-use mathlib.Core.Bool.{Bool, true, false, _&&_}
+use mathlib.Core.Bool.{Bool, true, false, and-eq-true-iff}
 use mathlib.Core.List.{List, [], _∷_, _++_}
 use mathlib.Core.Logic.{⊎-elim, _⊎_, inl, inr}
 use native.Mathlib.Nat.{le-of-suc-le-suc, not-suc-le-zero, eq-or-lt-of-le}
@@ -12,19 +12,11 @@ use lib.ListN.{length, getD, length-append, List·getD-append}
 use lib.Seq.{getD-append-seam}
 use Rattle.topology.specs.Edges.{Edge, noEdge, sameEdge, find, enter}
 
-pub and-left : (a b : Bool) → (a && b) ≡ true → a ≡ true
-and-left true b e = refl
-and-left false b e = e
-
-pub and-right : (a b : Bool) → (a && b) ≡ true → b ≡ true
-and-right true b e = e
-and-right false b e = absurd (let z : _≡_ {A = ℕ} 0 1 = cc in omega arith)
-
 edge-ext : (x y : Edge) → x .low ≡ y .low → x .high ≡ y .high → x ≡ y
 edge-ext x y p q = λ i. record { low = p i; high = q i }
 
 pub same-edge : (x y : Edge) → sameEdge x y ≡ true → x ≡ y
-same-edge x y e = edge-ext x y (eqb-true (x .low) (y .low) (and-left (eqb (x .low) (y .low)) (eqb (x .high) (y .high)) e)) (eqb-true (x .high) (y .high) (and-right (eqb (x .low) (y .low)) (eqb (x .high) (y .high)) e))
+same-edge x y e = edge-ext x y (eqb-true (x .low) (y .low) (and-eq-true-iff (eqb (x .low) (y .low)) (eqb (x .high) (y .high)) .0 e .0)) (eqb-true (x .high) (y .high) (and-eq-true-iff (eqb (x .low) (y .low)) (eqb (x .high) (y .high)) .0 e .1))
 
 pub same-self : (x : Edge) → sameEdge x x ≡ true
 same-self x = rw (eq-eqb (x .low) (x .low) refl, eq-eqb (x .high) (x .high) refl)

@@ -1,7 +1,7 @@
 -- The frames of a mesh that passed the checks: no edge is shorter and no altitude smaller than document 01 allows, so nothing is divided by zero. Assumes nothing.
 use Prim.Native.Nat.{ℕ, _+_, _*_, _/_, _%_, _<_}
 use mathlib.Core.Path.{_≡_, ap}
-use mathlib.Core.Bool.{true, false}
+use mathlib.Core.Bool.{true, false, and-eq-true-iff}
 use mathlib.Core.List.{List}
 use mathlib.Core.Logic.{⊎-elim}
 use native.Mathlib.Omega.{arith}
@@ -17,7 +17,6 @@ use Rattle.job_checks.specs.Sound.{Sound}
 use Rattle.job_checks.proofs.Any.{head-none, tail-none}
 use Rattle.topology.specs.Edges.{Edge, noEdge, between, corner, sideEdge, edges, triEdge}
 use Rattle.topology.specs.Frames.{origin, end, len}
-use Rattle.topology.proofs.Find.{and-left, and-right}
 use Rattle.topology.proofs.Edges.{FromSide, edge-is-side, tri-edge-is}
 use Rattle.topology.proofs.Checked.{three-ways, corner-at}
 
@@ -25,11 +24,11 @@ use Rattle.topology.proofs.Checked.{three-ways, corner-at}
 module _ (o b third : Vec3) (e : degenerate o b third ≡ false) where
   long : le minLength (lenOf o b) ≡ true
   unfolding degenerate
-  long = and-left (le minLength (lenOf o b)) (le minAltitude (altitudeOf o b third)) (not-false _ e)
+  long = and-eq-true-iff (le minLength (lenOf o b)) (le minAltitude (altitudeOf o b third)) .0 (not-false _ e) .0
 
   tall : le minAltitude (altitudeOf o b third) ≡ true
   unfolding degenerate
-  tall = and-right (le minLength (lenOf o b)) (le minAltitude (altitudeOf o b third)) (not-false _ e)
+  tall = and-eq-true-iff (le minLength (lenOf o b)) (le minAltitude (altitudeOf o b third)) .0 (not-false _ e) .1
 
 -- a triangle's three sides, as corners of side h
 regular-side : (v : List Float) (triangles : List ℕ) (h : ℕ) → degenerateIn v (getD triangles (3 * (h / 3)) 0) (getD triangles (3 * (h / 3) + 1) 0) (getD triangles (3 * (h / 3) + 2) 0) ≡ false → degenerateEdge v (corner triangles h 0) (corner triangles h 1) (corner triangles h 2) ≡ false

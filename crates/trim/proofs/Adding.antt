@@ -28,21 +28,18 @@ use Rattle.trim_state.specs.State.{State, Result, put, finish}
 use Rattle.trim_state.specs.Trace.{visitings, keeping, adding}
 use Rattle.trim_state.proofs.Turns.{adding-is}
 use Rattle.trim_state.proofs.Seated.{passed, reached, beyond, walked, walk-seated}
-use Rattle.live_windows.specs.Live.{Holds, Walked, nums, endLink, lastLink}
+use Rattle.live_windows.specs.Live.{Holds, nums, lastLink}
 use Rattle.live_windows.proofs.Places.{short}
-use Rattle.trim_split.specs.Running.{Place, place, stockOf, End, stopped, at, Ran}
+use Rattle.trim_split.specs.Running.{Place, place, stockOf, End, stopped, at, Ran, Untouched}
 use Rattle.trim_split.specs.declared.Counts.{Counts}
 use Rattle.trim_split.proofs.Edges.{holds-put, holds-equal}
+use Rattle.trim_split.proofs.Untouched.{untouched-then}
 use Rattle.trim_visit.specs.declared.Visited.the-variants.{Stopped, Went}
 use Rattle.trim_visit.specs.Visiting.{VisitsAll, Kept}
 use Rattle.trim_keep.specs.Keeping.{Seats, SeatsAmong}
 use Rattle.trim.specs.Adding.{Leaves, Says}
 
 -- ---- lists
-none-link : 0 ≡ lastLink []
-unfolding nums endLink
-none-link = refl
-
 nums-length : (us : List Window) → length (nums us) ≡ length us
 unfolding nums
 nums-length [] = refl
@@ -109,9 +106,9 @@ module _ (cuts windows : ℕ) (limit : Float) (flags : List ℕ) (e : ℕ) (len 
     unfolding finish
     stop n h = ap (finish after) h
 
-    leave : (p : Place) → played (adding len a b w (live e) made) stock₀ ≡ actions.went (stockOf p) → Holds (p .made) m (p .links) (p .reals) after → Leaves m p result
+    leave : (p : Place) → played (adding len a b w (live e) made) stock₀ ≡ actions.went (stockOf p) → Holds (p .made) m (p .links) (p .reals) after → (last : ℕ) → Untouched (λ k. k ≡ e) (place made queued last lk f q vertex) p → Leaves m e (place made queued last lk f q vertex) p result
     unfolding finish
-    leave p h k = record { live = after; is = ap (finish after) h; holds = k }
+    leave p h k last u = record { live = after; is = ap (finish after) h; holds = k; untouched = u }
 
     pub no-cuts : cuts ≡ 0 → result ≡ state.stopped 14
     no-cuts z = stop 14 (ap (λ (l : List Action). played l stock₀) todo-is ∙ list-stop (visiting ++ kept (walk .made) (walk .keep)) z)
@@ -127,10 +124,7 @@ module _ (cuts windows : ℕ) (limit : Float) (flags : List ℕ) (e : ℕ) (len 
     stand : Holds made m lk f (put e (front ++ rest) live)
     stand = holds-put made m lk f e (front ++ rest) live (sym parts) hold
 
-    module _ (some : 0 < cuts) (before : ℕ) (walks : Walked (passes t (w .b0)) made lk f e 0 before) where
-      link : before ≡ lastLink front
-      link = walks .last m live [] (live e) there hold refl none-link
-
+    module _ (some : 0 < cuts) (before : ℕ) (link : before ≡ lastLink front) where
       played-one : played (adding len a b w (live e) made) stock₀ ≡ played (visiting ++ kept (walk .made) (walk .keep)) stock₀
       played-one = ap (λ (l : List Action). played l stock₀) todo-is ∙ list-go (visiting ++ kept (walk .made) (walk .keep)) some
 
@@ -174,12 +168,18 @@ module _ (cuts windows : ℕ) (limit : Float) (flags : List ℕ) (e : ℕ) (len 
             ∙ ap (λ (l : List Action). played l (stockOf there₁)) (sym kept-is)
             ∙ h
 
-        seated : (end : End) → SeatsAmong cuts windows limit flags e len a b w m live front (walk .survivors ++ tail) (wideOf t (pairs k keep′)) there₁ end → Says m end result
+        -- the walk's last link is of no use any more
+        around : Untouched (λ k. k ≡ e) start₀ there₁
+        around = let u = ran .untouched in record { more = u .more; edges = u .edges; words = u .words; reals = u .reals }
+
+        seated : (end : End) → SeatsAmong cuts windows limit flags e len a b w m live front (walk .survivors ++ tail) (wideOf t (pairs k keep′)) there₁ end → Says m e start₀ end result
         seated (stopped n) h = stop n (played-all (actions.stopped n) h)
         seated (at p) h = leave p (played-all (actions.went (stockOf p)) (h .plays))
             (holds-equal (p .made) m (p .links) (p .reals) e (seatAll (fresh w (c .made) (wideOf t (pairs k keep′))) front (walk .survivors ++ tail)) (addTo betterOf t w (live e) made .live) live
             (ap (λ (us : List Window). seatAll us front (walk .survivors ++ tail)) news-is ∙ sym (walk-seated t w (live e) made t0 W tidy))
             (h .holds))
+            before
+            (untouched-then (λ k. k ≡ e) start₀ there₁ p around (h .untouched))
 
-        pub all-seated : (end : End) → Seats cuts windows limit flags e len a b w (wideOf t (pairs k keep′)) there₁ end → Says m end result
+        pub all-seated : (end : End) → Seats cuts windows limit flags e len a b w (wideOf t (pairs k keep′)) there₁ end → Says m e start₀ end result
         all-seated end s = seated end (s m live front (walk .survivors ++ tail) there link held)

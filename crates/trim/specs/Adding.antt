@@ -16,7 +16,7 @@ use Rattle.trim_state.specs.State as state
 use Rattle.trim_state.specs.State.{State, Result, Mesh, admitOf, addOf}
 use Rattle.trim_state.specs.Follows.{Follows}
 use Rattle.live_windows.specs.Live.{Holds}
-use Rattle.trim_split.specs.Running.{Place, place, stockOf, End, stopped, at}
+use Rattle.trim_split.specs.Running.{Place, place, stockOf, End, stopped, at, Untouched}
 use Rattle.trim.specs.declared.Added.{Added}
 use Rattle.trim.specs.declared.Added.the-variants.{Stopped, Went}
 
@@ -37,15 +37,16 @@ abbrev pub Bounded : ℕ → Added → Type 0
 Bounded windows (Stopped n) = Unit {0}
 Bounded windows (Went c) = c .made ≤ windows
 
--- a result is what the buffers hold: the counts, the queue and the vertex distances, and the live windows of m edges
-pub record Leaves (m : ℕ) (p : Place) (r : Result) : Type 0 where
+-- a result is what the buffers hold: the counts, the queue and the vertex distances, and the live windows of m edges; from p₀ to p only edge e was at work
+pub record Leaves (m e : ℕ) (p₀ p : Place) (r : Result) : Type 0 where
   pub live : ℕ → List Window
   pub is : r ≡ state.went (record { live = live; stock = stockOf p })
   pub holds : Holds (p .made) m (p .links) (p .reals) live
+  pub untouched : Untouched (λ k. k ≡ e) p₀ p
 
-abbrev pub Says : ℕ → End → Result → Type 0
-Says m (stopped n) r = r ≡ state.stopped n
-Says m (at p) r = Leaves m p r
+abbrev pub Says : ℕ → ℕ → Place → End → Result → Type 0
+Says m e p₀ (stopped n) r = r ≡ state.stopped n
+Says m e p₀ (at p) r = Leaves m e p₀ p r
 
 -- the counts of the cut buffer and the window buffer, the limit, the flags of the vertices; the length and the ends of the candidate's edge; and the candidate
 module _ (cuts windows : ℕ) (limit : Float) (flags : List ℕ) (len : Float) (a b : ℕ) (c : Candidate) where
@@ -62,8 +63,8 @@ module _ (cuts windows : ℕ) (limit : Float) (flags : List ℕ) (len : Float) (
 
   -- from p, c is added
   abbrev pub Adds : Place → End → Type 0
-  Adds p end = (m : ℕ) (mesh : Mesh) (cs : List Candidate) (s : State) → Given m mesh cs s p → Says m end (addOf cuts windows limit flags mesh c s)
+  Adds p end = (m : ℕ) (mesh : Mesh) (cs : List Candidate) (s : State) → Given m mesh cs s p → Says m (c .edge) p end (addOf cuts windows limit flags mesh c s)
 
   -- one that is admitted
   abbrev pub Admits : Place → End → Type 0
-  Admits p end = (m : ℕ) (mesh : Mesh) (cs : List Candidate) (s : State) → Given m mesh cs s p → T (admits limit (mesh .len) c) → Says m end (admitOf cuts windows limit flags mesh c s)
+  Admits p end = (m : ℕ) (mesh : Mesh) (cs : List Candidate) (s : State) → Given m mesh cs s p → T (admits limit (mesh .len) c) → Says m (c .edge) p end (admitOf cuts windows limit flags mesh c s)

@@ -1,5 +1,5 @@
 -- The loop over `keep`, turn by turn. Assumes nothing.
-use Prim.Native.Nat.{ℕ, suc, _≤_, _<_}
+use Prim.Native.Nat.{ℕ, suc, _<_}
 use mathlib.Core.Bool.{true}
 use mathlib.Core.List.{List, [], _∷_, _++_, append-assoc}
 use mathlib.Core.Path.{_≡_, refl, sym, ap, _∙_, subst}
@@ -17,8 +17,10 @@ use Rattle.trim_state.specs.Trace.{making, touching, keeping}
 use Rattle.trim_state.proofs.Turns.{wide-skip, wide-end, keeping-none, keeping-some}
 use Rattle.live_windows.specs.Live.{Holds, lastLink, sortsBefore, Walked}
 use Rattle.live_windows.proofs.Seats.{seat-split}
-use Rattle.trim_split.specs.Running.{Place, place, stockOf, End, stopped, at, Ran}
-use Rattle.trim_split.proofs.Edges.{put-there, holds-equal}
+use Rattle.trim_split.specs.Running.{Place, place, stockOf, End, stopped, at, Ran, Untouched}
+use Rattle.live_windows.proofs.Lists.{put-here}
+use Rattle.trim_split.proofs.Edges.{holds-equal}
+use Rattle.trim_split.proofs.Untouched.{untouched-same, untouched-then}
 use Rattle.trim_keep.specs.Keeping.{Seats}
 
 fresh-none : (w : Window) (n : ℕ) → fresh w n [] ≡ []
@@ -37,6 +39,7 @@ module _ (cuts windows : ℕ) (limit : Float) (flags : List ℕ) (e : ℕ) (len 
   pub seats-end : (p : Place) → Does [] p (at p)
   seats-end p m live xs zs i l h = record {
     plays = ap (λ (todo : List Action). play cuts windows limit flags todo (stockOf p)) (keeping-none len a b w (p .made)) ∙ play-nil cuts windows limit flags (stockOf p);
+    untouched = untouched-same (λ k. k ≡ e) p (p .queued) (p .last) (p .queue) (p .vertex);
     holds = holds-equal (p .made) m (p .links) (p .reals) e (xs ++ zs) (seatAll (fresh w (p .made) []) xs zs) live (sym (ap (λ (ns : List Window). seatAll ns xs zs) (fresh-none w (p .made)) ∙ seat-all-nil xs zs)) h;
   }
 
@@ -90,16 +93,19 @@ module _ (cuts windows : ℕ) (limit : Float) (flags : List ℕ) (e : ℕ) (len 
         there m live xs zs i l h =
             let ys = takeWhile (startsUnder n) zs in
             let rs = dropWhile (startsUnder n) zs in
-            let r-is = seated .last m (put e (xs ++ zs) live) xs zs i h (put-there e (xs ++ zs) live) l in
+            let r-is = seated .last m (put e (xs ++ zs) live) xs zs i h (put-here e (xs ++ zs) live) l in
             let g = ran .holds m live (xs ++ ys) rs i r-is (holds-equal (p .made) m (p .links) (p .reals) e (xs ++ zs) ((xs ++ ys) ++ rs) live (seat-split (startsUnder n) xs zs) h) in (
               ran .after (xs ++ ys) r-is ∙ ap lastLink (append-assoc xs ys (n ∷ [])),
               holds-equal (p1 .made) m (p1 .links) (p1 .reals) e ((xs ++ ys) ++ (n ∷ rs)) (seatFront n xs zs ++ seatRest n zs) live
                   (append-assoc xs ys (n ∷ rs) ∙ sym (append-assoc xs (ys ++ (n ∷ [])) rs ∙ ap (λ (v : List Window). xs ++ v) (append-assoc ys (n ∷ []) rs))) g,
             )
 
+        seated-on : Untouched (λ k. k ≡ e) p p2
+        seated-on = let u = ran .untouched in record { more = u .more; edges = u .edges; words = u .words; reals = u .reals }
+
         pub seats-turn : (end : End) → Does ks p2 end → Does (k ∷ ks) p end
         seats-turn (stopped c) d m live xs zs i l h = let x = there m live xs zs i l h in start ∙ d m live (seatFront n xs zs) (seatRest n zs) i (x .0) (x .1)
         seats-turn (at p′) d m live xs zs i l h =
             let x = there m live xs zs i l h in
             let y = d m live (seatFront n xs zs) (seatRest n zs) i (x .0) (x .1) in
-            record { plays = start ∙ y .plays; holds = holds-equal (p′ .made) m (p′ .links) (p′ .reals) e (seatAll (fresh w (p1 .made) ks) (seatFront n xs zs) (seatRest n zs)) (seatAll (fresh w (p .made) (k ∷ ks)) xs zs) live (news xs zs) (y .holds) }
+            record { plays = start ∙ y .plays; untouched = untouched-then (λ k. k ≡ e) p p2 p′ seated-on (y .untouched); holds = holds-equal (p′ .made) m (p′ .links) (p′ .reals) e (seatAll (fresh w (p1 .made) ks) (seatFront n xs zs) (seatRest n zs)) (seatAll (fresh w (p .made) (k ∷ ks)) xs zs) live (news xs zs) (y .holds) }

@@ -13,7 +13,7 @@ use Rattle.trim_state.specs.Trace.{keeping}
 use Rattle.live_windows.specs.Live.{Holds, lastLink}
 use Rattle.trim_split.specs.declared.Made.{Made}
 use Rattle.trim_split.specs.declared.Made.the-variants.{Stopped, Went}
-use Rattle.trim_split.specs.Running.{Place, stockOf, End, stopped, at}
+use Rattle.trim_split.specs.Running.{Place, stockOf, End, stopped, at, Untouched}
 
 -- if it was not stopped, the counts are within the buffers
 abbrev pub Bounded : ℕ → Made → Type 0
@@ -25,6 +25,7 @@ module _ (cuts windows : ℕ) (limit : Float) (flags : List ℕ) (e : ℕ) (len 
   -- from p to p′ the intervals became windows, seated behind xs among zs
   pub record Seated (m : ℕ) (live : ℕ → List Window) (xs zs : List Window) (ks : List Interval) (p p′ : Place) : Type 0 where
     pub plays : play cuts windows limit flags (keeping len a b w (p .made) ks) (stockOf p) ≡ actions.went (stockOf p′)
+    pub untouched : Untouched (λ k. k ≡ e) p p′
     pub holds : Holds (p′ .made) m (p′ .links) (p′ .reals) (put e (seatAll (fresh w (p .made) ks) xs zs) live)
 
   abbrev pub SeatsAmong : (m : ℕ) (live : ℕ → List Window) (xs zs : List Window) → List Interval → Place → End → Type 0

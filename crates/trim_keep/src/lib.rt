@@ -87,9 +87,7 @@ fn touch_ends(
     ensures { λ r. ⌜ ((cuts windows made k j : ℕ) → play cuts windows limit (now (flags .entry)) (touching len (a .0) (b .0) (part (liveOf x k) b0 b1 j)) (stock made n (queue (now (keys .entry)) (now (events .entry))) (now (vertex .entry))) ≡ queueing made (now (vertex .exit)) (r, queue (now (keys .exit)) (now (events .exit)))) ⌝ }
 {
     let old = x.win;
-    let src = old.src;
-    let low = source::lowest(src, b0, b1);
-    let win = Win { b0, b1, low, src };
+    let win = trim_split::trimmed(old, b0, b1);
     let first = touch_low(vertex, flags, keys, events, n, limit, len, a, win);
     let Pushed::Queued(m) = first else {
         return Pushed::Full;

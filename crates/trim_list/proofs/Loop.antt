@@ -1,21 +1,24 @@
 -- The loop over the operations of a list. Assumes nothing.
 use Prim.Native.Nat.{ℕ, zero, suc, _+_, _≤_, _<_}
 use native.Mathlib.Omega.{arith}
-use mathlib.Core.List.{List, [], _∷_, _++_, append-assoc}
+use mathlib.Core.List.{List, [], _∷_, _++_, append-assoc, append-nil}
 use mathlib.Core.Path.{_≡_, refl, sym, ap, subst, _∙_}
 use lib.ListN.{length}
 use lib.Ieee.{Float}
 use Rattle.windows.specs.Windows.{capacityOf}
 use Rattle.buffers.specs.Slots.{slotsOf}
 use Rattle.chains.specs.Chains.{links, headOf}
+use Rattle.heap.specs.Queue.{queue}
 use Rattle.trim_model.specs.Model.{Candidate}
 use Rattle.trim_state.specs.State.{State, Result, went, stopped}
 use Rattle.trim_state.specs.Follows.{Follows}
 use Rattle.trim_state.proofs.Follows.{follows-empty}
 use Rattle.live_windows.proofs.Standing.{no-live}
+use Rattle.trim_split.specs.Running.{Place, Untouched}
+use Rattle.trim_split.proofs.Untouched.{untouched-same, untouched-then}
 use Rattle.trim_run.specs.declared.Op.{Op}
 use Rattle.trim_run.specs.Operations.{Operation, operationAt, operations, candidateOf, candidates, asOperation, DoublesOf}
-use Rattle.trim_run.specs.Run.{operate, Run, onward, runFrom}
+use Rattle.trim_run.specs.Run.{operate, Run, onward, runFrom, start}
 use Rattle.trim_run.specs.Run.{ran as Run·ran}
 use Rattle.trim_run.specs.Run.{ended as Run·ended}
 use Rattle.trim_run.specs.Demand3.{Demand3}
@@ -23,16 +26,12 @@ use Rattle.trim_run.proofs.Follow.{operate-follows, demand3-follows}
 use Rattle.trim_list.specs.declared.Step.{Step}
 use Rattle.trim_list.specs.declared.Step.the-variants.{Stopped, Went}
 use Rattle.trim_list.specs.declared.Ran.the-variants.{Done, Ended}
-use Rattle.trim_list.specs.Lists.{Slices, Cuts, meshOf, Setting, settingOf, Ready, Stands, Goes, Operated, wholeRun, Finishes, Ends, Runs, firstOf}
+use Rattle.trim_list.specs.Lists.{Slices, Cuts, meshOf, Setting, settingOf, Ready, Stands, Goes, Operated, wholeRun, Finishes, Ends, Runs, placeIn}
 
 -- ---- lists of operations
-append-none : {A : Type 0} (l : List A) → l ++ [] ≡ l
-append-none [] = refl
-append-none (x ∷ l) = ap (λ (m : List _). x ∷ m) (append-none l)
-
 candidates-last : (os : List Operation) (o : Operation) → candidates (os ++ (o ∷ [])) ≡ candidates os ++ candidateOf o
 unfolding candidates
-candidates-last [] o = append-none (candidateOf o)
+candidates-last [] o = append-nil (candidateOf o)
 candidates-last (x ∷ os) o = ap (λ (l : List Candidate). candidateOf x ++ l) (candidates-last os o) ∙ sym (append-assoc (candidateOf x) (candidates os) (candidateOf o))
 
 module _ (ops : List ℕ) (args : List Float) where
@@ -43,7 +42,7 @@ module _ (ops : List ℕ) (args : List Float) where
 
   rest-is : (k j : ℕ) → operations ops args k ++ rest k j ≡ operations ops args (k + j)
   unfolding rest operations
-  rest-is k zero = let e : k ≡ k + zero = omega arith in append-none (operations ops args k) ∙ ap (operations ops args) e
+  rest-is k zero = let e : k ≡ k + zero = omega arith in append-nil (operations ops args k) ∙ ap (operations ops args) e
   rest-is k (suc j) =
       let e : suc k + j ≡ k + suc j = omega arith in
       sym (append-assoc (operations ops args k) (operationAt ops args k ∷ []) (rest (suc k) j))
@@ -59,7 +58,7 @@ module _ (ops : List ℕ) (args : List Float) where
   candidates-next k = candidates-last (operations ops args k) (operationAt ops args k)
 
 -- ---- the run so far
-module _ (g : Setting) (ops : List ℕ) (args : List Float) (n : ℕ) (first : State) where
+module _ (g : Setting) (ops : List ℕ) (args : List Float) (n : ℕ) (p : Place) where
   abbrev runOn : ℕ → List Operation → State → Run
   runOn = runFrom (g .cuts) (g .windows) (g .limit) (g .flags) (g .mesh) (g .edges) (g .vertices)
 
@@ -72,8 +71,9 @@ module _ (g : Setting) (ops : List ℕ) (args : List Float) (n : ℕ) (first : S
     pub left : ℕ
     pub count : k + left ≡ n
     pub stands : Stands (g .edges) made queued b state
+    pub untouched : Untouched (λ e. e < g .edges) p (placeIn made queued b)
     pub follows : Follows (g .limit) (g .mesh .len) (candidates (operations ops args k)) (state .stock .made) (state .live)
-    pub same : wholeRun g ops args n first ≡ runOn k (rest ops args k left) state
+    pub same : wholeRun g ops args n p ≡ runOn k (rest ops args k left) state
 
   turn : (k j : ℕ) (s t : State) → result k s ≡ went t → runOn k (rest ops args k (suc j)) s ≡ runOn (suc k) (rest ops args (suc k) j) t
   unfolding runFrom onward rest
@@ -94,19 +94,19 @@ module _ (g : Setting) (ops : List ℕ) (args : List Float) (n : ℕ) (first : S
         (operate-follows (g .cuts) (g .windows) (g .limit) (g .flags) (g .mesh) (g .edges) (g .vertices) (candidates (operations ops args k)) (A .state) (A .follows) (operationAt ops args k) d t h)
 
     module _ (before : k < n) where
-      along-next : (made′ queued′ : ℕ) (b′ : Slices) → DoublesOf (g .mesh .len) (operationAt ops args k) → Goes (g .edges) made′ queued′ b′ (result k (A .state)) → Along (suc k) made′ queued′ b′
+      along-next : (made′ queued′ : ℕ) (b′ : Slices) → DoublesOf (g .mesh .len) (operationAt ops args k) → Goes (g .edges) (placeIn made queued b) made′ queued′ b′ (result k (A .state)) → Along (suc k) made′ queued′ b′
       along-next made′ queued′ b′ d G = go (A .left) (A .count) (A .same) where
-        go : (left : ℕ) → k + left ≡ n → wholeRun g ops args n first ≡ runOn k (rest ops args k left) (A .state) → Along (suc k) made′ queued′ b′
+        go : (left : ℕ) → k + left ≡ n → wholeRun g ops args n p ≡ runOn k (rest ops args k left) (A .state) → Along (suc k) made′ queued′ b′
         go zero h e = absurd (omega (arith, h, before))
-        go (suc j) h e = record { state = G .state; left = j; count = omega (arith, h); stands = G .stands; follows = next-follows d (G .state) (G .is); same = e ∙ turn k j (A .state) (G .state) (G .is) }
+        go (suc j) h e = record { state = G .state; left = j; count = omega (arith, h); stands = G .stands; untouched = untouched-then (λ e. e < g .edges) p (placeIn made queued b) (placeIn made′ queued′ b′) (A .untouched) (G .untouched); follows = next-follows d (G .state) (G .is); same = e ∙ turn k j (A .state) (G .state) (G .is) }
 
-      along-ends : (number : ℕ) → result k (A .state) ≡ stopped number → Ends g ops args n first k number
+      along-ends : (number : ℕ) → result k (A .state) ≡ stopped number → Ends g ops args n p k number
       along-ends number r = record { state = A .state; is = go (A .left) (A .count) (A .same); demand3 = demand3-follows (A .follows) } where
-        go : (left : ℕ) → k + left ≡ n → wholeRun g ops args n first ≡ runOn k (rest ops args k left) (A .state) → wholeRun g ops args n first ≡ Run·ended k number (A .state)
+        go : (left : ℕ) → k + left ≡ n → wholeRun g ops args n p ≡ runOn k (rest ops args k left) (A .state) → wholeRun g ops args n p ≡ Run·ended k number (A .state)
         go zero h e = absurd (omega (arith, h, before))
         go (suc j) h e = e ∙ halt k j number (A .state) r
 
-    along-done : n ≤ k → Finishes g ops args n first made queued b
+    along-done : n ≤ k → Finishes g ops args n p made queued b
     along-done h =
         let z : A .left ≡ 0 = omega (arith, A .count, h) in
         let e : k ≡ n = omega (arith, A .count, h) in
@@ -114,6 +114,7 @@ module _ (g : Setting) (ops : List ℕ) (args : List Float) (n : ℕ) (first : S
           state = A .state;
           is = A .same ∙ ap (λ (j : ℕ). runOn k (rest ops args k j) (A .state)) z ∙ over k (A .state);
           stands = A .stands;
+          untouched = A .untouched;
           demand3 = subst (λ (j : ℕ). (e : ℕ) → Demand3 (g .limit) (g .mesh .len) (candidates (operations ops args j)) e (A .state .live e)) e (demand3-follows (A .follows));
         }
 
@@ -145,7 +146,7 @@ module _ (limit : Float) (flags ends : List ℕ) (lens : List Float) (m : ℕ) w
     setting = settingOf c₀ b₀ limit flags ends lens m
 
     pub record Inv (k made queued : ℕ) (b : Slices) (c : Cuts) : Type 0 where
-      pub along : Along setting ops args n (firstOf b₀) k made queued b
+      pub along : Along setting ops args n (placeIn 0 0 b₀) k made queued b
       pub fits : made ≤ setting .windows
       pub same : SameLengths b b₀
       pub same-cuts : SameCuts c c₀
@@ -154,12 +155,13 @@ module _ (limit : Float) (flags ends : List ℕ) (lens : List Float) (m : ℕ) w
     unfolding operations candidates
     inv-start r h = record {
       along = record {
-        state = firstOf b₀;
+        state = start (queue (b₀ .keys) (b₀ .events)) (b₀ .vertex);
         left = n;
         count = omega arith;
-        stands = record { holds = no-live 0 m (links (b₀ .edges) (b₀ .words)) (b₀ .reals) h; stock = refl };
+        stands = record { holds = no-live m (links (b₀ .edges) (b₀ .words)) (b₀ .reals) h; stock = refl };
+        untouched = untouched-same (λ e. e < m) (placeIn 0 0 b₀) 0 0 (queue (b₀ .keys) (b₀ .events)) (b₀ .vertex);
         follows = follows-empty;
-        same = ap (λ (os : List Operation). runFrom (setting .cuts) (setting .windows) limit flags (setting .mesh) m (setting .vertices) 0 os (firstOf b₀)) (rest-all ops args n);
+        same = ap (λ (os : List Operation). runFrom (setting .cuts) (setting .windows) limit flags (setting .mesh) m (setting .vertices) 0 os (start (queue (b₀ .keys) (b₀ .events)) (b₀ .vertex))) (rest-all ops args n);
       };
       fits = omega arith;
       same = record { edges = refl; words = refl; reals = refl; keys = refl; events = refl; vertex = refl };
@@ -182,21 +184,21 @@ module _ (limit : Float) (flags ends : List ℕ) (lens : List Float) (m : ℕ) w
             subst (λ (o : Operation). Operated setting o made queued b step b′) is
             (subst (λ (h : Setting). Operated h (asOperation op) made queued b step b′) (setting-same c c₀ b b₀ (I .same-cuts) (I .same)) O)
 
-        pub inv-stopped : (number : ℕ) → step ≡ Stopped number → Runs setting ops args n (firstOf b₀) (Ended k number) b′
+        pub inv-stopped : (number : ℕ) → step ≡ Stopped number → Runs setting ops args n (placeIn 0 0 b₀) (Ended k number) b′
         inv-stopped number h =
             let M = subst (λ (z : Step). Operated setting (operationAt ops args k) made queued b z b′) h moved in
-            along-ends setting ops args n (firstOf b₀) k made queued b (I .along) before number (M .says (I .along .state) (candidates (operations ops args k)) (I .along .stands) (I .along .follows))
+            along-ends setting ops args n (placeIn 0 0 b₀) k made queued b (I .along) before number (M .says (I .along .state) (candidates (operations ops args k)) (I .along .stands) (I .along .follows))
 
         pub inv-next : (made′ queued′ k′ : ℕ) → k′ ≡ suc k → step ≡ Went made′ queued′ → (c′ : Cuts) → SameLengths b′ b₀ → SameCuts c′ c₀ → Inv k′ made′ queued′ b′ c′
         inv-next made′ queued′ k′ e h c′ u v =
             let M = subst (λ (z : Step). Operated setting (operationAt ops args k) made queued b z b′) h moved in
             subst (λ (z : ℕ). Inv z made′ queued′ b′ c′) (sym e)
             (record {
-              along = along-next setting ops args n (firstOf b₀) k made queued b (I .along) before made′ queued′ b′ (M .doubles) (M .says (I .along .state) (candidates (operations ops args k)) (I .along .stands) (I .along .follows));
+              along = along-next setting ops args n (placeIn 0 0 b₀) k made queued b (I .along) before made′ queued′ b′ (M .doubles) (M .says (I .along .state) (candidates (operations ops args k)) (I .along .stands) (I .along .follows));
               fits = M .fits;
               same = u;
               same-cuts = v;
             })
 
-      pub inv-done : n ≤ k → Runs setting ops args n (firstOf b₀) (Done made queued) b
-      inv-done h = along-done setting ops args n (firstOf b₀) k made queued b (I .along) h
+      pub inv-done : n ≤ k → Runs setting ops args n (placeIn 0 0 b₀) (Done made queued) b
+      inv-done h = along-done setting ops args n (placeIn 0 0 b₀) k made queued b (I .along) h

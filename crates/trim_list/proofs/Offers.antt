@@ -8,6 +8,7 @@ use mathlib.Core.Path.{_≡_, refl, sym, ap, subst, _∙_}
 use lib.Dec.{T, ltb, ltb→lt}
 use lib.ListN.{length, getD}
 use lib.Ieee.{Float, nan, binary64, fits}
+use lib.Ieee.Fits.{and-l, and-r}
 use Rattle.buffers.specs.Slots.{slotsOf}
 use Rattle.windows.specs.Windows.{capacityOf}
 use Rattle.heap.specs.Queue.{queue}
@@ -16,7 +17,7 @@ use Rattle.trim_model.specs.Model.{Candidate}
 use Rattle.trim_state.specs.State.{State, Result, stopped, went, addOf}
 use Rattle.trim_state.specs.Follows.{Follows}
 use Rattle.trim_cut.specs.Cut.{Sizes}
-use Rattle.trim_split.specs.Running.{place, End}
+use Rattle.trim_split.proofs.Untouched.{untouched-wider}
 use Rattle.trim_split.specs.Running.{Ready as Running·Ready}
 use Rattle.trim_split.specs.declared.Counts.{Counts}
 use Rattle.trim.specs.declared.Added.{Added}
@@ -25,9 +26,9 @@ use Rattle.trim.specs.Adding.{Given, Adds, Bounded, endOf}
 use Rattle.trim_run.specs.Operations.{offer, Doubles}
 use Rattle.trim_run.specs.Run.{hasLength, isOnEdge, refusalOf, offering, operate}
 use Rattle.trim_run.specs.Represents.{Checked}
-use Rattle.trim_run.proofs.Follow.{and-left, and-right, proper}
+use Rattle.trim_run.proofs.Follow.{proper}
 use Rattle.trim_list.specs.declared.Step.the-variants.{Stopped, Went}
-use Rattle.trim_list.specs.Lists.{Slices, Cuts, Setting, settingOf, Ready, Stands, Says, Operated}
+use Rattle.trim_list.specs.Lists.{Slices, Cuts, Setting, settingOf, Ready, Stands, placeIn, Says, Operated}
 
 -- ---- by the answers of two tests
 refused : (a b : Bool) (n : ℕ) (r : Result) → n ≡ cond a (cond b 0 42) 41 → n ≢ 0 → cond a (cond b r (stopped 42)) (stopped 41) ≡ stopped n
@@ -80,12 +81,12 @@ module _ (limit : Float) (flags ends : List ℕ) (lens : List Float) (m : ℕ) (
     is = sym none ∙ checked .number
 
     pub offer-there : c .edge < m
-    offer-there = ltb→lt (c .edge) m (and-left (ltb (c .edge) m) (hasLength l) (passed-first first second is))
+    offer-there = ltb→lt (c .edge) m (and-l (ltb (c .edge) m) (hasLength l) (passed-first first second is))
 
     -- of the ends that were read
     module _ (low high : ℕ) (isLow : low ≡ getD ends (2 * c .edge + 0) 0) (isHigh : high ≡ getD ends (2 * c .edge + 1) 0) where
       given : (s : State) (cs : List Candidate) → Stands m made queued b s → Follows limit (g .mesh .len) cs (s .stock .made) (s .live)
-          → Given (g .cuts) (g .windows) limit flags l low high c m (g .mesh) cs s (place made queued 0 (links (b .edges) (b .words)) (b .reals) (queue (b .keys) (b .events)) (b .vertex))
+          → Given (g .cuts) (g .windows) limit flags l low high c m (g .mesh) cs s (placeIn made queued b)
       given s cs S F = record {
         there = offer-there;
         long = sym long;
@@ -98,14 +99,14 @@ module _ (limit : Float) (flags ends : List ℕ) (lens : List Float) (m : ℕ) (
             let d = doubles number checked in
             let on = passed-second first second is in
             proper (g .mesh .len) c d
-            (subst (λ (z : Float). T (hasLength z)) long (and-right (ltb (c .edge) m) (hasLength l) (passed-first first second is)))
-            (subst (λ (z : Float). T (isOnEdge z (c .b0))) long (and-left (isOnEdge l (c .b0)) (isOnEdge l (c .b1)) on))
-            (subst (λ (z : Float). T (isOnEdge z (c .b1))) long (and-right (isOnEdge l (c .b0)) (isOnEdge l (c .b1)) on));
+            (subst (λ (z : Float). T (hasLength z)) long (and-r (ltb (c .edge) m) (hasLength l) (passed-first first second is)))
+            (subst (λ (z : Float). T (isOnEdge z (c .b0))) long (and-l (isOnEdge l (c .b0)) (isOnEdge l (c .b1)) on))
+            (subst (λ (z : Float). T (isOnEdge z (c .b1))) long (and-r (isOnEdge l (c .b0)) (isOnEdge l (c .b1)) on));
       }
 
       -- what `add` ensures of its answer
       abbrev AddsTo : Added → Slices → Type 0
-      AddsTo r b′ = Adds (g .cuts) (g .windows) limit flags l low high c (place made queued 0 (links (b .edges) (b .words)) (b .reals) (queue (b .keys) (b .events)) (b .vertex))
+      AddsTo r b′ = Adds (g .cuts) (g .windows) limit flags l low high c (placeIn made queued b)
           (endOf r (links (b′ .edges) (b′ .words)) (b′ .reals) (queue (b′ .keys) (b′ .events)) (b′ .vertex))
 
       adds : (s : State) → operate (g .cuts) (g .windows) limit flags (g .mesh) m (g .vertices) (offer c) s ≡ added s
@@ -120,7 +121,7 @@ module _ (limit : Float) (flags ends : List ℕ) (lens : List Float) (m : ℕ) (
         fits = fits;
         says = λ s cs S F.
             let r = h m (g .mesh) cs s (given s cs S F) in
-            record { state = record { live = r .live; stock = _ }; is = adds s ∙ r .is; stands = record { holds = r .holds; stock = refl } };
+            record { state = record { live = r .live; stock = _ }; is = adds s ∙ r .is; stands = record { holds = r .holds; stock = refl }; untouched = untouched-wider (λ k. k ≡ c .edge) (λ e. e < m) (λ e h. subst (λ (k : ℕ). k < m) (sym h) offer-there) (placeIn made queued b) (placeIn (now .made) (now .queued) b′) (r .untouched) };
       }
 
     -- what `add` requires

@@ -1,10 +1,10 @@
 -- One operation, by its kind and its answer. Assumes nothing.
-use Prim.Native.Nat.{ℕ, _≤_, _<_}
+use Prim.Native.Nat.{ℕ, _*_, _≤_, _<_}
 use native.Mathlib.Omega.{arith}
 use mathlib.Core.List.{List}
 use mathlib.Core.Path.{_≡_, refl, sym, ap, subst, _∙_}
 use borrow.Author.Tests.{le-ltb, lt-ltb}
-use lib.ListN.{length}
+use lib.ListN.{length, drop}
 use lib.Ieee.{Float}
 use Rattle.buffers.specs.Slots.{slotsOf}
 use Rattle.heap.specs.declared.Pushed.{Pushed}
@@ -13,13 +13,14 @@ use Rattle.heap.specs.Queue.{queue, popping}
 use Rattle.actions.specs.Actions as actions
 use Rattle.actions.specs.Actions.{queueing, act}
 use Rattle.trim_state.specs.State.{State, finish}
+use Rattle.trim_split.proofs.Untouched.{untouched-same}
 use Rattle.trim_run.specs.declared.Op.{Op}
 use Rattle.trim_run.specs.Operations.{touch, pop, unknown, asOperation}
 use Rattle.trim_run.specs.Run.{popped, operate}
 use Rattle.trim_run.specs.Represents.{Represents}
 use Rattle.trim_list.specs.declared.Step.{Step}
 use Rattle.trim_list.specs.declared.Step.the-variants.{Stopped, Went}
-use Rattle.trim_list.specs.Lists.{Slices, slices, Setting, Within, Touches, Operated}
+use Rattle.trim_list.specs.Lists.{Slices, slices, Setting, Within, placeIn, Touches, Operated}
 
 -- ---- a touch
 module _ (v : ℕ) (d limit : Float) (flags : List ℕ) (made queued : ℕ) (keys : List Float) (events : List ℕ) (vertex : List Float) where
@@ -51,6 +52,7 @@ module _ (v : ℕ) (d limit : Float) (flags : List ℕ) (made queued : ℕ) (key
             rw (lt-ltb v (slotsOf (length vertex) 2) there)
             (ap (finish (s .live)) (ap (act cuts windows limit flags (actions.touch v d)) (R .stock) ∙ h cuts windows made));
         stands = record { holds = R .holds; stock = refl };
+        untouched = untouched-same (λ e. e < m) (placeIn made queued (slices edges words reals keys events vertex)) n 0 (queue keys′ events′) vertex′;
       };
     }
 
@@ -69,13 +71,13 @@ module _ (g : Setting) (made queued : ℕ) where
 
   module _ (fits : made ≤ g .windows) (edges words : List ℕ) (reals keys : List Float) (events : List ℕ) (vertex : List Float) where
     pub op-pop : (words′ : List ℕ) (keys′ : List Float) (events′ : List ℕ) (n : ℕ)
-        → ((m : ℕ) (edges : List ℕ) (vertex : List Float) (s : State) → Represents m made queued edges words reals keys events vertex s → Represents m made n edges words′ reals keys′ events′ vertex (popped s (popping (s .stock .queue) (s .stock .queued))))
+        → (drop (4 * made) words′ ≡ drop (4 * made) words) × ((m : ℕ) (edges : List ℕ) (vertex : List Float) (s : State) → Represents m made queued edges words reals keys events vertex s → Represents m made n edges words′ reals keys′ events′ vertex (popped s (popping (s .stock .queue) (s .stock .queued))))
         → Operated g pop made queued (slices edges words reals keys events vertex) (Went made n) (slices edges words′ reals keys′ events′ vertex)
     unfolding operate
     op-pop words′ keys′ events′ n h = record {
       doubles = tt;
       fits = fits;
-      says = λ s cs S F. record { state = popped s (popping (s .stock .queue) (s .stock .queued)); is = refl; stands = h (g .edges) edges vertex s S };
+      says = λ s cs S F. record { state = popped s (popping (s .stock .queue) (s .stock .queued)); is = refl; stands = h .1 (g .edges) edges vertex s S; untouched = record { more = omega arith; edges = λ i z. refl; words = h .0; reals = refl } };
     }
 
     pub op-touch : (v : ℕ) (d : Float) → g .vertices ≡ slotsOf (length vertex) 2 → (r : Step) (keys′ : List Float) (events′ : List ℕ) (vertex′ : List Float)

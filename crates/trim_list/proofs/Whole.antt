@@ -9,11 +9,12 @@ use lib.Ieee.{Float}
 use Rattle.float64.specs.Scalar.{zero as zero64}
 use Rattle.windows.specs.Windows.{capacityOf}
 use Rattle.buffers.specs.Slots.{slotsOf}
+use Rattle.buffers.proofs.Zeroing.{zero-at}
 use Rattle.chains.specs.Chains.{headOf}
-use Rattle.trim_state.specs.State.{State}
+use Rattle.trim_split.specs.Running.{Place}
 use Rattle.trim_list.specs.declared.Ran.{Ran}
 use Rattle.trim_list.specs.declared.Ran.the-variants.{Done, Ended}
-use Rattle.trim_list.specs.Lists.{Slices, slices, Cuts, cuts, meshOf, Setting, settingOf, Ready, Runs, firstOf, edgeCount, operationCount, cutCount, lentSetting, ZeroSlices, ZeroCuts, RunWhole}
+use Rattle.trim_list.specs.Lists.{Slices, slices, Cuts, cuts, meshOf, Setting, settingOf, Ready, Runs, placeIn, edgeCount, operationCount, cutCount, lentSetting, cleared, ZeroSlices, ZeroCuts, RunWhole}
 use Rattle.trim_list.proofs.Loop.{SameLengths, SameCuts}
 
 -- ---- counts
@@ -87,20 +88,15 @@ module _ (ends : List ℕ) (lens : List Float) (b : Slices) (c : Cuts) (m x : �
     same-setting : settingOf (parts x c) b limit flags ends lens m ≡ lentSetting c b limit flags ends lens
     same-setting = let p : length (take x (c .pts)) ≡ cutCount c = pts-length ∙ isCuts in λ t. settingAt (p t) (isEdges t)
 
-    pub parts-run : (ops : List ℕ) (args : List Float) (n : ℕ) → n ≡ operationCount ops args → (first : State) (r : Ran) (b′ : Slices) → Runs (settingOf (parts x c) b limit flags ends lens m) ops args n first r b′
-        → Runs (lentSetting c b limit flags ends lens) ops args (operationCount ops args) first r b′
-    parts-run ops args n isCount first r b′ k =
-        subst (λ (j : ℕ). Runs (lentSetting c b limit flags ends lens) ops args j first r b′) isCount
-        (subst (λ (g : Setting). Runs g ops args n first r b′) same-setting k)
+    pub parts-run : (ops : List ℕ) (args : List Float) (n : ℕ) → n ≡ operationCount ops args → (p : Place) (r : Ran) (b′ : Slices) → Runs (settingOf (parts x c) b limit flags ends lens m) ops args n p r b′
+        → Runs (lentSetting c b limit flags ends lens) ops args (operationCount ops args) p r b′
+    parts-run ops args n isCount p r b′ k =
+        subst (λ (j : ℕ). Runs (lentSetting c b limit flags ends lens) ops args j p r b′) isCount
+        (subst (λ (g : Setting). Runs g ops args n p r b′) same-setting k)
 
 -- ---- zeros
-no-heads : (n i : ℕ) → _≡_ {A = ℕ} (getD (replicate n 0) i 0) 0
-no-heads zero i = refl
-no-heads (suc n) zero = refl
-no-heads (suc n) (suc i) = no-heads n i
-
 pub heads-zero : (edges : List ℕ) → edges ≡ replicate (length edges) 0 → (e : ℕ) → headOf edges e ≡ 0
-heads-zero edges h e = ap (λ (l : List ℕ). headOf l e) h ∙ no-heads (length edges) _
+heads-zero edges h e = ap (λ (l : List ℕ). headOf l e) h ∙ zero-at 0 (length edges) (6 * e + 4)
 
 pub zeroed-cuts : (c c₁ c′ : Cuts) → SameCuts c₁ c → ZeroCuts c₁ c′ → ZeroCuts c c′
 zeroed-cuts c c₁ c′ s z = record {
@@ -123,23 +119,38 @@ zeroed-slices b b₁ b′ s z = record {
 pub zeros-stay : (edges zeroed : List ℕ) → zeroed ≡ replicate (length edges) 0 → zeroed ≡ replicate (length zeroed) 0
 zeros-stay edges zeroed h = h ∙ ap (λ (n : ℕ). replicate n 0) (sym (ap (λ (l : List ℕ). length l) h ∙ length-replicate (length edges) 0))
 
--- ---- the whole: edges are zeroed to `zeroed`, the run leaves b₂ and c₁, and the cut buffers are zeroed to c′
-module _ (limit : Float) (flags ends : List ℕ) (lens : List Float) (ops : List ℕ) (args : List Float) (b : Slices) (c : Cuts) (zeroed : List ℕ) (long : length zeroed ≡ length (b .edges)) (r : Ran) (b₂ : Slices)
-    (runs : Runs (lentSetting c (slices zeroed (b .words) (b .reals) (b .keys) (b .events) (b .vertex)) limit flags ends lens) ops args (operationCount ops args) (firstOf b) r b₂)
-    (c₁ c′ : Cuts) (same : SameCuts c₁ c) (zeros : ZeroCuts c₁ c′) where
-  whole-runs : Runs (lentSetting c b limit flags ends lens) ops args (operationCount ops args) (firstOf b) r b₂
-  whole-runs = subst (λ (n : ℕ). Runs (record { cuts = cutCount c; windows = capacityOf (length (b .words)) (length (b .reals)); limit = limit; flags = flags; mesh = meshOf ends lens; edges = min (min (slotsOf (length ends) 2) (slotsOf (length lens) 1)) (slotsOf n 6); vertices = slotsOf (length (b .vertex)) 2 }) ops args (operationCount ops args) (firstOf b) r b₂) long runs
+-- ---- the whole: edges and windows are zeroed, the run leaves b₂ and c₁, and the cut buffers are zeroed to c′
+module _ (limit : Float) (flags ends : List ℕ) (lens : List Float) (ops : List ℕ) (args : List Float) (b : Slices) (c : Cuts) where
+  abbrev settingFor : ℕ → ℕ → ℕ → Setting
+  settingFor edges words reals = record { cuts = cutCount c; windows = capacityOf words reals; limit = limit; flags = flags; mesh = meshOf ends lens; edges = min (min (slotsOf (length ends) 2) (slotsOf (length lens) 1)) (slotsOf edges 6); vertices = slotsOf (length (b .vertex)) 2 }
 
-  pub whole-done : (made queued : ℕ) → r ≡ Done made queued → RunWhole limit flags ends lens ops args b c (Done made queued) b₂ c′
-  whole-done made queued h = record {
-    runs = subst (λ (z : Ran). Runs (lentSetting c b limit flags ends lens) ops args (operationCount ops args) (firstOf b) z b₂) h whole-runs;
-    cuts = zeroed-cuts c c₁ c′ same zeros;
-    cleared = tt;
-  }
+  same-lent : lentSetting c (cleared b) limit flags ends lens ≡ lentSetting c b limit flags ends lens
+  same-lent = λ t. settingFor (length-replicate {A = ℕ} (length (b .edges)) 0 t) (length-replicate {A = ℕ} (length (b .words)) 0 t) (length-replicate (length (b .reals)) zero64 t)
 
-  pub whole-ended : (k number : ℕ) → r ≡ Ended k number → (b′ : Slices) → SameLengths b₂ b → ZeroSlices b₂ b′ → RunWhole limit flags ends lens ops args b c (Ended k number) b′ c′
-  whole-ended k number h b′ s z = record {
-    runs = subst (λ (y : Ran). Runs (lentSetting c b limit flags ends lens) ops args (operationCount ops args) (firstOf b) y b₂) h whole-runs;
-    cuts = zeroed-cuts c c₁ c′ same zeros;
-    cleared = zeroed-slices b b₂ b′ s z;
-  }
+  abbrev WholeRuns : Setting → Slices → Ran → Slices → Type 0
+  WholeRuns g b₁ r b₂ = Runs g ops args (operationCount ops args) (placeIn 0 0 b₁) r b₂
+
+  abbrev with : List ℕ → List ℕ → List Float → Slices
+  with edges words reals = slices edges words reals (b .keys) (b .events) (b .vertex)
+
+  module _ (edges words : List ℕ) (reals : List Float) (isEdges : edges ≡ replicate (length (b .edges)) 0) (isWords : words ≡ replicate (length (b .words)) 0) (isReals : reals ≡ replicate (length (b .reals)) zero64)
+      (r : Ran) (b₂ : Slices) (runs : WholeRuns (lentSetting c (with edges words reals) limit flags ends lens) (with edges words reals) r b₂)
+      (c₁ c′ : Cuts) (same : SameCuts c₁ c) (zeros : ZeroCuts c₁ c′) where
+    whole-runs : WholeRuns (lentSetting c b limit flags ends lens) (cleared b) r b₂
+    whole-runs =
+        subst (λ (g : Setting). WholeRuns g (cleared b) r b₂) same-lent
+        (subst (λ (z : Slices). WholeRuns (lentSetting c z limit flags ends lens) z r b₂) (λ t. with (isEdges t) (isWords t) (isReals t)) runs)
+
+    pub whole-done : (made queued : ℕ) → r ≡ Done made queued → RunWhole limit flags ends lens ops args b c (Done made queued) b₂ c′
+    whole-done made queued h = record {
+      runs = subst (λ (z : Ran). WholeRuns (lentSetting c b limit flags ends lens) (cleared b) z b₂) h whole-runs;
+      cuts = zeroed-cuts c c₁ c′ same zeros;
+      cleared = tt;
+    }
+
+    pub whole-ended : (k number : ℕ) → r ≡ Ended k number → (b′ : Slices) → SameLengths b₂ b → ZeroSlices b₂ b′ → RunWhole limit flags ends lens ops args b c (Ended k number) b′ c′
+    whole-ended k number h b′ s z = record {
+      runs = subst (λ (y : Ran). WholeRuns (lentSetting c b limit flags ends lens) (cleared b) y b₂) h whole-runs;
+      cuts = zeroed-cuts c c₁ c′ same zeros;
+      cleared = zeroed-slices b b₂ b′ s z;
+    }

@@ -9,8 +9,10 @@ use Rattle.buffers.specs.Slots.{slotsOf}
 use Rattle.windows.specs.Windows.{capacityOf}
 use Rattle.heap.specs.Queue.{queue}
 use Rattle.trim_model.specs.Model.{Candidate}
+use Rattle.chains.specs.Chains.{links}
 use Rattle.trim_state.specs.State.{State, Result, stopped, went, Mesh}
 use Rattle.trim_state.specs.Follows.{Follows}
+use Rattle.trim_split.specs.Running.{Place, place, Untouched}
 use Rattle.trim_run.specs.Operations.{Operation, touch, operations, candidates, DoublesOf}
 use Rattle.trim_run.specs.Run.{operate, Run, ran, ended, runFrom, start}
 use Rattle.trim_run.specs.Demand3.{Demand3}
@@ -79,15 +81,21 @@ pub record Ready (m made : ℕ) (b : Slices) (c : Cuts) : Type 0 where
 abbrev pub Stands : ℕ → ℕ → ℕ → Slices → State → Type 0
 Stands m made queued b s = Represents m made queued (b .edges) (b .words) (b .reals) (b .keys) (b .events) (b .vertex) s
 
-pub record Goes (m made queued : ℕ) (b : Slices) (result : Result) : Type 0 where
+-- with so many windows made and events queued
+abbrev pub placeIn : ℕ → ℕ → Slices → Place
+placeIn made queued b = place made queued 0 (links (b .edges) (b .words)) (b .reals) (queue (b .keys) (b .events)) (b .vertex)
+
+-- of m edges, from p on
+pub record Goes (m : ℕ) (p : Place) (made queued : ℕ) (b : Slices) (result : Result) : Type 0 where
   pub state : State
   pub is : result ≡ went state
   pub stands : Stands m made queued b state
+  pub untouched : Untouched (λ e. e < m) p (placeIn made queued b)
 
 -- an answer says what the result is, and what there is then stands in the buffers
-abbrev pub Says : ℕ → Step → Slices → Result → Type 0
-Says m (Stopped n) b result = result ≡ stopped n
-Says m (Went made queued) b result = Goes m made queued b result
+abbrev pub Says : ℕ → Place → Step → Slices → Result → Type 0
+Says m p (Stopped n) b result = result ≡ stopped n
+Says m p (Went made queued) b result = Goes m p made queued b result
 
 abbrev pub Within : ℕ → Step → Type 0
 Within windows (Stopped n) = Unit {0}
@@ -97,19 +105,19 @@ Within windows (Went made queued) = made ≤ windows
 pub record Touches (v : ℕ) (d limit : Float) (flags : List ℕ) (made queued : ℕ) (keys : List Float) (events : List ℕ) (vertex : List Float) (r : Step) (keys′ : List Float) (events′ : List ℕ) (vertex′ : List Float) : Type 0 where
   pub fits : Within made r
   pub says : (cuts windows : ℕ) (mesh : Mesh) (m : ℕ) (edges words : List ℕ) (reals : List Float) (s : State) → Represents m made queued edges words reals keys events vertex s
-      → Says m r (slices edges words reals keys′ events′ vertex′) (operate cuts windows limit flags mesh m (slotsOf (length vertex) 2) (touch v d) s)
+      → Says m (placeIn made queued (slices edges words reals keys events vertex)) r (slices edges words reals keys′ events′ vertex′) (operate cuts windows limit flags mesh m (slotsOf (length vertex) 2) (touch v d) s)
 
 -- from buffers b to b′, whatever state they stand for that follows the reference model
 pub record Operated (g : Setting) (o : Operation) (made queued : ℕ) (b : Slices) (r : Step) (b′ : Slices) : Type 0 where
   pub doubles : DoublesOf (g .mesh .len) o
   pub fits : Within (g .windows) r
   pub says : (s : State) (cs : List Candidate) → Stands (g .edges) made queued b s → Follows (g .limit) (g .mesh .len) cs (s .stock .made) (s .live)
-      → Says (g .edges) r b′ (operate (g .cuts) (g .windows) (g .limit) (g .flags) (g .mesh) (g .edges) (g .vertices) o s)
+      → Says (g .edges) (placeIn made queued b) r b′ (operate (g .cuts) (g .windows) (g .limit) (g .flags) (g .mesh) (g .edges) (g .vertices) o s)
 
--- ---- a list of n operations, from empty edges on
-module _ (g : Setting) (ops : List ℕ) (args : List Float) (n : ℕ) (first : State) where
+-- ---- a list of n operations, on empty edges, from p on
+module _ (g : Setting) (ops : List ℕ) (args : List Float) (n : ℕ) (p : Place) where
   abbrev pub wholeRun : Run
-  wholeRun = runFrom (g .cuts) (g .windows) (g .limit) (g .flags) (g .mesh) (g .edges) (g .vertices) 0 (operations ops args n) first
+  wholeRun = runFrom (g .cuts) (g .windows) (g .limit) (g .flags) (g .mesh) (g .edges) (g .vertices) 0 (operations ops args n) (start (p .queue) (p .vertex))
 
   -- demand 3 for the first k operations
   abbrev pub Claim : ℕ → State → Type 0
@@ -119,6 +127,7 @@ module _ (g : Setting) (ops : List ℕ) (args : List Float) (n : ℕ) (first : S
     pub state : State
     pub is : wholeRun ≡ ran state
     pub stands : Stands (g .edges) made queued b state
+    pub untouched : Untouched (λ e. e < g .edges) p (placeIn made queued b)
     pub demand3 : Claim n state
 
   -- the list ends before operation k, which is refused by a number
@@ -130,10 +139,6 @@ module _ (g : Setting) (ops : List ℕ) (args : List Float) (n : ℕ) (first : S
   abbrev pub Runs : Ran → Slices → Type 0
   Runs (Done made queued) b = Finishes made queued b
   Runs (Ended k number) b = Ends k number
-
--- the state that there is at first
-abbrev pub firstOf : Slices → State
-firstOf b = start (queue (b .keys) (b .events)) (b .vertex)
 
 -- ---- whole slices as they are lent: what they all have slots for
 abbrev pub edgeCount : List ℕ → List Float → List ℕ → ℕ
@@ -170,6 +175,10 @@ pub record ZeroCuts (c c′ : Cuts) : Type 0 where
   pub keep : c′ .keep ≡ replicate (length (c .keep)) zero
   pub next : c′ .next ≡ replicate (length (c .next)) zero
 
+-- edges and windows are zeroed first
+abbrev pub cleared : Slices → Slices
+cleared b = slices (replicate (length (b .edges)) 0) (replicate (length (b .words)) 0) (replicate (length (b .reals)) zero) (b .keys) (b .events) (b .vertex)
+
 -- a list that ends before its last operation leaves zeros
 abbrev pub Cleared : Ran → Slices → Slices → Type 0
 Cleared (Done made queued) b b′ = Unit {0}
@@ -177,6 +186,6 @@ Cleared (Ended k number) b b′ = ZeroSlices b b′
 
 -- the whole: buffers b and c at entry, b′ and c′ at exit
 pub record RunWhole (limit : Float) (flags ends : List ℕ) (lens : List Float) (ops : List ℕ) (args : List Float) (b : Slices) (c : Cuts) (r : Ran) (b′ : Slices) (c′ : Cuts) : Type 0 where
-  pub runs : Runs (lentSetting c b limit flags ends lens) ops args (operationCount ops args) (firstOf b) r b′
+  pub runs : Runs (lentSetting c b limit flags ends lens) ops args (operationCount ops args) (placeIn 0 0 (cleared b)) r b′
   pub cuts : ZeroCuts c c′
   pub cleared : Cleared r b b′

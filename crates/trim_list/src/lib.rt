@@ -13,7 +13,7 @@ ghost use lib.ListN.{length};
 ghost use Rattle.chains.specs.Chains.{headOf};
 ghost use Rattle.trim_run.specs.Operations.{asCandidate, asOperation};
 ghost use Rattle.trim_run.specs.Operations.{offer as Operations·offer};
-ghost use Rattle.trim_list.specs.Lists.{slices, cuts, settingOf, Ready, Operated, Runs, firstOf, Touches, edgeCount, cutCount, operationCount, lentSetting, ZeroSlices, ZeroCuts, RunWhole};
+ghost use Rattle.trim_list.specs.Lists.{slices, cuts, settingOf, Ready, Operated, Runs, placeIn, Touches, edgeCount, cutCount, operationCount, lentSetting, ZeroSlices, ZeroCuts, RunWhole};
 
 // An operation is refused by its number; or so many windows are made and so many events queued.
 pub enum Step {
@@ -243,7 +243,7 @@ fn run_all(
     next: &mut [f64],
 ) -> Ran
     requires { ⌜ Ready m 0 (slices (now edges) (now words) (now reals) (now keys) (now events) (now vertex)) (cuts (now pts) (now out) (now keep) (now next)) × ((e : ℕ) → e < m → headOf (now edges) e ≡ 0) ⌝ }
-    ensures { λ r. ⌜ Runs (settingOf (cuts (now (pts .entry)) (now (out .entry)) (now (keep .entry)) (now (next .entry))) (slices (now (edges .entry)) (now (words .entry)) (now (reals .entry)) (now (keys .entry)) (now (events .entry)) (now (vertex .entry))) limit (now (flags .entry)) (now (ends .entry)) (now (lens .entry)) m) (now (ops .entry)) (now (args .entry)) n (firstOf (slices (now (edges .entry)) (now (words .entry)) (now (reals .entry)) (now (keys .entry)) (now (events .entry)) (now (vertex .entry)))) r (slices (now (edges .exit)) (now (words .exit)) (now (reals .exit)) (now (keys .exit)) (now (events .exit)) (now (vertex .exit))) ⌝ }
+    ensures { λ r. ⌜ Runs (settingOf (cuts (now (pts .entry)) (now (out .entry)) (now (keep .entry)) (now (next .entry))) (slices (now (edges .entry)) (now (words .entry)) (now (reals .entry)) (now (keys .entry)) (now (events .entry)) (now (vertex .entry))) limit (now (flags .entry)) (now (ends .entry)) (now (lens .entry)) m) (now (ops .entry)) (now (args .entry)) n (placeIn 0 0 (slices (now (edges .entry)) (now (words .entry)) (now (reals .entry)) (now (keys .entry)) (now (events .entry)) (now (vertex .entry)))) r (slices (now (edges .exit)) (now (words .exit)) (now (reals .exit)) (now (keys .exit)) (now (events .exit)) (now (vertex .exit))) ⌝ }
 {
     let mut made = 0;
     let mut queued = 0;
@@ -305,7 +305,7 @@ fn run_parts(
     next: &mut [f64],
 ) -> Ran
     requires { ⌜ (m ≡ edgeCount (now ends) (now lens) (now edges)) × ((x ≡ cutCount (cuts (now pts) (now out) (now keep) (now next))) × ((n ≡ operationCount (now ops) (now args)) × ((e : ℕ) → headOf (now edges) e ≡ 0))) ⌝ }
-    ensures { λ r. ⌜ Runs (lentSetting (cuts (now (pts .entry)) (now (out .entry)) (now (keep .entry)) (now (next .entry))) (slices (now (edges .entry)) (now (words .entry)) (now (reals .entry)) (now (keys .entry)) (now (events .entry)) (now (vertex .entry))) limit (now (flags .entry)) (now (ends .entry)) (now (lens .entry))) (now (ops .entry)) (now (args .entry)) (operationCount (now (ops .entry)) (now (args .entry))) (firstOf (slices (now (edges .entry)) (now (words .entry)) (now (reals .entry)) (now (keys .entry)) (now (events .entry)) (now (vertex .entry)))) r (slices (now (edges .exit)) (now (words .exit)) (now (reals .exit)) (now (keys .exit)) (now (events .exit)) (now (vertex .exit))) ⌝ }
+    ensures { λ r. ⌜ Runs (lentSetting (cuts (now (pts .entry)) (now (out .entry)) (now (keep .entry)) (now (next .entry))) (slices (now (edges .entry)) (now (words .entry)) (now (reals .entry)) (now (keys .entry)) (now (events .entry)) (now (vertex .entry))) limit (now (flags .entry)) (now (ends .entry)) (now (lens .entry))) (now (ops .entry)) (now (args .entry)) (operationCount (now (ops .entry)) (now (args .entry))) (placeIn 0 0 (slices (now (edges .entry)) (now (words .entry)) (now (reals .entry)) (now (keys .entry)) (now (events .entry)) (now (vertex .entry)))) r (slices (now (edges .exit)) (now (words .exit)) (now (reals .exit)) (now (keys .exit)) (now (events .exit)) (now (vertex .exit))) ⌝ }
 {
     let single = x as usize;
     let double = 2 * single;
@@ -357,6 +357,8 @@ pub fn run(
     let x = cut_count(pts, out, keep, next);
     let n = buffers::count(ops.len(), 4, args.len(), 5);
     buffers::zero_u32(edges);
+    buffers::zero_u32(words);
+    buffers::zero_f64(reals);
     let r = run_parts(
         x,
         m,

@@ -4,10 +4,10 @@
 -- is ground that u keeps, or a sliver of u (`pieces-cover`), or it lies in a stretch: then the cut with that stretch keeps it (`cuts-cover`), unless the cut is the single point at an end
 -- of the stretch; but there the stretch borders on ground of u, which holds its ends too (`edge-right`, `edge-left`: this is where the stretches must be apart). A point that u gives up
 -- lies in a stretch, so in the new window, where the invariant holds it already (`meet-own`).
-use Prim.Native.Nat.{ℕ, zero, suc, _≤_, _<_}
+use Prim.Native.Nat.{ℕ, suc, _≤_, _<_}
 use mathlib.Core.Bool.{Bool, not, cond}
 use mathlib.Core.List.{List, [], _∷_, _++_}
-use mathlib.Core.Logic.{_⊎_, inl, inr}
+use mathlib.Core.Logic.{_⊎_, inl, inr, ⊎-elim}
 use mathlib.Core.Path.{_≡_, sym, subst}
 use native.Mathlib.Decide.{decLe}
 use native.Mathlib.Omega.{arith}
@@ -24,7 +24,7 @@ use Rattle.trim_model.specs.Add.{Better, Walk, before, run, behind, star
 use Rattle.better.specs.Claim.{All, Point}
 use Rattle.trim_model.specs.Claim.{Any}
 use Rattle.trim_model.proofs.Ranks.{rank, max-point, max-rank, min-point, min-rank, width-pos, lt-no, le-no, Nonneg, slim-no, by-cases}
-use Rattle.trim_model.proofs.Lists.{any-left, any-right, any-split, any-if, either}
+use Rattle.trim_model.proofs.Lists.{any-left, any-right, any-split, any-if}
 use Rattle.trim_model.proofs.Intervals.{Rise, Gaps, rise-le}
 use Rattle.trim_model.proofs.Windows.{parted, Wide, FineWindow}
 use Rattle.trim_model.proofs.Run.{Spaced, Stretches, shared, inside, WalkOk, met, visit-walk}
@@ -58,12 +58,12 @@ module _ (X : ℕ) where
   insert-there : (u : Window) (l : List Window) → Any HoldsWindow l → Any HoldsWindow (insert u l)
   unfolding insert
   insert-there u [] h = absurd h
-  insert-there u (v ∷ vs) h = by-cases (λ (c : Bool). Any HoldsWindow (cond c (v ∷ insert u vs) (u ∷ v ∷ vs))) (totalLess (v .b0) (u .b0)) (λ y. either inl (λ k. inr (insert-there u vs k)) h) (λ n. inr h)
+  insert-there u (v ∷ vs) h = by-cases (λ (c : Bool). Any HoldsWindow (cond c (v ∷ insert u vs) (u ∷ v ∷ vs))) (totalLess (v .b0) (u .b0)) (λ y. ⊎-elim inl (λ k. inr (insert-there u vs k)) h) (λ n. inr h)
 
   pub sorted-any : (l : List Window) → Any HoldsWindow l → Any HoldsWindow (sorted l)
   unfolding sorted
   sorted-any [] h = h
-  sorted-any (u ∷ us) h = either (insert-here u (sorted us)) (λ k. insert-there u (sorted us) (sorted-any us k)) h
+  sorted-any (u ∷ us) h = ⊎-elim (insert-here u (sorted us)) (λ k. insert-there u (sorted us) (sorted-any us k)) h
 
 module _ {t : Float} (t0 : Nonneg t) (X : ℕ) where
   -- an interval no wider than t is a sliver
@@ -89,14 +89,14 @@ module _ {t : Float} (t0 : Nonneg t) (X : ℕ) where
 
   left-here : (at b1 : Float) (g : Interval) (gs : List Interval) → Point at → Point (g .from) → rank at < rank (g .from) → rank at ≤ X → X ≤ rank (g .from) → Left at b1 (g ∷ gs)
   unfolding pieces pieceSlivers
-  left-here at b1 g gs ga gb z i j = either
+  left-here at b1 g gs ga gb z i j = ⊎-elim
       (λ h. inl (any-left (Holds X) (pushIf (lt t (width at (g .from))) (interval at (g .from))) (pieces t (maxOf at (g .to)) b1 gs) h))
       (λ h. inr (any-left (Holds X) (sliver t at (g .from)) (pieceSlivers t (maxOf at (g .to)) b1 gs) h))
       (ground at (g .from) ga gb z i j)
 
   left-there : (at b1 : Float) (g : Interval) (gs : List Interval) → Left (maxOf at (g .to)) b1 gs → Left at b1 (g ∷ gs)
   unfolding pieces pieceSlivers
-  left-there at b1 g gs = either
+  left-there at b1 g gs = ⊎-elim
       (λ h. inl (any-right (Holds X) (pushIf (lt t (width at (g .from))) (interval at (g .from))) (pieces t (maxOf at (g .to)) b1 gs) h))
       (λ h. inr (any-right (Holds X) (sliver t at (g .from)) (pieceSlivers t (maxOf at (g .to)) b1 gs) h))
 
@@ -135,7 +135,7 @@ module _ {t : Float} (t0 : Nonneg t) (X : ℕ) where
           | yes l ↦ inr (inl (l, k))
           | no f ↦ inl (left-here at b1 g (g' ∷ gs) ga (s .point0) (omega arith) i (omega arith))
         ]
-        | no f ↦ either (λ r. inl (left-there at b1 g (g' ∷ gs) r)) (λ r. inr (inr r)) (pieces-cover (maxOf at (g .to)) b1 (n .point) gb g' gs (n .rise) (omega arith) j)
+        | no f ↦ ⊎-elim (λ r. inl (left-there at b1 g (g' ∷ gs) r)) (λ r. inr (inr r)) (pieces-cover (maxOf at (g .to)) b1 (n .point) gb g' gs (n .rise) (omega arith) j)
       ]
 
   -- the end of a stretch, and its start, border on ground
@@ -231,8 +231,8 @@ module _ {t : Float} (t0 : Nonneg t) (X : ℕ) where
     nexts-or-shared : (a : ℕ) (ks : List Interval) (b : ℕ) → Rise a ks b → Any (Holds X) ks → Any (Holds X) (next lo hi gs ks) ⊎ ((rank lo ≤ X) × (X ≤ rank hi))
     unfolding next
     nexts-or-shared a [] b h c = absurd c
-    nexts-or-shared a (k ∷ ks) b h (inl c) = either (λ r. inl (any-left (Holds X) (nextOf lo hi gs k) (next lo hi gs ks) r)) inr (next-or-shared k (h .0 .point0) (h .0 .point1) c)
-    nexts-or-shared a (k ∷ ks) b h (inr c) = either (λ r. inl (any-right (Holds X) (nextOf lo hi gs k) (next lo hi gs ks) r)) inr (nexts-or-shared (rank (k .to)) ks b (h .1) c)
+    nexts-or-shared a (k ∷ ks) b h (inl c) = ⊎-elim (λ r. inl (any-left (Holds X) (nextOf lo hi gs k) (next lo hi gs ks) r)) inr (next-or-shared k (h .0 .point0) (h .0 .point1) c)
+    nexts-or-shared a (k ∷ ks) b h (inr c) = ⊎-elim (λ r. inl (any-right (Holds X) (nextOf lo hi gs k) (next lo hi gs ks) r)) inr (nexts-or-shared (rank (k .to)) ks b (h .1) c)
 
     module _ (u0 u1 : Float) (gu0 : Point u0) (gu1 : Point u1) (l0 : rank u0 ≤ rank lo) (l1 : rank hi ≤ rank u1) (U : Rise (rank u0) gs (rank u1)) (S : Spaced gs) (G : Any (Holds X) gs) where
       -- a point of k in a stretch is kept, or the old window's ground holds it
@@ -262,13 +262,13 @@ module _ {t : Float} (t0 : Nonneg t) (X : ℕ) where
       next-both : (a : ℕ) (ks : List Interval) (b : ℕ) → Rise a ks b → Any (Holds X) ks → Any (Holds X) (next lo hi gs ks) ⊎ Left u0 u1 gs
       unfolding next
       next-both a [] b h c = absurd c
-      next-both a (k ∷ ks) b h (inl c) = either (λ r. inl (any-left (Holds X) (nextOf lo hi gs k) (next lo hi gs ks) r)) inr (next-of-both k (h .0 .point0) (h .0 .point1) c)
-      next-both a (k ∷ ks) b h (inr c) = either (λ r. inl (any-right (Holds X) (nextOf lo hi gs k) (next lo hi gs ks) r)) inr (next-both (rank (k .to)) ks b (h .1) c)
+      next-both a (k ∷ ks) b h (inl c) = ⊎-elim (λ r. inl (any-left (Holds X) (nextOf lo hi gs k) (next lo hi gs ks) r)) inr (next-of-both k (h .0 .point0) (h .0 .point1) c)
+      next-both a (k ∷ ks) b h (inr c) = ⊎-elim (λ r. inl (any-right (Holds X) (nextOf lo hi gs k) (next lo hi gs ks) r)) inr (next-both (rank (k .to)) ks b (h .1) c)
 
   pub kept-cover : (p : ℕ) (ks : List Interval) (q : ℕ) → Rise p ks q → Any (Holds X) ks → Any (Holds X) (wideOf t ks) ⊎ Any (Holds X) (keepSlivers t ks)
   unfolding wideOf keepSlivers
   kept-cover p [] q h a = absurd a
-  kept-cover p (k ∷ ks) q h (inr a) = either (λ r. inl (any-right (Holds X) (pushIf (not (le (width (k .from) (k .to)) t)) k) (wideOf t ks) r)) (λ r. inr (any-right (Holds X) (sliver t (k .from) (k .to)) (keepSlivers t ks) r)) (kept-cover (rank (k .to)) ks q (h .1) a)
+  kept-cover p (k ∷ ks) q h (inr a) = ⊎-elim (λ r. inl (any-right (Holds X) (pushIf (not (le (width (k .from) (k .to)) t)) k) (wideOf t ks) r)) (λ r. inr (any-right (Holds X) (sliver t (k .from) (k .to)) (keepSlivers t ks) r)) (kept-cover (rank (k .to)) ks q (h .1) a)
   kept-cover p (k ∷ ks) q h (inl a) =
       let s = h .0 in
       by-cases (λ (c : Bool). (T c → T (le (width (k .from) (k .to)) t)) → Any (Holds X) (pushIf (not c) k ++ wideOf t ks) ⊎ Any (Holds X) (sliver t (k .from) (k .to) ++ keepSlivers t ks)) (le (width (k .from) (k .to)) t)
@@ -284,7 +284,7 @@ module _ {t : Float} (t0 : Nonneg t) (X : ℕ) where
 
     left-cov : (u : Window) (g : Interval) (gs : List Interval) (s : Walk) → Left (u .b0) (u .b1) (g ∷ gs) → Covered (meet t u (sharedLo w u) (sharedHi w u) (g ∷ gs) s)
     unfolding meet
-    left-cov u g gs s = either
+    left-cov u g gs s = ⊎-elim
         (λ r. in-live (any-right (HoldsWindow X) (s .survivors) (split u (s .made) (pieces t (u .b0) (u .b1) (g ∷ gs))) (split-any X u (s .made) (pieces t (u .b0) (u .b1) (g ∷ gs)) r)))
         (λ r. in-sliver (any-right (Holds X) (s .slivers) (pieceSlivers t (u .b0) (u .b1) (g ∷ gs)) r))
 
@@ -294,7 +294,7 @@ module _ {t : Float} (t0 : Nonneg t) (X : ℕ) where
         let h = shared W u f in
         let a = h .rank-lo in
         let b = h .rank-hi in
-        either in-keep (left-cov u g gs s) (next-both (sharedLo w u) (sharedHi w u) (h .point-lo) (h .point-hi) (g ∷ gs) R (u .b0) (u .b1) (f .point0) (f .point1) (omega arith) (omega arith) (inside h (g ∷ gs) R) S G (rank (w .b0)) (s .keep) (rank (w .b1)) (k .rise) c)
+        ⊎-elim in-keep (left-cov u g gs s) (next-both (sharedLo w u) (sharedHi w u) (h .point-lo) (h .point-hi) (g ∷ gs) R (u .b0) (u .b1) (f .point0) (f .point1) (omega arith) (omega arith) (inside h (g ∷ gs) R) S G (rank (w .b0)) (s .keep) (rank (w .b1)) (k .rise) c)
 
     -- what was held is held still
     meet-cov : (u : Window) → FineWindow t m M u → (gs : List Interval) → Rise (rank (sharedLo w u)) gs (rank (sharedHi w u)) → Spaced gs → (s : Walk) → WalkOk t w m M s → Covered s → Covered (meet t u (sharedLo w u) (sharedHi w u) gs s)
@@ -305,16 +305,16 @@ module _ {t : Float} (t0 : Nonneg t) (X : ℕ) where
         let h = shared W u f in
         let c = h .rank-lo in
         let d = h .rank-hi in
-        either in-keep (λ r. let i = r .0 in let j = r .1 in in-live (any-right (HoldsWindow X) (s .survivors) (u ∷ []) (inl (omega arith, omega arith)))) (nexts-or-shared (sharedLo w u) (sharedHi w u) (h .point-lo) (h .point-hi) [] R (rank (w .b0)) (s .keep) (rank (w .b1)) (k .rise) a)
+        ⊎-elim in-keep (λ r. let i = r .0 in let j = r .1 in in-live (any-right (HoldsWindow X) (s .survivors) (u ∷ []) (inl (omega arith, omega arith)))) (nexts-or-shared (sharedLo w u) (sharedHi w u) (h .point-lo) (h .point-hi) [] R (rank (w .b0)) (s .keep) (rank (w .b1)) (k .rise) a)
     meet-cov u f (g ∷ gs) R S s k (in-live a) = in-live (any-left (HoldsWindow X) (s .survivors) (split u (s .made) (pieces t (u .b0) (u .b1) (g ∷ gs))) a)
     meet-cov u f (g ∷ gs) R S s k (in-sliver a) = in-sliver (any-left (Holds X) (s .slivers) (pieceSlivers t (u .b0) (u .b1) (g ∷ gs)) a)
     meet-cov u f (g ∷ gs) R S s k (in-keep a) =
         let h = shared W u f in
         let c = h .rank-lo in
         let d = h .rank-hi in
-        either in-keep
+        ⊎-elim in-keep
         (λ r. let i = r .0 in let j = r .1 in
-        either (left-cov u g gs s) (λ G. stretch-cov u f g gs R S G s k a) (pieces-cover (u .b0) (u .b1) (f .point0) (f .point1) g gs (inside h (g ∷ gs) R) (omega arith) (omega arith)))
+        ⊎-elim (left-cov u g gs s) (λ G. stretch-cov u f g gs R S G s k a) (pieces-cover (u .b0) (u .b1) (f .point0) (f .point1) g gs (inside h (g ∷ gs) R) (omega arith) (omega arith)))
         (nexts-or-shared (sharedLo w u) (sharedHi w u) (h .point-lo) (h .point-hi) (g ∷ gs) R (rank (w .b0)) (s .keep) (rank (w .b1)) (k .rise) a)
 
     -- and so is what u held
@@ -325,7 +325,7 @@ module _ {t : Float} (t0 : Nonneg t) (X : ℕ) where
         let h = shared W u f in
         let d = h .rank-lo in
         let e = h .rank-hi in
-        either (left-cov u g gs s)
+        ⊎-elim (left-cov u g gs s)
         (λ G. let r = any-in (rank (sharedLo w u)) (g ∷ gs) (rank (sharedHi w u)) R G in let i = r .0 in let j = r .1 in meet-cov u f (g ∷ gs) R S s k (c (omega arith, omega arith)))
         (pieces-cover (u .b0) (u .b1) (f .point0) (f .point1) g gs (inside h (g ∷ gs) R) (a .0) (a .1))
 
@@ -359,7 +359,7 @@ module _ {t : Float} (t0 : Nonneg t) (X : ℕ) where
     visits-cov [] f s k c (inl a) = a
     visits-cov [] f s k c (inr a) = absurd a
     visits-cov (u ∷ us) f s k c (inl a) = visits-cov us (f .1) (visit better t w u s) (visit-walk t0 B W m M u (f .0) s k) (λ i. visit-cov u (f .0) s k (c i)) (inl (visit-cov u (f .0) s k a))
-    visits-cov (u ∷ us) f s k c (inr a) = visits-cov us (f .1) (visit better t w u s) (visit-walk t0 B W m M u (f .0) s k) (λ i. visit-cov u (f .0) s k (c i)) (either (λ i. inl (visit-own u (f .0) s k c i)) inr a)
+    visits-cov (u ∷ us) f s k c (inr a) = visits-cov us (f .1) (visit better t w u s) (visit-walk t0 B W m M u (f .0) s k) (λ i. visit-cov u (f .0) s k (c i)) (⊎-elim (λ i. inl (visit-own u (f .0) s k c i)) inr a)
 
 -- a point of the new window, or of a live one, lies in a live window or in a sliver after the addition
 module _ {t : Float} (t0 : Nonneg t) {better : Better} (B : Stretches better) {w : Window} (W : Wide t w) (made X : ℕ) (l : List Window) (h : Tidy t l) where
@@ -387,7 +387,7 @@ module _ {t : Float} (t0 : Nonneg t) {better : Better} (B : Stretches better) {w
   ended : Covered t0 X B W 0 (top rn) s → After
   ended (in-live i) = inl (middle (any-left (HoldsWindow X) (s .survivors) news i))
   ended (in-sliver i) = inr (any-left (Holds X) (s .slivers) (keepSlivers t (s .keep)) i)
-  ended (in-keep i) = either (λ r. inl (middle (any-right (HoldsWindow X) (s .survivors) news (fresh-any X w (s .made) (wideOf t (s .keep)) r)))) (λ r. inr (any-right (Holds X) (s .slivers) (keepSlivers t (s .keep)) r))
+  ended (in-keep i) = ⊎-elim (λ r. inl (middle (any-right (HoldsWindow X) (s .survivors) news (fresh-any X w (s .made) (wideOf t (s .keep)) r)))) (λ r. inr (any-right (Holds X) (s .slivers) (keepSlivers t (s .keep)) r))
       (kept-cover t0 X (rank (w .b0)) (s .keep) (rank (w .b1)) (walked-ok t0 B W made 0 (top rn) rn (run-fine t0 B W made l h) .rise) i)
 
   in-run : Covered t0 X B W 0 (top rn) (start w made) ⊎ Any (HoldsWindow X) rn → After
@@ -395,8 +395,8 @@ module _ {t : Float} (t0 : Nonneg t) {better : Better} (B : Stretches better) {w
 
   outside : Any (HoldsWindow X) pre ⊎ Any (HoldsWindow X) (rn ++ suf) → After
   outside (inl i) = inl (any-left (HoldsWindow X) pre (sorted (s .survivors ++ news) ++ suf) i)
-  outside (inr i) = either (λ j. in-run (inr j)) (λ j. inl (any-right (HoldsWindow X) pre (sorted (s .survivors ++ news) ++ suf) (any-right (HoldsWindow X) (sorted (s .survivors ++ news)) suf j))) (any-split (HoldsWindow X) rn suf i)
+  outside (inr i) = ⊎-elim (λ j. in-run (inr j)) (λ j. inl (any-right (HoldsWindow X) pre (sorted (s .survivors ++ news) ++ suf) (any-right (HoldsWindow X) (sorted (s .survivors ++ news)) suf j))) (any-split (HoldsWindow X) rn suf i)
 
   pub add-cover : HoldsWindow X w ⊎ Any (HoldsWindow X) l → Any (HoldsWindow X) (addTo better t w l made .live) ⊎ Any (Holds X) (addTo better t w l made .slivers)
   unfolding addTo
-  add-cover a = either (λ i. in-run (inl (in-keep (inl i)))) (λ i. outside (any-split (HoldsWindow X) pre (rn ++ suf) (subst (Any (HoldsWindow X)) (parted t w l) i))) a
+  add-cover a = ⊎-elim (λ i. in-run (inl (in-keep (inl i)))) (λ i. outside (any-split (HoldsWindow X) pre (rn ++ suf) (subst (Any (HoldsWindow X)) (parted t w l) i))) a

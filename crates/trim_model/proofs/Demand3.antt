@@ -1,7 +1,7 @@
 -- Demand 3 for the reference model, in terms of floats: what `Model` says by ranks, read back. Assumes nothing.
 use Prim.Native.Nat.{ℕ, _≤_, _<_}
 use mathlib.Core.List.{List, [], _∷_}
-use mathlib.Core.Logic.{inl, inr}
+use mathlib.Core.Logic.{inl, inr, ⊎-elim}
 use native.Mathlib.Nat.{le-refl}
 use native.Mathlib.Omega.{arith}
 use lib.Dec.{T}
@@ -17,7 +17,7 @@ use Rattle.better.specs.Claim.{All, Pairs, Point, Stretch, Separates}
 use Rattle.trim_model.specs.Claim.{Trimmed, Demand3}
 use Rattle.trim_model.proofs.Ranks.{rank, le-yes, rank-le, lt-yes, rank-lt, max-point, max-rank, min-point, min-rank, width-number}
 use Rattle.trim_model.proofs.Count.{has, has-yes}
-use Rattle.trim_model.proofs.Lists.{all-map, all-map2, any-of, either}
+use Rattle.trim_model.proofs.Lists.{all-map, all-map2, any-of}
 use Rattle.trim_model.proofs.Intervals.{Rise, Gaps, count}
 use Rattle.trim_model.proofs.Windows.{wcount, counted, Steps, Ordered, steps-all, Wide}
 use Rattle.trim_model.proofs.Run.{Spaced, Stretches}
@@ -92,7 +92,7 @@ trimmed t n s k =
       order = order-of t (s .live) (y .wides) (y .ordered);
       widths = all-map (λ u i. i .wide) (s .live) (y .wides);
       shares = shares-of t (s .live) (y .wides) (y .lone);
-      cover = λ x g a. either
+      cover = λ x g a. ⊎-elim
           (λ b. inl (any-of (λ u p i. (rank-le (p .point0) g (i .0), rank-le g (p .point1) (i .1))) (s .live) (y .wides) b))
           (λ b. inr (any-of (λ q p i. (rank-le (p .point0) g (i .0), rank-le g (p .point1) (i .1))) (s .slivers) (k .narrow) b))
           (k .cover (rank x) (any-of (λ q p i. (le-yes (p .0) g (i .0), le-yes g (p .1) (i .1))) (s .admitted) (k .ranges) a));

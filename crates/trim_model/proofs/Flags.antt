@@ -2,7 +2,7 @@
 use Prim.Native.Nat.{ℕ, suc, _+_, _≤_, pred}
 use mathlib.Core.Bool.{Bool, cond, _&&_}
 use mathlib.Core.List.{List, [], _∷_, _++_, map, map-append}
-use mathlib.Core.Logic.{inl, inr}
+use mathlib.Core.Logic.{inl, inr, ⊎-elim}
 use mathlib.Core.Path.{_≡_, refl, sym, ap, _∙_, subst}
 use lib.Dec.{T}
 use lib.Ieee.{Float, lt, le}
@@ -19,7 +19,6 @@ use Rattle.better.specs.Claim.{All, Pairs}
 use Rattle.trim_model.specs.Claim.{Any, InWindow, Trimmed}
 use Rattle.trim_model.proofs.Ranks.{rank, by-cases}
 use Rattle.trim_model.proofs.Count.{has}
-use Rattle.trim_model.proofs.Lists.{either}
 use Rattle.trim_model.proofs.Windows.{wcount, Steps, Ordered, Wide}
 use Rattle.trim_model.proofs.Order.{Tidy}
 
@@ -308,7 +307,7 @@ trimmed-same t n s l e h = record {
   order = pairs-same (λ (u v : Window). T (lt (u .b0) (v .b0)) × T (lt (u .b1) (v .b1))) (λ u v k. k) (λ u v k. k) (s .live) l e (h .order);
   widths = all-same (λ (u : Window). T (lt t (width (u .b0) (u .b1)))) (λ u k. k) (λ u k. k) (s .live) l e (h .widths);
   shares = pairs-same (λ (u v : Window). T (le (width (maxOf (u .b0) (v .b0)) (minOf (u .b1) (v .b1))) t)) (λ u v k. k) (λ u v k. k) (s .live) l e (h .shares);
-  cover = λ x g a. either (λ k. inl (any-same (InWindow x) (λ u i. i) (λ u i. i) (s .live) l e k)) inr (h .cover x g a);
+  cover = λ x g a. ⊎-elim (λ k. inl (any-same (InWindow x) (λ u i. i) (λ u i. i) (s .live) l e k)) inr (h .cover x g a);
   narrow = h .narrow;
   count = h .count;
 }

@@ -7,7 +7,7 @@ use native.Mathlib.Decide.{decLe}
 use native.Mathlib.Omega.{arith}
 use lib.Dec.{T}
 use Rattle.float64.specs.TotalOrder.{totalLess}
-use Rattle.float_laws.proofs.Order.{holds, fails}
+use Rattle.nat_laws.proofs.Tests.{holds, fails}
 use Rattle.trim_model.specs.Windows.{Window, insert, sorted}
 use Rattle.better.specs.Claim.{All, Pairs, Point}
 use Rattle.trim_model.proofs.Ranks.{rank, total-yes, total-no, by-cases}

@@ -7,27 +7,11 @@ use lib.Dec.{T}
 use Rattle.trim_model.specs.Intervals.{pushIf}
 use Rattle.trim_model.specs.Windows.{takeWhile, dropWhile, all, takeWhileEnd, dropWhileEnd}
 use Rattle.better.specs.Claim.{All}
-pub use Rattle.better.proofs.Points.{all-append}
+pub use Rattle.nat_laws.proofs.Lists.{all-map, all-map2, all-append, all-left, all-right}
 use Rattle.trim_model.specs.Claim.{Any}
 use Rattle.trim_model.proofs.Ranks.{by-cases}
 
 module _ {A : Type 0} where
-  pub all-map : {P Q : A → Type 0} → ((x : A) → P x → Q x) → (l : List A) → All P l → All Q l
-  all-map f [] h = tt
-  all-map f (x ∷ xs) h = (f x (h .0), all-map f xs (h .1))
-
-  pub all-map2 : {P Q R : A → Type 0} → ((x : A) → P x → Q x → R x) → (l : List A) → All P l → All Q l → All R l
-  all-map2 f [] h k = tt
-  all-map2 f (x ∷ xs) h k = (f x (h .0) (k .0), all-map2 f xs (h .1) (k .1))
-
-  pub all-left : (P : A → Type 0) (l m : List A) → All P (l ++ m) → All P l
-  all-left P [] m h = tt
-  all-left P (x ∷ xs) m h = (h .0, all-left P xs m (h .1))
-
-  pub all-right : (P : A → Type 0) (l m : List A) → All P (l ++ m) → All P m
-  all-right P [] m h = h
-  all-right P (x ∷ xs) m h = all-right P xs m (h .1)
-
   pub take-drop : (p : A → Bool) (l : List A) → takeWhile p l ++ dropWhile p l ≡ l
   unfolding takeWhile dropWhile
   take-drop p [] = refl
@@ -61,7 +45,3 @@ module _ {A : Type 0} where
   any-of f [] a h = h
   any-of f (x ∷ xs) a (inl h) = inl (f x (a .0) h)
   any-of f (x ∷ xs) a (inr h) = inr (any-of f xs (a .1) h)
-
-pub either : {A B C : Type 0} → (A → C) → (B → C) → A ⊎ B → C
-either f g (inl a) = f a
-either f g (inr b) = g b

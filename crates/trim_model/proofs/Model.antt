@@ -2,7 +2,7 @@
 use Prim.Native.Nat.{ℕ, _+_, _≤_, zero-le}
 use mathlib.Core.Bool.{Bool, true, false, not, cond, _&&_, _||_}
 use mathlib.Core.List.{List, [], _∷_, _++_}
-use mathlib.Core.Logic.{_⊎_, inl, inr}
+use mathlib.Core.Logic.{_⊎_, inl, inr, ⊎-elim}
 use mathlib.Core.Path.{_≡_, sym, subst}
 use native.Mathlib.Nat.{le-trans}
 use native.Mathlib.Omega.{arith}
@@ -18,7 +18,7 @@ use Rattle.trim_model.specs.Model.{Candidate, EdgeState, Model, empty, a
 use Rattle.better.specs.Claim.{All, Point}
 use Rattle.trim_model.specs.Claim.{Any, Proper}
 use Rattle.trim_model.proofs.Ranks.{Nonneg, wide-no, tiny-nonneg, by-cases}
-use Rattle.trim_model.proofs.Lists.{all-append, any-left, any-right, any-split, either}
+use Rattle.trim_model.proofs.Lists.{all-append, any-left, any-right, any-split}
 use Rattle.trim_model.proofs.Windows.{wcount, Wide}
 use Rattle.trim_model.proofs.Run.{Stretches}
 use Rattle.trim_model.proofs.Order.{Tidy, add-tidy}
@@ -53,14 +53,14 @@ module _ {t : Float} (t0 : Nonneg t) {better : Better} (B : Stretches better) (c
   a = addTo better t w (s .live) made
 
   covered : (X : ℕ) → HoldsWindow X w ⊎ Any (HoldsWindow X) (s .live) → Any (HoldsWindow X) (a .live) ⊎ Any (Holds X) (s .slivers ++ a .slivers)
-  covered X i = either inl (λ r. inr (any-right (Holds X) (s .slivers) (a .slivers) r)) (add-cover t0 B W made X (s .live) (h .tidy) i)
+  covered X i = ⊎-elim inl (λ r. inr (any-right (Holds X) (s .slivers) (a .slivers) r)) (add-cover t0 B W made X (s .live) (h .tidy) i)
 
   updated-ok : EdgeOk t (n + addBound better t w (s .live)) (updated c s a)
   updated-ok = record {
     tidy = add-tidy t0 B W made (s .live) (h .tidy);
-    cover = λ X i. either
-        (λ j. either (λ r. covered X (inr r)) (λ r. inr (any-left (Holds X) (s .slivers) (a .slivers) r)) (h .cover X j))
-        (λ j. either (λ r. covered X (inl r)) (λ r. absurd r) j)
+    cover = λ X i. ⊎-elim
+        (λ j. ⊎-elim (λ r. covered X (inr r)) (λ r. inr (any-left (Holds X) (s .slivers) (a .slivers) r)) (h .cover X j))
+        (λ j. ⊎-elim (λ r. covered X (inl r)) (λ r. absurd r) j)
         (any-split (Holds X) (s .admitted) (interval (c .b0) (c .b1) ∷ []) i);
     ranges = all-append Between (s .admitted) (interval (c .b0) (c .b1) ∷ []) (h .ranges) ((W .point0, W .point1), tt);
     narrow = all-append (Sliver t) (s .slivers) (a .slivers) (h .narrow) (add-slivers t0 B W made (s .live) (h .tidy));

@@ -4,10 +4,10 @@
 --     width        wide-mono, wide-pos, wide-no, slim-no, slim, width-pos; run-left, run-right (the ends of the run); tiny-nonneg
 use Prim.Native.Nat.{ℕ, _≤_, _<_, min, max}
 use mathlib.Core.Path.{_≡_}
-use mathlib.Core.Bool.{Bool, true, false, not}
+use mathlib.Core.Bool.{not}
 use native.Mathlib.Decide.{decLe}
 use native.Mathlib.Omega.{arith}
-use lib.Dec.{T}
+use lib.Dec.{T, T-not}
 use lib.Ieee.{Float, binary64, add, sub, lt, le, ofBits}
 use lib.Ieee.Scale.{finite}
 use Rattle.float64.specs.Scalar.{zero, minOf, maxOf}
@@ -80,10 +80,6 @@ module _ {x y : Float} (g : Point x) (k : Point y) where
   pub total-no : T (not (totalLess x y)) → rank y ≤ rank x
   total-no h = le-yes k g (not-total-le x y (number x g) (number y k) h)
 
-clash : (b : Bool) → T (not b) → T b → ⊥
-clash true p q = p
-clash false p q = q
-
 -- not below zero
 pub record Nonneg (t : Float) : Type 0 where
   pub nonneg : T (le zero t)
@@ -106,10 +102,10 @@ module _ {t : Float} (t0 : Nonneg t) where
     slim-no w = not-lt-le t (width x y) t-number (width-number g k) w
 
     pub run-left : T (not (lt (sub binary64 x t) y)) → rank y ≤ rank x
-    run-left i = elim (decLe (rank y) (rank x)) [ yes j ↦ j | no f ↦ absurd (clash (lt (sub binary64 x t) y) i (le-lt-trans (sub binary64 x t) x y (sub-below binary64 x t (g .number) (g .double) (t0 .nonneg)) (rank-lt g k (omega arith)))) ]
+    run-left i = elim (decLe (rank y) (rank x)) [ yes j ↦ j | no f ↦ absurd (T-not (lt (sub binary64 x t) y) i (le-lt-trans (sub binary64 x t) x y (sub-below binary64 x t (g .number) (g .double) (t0 .nonneg)) (rank-lt g k (omega arith)))) ]
 
     pub run-right : T (not (lt y (add binary64 x t))) → rank x ≤ rank y
-    run-right i = elim (decLe (rank x) (rank y)) [ yes j ↦ j | no f ↦ absurd (clash (lt y (add binary64 x t)) i (lt-le-trans y x (add binary64 x t) (rank-lt k g (omega arith)) (add-above binary64 x t (g .number) (g .double) (t0 .nonneg)))) ]
+    run-right i = elim (decLe (rank x) (rank y)) [ yes j ↦ j | no f ↦ absurd (T-not (lt y (add binary64 x t)) i (lt-le-trans y x (add binary64 x t) (rank-lt k g (omega arith)) (add-above binary64 x t (g .number) (g .double) (t0 .nonneg)))) ]
 
   pub wide-mono : {x y x' y' : Float} → Point x → Point y → Point x' → Point y' → rank x' ≤ rank x → rank y ≤ rank y' → T (lt t (width x y)) → T (lt t (width x' y'))
   wide-mono {x} {y} {x'} {y'} gx gy gx' gy' i j w = lt-le-trans t (width x y) (width x' y') w (sub-mono binary64 y y' x x' (gy .number) (gy' .number) (gx .number) (gx' .number) (rank-le gy gy' j) (rank-le gx' gx i))

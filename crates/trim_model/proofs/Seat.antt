@@ -8,7 +8,7 @@ use lib.Dec.{T}
 use lib.Ieee.{Float, le}
 use lib.Ieee.Bits.{is-true}
 use Rattle.float64.specs.TotalOrder.{totalLess}
-use Rattle.float_laws.proofs.Order.{holds}
+use Rattle.nat_laws.proofs.Tests.{holds}
 use Rattle.float_laws.proofs.Total.{total-lt, total-trans}
 use Rattle.better.specs.Stretches.{Interval}
 use Rattle.better.specs.Claim.{All, Pairs, Point}

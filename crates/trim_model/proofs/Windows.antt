@@ -3,7 +3,7 @@ use Prim.Native.Nat.{ℕ, suc, _+_, _≤_, _<_, zero-le}
 use mathlib.Core.Bool.{Bool, true, not, cond, _&&_}
 use mathlib.Core.List.{List, [], _∷_, _++_, append-assoc}
 use mathlib.Core.Path.{_≡_, refl, sym, ap, _∙_}
-use native.Mathlib.Nat.{le-trans}
+use native.Mathlib.Nat.{le-suc, le-trans}
 use native.Mathlib.Omega.{arith}
 use lib.Dec.{T}
 use lib.Ieee.{Float, binary64, add, sub, lt}
@@ -134,10 +134,7 @@ ordered-from (u ∷ us) h = (zero-le, go u us h)
   where
     go : (u : Window) (us : List Window) → Steps u us → From (rank (u .b0)) us
     go u [] h = tt
-    go u (v ∷ vs) h = (le-trans (le-suc' (rank (u .b0))) (h .0), go v vs (h .2))
-      where
-        le-suc' : (n : ℕ) → n ≤ suc n
-        le-suc' n = omega arith
+    go u (v ∷ vs) h = (le-trans (le-suc (rank (u .b0))) (h .0), go v vs (h .2))
 
 -- a window between points, wider than t
 pub record Wide (t : Float) (u : Window) : Type 0 where

@@ -1,11 +1,12 @@
 -- Each operation keeps the live lists those of the reference model. Assumes nothing.
 use Prim.Native.Nat.{ℕ}
-use mathlib.Core.Bool.{Bool, true, false, cond, _&&_}
-use mathlib.Core.List.{List, [], _∷_, _++_, map}
-use mathlib.Core.Path.{_≡_, refl, sym, ap, _∙_, subst}
+use mathlib.Core.Bool.{Bool, cond, _&&_}
+use mathlib.Core.List.{List, [], _∷_, _++_, map, append-nil}
+use mathlib.Core.Path.{_≡_, refl, sym, ap, subst}
 use native.Mathlib.Omega.{arith}
 use lib.Dec.{T, eqb, ltb}
 use lib.Ieee.{Float, binary64, fits, lt, le}
+use lib.Ieee.Fits.{and-l, and-r}
 use lib.Ieee.Scale.{finite}
 use Rattle.float64.specs.Scalar.{zero}
 use Rattle.float_laws.proofs.Order.{finite-between, zero-finite}
@@ -30,28 +31,20 @@ use Rattle.trim_run.specs.Operations.{Operation, offer, pop, touch, unkn
 use Rattle.trim_run.specs.Run.{taken, popped, hasLength, isOnEdge, offering, operate}
 use Rattle.trim_run.specs.Demand3.{Demand3}
 
-pub and-left : (a b : Bool) → T (a && b) → T a
-and-left true b h = tt
-and-left false b h = h
-
-pub and-right : (a b : Bool) → T (a && b) → T b
-and-right true b h = h
-and-right false b h = absurd h
-
 -- a candidate that is not refused
 pub proper : (len : ℕ → Float) (c : Candidate) → Doubles len c → T (hasLength (len (c .edge))) → T (isOnEdge (len (c .edge)) (c .b0)) → T (isOnEdge (len (c .edge)) (c .b1)) → Proper len c
 proper len c d h i j =
     let l = len (c .edge) in
-    let fl = and-right (lt zero l) (finite l) h in
+    let fl = and-r (lt zero l) (finite l) h in
     record {
       start = on (c .b0) (d .start) i fl;
       end = on (c .b1) (d .end) j fl;
       length = record { number = fl; double = d .length };
-      positive = and-left (lt zero l) (finite l) h;
+      positive = and-l (lt zero l) (finite l) h;
     }
   where
     on : (x : Float) → T (fits binary64 x) → T (isOnEdge (len (c .edge)) x) → T (finite (len (c .edge))) → Point x
-    on x f k fl = record { number = finite-between zero x (len (c .edge)) zero-finite fl (and-left (le zero x) (le x (len (c .edge))) k) (and-right (le zero x) (le x (len (c .edge))) k); double = f }
+    on x f k fl = record { number = finite-between zero x (len (c .edge)) zero-finite fl (and-l (le zero x) (le x (len (c .edge))) k) (and-r (le zero x) (le x (len (c .edge))) k); double = f }
 
 -- ---- a pop clears flags alone
 unqueued-in : (n : ℕ) (us : List Window) → map unqueued (unqueuedIn n us) ≡ map unqueued us
@@ -63,9 +56,6 @@ taken-same : (x : Event) (live : ℕ → List Window) (e : ℕ) → map unqueued
 unfolding taken
 taken-same x live e = by-cases (λ (b : Bool). map unqueued (cond b (unqueuedIn (x .number) (live e)) (live e)) ≡ map unqueued (live e)) (eqb (x .kind) 0) (λ y. unqueued-in (x .number) (live e)) (λ z. refl)
 
-append-none : {A : Type 0} (l : List A) → l ++ [] ≡ l
-append-none [] = refl
-append-none (x ∷ l) = ap (λ (m : List _). x ∷ m) (append-none l)
 
 module _ (cuts windows : ℕ) (limit : Float) (flags : List ℕ) (mesh : Mesh) (edges vertices : ℕ) (cs : List Candidate) (s : State) (F : Follows limit (mesh .len) cs (s .stock .made) (s .live)) where
   -- the state follows the model with more candidates
@@ -73,7 +63,7 @@ module _ (cuts windows : ℕ) (limit : Float) (flags : List ℕ) (mesh : Mesh) (
   Next more t = Follows limit (mesh .len) (cs ++ more) (t .stock .made) (t .live)
 
   same-list : (t : State) → Follows limit (mesh .len) cs (t .stock .made) (t .live) → Next [] t
-  same-list t k = subst (λ (l : List Candidate). Follows limit (mesh .len) l (t .stock .made) (t .live)) (sym (append-none cs)) k
+  same-list t k = subst (λ (l : List Candidate). Follows limit (mesh .len) l (t .stock .made) (t .live)) (sym (append-nil cs)) k
 
   pop-after : (x : Popped × Queue) → Next [] (popped s x)
   unfolding popped
@@ -89,7 +79,7 @@ module _ (cuts windows : ℕ) (limit : Float) (flags : List ℕ) (mesh : Mesh) (
       let l = mesh .len (c .edge) in
       by-cases (λ (b : Bool). (T b → T (ltb (c .edge) edges && hasLength l)) → Go (Next (c ∷ [])) (cond b (cond (isOnEdge l (c .b0) && isOnEdge l (c .b1)) (state.addOf cuts windows limit flags mesh c s) (state.stopped 42)) (state.stopped 41))) (ltb (c .edge) edges && hasLength l)
       (λ y f. by-cases (λ (b : Bool). (T b → T (isOnEdge l (c .b0) && isOnEdge l (c .b1))) → Go (Next (c ∷ [])) (cond b (state.addOf cuts windows limit flags mesh c s) (state.stopped 42))) (isOnEdge l (c .b0) && isOnEdge l (c .b1))
-      (λ z g. add-after cuts windows limit flags mesh c s (proper (mesh .len) c d (and-right (ltb (c .edge) edges) (hasLength l) (f tt)) (and-left (isOnEdge l (c .b0)) (isOnEdge l (c .b1)) (g tt)) (and-right (isOnEdge l (c .b0)) (isOnEdge l (c .b1)) (g tt))) F)
+      (λ z g. add-after cuts windows limit flags mesh c s (proper (mesh .len) c d (and-r (ltb (c .edge) edges) (hasLength l) (f tt)) (and-l (isOnEdge l (c .b0)) (isOnEdge l (c .b1)) (g tt)) (and-r (isOnEdge l (c .b0)) (isOnEdge l (c .b1)) (g tt))) F)
       (λ z g. tt) (λ z. z))
       (λ y f. tt) (λ z. z)
 

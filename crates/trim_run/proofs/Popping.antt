@@ -20,6 +20,7 @@ use Rattle.heap.specs.Queue.{popped as Queue·popped}
 use Rattle.better.specs.Claim.{All}
 use Rattle.actions.specs.Actions as actions
 use Rattle.actions.specs.Actions.{Stock}
+use Rattle.trim_model.proofs.Lists.{all-map}
 use Rattle.trim_model.specs.Windows.{Window, unqueued}
 use Rattle.trim_state.specs.State.{State}
 use Rattle.live_windows.specs.Live.{nums, Alive, Stands, Holds, unqueuedIn, Unqueues}
@@ -38,13 +39,9 @@ kept i (u ∷ us) a = ap (λ (l : List Window). cond (eqb (u .num) i) (unqueued 
   go (yes d) = rw (eq-eqb (u .num) i d) (a .0 d)
   go (no d) = rw (ne-eqb (u .num) i d)
 
-each : (P Q : Window → Type 0) → ((u : Window) → P u → Q u) → (us : List Window) → All P us → All Q us
-each P Q f [] a = tt
-each P Q f (u ∷ us) a = (f u (a .0), each P Q f us (a .1))
-
 -- those of the first n windows, where i is none of them
 far-kept : (i n : ℕ) (w : List ℕ) (e : ℕ) (us : List Window) → n ≤ i → AllBelong n w e (nums us) → All (Kept i) us
-unfolding nums AllBelong
+unfolding nums
 far-kept i n w e [] h b = tt
 far-kept i n w e (u ∷ us) h b = let l = b .0 .made in ((λ d. absurd (omega (arith, h, l, d))), far-kept i n w e us h (b .1))
 
@@ -85,10 +82,10 @@ module _ (made : ℕ) (words : List ℕ) (reals : List Float) (x : Event) where
   clear-far h = clear-kept (λ m edges live H e l. far-kept (x .number) made words e (live e) h (H e l .chain .belong))
 
   pub clear-dead : hasFlag (getD words (4 * x .number + 2) 0) 2 ≡ false → Clears words
-  clear-dead h = clear-kept (λ m edges live H e l. each (Alive words reals) (Kept (x .number)) (dead-kept words reals (x .number) h) (live e) (H e l .windows))
+  clear-dead h = clear-kept (λ m edges live H e l. all-map {P = Alive words reals} {Q = Kept (x .number)} (dead-kept words reals (x .number) h) (live e) (H e l .windows))
 
   pub clear-idle : hasFlag (getD words (4 * x .number + 2) 0) 4 ≡ false → Clears words
-  clear-idle h = clear-kept (λ m edges live H e l. each (Alive words reals) (Kept (x .number)) (idle-kept words reals (x .number) h) (live e) (H e l .windows))
+  clear-idle h = clear-kept (λ m edges live H e l. all-map {P = Alive words reals} {Q = Kept (x .number)} (idle-kept words reals (x .number) h) (live e) (H e l .windows))
 
   pub clear-done : x .kind ≡ 0 → (words′ : List ℕ) → Unqueues words words′ (x .number) → Clears words′
   unfolding taken

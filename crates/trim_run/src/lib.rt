@@ -10,8 +10,8 @@ use heap::Popped;
 use source::Src;
 ghost use mathlib.Core.Path.{_≡_};
 ghost use mathlib.Core.List.{List};
-ghost use Prim.Native.Nat.{ℕ, _≤_};
-ghost use lib.ListN.{length};
+ghost use Prim.Native.Nat.{ℕ, _*_, _≤_};
+ghost use lib.ListN.{length, drop};
 ghost use lib.Ieee.{Float};
 ghost use Rattle.windows.specs.Windows.{capacityOf};
 ghost use Rattle.heap.specs.Queue.{popping};
@@ -155,7 +155,7 @@ pub fn refusal(m: u32, e: EdgeId, l: f64, b0: f64, b1: f64) -> u32
 // An event was popped: where it is of a live window that is queued, that window is so no more.
 fn clear_popped(words: &mut [u32], reals: &[f64], made: u32, x: Event)
     requires { ⌜ made ≤ capacityOf (length (now words)) (length (now reals)) ⌝ }
-    ensures { λ r. ⌜ ((m : ℕ) (edges : List ℕ) (live : ℕ → List Window) → Holds made m (links edges (now (words .entry))) (now (reals .entry)) live → Holds made m (links edges (now (words .exit))) (now (reals .entry)) (taken x live)) ⌝ }
+    ensures { λ r. ⌜ (drop (4 * made) (now (words .exit)) ≡ drop (4 * made) (now (words .entry))) × ((m : ℕ) (edges : List ℕ) (live : ℕ → List Window) → Holds made m (links edges (now (words .entry))) (now (reals .entry)) live → Holds made m (links edges (now (words .exit))) (now (reals .entry)) (taken x live)) ⌝ }
 {
     if x.kind == heap::WINDOW {
         if x.number < made {
@@ -183,7 +183,7 @@ pub fn pop(
     queued: u32,
 ) -> u32
     requires { ⌜ made ≤ capacityOf (length (now words)) (length (now reals)) ⌝ }
-    ensures { λ r. ⌜ ((m : ℕ) (edges : List ℕ) (vertex : List Float) (s : State) → Represents m made queued edges (now (words .entry)) (now (reals .entry)) (now (keys .entry)) (now (events .entry)) vertex s → Represents m made r edges (now (words .exit)) (now (reals .entry)) (now (keys .exit)) (now (events .exit)) vertex (Run·popped s (popping (s .stock .queue) (s .stock .queued)))) ⌝ }
+    ensures { λ r. ⌜ (drop (4 * made) (now (words .exit)) ≡ drop (4 * made) (now (words .entry))) × ((m : ℕ) (edges : List ℕ) (vertex : List Float) (s : State) → Represents m made queued edges (now (words .entry)) (now (reals .entry)) (now (keys .entry)) (now (events .entry)) vertex s → Represents m made r edges (now (words .exit)) (now (reals .entry)) (now (keys .exit)) (now (events .exit)) vertex (Run·popped s (popping (s .stock .queue) (s .stock .queued)))) ⌝ }
 {
     let popped = heap::pop(keys, events, queued);
     match popped {

@@ -10,7 +10,6 @@ use Rattle.buffers.specs.declared.EdgeId.{EdgeId}
 use Rattle.source.specs.Distance.{lowestOf}
 use Rattle.better.specs.Stretches.{Interval, interval}
 use Rattle.heap.specs.declared.Event.{Event}
-use Rattle.heap.specs.declared.Pushed.{Pushed}
 use Rattle.heap.specs.declared.Pushed.the-variants.{Full, Queued}
 use Rattle.heap.specs.Queue.{Queue, pushing}
 use Rattle.windows.specs.declared.WindowRecord.{WindowRecord}
@@ -25,7 +24,9 @@ use Rattle.trim_state.specs.State.{put}
 use Rattle.trim_state.specs.Trace.{windowEvent, making, makings, splitting}
 use Rattle.live_windows.specs.Live.{Holds, lastLink, liveOf, windowOf, ranged, Makes, Trims, Kills}
 use Rattle.trim_split.specs.Running.{Place, place, stockOf, End, stopped, at, Ran, Does}
-use Rattle.trim_split.proofs.Edges.{put-there, holds-again, last-link}
+use Rattle.live_windows.proofs.Lists.{put-here, last-snoc}
+use Rattle.trim_split.proofs.Edges.{holds-again}
+use Rattle.trim_split.proofs.Untouched.{untouched-made, untouched-killed, untouched-trimmed}
 use Rattle.trim_split.proofs.Running.{ran-none, does-then}
 
 module _ (cuts windows : ℕ) (limit : Float) (flags : List ℕ) (made queued : ℕ) (q : Queue) (vertex : List Float) where
@@ -84,9 +85,10 @@ module _ (cuts windows : ℕ) (limit : Float) (flags : List ℕ) (e : EdgeId) (x
       linked = omega arith;
       plays = h;
       holds = λ m live xs zs i l hs.
-          let g = makes .holds m (put (e .0) (xs ++ zs) live) xs zs i hs (put-there (e .0) (xs ++ zs) live) l .0 in
+          let g = makes .holds m (put (e .0) (xs ++ zs) live) xs zs i hs (put-here (e .0) (xs ++ zs) live) l .0 in
           subst (λ (u : Window). Holds (suc made) m b′ f′ (put (e .0) (xs ++ (u ∷ zs)) live)) (made-is e x k made b0 b1 low isLow) (holds-again (suc made) m b′ f′ (e .0) (xs ++ (liveOf (windowOf e (x .into) (x .queued) 0 (record { b0 = b0; b1 = b1; low = low; src = x .win .src })) made ∷ zs)) (xs ++ zs) live g);
-      after = λ xs l. sym (last-link xs (part (liveOf x k) b0 b1 made));
+      untouched = untouched-made (e .0) made queued last b f q vertex b′ f′ (windowOf e (x .into) (x .queued) 0 (record { b0 = b0; b1 = b1; low = low; src = x .win .src })) makes n (suc made) q′;
+      after = λ xs l. sym (last-snoc xs (part (liveOf x k) b0 b1 made));
     }
 
     module _ (n1 : ℕ) (next : n1 ≡ suc made) where
@@ -140,7 +142,8 @@ module _ (cuts windows : ℕ) (limit : Float) (flags : List ℕ) (e : ℕ) (x : 
     plays = play-nil cuts windows limit flags (stock made queued q vertex);
     holds = λ m live xs zs j k h.
         holds-again made m b′ f e (xs ++ zs) (xs ++ (liveOf x id ∷ zs)) live
-        (kills .holds m f (put e (xs ++ (liveOf x id ∷ zs)) live) xs (liveOf x id) zs j h (put-there e (xs ++ (liveOf x id ∷ zs)) live) k refl .0);
+        (kills .holds m f (put e (xs ++ (liveOf x id ∷ zs)) live) xs (liveOf x id) zs j h (put-here e (xs ++ (liveOf x id ∷ zs)) live) k refl .0);
+    untouched = untouched-killed e made queued last b f q vertex b′ id kills;
     after = λ xs k. k ∙ ap lastLink (sym (append-nil xs));
   }
 
@@ -158,10 +161,11 @@ module _ (cuts windows : ℕ) (limit : Float) (flags : List ℕ) (e : ℕ) (x : 
       linked = in-made;
       plays = play-nil cuts windows limit flags (stock made queued q vertex);
       holds = λ m live xs zs j k h.
-          let g = trims .holds made m b e (put e (xs ++ (liveOf x id ∷ zs)) live) xs (liveOf x id) zs j h (put-there e (xs ++ (liveOf x id ∷ zs)) live) refl .0 in
+          let g = trims .holds made m b e (put e (xs ++ (liveOf x id ∷ zs)) live) xs (liveOf x id) zs j h (put-here e (xs ++ (liveOf x id ∷ zs)) live) refl .0 in
           subst (λ (y : Float). Holds made m b f′ (put e (xs ++ (ranged (liveOf x id) (p0 .from) (p0 .to) y ∷ zs)) live)) isLow
           (holds-again made m b f′ e (xs ++ (ranged (liveOf x id) (p0 .from) (p0 .to) low ∷ zs)) (xs ++ (liveOf x id ∷ zs)) live g);
-      after = λ xs k. sym (last-link xs first);
+      untouched = untouched-trimmed e made queued last b f q vertex f′ id (p0 .from) (p0 .to) low in-made trims (suc id);
+      after = λ xs k. sym (last-snoc xs first);
     }
 
     pub split-some : (rest : List Interval) (end : End) (at1 : ℕ) → at1 ≡ suc id → Does cuts windows limit flags e (makings (liveOf x id) made rest) [] (fresh (liveOf x id) made rest) (place made queued at1 b f′ q vertex) end → DoesSplit (p0 ∷ rest) end

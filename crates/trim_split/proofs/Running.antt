@@ -9,6 +9,7 @@ use Rattle.trim_model.specs.Windows.{Window}
 use Rattle.live_windows.specs.Live.{lastLink}
 use Rattle.trim_split.specs.Running.{Place, stockOf, End, stopped, at, Ran, Does}
 use Rattle.trim_split.proofs.Edges.{holds-equal}
+use Rattle.trim_split.proofs.Untouched.{untouched-same, untouched-then}
 
 -- old windows between the first and the rest, and what stands for them
 regroup : (xs n o zs : List Window) → xs ++ (n ++ (o ++ zs)) ≡ (xs ++ n) ++ (o ++ zs)
@@ -25,6 +26,7 @@ module _ (cuts windows : ℕ) (limit : Float) (flags : List ℕ) (e : ℕ) where
     linked = l;
     plays = play-nil cuts windows limit flags (stockOf p);
     holds = λ m live xs zs j k h. h;
+    untouched = untouched-same (λ k. k ≡ e) p (p .queued) (p .last) (p .queue) (p .vertex);
     after = λ xs k. k ∙ ap lastLink (sym (append-nil xs));
   }
 
@@ -39,6 +41,7 @@ module _ (cuts windows : ℕ) (limit : Float) (flags : List ℕ) (e : ℕ) where
           let b = holds-equal (p1 .made) m (p1 .links) (p1 .reals) e (xs ++ (n1 ++ (o2 ++ zs))) ((xs ++ n1) ++ (o2 ++ zs)) live (regroup xs n1 o2 zs) (first .holds m live xs (o2 ++ zs) j k a) in
           holds-equal (p2 .made) m (p2 .links) (p2 .reals) e ((xs ++ n1) ++ (n2 ++ zs)) (xs ++ ((n1 ++ n2) ++ zs)) live (append-assoc xs n1 (n2 ++ zs) ∙ ap (λ (l : List Window). xs ++ l) (sym (append-assoc n1 n2 zs)))
           (second .holds m live (xs ++ n1) zs j (first .after xs k) b);
+      untouched = untouched-then (λ k. k ≡ e) p p1 p2 (first .untouched) (second .untouched);
       after = λ xs k. second .after (xs ++ n1) (first .after xs k) ∙ ap lastLink (append-assoc xs n1 n2);
     }
 

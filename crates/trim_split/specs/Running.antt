@@ -1,8 +1,9 @@
 -- What a part of `add` does to the buffers: its actions, and the windows that it puts in the place of others on the chain of the edge. Definitions only.
-use Prim.Native.Nat.{ℕ, _≤_, _<_}
+use Prim.Native.Nat.{ℕ, _+_, _*_, _≤_, _<_}
 use mathlib.Core.List.{List, _++_}
+use mathlib.Core.Logic.{_≢_}
 use mathlib.Core.Path.{_≡_}
-use lib.ListN.{length}
+use lib.ListN.{length, getD, drop}
 use lib.Ieee.{Float}
 use Rattle.buffers.specs.Slots.{slotsOf}
 use Rattle.windows.specs.Windows.{capacityOf}
@@ -53,6 +54,13 @@ pub record Ready (e made last : ℕ) (edges words : List ℕ) (reals : List Floa
   pub linked : last ≤ made
   pub edge : e < slotsOf (length edges) 6
 
+-- what stays as it is from p to p′: the slots past the windows that are made by then, and the edges' words but for the head of each edge at work and the link that it remembers
+pub record Untouched (AtWork : ℕ → Type 0) (p p′ : Place) : Type 0 where
+  pub more : p .made ≤ p′ .made
+  pub edges : (i : ℕ) → ((e : ℕ) → AtWork e → (i ≢ 6 * e + 4) × (i ≢ 6 * e + 5)) → getD (p′ .links .edges) i 0 ≡ getD (p .links .edges) i 0
+  pub words : drop (4 * p′ .made) (p′ .links .words) ≡ drop (4 * p′ .made) (p .links .words)
+  pub reals : drop (6 * p′ .made) (p′ .reals) ≡ drop (6 * p′ .made) (p .reals)
+
 -- the counts of the cut buffer and the window buffer, the limit, the flags of the vertices, and the edge
 module _ (cuts windows : ℕ) (limit : Float) (flags : List ℕ) (e : ℕ) where
   -- from p to p′ the actions are done, and behind p's link the windows `new` stand for `old`
@@ -61,6 +69,7 @@ module _ (cuts windows : ℕ) (limit : Float) (flags : List ℕ) (e : ℕ) where
     pub linked : p′ .last ≤ p′ .made
     pub plays : play cuts windows limit flags todo (stockOf p) ≡ actions.went (stockOf p′)
     pub holds : (m : ℕ) (live : ℕ → List Window) (xs zs : List Window) → e < m → p .last ≡ lastLink xs → Holds (p .made) m (p .links) (p .reals) (put e (xs ++ (old ++ zs)) live) → Holds (p′ .made) m (p′ .links) (p′ .reals) (put e (xs ++ (new ++ zs)) live)
+    pub untouched : Untouched (λ k. k ≡ e) p p′
     pub after : (xs : List Window) → p .last ≡ lastLink xs → p′ .last ≡ lastLink (xs ++ new)
 
   abbrev pub Does : List Action → List Window → List Window → Place → End → Type 0

@@ -6,6 +6,7 @@ use source::Win;
 use windows::WindowRecord;
 ghost use Prim.Native.Nat.{ℕ, suc, _+_, _≤_, _<_, pred};
 ghost use mathlib.Core.List.{List, [], _∷_};
+ghost use mathlib.Core.Path.{_≡_};
 ghost use lib.ListN.{length, drop};
 ghost use lib.Ieee.{Float};
 ghost use Rattle.buffers.specs.Slots.{slotsOf};
@@ -17,6 +18,7 @@ ghost use Rattle.chains.specs.Chains.{links};
 ghost use Rattle.trim_model.specs.Windows.{part, fresh, split};
 ghost use Rattle.trim_state.specs.Trace.{making, makings, splitting};
 ghost use Rattle.live_windows.specs.Live.{liveOf};
+ghost use Rattle.trim_split.specs.Trimmed.{trimmedTo};
 ghost use Rattle.trim_split.specs.Running.{Ready, Counted, place, endOf, Does};
 
 // How many windows are made, and how many events are queued.
@@ -29,6 +31,15 @@ pub struct Counts {
 pub enum Made {
     Stopped(u32),
     Went(Counts, u32),
+}
+
+// The part of a window from b0 to b1, with its lowest value there.
+pub fn trimmed(w: Win, b0: f64, b1: f64) -> Win
+    ensures { λ r. ⌜ r ≡ trimmedTo w b0 b1 ⌝ }
+{
+    let src = w.src;
+    let low = source::lowest(src, b0, b1);
+    Win { b0, b1, low, src }
 }
 
 // The part of window x from b0 to b1 is made, put behind a link of its edge, and queued if x is.
@@ -51,15 +62,13 @@ pub fn make_part(
     let made = counts.made;
     let queued = counts.queued;
     let old = x.win;
-    let src = old.src;
     if windows::capacity(words, reals) <= made {
         return Made::Stopped(12);
     }
-    let low = source::lowest(src, b0, b1);
-    let win = Win { b0, b1, low, src };
+    let win = trimmed(old, b0, b1);
     live_windows::make_window(edges, words, reals, made, e, before, x.into, x.queued, win);
     if x.queued {
-        let event = heap::window_event(low, WindowId(made));
+        let event = heap::window_event(win.low, WindowId(made));
         let pushed = heap::push(keys, events, queued, event);
         let Pushed::Queued(n) = pushed else {
             return Made::Stopped(13);
@@ -137,15 +146,14 @@ pub fn split_window(
 {
     let made = counts.made;
     let old = x.win;
-    let src = old.src;
     if n == 0 {
         live_windows::kill_window(edges, words, reals, made, e, before, id);
         return Made::Went(counts, before);
     }
     let b0 = cut_lists::from_of(pieces, 0);
     let b1 = cut_lists::to_of(pieces, 0);
-    let low = source::lowest(src, b0, b1);
-    live_windows::trim_window(words, reals, id, b0, b1, low);
+    let first = trimmed(old, b0, b1);
+    live_windows::trim_window(words, reals, id, b0, b1, first.low);
     make_parts(
         edges,
         words,

@@ -2,7 +2,7 @@
 use Prim.Native.Nat.{ℕ, suc, _+_, _≤_, _<_, pred}
 use mathlib.Core.Bool.{Bool, true, false}
 use mathlib.Core.List.{List, [], _∷_, _++_, map}
-use mathlib.Core.Logic.{_⊎_, inl, inr}
+use mathlib.Core.Logic.{inl, inr}
 use mathlib.Core.Path.{_≡_, refl, sym, ap, _∙_, subst}
 use native.Mathlib.Decide.{decLe}
 use native.Mathlib.Nat.{le-refl}
@@ -28,7 +28,8 @@ use Rattle.trim_state.proofs.Turns.{visiting-untouched, visiting-met, losing-no
 use Rattle.live_windows.specs.Live.{Holds, lastLink}
 use Rattle.trim_cut.specs.Cut.{lossLengths, lengths}
 use Rattle.trim_split.specs.Running.{Place, stockOf, End, stopped, at, Ran, Does}
-use Rattle.trim_split.proofs.Edges.{last-link}
+use Rattle.live_windows.proofs.Lists.{last-snoc}
+use Rattle.trim_split.proofs.Untouched.{untouched-same}
 use Rattle.trim_visit.specs.Visiting.{from, Kept}
 
 -- lists that come to so many entries
@@ -59,17 +60,10 @@ module _ (cuts windows : ℕ) (limit : Float) (flags : List ℕ) (s : Stock) whe
   -- some does not
   lists-stop : (ns : List ℕ) (rest : List Action) → Any (λ (n : ℕ). cuts < n) ns → played (lists ns ++ rest) ≡ actions.stopped 14
   lists-stop (n ∷ ns) rest (inl h) = list-stop n (lists ns ++ rest) h
-  lists-stop (n ∷ ns) rest (inr h) = elim (fits n) [
-    | inl i ↦ list-go n (lists ns ++ rest) i ∙ lists-stop ns rest h
-    | inr i ↦ list-stop n (lists ns ++ rest) i
+  lists-stop (n ∷ ns) rest (inr h) = elim (decLe n cuts) [
+    | yes i ↦ list-go n (lists ns ++ rest) i ∙ lists-stop ns rest h
+    | no i ↦ list-stop n (lists ns ++ rest) (omega arith)
   ]
-    where
-      fits : (n : ℕ) → (n ≤ cuts) ⊎ (cuts < n)
-      fits n = either (decLe n cuts)
-        where
-          either : Dec (n ≤ cuts) → (n ≤ cuts) ⊎ (cuts < n)
-          either (yes i) = inl i
-          either (no i) = inr (omega arith)
 
 -- what is done to u where there are stretches
 unfoldable lost : Window → ℕ → Float → List Interval → List Action
@@ -127,7 +121,8 @@ module _ (cuts windows : ℕ) (limit : Float) (flags : List ℕ) (e : ℕ) (p : 
     linked = inside;
     plays = h;
     holds = λ m live xs zs i l k. k;
-    after = λ xs l. sym (last-link xs u);
+    untouched = untouched-same (λ k. k ≡ e) p (p .queued) (suc (u .num)) (p .queue) (p .vertex);
+    after = λ xs l. sym (last-snoc xs u);
   }
 
 module _ (cuts windows : ℕ) (limit : Float) (flags : List ℕ) (e : ℕ) (t : Float) (w u : Window) (keep : List Interval) (p : Place) where
@@ -207,24 +202,22 @@ module _ (cuts windows : ℕ) (limit : Float) (flags : List ℕ) (e : ℕ) (t : 
           same (g ∷ l) y = let c : ⊥ = omega arith in absurd c
 
       -- it is: u is split
+      lost-some : (l : List Interval) → 0 < length l → lost u (p .made) t l ≡ splitting u (p .made) (pieces t (u .b0) (u .b1) l)
+      unfolding lost
+      lost-some [] y = let c : ⊥ = omega arith in absurd c
+      lost-some (g ∷ l) y = refl
+
       pub turn-split : (ps : List Interval) → ps ≡ pieces t (u .b0) (u .b1) gs → 0 < length gs → (end : End) → Does cuts windows limit flags e (splitting u (p .made) ps) (u ∷ []) (split u (p .made) ps) p end → Turn end
-      turn-split ps is z (stopped n) d = played-rest ∙ ap (λ (l : List Action). play cuts windows limit flags l (stockOf p)) (some gs z ∙ ap (splitting u (p .made)) (sym is)) ∙ d
-        where
-          some : (l : List Interval) → 0 < length l → lost u (p .made) t l ≡ splitting u (p .made) (pieces t (u .b0) (u .b1) l)
-          some [] y = let c : ⊥ = omega arith in absurd c
-          some (g ∷ l) y = unfold lost in refl
+      turn-split ps is z (stopped n) d = played-rest ∙ ap (λ (l : List Action). play cuts windows limit flags l (stockOf p)) (lost-some gs z ∙ ap (splitting u (p .made)) (sym is)) ∙ d
       turn-split ps is z (at p′) d = record {
         fits = d .fits;
         linked = d .linked;
-        plays = played-rest ∙ ap (λ (l : List Action). play cuts windows limit flags l (stockOf p)) (some gs z ∙ ap (splitting u (p .made)) (sym is)) ∙ d .plays;
+        plays = played-rest ∙ ap (λ (l : List Action). play cuts windows limit flags l (stockOf p)) (lost-some gs z ∙ ap (splitting u (p .made)) (sym is)) ∙ d .plays;
         holds = λ m live xs zs i l k. subst (λ (ys : List Window). Holds (p′ .made) m (p′ .links) (p′ .reals) (put e (xs ++ (ys ++ zs)) live)) (sym same) (d .holds m live xs zs i l k);
+        untouched = d .untouched;
         after = λ xs l. d .after xs l ∙ ap (λ (ys : List Window). lastLink (xs ++ ys)) (sym same);
       }
         where
-          some : (l : List Interval) → 0 < length l → lost u (p .made) t l ≡ splitting u (p .made) (pieces t (u .b0) (u .b1) l)
-          some [] y = let c : ⊥ = omega arith in absurd c
-          some (g ∷ l) y = unfold lost in refl
-
           parts : (l : List Interval) → 0 < length l → leftOf u (p .made) t l ≡ split u (p .made) (pieces t (u .b0) (u .b1) l)
           parts [] y = let c : ⊥ = omega arith in absurd c
           parts (g ∷ l) y = refl

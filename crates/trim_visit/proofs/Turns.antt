@@ -1,5 +1,5 @@
 -- The loop over the run, turn by turn. Assumes nothing.
-use Prim.Native.Nat.{ℕ, suc, _+_, _≤_, _<_}
+use Prim.Native.Nat.{ℕ, suc, _≤_, _<_}
 use mathlib.Core.Bool.{true, false}
 use mathlib.Core.List.{List, [], _∷_, _++_, append-assoc}
 use mathlib.Core.Path.{_≡_, refl, sym, ap, _∙_, subst}
@@ -21,7 +21,8 @@ use Rattle.trim_state.specs.Trace.{visiting, visitings}
 use Rattle.live_windows.specs.Live.{Holds, nums, lastLink, liveOf, Follows, Loads}
 use Rattle.trim_split.specs.declared.Counts.{Counts}
 use Rattle.trim_split.specs.Running.{Place, stockOf, End, stopped, at, Ran, Does}
-use Rattle.trim_split.proofs.Edges.{put-there, holds-equal}
+use Rattle.live_windows.proofs.Lists.{put-here}
+use Rattle.trim_split.proofs.Edges.{holds-equal}
 use Rattle.trim_split.proofs.Running.{ran-none, does-then, does-as}
 use Rattle.trim_visit.specs.declared.Visited.{Visited}
 use Rattle.trim_visit.specs.declared.Visited.the-variants.{Stopped, Went}
@@ -61,14 +62,14 @@ module _ (cuts windows : ℕ) (limit : Float) (flags : List ℕ) (e : ℕ) (t : 
     module _ (left r : ℕ) (follows : Follows (p .made) (p .links) e (p .last) r) where
       pub all-end : r ≡ 0 → VisitsAll cuts windows limit flags e t w (λ zs. length zs ≤ left) keep p (Went c (p .last) k) (at p) keep′
       all-end z m live xs [] i n l h = done [] (take-nil (startsBefore (w .b1 ⊕ t)))
-      all-end z m live xs (u ∷ us) i n l h = absurd (no-first u us (sym z ∙ follows .first m (p .reals) (put e (xs ++ (u ∷ us)) live) xs (u ∷ us) i h (put-there e (xs ++ (u ∷ us)) live) l))
+      all-end z m live xs (u ∷ us) i n l h = absurd (no-first u us (sym z ∙ follows .first m (p .reals) (put e (xs ++ (u ∷ us)) live) xs (u ∷ us) i h (put-here e (xs ++ (u ∷ us)) live) l))
 
       -- the next window starts behind the new one's end
       pub all-over : (i : ℕ) → r ≡ suc i → (x : WindowRecord) → Loads (p .links .words) (p .reals) i x → startsBefore (w .b1 ⊕ t) (liveOf x i) ≡ false → VisitsAll cuts windows limit flags e t w (λ zs. length zs ≤ left) keep p (Went c (p .last) k) (at p) keep′
-      all-over i z x loads b m live xs [] j n l h = absurd (no-last i (sym z ∙ follows .first m (p .reals) (put e (xs ++ []) live) xs [] j h (put-there e (xs ++ []) live) l))
+      all-over i z x loads b m live xs [] j n l h = absurd (no-last i (sym z ∙ follows .first m (p .reals) (put e (xs ++ []) live) xs [] j h (put-here e (xs ++ []) live) l))
       all-over i z x loads b m live xs (u ∷ us) j n l h =
-          let f = first-num i u us (sym z ∙ follows .first m (p .reals) (put e (xs ++ (u ∷ us)) live) xs (u ∷ us) j h (put-there e (xs ++ (u ∷ us)) live) l) in
-          let v = loads .live (p .made) m (p .links .edges) e (put e (xs ++ (u ∷ us)) live) xs u us j h (put-there e (xs ++ (u ∷ us)) live) f .0 in
+          let f = first-num i u us (sym z ∙ follows .first m (p .reals) (put e (xs ++ (u ∷ us)) live) xs (u ∷ us) j h (put-here e (xs ++ (u ∷ us)) live) l) in
+          let v = loads .live (p .made) m (p .links .edges) e (put e (xs ++ (u ∷ us)) live) xs u us j h (put-here e (xs ++ (u ∷ us)) live) f .0 in
           done (u ∷ us) (take-no (startsBefore (w .b1 ⊕ t)) u us (subst (λ (y : Window). startsBefore (w .b1 ⊕ t) y ≡ false) v b))
 
   -- a window is visited
@@ -82,10 +83,10 @@ module _ (cuts windows : ℕ) (limit : Float) (flags : List ℕ) (e : ℕ) (t : 
     -- what is known of the list, and so of what stands there
     module _ (r′ : Visited) (end : End) (keep′ : List Float) (each : (m : ℕ) (live : ℕ → List Window) (xs zs : List Window) → e < m → length (u ∷ zs) ≤ left → p .last ≡ lastLink xs → Holds (p .made) m (p .links) (p .reals) (put e (xs ++ (u ∷ zs)) live) → Goal (u ∷ zs) r′ end keep′) where
       pub all-there : VisitsAll cuts windows limit flags e t w (λ zs. length zs ≤ left) keep p r′ end keep′
-      all-there m live xs [] j n l h = absurd (no-last i (sym z ∙ follows .first m (p .reals) (put e (xs ++ []) live) xs [] j h (put-there e (xs ++ []) live) l))
+      all-there m live xs [] j n l h = absurd (no-last i (sym z ∙ follows .first m (p .reals) (put e (xs ++ []) live) xs [] j h (put-here e (xs ++ []) live) l))
       all-there m live xs (v ∷ zs) j n l h =
-          let f = first-num i v zs (sym z ∙ follows .first m (p .reals) (put e (xs ++ (v ∷ zs)) live) xs (v ∷ zs) j h (put-there e (xs ++ (v ∷ zs)) live) l) in
-          let s = loads .live (p .made) m (p .links .edges) e (put e (xs ++ (v ∷ zs)) live) xs v zs j h (put-there e (xs ++ (v ∷ zs)) live) f .0 in
+          let f = first-num i v zs (sym z ∙ follows .first m (p .reals) (put e (xs ++ (v ∷ zs)) live) xs (v ∷ zs) j h (put-here e (xs ++ (v ∷ zs)) live) l) in
+          let s = loads .live (p .made) m (p .links .edges) e (put e (xs ++ (v ∷ zs)) live) xs v zs j h (put-here e (xs ++ (v ∷ zs)) live) f .0 in
           subst (λ (y : Window). Goal (y ∷ zs) r′ end keep′) s
           (each m live xs zs j n l (subst (λ (y : Window). Holds (p .made) m (p .links) (p .reals) (put e (xs ++ (y ∷ zs)) live)) (sym s) h))
 

@@ -1,14 +1,14 @@
 -- The laws that make the window buffer a list of windows.
-use Prim.Native.Nat.{ℕ, zero, suc, _+_, _*_, _<_, _≤_}
+use Prim.Native.Nat.{ℕ, suc, _+_, _*_, _<_, _≤_}
 use native.Mathlib.Omega.{arith}
-use native.Mathlib.Decide.{ℕ-discrete}
 use mathlib.Core.Bool.{Bool, true, false, cond}
 use mathlib.Core.Path.{_≡_, refl, sym, ap, _∙_}
 use mathlib.Core.List.{List, [], _∷_, _++_}
 use mathlib.Core.Logic.{_≢_}
-use lib.ListN.{length, getD, set, length-append}
-use lib.Seq.{set-at, set-append-left}
+use lib.ListN.{length, getD, set}
 use lib.Ieee.{Float, nan}
+use Rattle.nat_laws.specs.Lists.{listOf}
+use Rattle.nat_laws.proofs.Lists.{length-listOf, listOf-same, listOf-set}
 use Rattle.buffers.specs.Slots.{slot}
 use Rattle.buffers.proofs.Strides.{in-slots, slot-at, slot-set-same, slot-set-other, length-slot, length-fill, fill-sets, fill-same, fill-other}
 use Rattle.windows.specs.declared.WindowRecord.{WindowRecord}
@@ -236,21 +236,17 @@ module _ (w : List ℕ) (f : List Float) (k v : ℕ) where
 -- ---- the first n windows, as a list
 pub length-windows : (n : ℕ) (w : List ℕ) (f : List Float) → length (windows n w f) ≡ n
 unfolding windows
-length-windows zero w f = refl
-length-windows (suc n) w f = length-append (windows n w f) (windowAt w f n ∷ []) ∙ simp (length-windows n w f) (omega arith)
+length-windows n w f = length-listOf n (windowAt w f)
 
 -- slices that hold the same windows below n have the same list
 pub windows-same : (n : ℕ) (w w′ : List ℕ) (f f′ : List Float) → ((j : ℕ) → j < n → windowAt w′ f′ j ≡ windowAt w f j) → windows n w′ f′ ≡ windows n w f
 unfolding windows
-windows-same zero w w′ f f′ h = refl
-windows-same (suc n) w w′ f f′ h =
-    ap (λ l. l ++ (windowAt w′ f′ n ∷ [])) (windows-same n w w′ f f′ (λ j l. h j (omega arith)))
-    ∙ ap (λ x. windows n w f ++ (x ∷ [])) (h n (omega arith))
+windows-same n w w′ f f′ = listOf-same n (windowAt w f) (windowAt w′ f′)
 
 -- a window stored past the first n is appended
 pub windows-push : (n : ℕ) (w : List ℕ) (f : List Float) (x : WindowRecord) → 4 * n + 4 ≤ length w → 6 * n + 6 ≤ length f
     → windows (suc n) (wordsWith w n x) (realsWith f n (x .win)) ≡ windows n w f ++ (x ∷ [])
-unfolding windows
+unfolding windows listOf
 windows-push n w f x p q =
     ap (λ l. l ++ (windowAt (wordsWith w n x) (realsWith f n (x .win)) n ∷ []))
     (windows-same n w (wordsWith w n x) f (realsWith f n (x .win)) (λ j h. load-other w f n x j (omega arith)))
@@ -260,13 +256,4 @@ windows-push n w f x p q =
 pub windows-set : (n : ℕ) (w w′ : List ℕ) (f f′ : List Float) (k : ℕ) → k < n → ((j : ℕ) → j < n → k ≢ j → windowAt w′ f′ j ≡ windowAt w f j)
     → windows n w′ f′ ≡ set (windows n w f) k (windowAt w′ f′ k)
 unfolding windows
-windows-set zero w w′ f f′ k b h = absurd (omega arith)
-windows-set (suc n) w w′ f f′ k b h = go (ℕ-discrete k n) (λ l. windows-set n w w′ f f′ k l (λ j m. h j (omega arith))) where
-  go : Dec (k ≡ n) → (k < n → windows n w′ f′ ≡ set (windows n w f) k (windowAt w′ f′ k)) → windows n w′ f′ ++ (windowAt w′ f′ n ∷ []) ≡ set (windows n w f ++ (windowAt w f n ∷ [])) k (windowAt w′ f′ k)
-  go (yes e) ih = rw e
-      (ap (λ l. l ++ (windowAt w′ f′ n ∷ [])) (windows-same n w w′ f f′ (λ j l. h j (omega arith) (λ t. omega (arith, t, e, l))))
-      ∙ sym (set-at (windows n w f) (windowAt w f n) [] (windowAt w′ f′ n) n (length-windows n w f)))
-  go (no e) ih =
-      ap (λ l. l ++ (windowAt w′ f′ n ∷ [])) (ih (omega (arith, e)))
-      ∙ ap (λ x. set (windows n w f) k (windowAt w′ f′ k) ++ (x ∷ [])) (h n (omega arith) e)
-      ∙ sym (set-append-left (windows n w f) (windowAt w f n ∷ []) k (windowAt w′ f′ k) (rw (length-windows n w f) (omega (arith, e))))
+windows-set n w w′ f f′ = listOf-set n (windowAt w f) (windowAt w′ f′)

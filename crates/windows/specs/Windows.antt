@@ -1,10 +1,11 @@
 -- The window buffer as a list of windows. Its u32 slots are edge, into, flags, link; its f64 slots b0, b1, low and three of the source.
-use Prim.Native.Nat.{ℕ, zero, suc, _+_, _*_, _/_, _%_, min}
+use Prim.Native.Nat.{ℕ, _+_, _*_, _/_, _%_, min}
 use mathlib.Core.Bool.{Bool, true, false, cond}
-use mathlib.Core.List.{List, [], _∷_, _++_}
+use mathlib.Core.List.{List, [], _∷_}
 use lib.Dec.{eqb}
 use lib.ListN.{getD, set}
 use lib.Ieee.{Float, nan}
+use Rattle.nat_laws.specs.Lists.{listOf}
 use Rattle.buffers.specs.Slots.{slotsOf, fill}
 use Rattle.source.specs.declared.Src.{Src}
 use Rattle.source.specs.declared.Src.the-variants.{Point, Line}
@@ -124,5 +125,4 @@ relinked x link = record {
 
 -- the Rust's `wins`: the first n windows
 unfoldable pub windows : ℕ → List ℕ → List Float → List WindowRecord
-windows zero w f = []
-windows (suc n) w f = windows n w f ++ (windowAt w f n ∷ [])
+windows n w f = listOf n (windowAt w f)

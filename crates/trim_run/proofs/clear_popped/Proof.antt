@@ -1,4 +1,4 @@
-use mathlib.Core.Path.{ap, sym, _∙_}
+use mathlib.Core.Path.{refl, ap, sym, _∙_}
 use Rattle.windows.specs.Windows.{hasFlag}
 use Rattle.trim_run.proofs.Popping.{clear-done, clear-idle, clear-dead, clear-far, clear-vertex}
 use borrow.Author.Needs.{needs}
@@ -21,25 +21,25 @@ same-length : tie.Need-same-length
 same-length c = search needs
 
 returns : tie.Need-returns
-returns c = let a = c .before .before .before .before .before .before .before .before .before .before .before .before .before .before .before .before .args in clear-done (a .made) (a .words .now) (a .reals .now) (a .x) (c .before .before .before .before .before .before .before .before .before .before .before .before .if1 .taken) (c .before .before .unqueue .last .0) (c .before .before .unqueue .ensures)
+returns c = let a = c .before .before .before .before .before .before .before .before .before .before .before .before .before .before .before .before .args in (c .before .before .unqueue .ensures .words (a .made) (c .before .before .before .before .before .before .before .before .before .before .if2 .taken), clear-done (a .made) (a .words .now) (a .reals .now) (a .x) (c .before .before .before .before .before .before .before .before .before .before .before .before .if1 .taken) (c .before .before .unqueue .last .0) (c .before .before .unqueue .ensures))
 
 same-length-2 : tie.Need-same-length-2
 same-length-2 c = search needs
 
 returns-2 : tie.Need-returns-2
-returns-2 c = let a = c .before .before .before .before .before .before .before .before .before .before .before .before .args in clear-idle (a .made) (a .words .now) (a .reals .now) (a .x) (ap (λ z. hasFlag z 4) (sym (c .before .before .before .before .read-u32 .ensures)) ∙ sym (c .before .has-flag2 .ensures) ∙ c .if4 .left)
+returns-2 c = let a = c .before .before .before .before .before .before .before .before .before .before .before .before .args in (refl, clear-idle (a .made) (a .words .now) (a .reals .now) (a .x) (ap (λ z. hasFlag z 4) (sym (c .before .before .before .before .read-u32 .ensures)) ∙ sym (c .before .has-flag2 .ensures) ∙ c .if4 .left))
 
 same-length-3 : tie.Need-same-length-3
 same-length-3 c = search needs
 
 returns-3 : tie.Need-returns-3
-returns-3 c = let a = c .before .before .before .before .before .before .before .before .before .before .args in clear-dead (a .made) (a .words .now) (a .reals .now) (a .x) (ap (λ z. hasFlag z 2) (sym (c .before .before .read-u32 .ensures)) ∙ sym (c .before .has-flag .ensures) ∙ c .if3 .left)
+returns-3 c = let a = c .before .before .before .before .before .before .before .before .before .before .args in (refl, clear-dead (a .made) (a .words .now) (a .reals .now) (a .x) (ap (λ z. hasFlag z 2) (sym (c .before .before .read-u32 .ensures)) ∙ sym (c .before .has-flag .ensures) ∙ c .if3 .left))
 
 returns-4 : tie.Need-returns-4
-returns-4 c = let a = c .before .before .before .before .before .before .args in clear-far (a .made) (a .words .now) (a .reals .now) (a .x) (c .if2 .left)
+returns-4 c = let a = c .before .before .before .before .before .before .args in (refl, clear-far (a .made) (a .words .now) (a .reals .now) (a .x) (c .if2 .left))
 
 returns-5 : tie.Need-returns-5
-returns-5 c = let a = c .before .before .before .before .args in clear-vertex (a .made) (a .words .now) (a .reals .now) (a .x) (c .if1 .left)
+returns-5 c = let a = c .before .before .before .before .args in (refl, clear-vertex (a .made) (a .words .now) (a .reals .now) (a .x) (c .if1 .left))
 
 pub clear-popped-spec : {M : Type 1} → statement M
 clear-popped-spec =

@@ -1,3 +1,4 @@
+use mathlib.Core.Path.{refl}
 use Rattle.trim_run.proofs.Popping.{popped-none, popped-one}
 use borrow.Author.Needs.{needs}
 use Rattle.trim_run.proofs.pop.Statement.{statement}
@@ -22,7 +23,7 @@ same-length-2 : tie.Need-same-length-2
 same-length-2 c = search needs
 
 returns : tie.Need-returns
-returns c = let a = c .before .before .before .before .before .before .before .before .before .before .before .before .before .args in λ m edges vertex s R. popped-none m (a .made) (a .queued) edges (a .words .now) (a .reals .now) (a .keys .now) (a .events .now) vertex s R (c .before .before .before .before .before .before .pop .last .0) (c .before .before .before .before .before .before .pop .last .1 .0) (rw (c .enum-told .given .1) at (c .before .before .before .before .before .before .pop .ensures))
+returns c = let a = c .before .before .before .before .before .before .before .before .before .before .before .before .before .args in (refl, λ m edges vertex s R. popped-none m (a .made) (a .queued) edges (a .words .now) (a .reals .now) (a .keys .now) (a .events .now) vertex s R (c .before .before .before .before .before .before .pop .last .0) (c .before .before .before .before .before .before .pop .last .1 .0) (rw (c .enum-told .given .1) at (c .before .before .before .before .before .before .pop .ensures)))
 
 same-length-3 : tie.Need-same-length-3
 same-length-3 c = search needs
@@ -34,7 +35,7 @@ same-length-5 : tie.Need-same-length-5
 same-length-5 c = search needs
 
 returns-2 : tie.Need-returns-2
-returns-2 c = let a = c .before .before .before .before .before .before .before .before .before .before .before .before .before .before .before .before .before .before .args in λ m edges vertex s R. popped-one m (a .made) (a .queued) edges (a .words .now) (a .reals .now) (a .keys .now) (a .events .now) vertex s R (c .before .before .before .before .before .before .before .before .before .before .before .pop .last .0) (c .before .before .before .before .before .before .before .before .before .before .before .pop .last .1 .0) (c .before .before .before .before .before .popped .given .0 .0) (c .before .before .before .before .before .popped .given .0 .1 .0) (rw (c .before .before .before .before .before .popped .given .1) at (c .before .before .before .before .before .before .before .before .before .before .before .pop .ensures)) (c .before .before .clear-popped .last .0) (c .before .before .clear-popped .ensures)
+returns-2 c = let a = c .before .before .before .before .before .before .before .before .before .before .before .before .before .before .before .before .before .before .args in (c .before .before .clear-popped .ensures .0, λ m edges vertex s R. popped-one m (a .made) (a .queued) edges (a .words .now) (a .reals .now) (a .keys .now) (a .events .now) vertex s R (c .before .before .before .before .before .before .before .before .before .before .before .pop .last .0) (c .before .before .before .before .before .before .before .before .before .before .before .pop .last .1 .0) (c .before .before .before .before .before .popped .given .0 .0) (c .before .before .before .before .before .popped .given .0 .1 .0) (rw (c .before .before .before .before .before .popped .given .1) at (c .before .before .before .before .before .before .before .before .before .before .before .pop .ensures)) (c .before .before .clear-popped .last .0) (c .before .before .clear-popped .ensures .1))
 
 pub pop-spec : {M : Type 1} → statement M
 pop-spec =

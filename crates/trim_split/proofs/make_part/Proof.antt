@@ -1,8 +1,10 @@
 -- `trim_split::make_part` meets its contract. Assumes nothing.
 use Prim.Native.Nat.{_+_}
+use mathlib.Core.Path.{refl}
 use native.Mathlib.Omega.{arith}
 use native.Mathlib.Numerals.{add-one}
 use lib.ListN.{length}
+use Rattle.source.specs.Distance.{lowestOf}
 use Rattle.heap.specs.Queue.{queue}
 use Rattle.windows.specs.Windows.{capacityOf}
 use Rattle.chains.specs.Chains.{links}
@@ -25,8 +27,8 @@ returns c =
     let a = c .before .before .before .before .before .before .before .before .before .before .args in
     (tt, λ cuts limit flags vertex k. part-none cuts (capacityOf (length (a .words .now)) (length (a .reals .now))) limit flags (a .e) (a .x) k (a .b0) (a .b1) (a .counts .made) (a .counts .queued) (a .before) (links (a .edges .now) (a .words .now)) (a .reals .now) (queue (a .keys .now) (a .events .now)) vertex (omega (arith, c .before .capacity .ensures, c .if1 .taken)))
 
-lowest-requires : tie.Need-lowest-requires
-lowest-requires c κs = search needs
+trimmed-requires : tie.Need-trimmed-requires
+trimmed-requires c κs = search needs
 
 make-window-requires : tie.Need-make-window-requires
 make-window-requires c κs = search needs
@@ -61,13 +63,13 @@ same-length-7 c = search needs
 returns-2 : tie.Need-returns-2
 returns-2 c =
     let a = c .before .before .before .before .before .before .before .before .before .before .before .before .before .before .before .before .before .before .before .before .before .before .before .before .before .before .before .before .before .before .before .before .args in
-    (tt, λ cuts limit flags vertex k. part-full cuts (capacityOf (length (a .words .now)) (length (a .reals .now))) limit flags (a .e) (a .x) k (a .b0) (a .b1) (a .counts .made) (a .counts .queued) (a .before) (links (a .edges .now) (a .words .now)) (a .reals .now) (queue (a .keys .now) (a .events .now)) vertex (omega (arith, c .before .before .before .before .before .before .before .before .before .before .before .before .before .before .before .before .before .before .before .before .before .before .before .capacity .ensures, c .before .before .before .before .before .before .before .before .before .before .before .before .before .before .before .before .before .before .before .before .before .before .if1 .left)) (c .before .before .before .before .before .before .before .before .before .before .before .before .before .before .before .before .before .before .before .before .before .lowest .result) (c .before .before .before .before .before .before .before .before .before .before .before .before .before .before .before .before .before .before .before .before .before .lowest .ensures) (links (c .before .before .before .before .before .before .before .before .before .before .before .before .before .before .before .before .before .make-window .last .0) (c .before .before .before .before .before .before .before .before .before .before .before .before .before .before .before .before .before .make-window .last .1 .0)) (c .before .before .before .before .before .before .before .before .before .before .before .before .before .before .before .before .before .make-window .last .1 .1 .0) (c .before .before .before .before .before .before .before .before .before .before .before .before .before .before .before .before .before .make-window .ensures) (c .before .before .before .before .before .before .before .before .before .before .if2 .taken) (c .before .before .before .before .before .before .before .before .before .window-event .result) (c .before .before .before .before .before .before .before .before .before .window-event .ensures) (queue (c .before .before .before .before .before .before .push .last .0) (c .before .before .before .before .before .before .push .last .1 .0)) (rw (c .enum-told .given .1) at (c .before .before .before .before .before .before .push .ensures)))
+    (tt, λ cuts limit flags vertex k. part-full cuts (capacityOf (length (a .words .now)) (length (a .reals .now))) limit flags (a .e) (a .x) k (a .b0) (a .b1) (a .counts .made) (a .counts .queued) (a .before) (links (a .edges .now) (a .words .now)) (a .reals .now) (queue (a .keys .now) (a .events .now)) vertex (omega (arith, c .before .before .before .before .before .before .before .before .before .before .before .before .before .before .before .before .before .before .before .before .before .before .before .capacity .ensures, c .before .before .before .before .before .before .before .before .before .before .before .before .before .before .before .before .before .before .before .before .before .before .if1 .left)) (lowestOf (a .x .win .src) (a .b0) (a .b1)) refl (links (c .before .before .before .before .before .before .before .before .before .before .before .before .before .before .before .before .before .make-window .last .0) (c .before .before .before .before .before .before .before .before .before .before .before .before .before .before .before .before .before .make-window .last .1 .0)) (c .before .before .before .before .before .before .before .before .before .before .before .before .before .before .before .before .before .make-window .last .1 .1 .0) (rw (c .before .before .before .before .before .before .before .before .before .before .before .before .before .before .before .before .before .before .before .before .before .trimmed .ensures) at (c .before .before .before .before .before .before .before .before .before .before .before .before .before .before .before .before .before .make-window .ensures)) (c .before .before .before .before .before .before .before .before .before .before .if2 .taken) (c .before .before .before .before .before .before .before .before .before .window-event .result) (rw (c .before .before .before .before .before .before .before .before .before .before .before .before .before .before .before .before .before .before .before .before .before .trimmed .ensures) at (c .before .before .before .before .before .before .before .before .before .window-event .ensures)) (queue (c .before .before .before .before .before .before .push .last .0) (c .before .before .before .before .before .before .push .last .1 .0)) (rw (c .enum-told .given .1) at (c .before .before .before .before .before .before .push .ensures)))
+
+add-t37 : tie.Need-add-t37
+add-t37 c = search needs
 
 add-t39 : tie.Need-add-t39
 add-t39 c = search needs
-
-add-t41 : tie.Need-add-t41
-add-t41 c = search needs
 
 same-length-8 : tie.Need-same-length-8
 same-length-8 c = search needs
@@ -87,13 +89,13 @@ same-length-12 c = search needs
 returns-3 : tie.Need-returns-3
 returns-3 c =
     let a = c .before .before .before .before .before .before .before .before .before .before .before .before .before .before .before .before .before .before .before .before .before .before .before .before .before .before .before .before .before .before .before .before .before .args in
-    (add-one (a .counts .made), λ cuts limit flags vertex k. part-queued cuts (capacityOf (length (a .words .now)) (length (a .reals .now))) limit flags (a .e) (a .x) k (a .b0) (a .b1) (a .counts .made) (a .counts .queued) (a .before) (links (a .edges .now) (a .words .now)) (a .reals .now) (queue (a .keys .now) (a .events .now)) vertex (omega (arith, c .before .before .before .before .before .before .before .before .before .before .before .before .before .before .before .before .before .before .before .before .before .before .before .before .capacity .ensures, c .before .before .before .before .before .before .before .before .before .before .before .before .before .before .before .before .before .before .before .before .before .before .before .if1 .left)) (c .before .before .before .before .before .before .before .before .before .before .before .before .before .before .before .before .before .before .before .before .before .before .lowest .result) (c .before .before .before .before .before .before .before .before .before .before .before .before .before .before .before .before .before .before .before .before .before .before .lowest .ensures) (links (c .before .before .before .before .before .before .before .before .before .before .before .before .before .before .before .before .before .before .make-window .last .0) (c .before .before .before .before .before .before .before .before .before .before .before .before .before .before .before .before .before .before .make-window .last .1 .0)) (c .before .before .before .before .before .before .before .before .before .before .before .before .before .before .before .before .before .before .make-window .last .1 .1 .0) (c .before .before .before .before .before .before .before .before .before .before .before .before .before .before .before .before .before .before .make-window .ensures) (c .before .before .before .before .before .before .before .before .before .before .before .if2 .taken) (c .before .before .before .before .before .before .before .before .before .before .window-event .result) (c .before .before .before .before .before .before .before .before .before .before .window-event .ensures) (queue (c .before .before .before .before .before .before .before .push .last .0) (c .before .before .before .before .before .before .before .push .last .1 .0)) (a .counts .made + 1) (add-one (a .counts .made)) (c .before .pushed .given .0 .0) (rw (c .before .pushed .given .1) at (c .before .before .before .before .before .before .before .push .ensures)))
+    (add-one (a .counts .made), λ cuts limit flags vertex k. part-queued cuts (capacityOf (length (a .words .now)) (length (a .reals .now))) limit flags (a .e) (a .x) k (a .b0) (a .b1) (a .counts .made) (a .counts .queued) (a .before) (links (a .edges .now) (a .words .now)) (a .reals .now) (queue (a .keys .now) (a .events .now)) vertex (omega (arith, c .before .before .before .before .before .before .before .before .before .before .before .before .before .before .before .before .before .before .before .before .before .before .before .before .capacity .ensures, c .before .before .before .before .before .before .before .before .before .before .before .before .before .before .before .before .before .before .before .before .before .before .before .if1 .left)) (lowestOf (a .x .win .src) (a .b0) (a .b1)) refl (links (c .before .before .before .before .before .before .before .before .before .before .before .before .before .before .before .before .before .before .make-window .last .0) (c .before .before .before .before .before .before .before .before .before .before .before .before .before .before .before .before .before .before .make-window .last .1 .0)) (c .before .before .before .before .before .before .before .before .before .before .before .before .before .before .before .before .before .before .make-window .last .1 .1 .0) (rw (c .before .before .before .before .before .before .before .before .before .before .before .before .before .before .before .before .before .before .before .before .before .before .trimmed .ensures) at (c .before .before .before .before .before .before .before .before .before .before .before .before .before .before .before .before .before .before .make-window .ensures)) (c .before .before .before .before .before .before .before .before .before .before .before .if2 .taken) (c .before .before .before .before .before .before .before .before .before .before .window-event .result) (rw (c .before .before .before .before .before .before .before .before .before .before .before .before .before .before .before .before .before .before .before .before .before .before .trimmed .ensures) at (c .before .before .before .before .before .before .before .before .before .before .window-event .ensures)) (queue (c .before .before .before .before .before .before .before .push .last .0) (c .before .before .before .before .before .before .before .push .last .1 .0)) (a .counts .made + 1) (add-one (a .counts .made)) (c .before .pushed .given .0 .0) (rw (c .before .pushed .given .1) at (c .before .before .before .before .before .before .before .push .ensures)))
 
-add-t21 : tie.Need-add-t21
-add-t21 c = search needs
+add-t19 : tie.Need-add-t19
+add-t19 c = search needs
 
-add-t43 : tie.Need-add-t43
-add-t43 c = search needs
+add-t41 : tie.Need-add-t41
+add-t41 c = search needs
 
 same-length-13 : tie.Need-same-length-13
 same-length-13 c = search needs
@@ -107,7 +109,7 @@ same-length-15 c = search needs
 returns-4 : tie.Need-returns-4
 returns-4 c =
     let a = c .before .before .before .before .before .before .before .before .before .before .before .before .before .before .before .before .before .before .before .before .before .before .args in
-    (add-one (a .counts .made), λ cuts limit flags vertex k. part-quiet cuts (capacityOf (length (a .words .now)) (length (a .reals .now))) limit flags (a .e) (a .x) k (a .b0) (a .b1) (a .counts .made) (a .counts .queued) (a .before) (links (a .edges .now) (a .words .now)) (a .reals .now) (queue (a .keys .now) (a .events .now)) vertex (omega (arith, c .before .before .before .before .before .before .before .before .before .before .before .before .before .capacity .ensures, c .before .before .before .before .before .before .before .before .before .before .before .before .if1 .left)) (c .before .before .before .before .before .before .before .before .before .before .before .lowest .result) (c .before .before .before .before .before .before .before .before .before .before .before .lowest .ensures) (links (c .before .before .before .before .before .before .before .make-window .last .0) (c .before .before .before .before .before .before .before .make-window .last .1 .0)) (c .before .before .before .before .before .before .before .make-window .last .1 .1 .0) (c .before .before .before .before .before .before .before .make-window .ensures) (a .counts .made + 1) (add-one (a .counts .made)) (c .if2 .left))
+    (add-one (a .counts .made), λ cuts limit flags vertex k. part-quiet cuts (capacityOf (length (a .words .now)) (length (a .reals .now))) limit flags (a .e) (a .x) k (a .b0) (a .b1) (a .counts .made) (a .counts .queued) (a .before) (links (a .edges .now) (a .words .now)) (a .reals .now) (queue (a .keys .now) (a .events .now)) vertex (omega (arith, c .before .before .before .before .before .before .before .before .before .before .before .before .before .capacity .ensures, c .before .before .before .before .before .before .before .before .before .before .before .before .if1 .left)) (lowestOf (a .x .win .src) (a .b0) (a .b1)) refl (links (c .before .before .before .before .before .before .before .make-window .last .0) (c .before .before .before .before .before .before .before .make-window .last .1 .0)) (c .before .before .before .before .before .before .before .make-window .last .1 .1 .0) (rw (c .before .before .before .before .before .before .before .before .before .before .before .trimmed .ensures) at (c .before .before .before .before .before .before .before .make-window .ensures)) (a .counts .made + 1) (add-one (a .counts .made)) (c .if2 .left))
 
 pub make-part-spec : {M : Type 1} → statement M
 make-part-spec =
@@ -117,7 +119,7 @@ make-part-spec =
     same-length
     same-length-2
     returns
-    lowest-requires
+    trimmed-requires
     make-window-requires
     window-event-requires
     push-requires
@@ -129,16 +131,16 @@ make-part-spec =
     same-length-6
     same-length-7
     returns-2
+    add-t37
     add-t39
-    add-t41
     same-length-8
     same-length-9
     same-length-10
     same-length-11
     same-length-12
     returns-3
-    add-t21
-    add-t43
+    add-t19
+    add-t41
     same-length-13
     same-length-14
     same-length-15

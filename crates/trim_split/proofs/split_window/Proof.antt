@@ -5,6 +5,7 @@ use native.Mathlib.Omega.{arith}
 use native.Mathlib.Numerals.{add-one}
 use lib.ListN.{length, drop, getD}
 use lib.Ieee.{nan}
+use Rattle.source.specs.declared.Win.{Win}
 use Rattle.better.specs.Buffers.{pairs}
 use Rattle.better.proofs.Pairs.{pairs-length}
 use Rattle.chains.specs.Chains.{links}
@@ -36,8 +37,8 @@ from-of-requires c κs = omega (arith, c .before .before .before .before .before
 to-of-requires : tie.Need-to-of-requires
 to-of-requires c κs = omega (arith, c .before .before .before .before .before .before .before .before .before .pre .1 .1, c .before .if1 .left)
 
-lowest-requires : tie.Need-lowest-requires
-lowest-requires c κs = search needs
+trimmed-requires : tie.Need-trimmed-requires
+trimmed-requires c κs = search needs
 
 trim-window-requires : tie.Need-trim-window-requires
 trim-window-requires c κs = omega (arith, c .before .before .before .before .before .before .before .before .before .before .before .before .before .pre .0 .fits, c .before .before .before .before .before .before .before .before .before .before .before .before .before .pre .1 .0)
@@ -48,7 +49,7 @@ add-make-parts c = omega (arith, c .before .before .before .before .before .befo
 make-parts-requires : tie.Need-make-parts-requires
 make-parts-requires c κs =
     let a = c .before .before .before .before .before .before .before .before .before .before .before .before .before .before .before .before .before .before .before .before .before .before .args in
-    (trimmed-ready (a .e .0) (a .x) (a .id .0) (a .counts .made) (a .counts .queued) (a .before) (slices (a .edges .now) (a .words .now) (a .reals .now) (a .keys .now) (a .events .now)) (c .before .before .before .before .before .before .before .before .before .before .before .before .before .before .before .before .before .before .before .before .before .before .pre .0 .fits) (pairs (a .n) (a .pieces .now)) (c .before .before .before .before .before .before .before .before .before .before .before .before .before .before .before .before .before .before .before .before .before .before .pre .1 .0) (c .before .before .before .before .before .before .before .before .before .before .before .before .before .from-of .result) (c .before .before .before .before .before .before .before .before .before .before .before .before .to-of .result) (c .before .before .before .before .before .before .before .before .before .before .before .lowest .result) (c .before .before .before .before .before .before .before .before .before .before .before .lowest .ensures) (c .before .before .before .before .before .before .before .before .trim-window .last .1 .0) (c .before .before .before .before .before .before .before .before .trim-window .ensures) (c .before .before .before .before .before .before .before .before .trim-window .kept .1 .0) (here-is (pairs (a .n) (a .pieces .now)) (drop 1 (pairs (a .n) (a .pieces .now))) (c .before .before .before .before .before .before .before .before .before .before .before .before .before .from-of .result) (c .before .before .before .before .before .before .before .before .before .before .before .before .to-of .result) (getD (a .pieces .now) 0 nan) (getD (a .pieces .now) 1 nan) (pairs-from (a .pieces .now) (a .n) 0 (omega (arith, c .before .before .before .before .before .before .before .before .before .before .before .before .before .before .if1 .left))) (c .before .before .before .before .before .before .before .before .before .before .before .before .before .from-of .ensures) (c .before .before .before .before .before .before .before .before .before .before .before .before .to-of .ensures)) (c .before .before .before .before .before .before .before .before .before .before .before .before .before .before .before .before .before .before .before .before .before .before .pre .0 .edge) (a .id .0 + 1) (add-one (a .id .0)), c .before .before .before .before .before .before .before .before .before .before .before .before .before .before .before .before .before .before .before .before .before .before .pre .1 .1)
+    (trimmed-ready (a .e .0) (a .x) (a .id .0) (a .counts .made) (a .counts .queued) (a .before) (slices (a .edges .now) (a .words .now) (a .reals .now) (a .keys .now) (a .events .now)) (c .before .before .before .before .before .before .before .before .before .before .before .before .before .before .before .before .before .before .before .before .before .before .pre .0 .fits) (pairs (a .n) (a .pieces .now)) (c .before .before .before .before .before .before .before .before .before .before .before .before .before .before .before .before .before .before .before .before .before .before .pre .1 .0) (c .before .before .before .before .before .before .before .before .before .before .before .before .before .from-of .result) (c .before .before .before .before .before .before .before .before .before .before .before .before .to-of .result) (c .before .before .before .before .before .before .before .before .before .before .before .trimmed .result .low) (ap (λ (w : Win). w .low) (c .before .before .before .before .before .before .before .before .before .before .before .trimmed .ensures)) (c .before .before .before .before .before .before .before .before .trim-window .last .1 .0) (c .before .before .before .before .before .before .before .before .trim-window .ensures) (c .before .before .before .before .before .before .before .before .trim-window .kept .1 .0) (here-is (pairs (a .n) (a .pieces .now)) (drop 1 (pairs (a .n) (a .pieces .now))) (c .before .before .before .before .before .before .before .before .before .before .before .before .before .from-of .result) (c .before .before .before .before .before .before .before .before .before .before .before .before .to-of .result) (getD (a .pieces .now) 0 nan) (getD (a .pieces .now) 1 nan) (pairs-from (a .pieces .now) (a .n) 0 (omega (arith, c .before .before .before .before .before .before .before .before .before .before .before .before .before .before .if1 .left))) (c .before .before .before .before .before .before .before .before .before .before .before .before .before .from-of .ensures) (c .before .before .before .before .before .before .before .before .before .before .before .before .to-of .ensures)) (c .before .before .before .before .before .before .before .before .before .before .before .before .before .before .before .before .before .before .before .before .before .before .pre .0 .edge) (a .id .0 + 1) (add-one (a .id .0)), c .before .before .before .before .before .before .before .before .before .before .before .before .before .before .before .before .before .before .before .before .before .before .pre .1 .1)
 
 same-length-3 : tie.Need-same-length-3
 same-length-3 c = search needs
@@ -69,7 +70,7 @@ returns-2 : tie.Need-returns-2
 returns-2 c =
     let a = c .before .before .before .before .before .before .before .before .before .before .before .before .before .before .before .before .before .before .before .before .before .before .before .before .before .before .before .before .before .before .before .before .before .args in
     let r = c .before .before .before .before .before .before .before .before .before .before .make-parts .result in
-    (counted-as r (a .counts .made + length (drop 1 (pairs (a .n) (a .pieces .now)))) (a .counts .made + pred (length (pairs (a .n) (a .pieces .now)))) (ap (λ (j : ℕ). a .counts .made + j) (but-first (pairs (a .n) (a .pieces .now)))) (c .before .before .before .before .before .before .before .before .before .before .make-parts .ensures .0), split-made (a .e .0) (a .x) (a .id .0) (a .counts .made) (a .counts .queued) (a .before) (slices (a .edges .now) (a .words .now) (a .reals .now) (a .keys .now) (a .events .now)) (c .before .before .before .before .before .before .before .before .before .before .before .before .before .before .before .before .before .before .before .before .before .before .before .before .before .before .before .before .before .before .before .before .before .pre .0 .fits) (pairs (a .n) (a .pieces .now)) (c .before .before .before .before .before .before .before .before .before .before .before .before .before .before .before .before .before .before .before .before .before .before .before .before .before .before .before .before .before .before .before .before .before .pre .1 .0) (c .before .before .before .before .before .before .before .before .before .before .before .before .before .before .before .before .before .before .before .before .before .before .before .before .from-of .result) (c .before .before .before .before .before .before .before .before .before .before .before .before .before .before .before .before .before .before .before .before .before .before .before .to-of .result) (c .before .before .before .before .before .before .before .before .before .before .before .before .before .before .before .before .before .before .before .before .before .before .lowest .result) (c .before .before .before .before .before .before .before .before .before .before .before .before .before .before .before .before .before .before .before .before .before .before .lowest .ensures) (c .before .before .before .before .before .before .before .before .before .before .before .before .before .before .before .before .before .before .before .trim-window .last .1 .0) (c .before .before .before .before .before .before .before .before .before .before .before .before .before .before .before .before .before .before .before .trim-window .ensures) (c .before .before .before .before .before .before .before .before .before .before .before .before .before .before .before .before .before .before .before .trim-window .kept .1 .0) (here-is (pairs (a .n) (a .pieces .now)) (drop 1 (pairs (a .n) (a .pieces .now))) (c .before .before .before .before .before .before .before .before .before .before .before .before .before .before .before .before .before .before .before .before .before .before .before .before .from-of .result) (c .before .before .before .before .before .before .before .before .before .before .before .before .before .before .before .before .before .before .before .before .before .before .before .to-of .result) (getD (a .pieces .now) 0 nan) (getD (a .pieces .now) 1 nan) (pairs-from (a .pieces .now) (a .n) 0 (omega (arith, c .before .before .before .before .before .before .before .before .before .before .before .before .before .before .before .before .before .before .before .before .before .before .before .before .before .if1 .left))) (c .before .before .before .before .before .before .before .before .before .before .before .before .before .before .before .before .before .before .before .before .before .before .before .before .from-of .ensures) (c .before .before .before .before .before .before .before .before .before .before .before .before .before .before .before .before .before .before .before .before .before .before .before .to-of .ensures)) (a .id .0 + 1) (add-one (a .id .0)) (endOf r (links (c .before .before .before .before .before .before .before .before .before .before .make-parts .last .0) (c .before .before .before .before .before .before .before .before .before .before .make-parts .last .1 .0)) (c .before .before .before .before .before .before .before .before .before .before .make-parts .last .1 .1 .0) (queue (c .before .before .before .before .before .before .before .before .before .before .make-parts .last .1 .1 .1 .0) (c .before .before .before .before .before .before .before .before .before .before .make-parts .last .1 .1 .1 .1 .0))) (c .before .before .before .before .before .before .before .before .before .before .make-parts .ensures .1))
+    (counted-as r (a .counts .made + length (drop 1 (pairs (a .n) (a .pieces .now)))) (a .counts .made + pred (length (pairs (a .n) (a .pieces .now)))) (ap (λ (j : ℕ). a .counts .made + j) (but-first (pairs (a .n) (a .pieces .now)))) (c .before .before .before .before .before .before .before .before .before .before .make-parts .ensures .0), split-made (a .e .0) (a .x) (a .id .0) (a .counts .made) (a .counts .queued) (a .before) (slices (a .edges .now) (a .words .now) (a .reals .now) (a .keys .now) (a .events .now)) (c .before .before .before .before .before .before .before .before .before .before .before .before .before .before .before .before .before .before .before .before .before .before .before .before .before .before .before .before .before .before .before .before .before .pre .0 .fits) (pairs (a .n) (a .pieces .now)) (c .before .before .before .before .before .before .before .before .before .before .before .before .before .before .before .before .before .before .before .before .before .before .before .before .before .before .before .before .before .before .before .before .before .pre .1 .0) (c .before .before .before .before .before .before .before .before .before .before .before .before .before .before .before .before .before .before .before .before .before .before .before .before .from-of .result) (c .before .before .before .before .before .before .before .before .before .before .before .before .before .before .before .before .before .before .before .before .before .before .before .to-of .result) (c .before .before .before .before .before .before .before .before .before .before .before .before .before .before .before .before .before .before .before .before .before .before .trimmed .result .low) (ap (λ (w : Win). w .low) (c .before .before .before .before .before .before .before .before .before .before .before .before .before .before .before .before .before .before .before .before .before .before .trimmed .ensures)) (c .before .before .before .before .before .before .before .before .before .before .before .before .before .before .before .before .before .before .before .trim-window .last .1 .0) (c .before .before .before .before .before .before .before .before .before .before .before .before .before .before .before .before .before .before .before .trim-window .ensures) (c .before .before .before .before .before .before .before .before .before .before .before .before .before .before .before .before .before .before .before .trim-window .kept .1 .0) (here-is (pairs (a .n) (a .pieces .now)) (drop 1 (pairs (a .n) (a .pieces .now))) (c .before .before .before .before .before .before .before .before .before .before .before .before .before .before .before .before .before .before .before .before .before .before .before .before .from-of .result) (c .before .before .before .before .before .before .before .before .before .before .before .before .before .before .before .before .before .before .before .before .before .before .before .to-of .result) (getD (a .pieces .now) 0 nan) (getD (a .pieces .now) 1 nan) (pairs-from (a .pieces .now) (a .n) 0 (omega (arith, c .before .before .before .before .before .before .before .before .before .before .before .before .before .before .before .before .before .before .before .before .before .before .before .before .before .if1 .left))) (c .before .before .before .before .before .before .before .before .before .before .before .before .before .before .before .before .before .before .before .before .before .before .before .before .from-of .ensures) (c .before .before .before .before .before .before .before .before .before .before .before .before .before .before .before .before .before .before .before .before .before .before .before .to-of .ensures)) (a .id .0 + 1) (add-one (a .id .0)) (endOf r (links (c .before .before .before .before .before .before .before .before .before .before .make-parts .last .0) (c .before .before .before .before .before .before .before .before .before .before .make-parts .last .1 .0)) (c .before .before .before .before .before .before .before .before .before .before .make-parts .last .1 .1 .0) (queue (c .before .before .before .before .before .before .before .before .before .before .make-parts .last .1 .1 .1 .0) (c .before .before .before .before .before .before .before .before .before .before .make-parts .last .1 .1 .1 .1 .0))) (c .before .before .before .before .before .before .before .before .before .before .make-parts .ensures .1))
 
 same-length-8 : tie.Need-same-length-8
 same-length-8 c = search needs
@@ -85,7 +86,7 @@ split-window-spec =
     returns
     from-of-requires
     to-of-requires
-    lowest-requires
+    trimmed-requires
     trim-window-requires
     add-make-parts
     make-parts-requires

@@ -1,0 +1,71 @@
+-- What holds of each element of a list, through append and from one property to another; and lists that functions make. Assumes nothing.
+use Prim.Native.Nat.{ℕ, zero, suc, _<_}
+use mathlib.Core.List.{List, [], _∷_, _++_}
+use mathlib.Core.Logic.{_≢_}
+use mathlib.Core.Path.{_≡_, refl, sym, ap, _∙_}
+use native.Mathlib.Decide.{ℕ-discrete}
+use native.Mathlib.Omega.{arith}
+use lib.ListN.{length, getD, set, length-append, List·getD-append}
+use lib.Seq.{getD-at, set-at, set-append-left}
+use Rattle.nat_laws.specs.Lists.{All, listOf}
+
+module _ {A : Type 0} where
+  -- what holds of everything
+  pub all-of : (P : A → Type 0) (l : List A) → ((x : A) → P x) → All P l
+  all-of P [] f = tt
+  all-of P (x ∷ xs) f = (f x, all-of P xs f)
+
+  pub all-map : {P Q : A → Type 0} → ((x : A) → P x → Q x) → (l : List A) → All P l → All Q l
+  all-map f [] h = tt
+  all-map f (x ∷ xs) h = (f x (h .0), all-map f xs (h .1))
+
+  pub all-map2 : {P Q R : A → Type 0} → ((x : A) → P x → Q x → R x) → (l : List A) → All P l → All Q l → All R l
+  all-map2 f [] h k = tt
+  all-map2 f (x ∷ xs) h k = (f x (h .0) (k .0), all-map2 f xs (h .1) (k .1))
+
+  module _ (P : A → Type 0) where
+    pub all-append : (l m : List A) → All P l → All P m → All P (l ++ m)
+    all-append [] m h k = k
+    all-append (x ∷ xs) m h k = (h .0, all-append xs m (h .1) k)
+
+    pub all-left : (l m : List A) → All P (l ++ m) → All P l
+    all-left [] m h = tt
+    all-left (x ∷ xs) m h = (h .0, all-left xs m (h .1))
+
+    pub all-right : (l m : List A) → All P (l ++ m) → All P m
+    all-right [] m h = h
+    all-right (x ∷ xs) m h = all-right xs m (h .1)
+
+  pub length-listOf : (n : ℕ) (f : ℕ → A) → length (listOf n f) ≡ n
+  unfolding listOf
+  length-listOf zero f = refl
+  length-listOf (suc n) f = length-append (listOf n f) (f n ∷ []) ∙ simp (length-listOf n f) (omega arith)
+
+  pub getD-listOf : (n : ℕ) (f : ℕ → A) (i : ℕ) (d : A) → i < n → getD (listOf n f) i d ≡ f i
+  unfolding listOf
+  getD-listOf zero f i d h = absurd (omega arith)
+  getD-listOf (suc n) f i d h = go (ℕ-discrete i n) (getD-listOf n f i d) where
+    go : Dec (i ≡ n) → (i < n → getD (listOf n f) i d ≡ f i) → getD (listOf n f ++ (f n ∷ [])) i d ≡ f i
+    go (yes e) r = getD-at (listOf n f) (f n) [] d i (length-listOf n f ∙ sym e) ∙ ap f (sym e)
+    go (no e) r = List·getD-append (listOf n f) (f n ∷ []) d i (rw (length-listOf n f) (omega (arith, e))) ∙ r (omega (arith, e))
+
+  -- functions that agree below n make the same list
+  pub listOf-same : (n : ℕ) (f g : ℕ → A) → ((j : ℕ) → j < n → g j ≡ f j) → listOf n g ≡ listOf n f
+  unfolding listOf
+  listOf-same zero f g h = refl
+  listOf-same (suc n) f g h =
+      ap (λ l. l ++ (g n ∷ [])) (listOf-same n f g (λ j l. h j (omega arith))) ∙ ap (λ x. listOf n f ++ (x ∷ [])) (h n (omega arith))
+
+  -- those that agree but at k make lists that differ in element k alone
+  pub listOf-set : (n : ℕ) (f g : ℕ → A) (k : ℕ) → k < n → ((j : ℕ) → j < n → k ≢ j → g j ≡ f j) → listOf n g ≡ set (listOf n f) k (g k)
+  unfolding listOf
+  listOf-set zero f g k b h = absurd (omega arith)
+  listOf-set (suc n) f g k b h = go (ℕ-discrete k n) (λ l. listOf-set n f g k l (λ j m. h j (omega arith))) where
+    go : Dec (k ≡ n) → (k < n → listOf n g ≡ set (listOf n f) k (g k)) → listOf n g ++ (g n ∷ []) ≡ set (listOf n f ++ (f n ∷ [])) k (g k)
+    go (yes e) ih = rw e
+        (ap (λ l. l ++ (g n ∷ [])) (listOf-same n f g (λ j l. h j (omega arith) (λ t. omega (arith, t, e, l))))
+        ∙ sym (set-at (listOf n f) (f n) [] (g n) n (length-listOf n f)))
+    go (no e) ih =
+        ap (λ l. l ++ (g n ∷ [])) (ih (omega (arith, e)))
+        ∙ ap (λ x. set (listOf n f) k (g k) ++ (x ∷ [])) (h n (omega arith) e)
+        ∙ sym (set-append-left (listOf n f) (f n ∷ []) k (g k) (rw (length-listOf n f) (omega (arith, e))))
