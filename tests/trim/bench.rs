@@ -117,169 +117,185 @@ fn rust<R: Reading>(list: &List) -> (f64, Field<'_, R>) {
 #[cfg(lent)]
 mod lent {
     use super::{List, Patched, Step};
-    use oracle::exact::{Field, Src};
+    use oracle::exact::{Field, Src, Win};
     use std::time::Instant;
 
+    /// Entries of each list of an addition.
+    const CUTS: usize = 4_096;
+
     unsafe extern "C" {
-        /// A candidate. The answer is 0 or the refusal; `counts` has the windows made and the events queued.
-        fn sirmolaat_trim_add(
+        /// The answer is 0 or the refusal; `told` has the windows made and the events queued, or the refused operation.
+        fn sirmolaat_trim_run(
             limit: f64,
+            ops: *const u32,
+            ops_len: usize,
+            args: *const f64,
+            args_len: usize,
+            ends: *const u32,
+            ends_len: usize,
+            lens: *const f64,
+            lens_len: usize,
             flags: *const u8,
             flags_len: usize,
-            edge_words: *mut u32,
-            edge_words_len: usize,
-            edge_reals: *const f64,
-            edge_reals_len: usize,
-            vertex_reals: *mut f64,
-            vertex_reals_len: usize,
-            window_words: *mut u32,
-            window_words_len: usize,
-            window_reals: *mut f64,
-            window_reals_len: usize,
+            edges: *mut u32,
+            edges_len: usize,
+            words: *mut u32,
+            words_len: usize,
+            reals: *mut f64,
+            reals_len: usize,
             keys: *mut f64,
             keys_len: usize,
-            queue_words: *mut u32,
-            queue_words_len: usize,
-            cuts: *mut f64,
-            cuts_len: usize,
-            counts: *mut u32,
-            counts_len: usize,
-            edge: u32,
-            into: u32,
-            queued: u32,
-            b0: f64,
-            b1: f64,
-            kind: u32,
-            x: f64,
-            y: f64,
-            s: f64,
-        ) -> u32;
-        /// A pop: a live window that is popped is queued no more. The answer is 1 where there was an event.
-        fn sirmolaat_trim_pop(
-            window_words: *mut u32,
-            window_words_len: usize,
-            keys: *mut f64,
-            keys_len: usize,
-            queue_words: *mut u32,
-            queue_words_len: usize,
-            counts: *mut u32,
-            counts_len: usize,
+            events: *mut u32,
+            events_len: usize,
+            vertex: *mut f64,
+            vertex_len: usize,
+            pts: *mut f64,
+            pts_len: usize,
+            out: *mut f64,
+            out_len: usize,
+            keep: *mut f64,
+            keep_len: usize,
+            next: *mut f64,
+            next_len: usize,
+            told: *mut u32,
+            told_len: usize,
         ) -> u32;
     }
 
+    fn source(src: Src) -> (u32, [f64; 3]) {
+        match src {
+            Src::Point { x, y, s } => (0, [x, y, s]),
+            Src::Line { ux, uy, c } => (1, [ux, uy, c]),
+        }
+    }
+
+    /// A list and its buffers, each of which was written to.
     pub struct Lent {
+        limit: f64,
+        ops: Vec<u32>,
+        args: Vec<f64>,
+        ends: Vec<u32>,
+        lens: Vec<f64>,
         flags: Vec<u8>,
-        edge_words: Vec<u32>,
-        edge_reals: Vec<f64>,
-        vertex_reals: Vec<f64>,
-        window_words: Vec<u32>,
-        window_reals: Vec<f64>,
+        edges: Vec<u32>,
+        words: Vec<u32>,
+        reals: Vec<f64>,
         keys: Vec<f64>,
-        queue_words: Vec<u32>,
-        cuts: Vec<f64>,
-        counts: Vec<u32>,
+        events: Vec<u32>,
+        vertex: Vec<f64>,
+        pts: Vec<f64>,
+        out: Vec<f64>,
+        keep: Vec<f64>,
+        next: Vec<f64>,
+        told: Vec<u32>,
     }
 
     impl Lent {
         pub fn new(list: &List, windows: usize) -> Lent {
             let (n, events) = (list.topo.edges.len(), list.steps.len() + windows);
-            let mut lent = Lent {
-                flags: list.topo.pseudo.iter().map(|&b| b.into()).collect(),
-                edge_words: vec![0; 6 * n],
-                edge_reals: vec![0.; 4 * n],
-                vertex_reals: vec![f64::INFINITY; 2 * list.topo.pseudo.len()],
-                window_words: vec![0; 4 * windows],
-                window_reals: vec![0.; 6 * windows],
-                keys: vec![0.; events],
-                queue_words: vec![0; 2 * events],
-                cuts: vec![0.; 9 * 60_000],
-                counts: vec![0; 2],
-            };
-            for e in 0..n {
-                lent.edge_words[6 * e..6 * e + 2].copy_from_slice(&list.topo.edges[e]);
-                lent.edge_reals[4 * e] = list.topo.len[e];
+            let (mut ops, mut args) = (vec![], vec![]);
+            for step in &list.steps {
+                if let Step::Add(w) = step {
+                    let (kind, [x, y, s]) = source(w.src);
+                    ops.extend([kind, w.edge, w.into, w.queued.into()]);
+                    args.extend([w.b0, w.b1, x, y, s]);
+                } else {
+                    ops.extend([2, 0, 0, 0]);
+                    args.extend([0.; 5]);
+                }
             }
-            lent
+            Lent {
+                limit: list.limit,
+                ops,
+                args,
+                ends: list.topo.edges.concat(),
+                lens: list.topo.len.clone(),
+                flags: list.topo.pseudo.iter().map(|&b| b.into()).collect(),
+                edges: vec![7; 6 * n],
+                words: vec![7; 4 * windows],
+                reals: vec![7.; 6 * windows],
+                keys: vec![7.; events],
+                events: vec![7; 2 * events],
+                vertex: vec![f64::INFINITY; 2 * list.topo.pseudo.len()],
+                pts: vec![7.; CUTS],
+                out: vec![7.; 2 * CUTS],
+                keep: vec![7.; 2 * CUTS],
+                next: vec![7.; 2 * CUTS],
+                told: vec![7; 2],
+            }
         }
 
         /// Seconds.
-        pub fn run(&mut self, list: &List) -> f64 {
+        pub fn run(&mut self) -> f64 {
             let start = Instant::now();
-            for step in &list.steps {
-                match step {
-                    Step::Add(w) => {
-                        let (kind, [x, y, s]) = match w.src {
-                            Src::Point { x, y, s } => (0, [x, y, s]),
-                            Src::Line { ux, uy, c } => (1, [ux, uy, c]),
-                        };
-                        let refusal = unsafe {
-                            sirmolaat_trim_add(
-                                list.limit,
-                                self.flags.as_ptr(),
-                                self.flags.len(),
-                                self.edge_words.as_mut_ptr(),
-                                self.edge_words.len(),
-                                self.edge_reals.as_ptr(),
-                                self.edge_reals.len(),
-                                self.vertex_reals.as_mut_ptr(),
-                                self.vertex_reals.len(),
-                                self.window_words.as_mut_ptr(),
-                                self.window_words.len(),
-                                self.window_reals.as_mut_ptr(),
-                                self.window_reals.len(),
-                                self.keys.as_mut_ptr(),
-                                self.keys.len(),
-                                self.queue_words.as_mut_ptr(),
-                                self.queue_words.len(),
-                                self.cuts.as_mut_ptr(),
-                                self.cuts.len(),
-                                self.counts.as_mut_ptr(),
-                                self.counts.len(),
-                                w.edge,
-                                w.into,
-                                w.queued.into(),
-                                w.b0,
-                                w.b1,
-                                kind,
-                                x,
-                                y,
-                                s,
-                            )
-                        };
-                        assert_eq!(refusal, 0);
-                    }
-                    Step::Pop => unsafe {
-                        sirmolaat_trim_pop(
-                            self.window_words.as_mut_ptr(),
-                            self.window_words.len(),
-                            self.keys.as_mut_ptr(),
-                            self.keys.len(),
-                            self.queue_words.as_mut_ptr(),
-                            self.queue_words.len(),
-                            self.counts.as_mut_ptr(),
-                            self.counts.len(),
-                        );
-                    },
-                }
-            }
-            start.elapsed().as_secs_f64()
+            let refusal = unsafe {
+                sirmolaat_trim_run(
+                    self.limit,
+                    self.ops.as_ptr(),
+                    self.ops.len(),
+                    self.args.as_ptr(),
+                    self.args.len(),
+                    self.ends.as_ptr(),
+                    self.ends.len(),
+                    self.lens.as_ptr(),
+                    self.lens.len(),
+                    self.flags.as_ptr(),
+                    self.flags.len(),
+                    self.edges.as_mut_ptr(),
+                    self.edges.len(),
+                    self.words.as_mut_ptr(),
+                    self.words.len(),
+                    self.reals.as_mut_ptr(),
+                    self.reals.len(),
+                    self.keys.as_mut_ptr(),
+                    self.keys.len(),
+                    self.events.as_mut_ptr(),
+                    self.events.len(),
+                    self.vertex.as_mut_ptr(),
+                    self.vertex.len(),
+                    self.pts.as_mut_ptr(),
+                    self.pts.len(),
+                    self.out.as_mut_ptr(),
+                    self.out.len(),
+                    self.keep.as_mut_ptr(),
+                    self.keep.len(),
+                    self.next.as_mut_ptr(),
+                    self.next.len(),
+                    self.told.as_mut_ptr(),
+                    self.told.len(),
+                )
+            };
+            let seconds = start.elapsed().as_secs_f64();
+            assert_eq!(refusal, 0, "operation {}", self.told[0]);
+            seconds
         }
 
-        /// The windows made and each edge's chain, against the reading that is proved.
+        fn same_window(&self, id: u32, w: Win) {
+            let (k, (kind, [x, y, s])) = (id as usize, source(w.src));
+            let low = w.src.lowest::<Patched>(w.b0, w.b1);
+            let reals = [w.b0, w.b1, low, x, y, s].map(f64::to_bits);
+            let stored: Vec<u64> = self.reals[6 * k..6 * k + 6].iter().map(|r| r.to_bits()).collect();
+            assert_eq!(stored, reals, "window {id}");
+            let flags = kind + 2 * u32::from(w.alive) + 4 * u32::from(w.queued);
+            assert_eq!(self.words[4 * k..4 * k + 3], [w.edge, w.into, flags], "window {id}");
+        }
+
+        /// The windows made, each edge's chain, the distances of the vertices and how many events are left, against the reading that is proved.
         pub fn compare(&self, field: &Field<Patched>) {
-            assert_eq!(self.counts[0] as usize, field.wins.len(), "windows made");
+            assert_eq!(self.told[0] as usize, field.wins.len(), "windows made");
             for (e, list) in field.on_edge.iter().enumerate() {
-                let mut link = self.edge_words[6 * e + 4];
+                let mut link = self.edges[6 * e + 4];
                 for &id in list {
                     assert_eq!(link, id + 1, "edge {e}");
-                    let (k, w) = (id as usize, field.wins[id as usize]);
-                    let ends = &self.window_reals[6 * k..6 * k + 2];
-                    assert_eq!(ends[0].to_bits(), w.b0.to_bits(), "window {id}");
-                    assert_eq!(ends[1].to_bits(), w.b1.to_bits(), "window {id}");
-                    link = self.window_words[4 * k + 3];
+                    self.same_window(id, field.wins[id as usize]);
+                    link = self.words[4 * id as usize + 3];
                 }
                 assert_eq!(link, 0, "edge {e}");
             }
+            for (v, d) in field.vertex.iter().enumerate() {
+                assert_eq!(self.vertex[2 * v].to_bits(), d.to_bits(), "vertex {v}");
+            }
+            assert_eq!(self.told[1] as usize, field.queue.len(), "events left");
         }
     }
 }
@@ -304,7 +320,7 @@ fn measure(name: &str, shape: Shape, triangles: usize, lines: usize, limit: f64)
         let mut times = vec![];
         for _ in 0..TURNS {
             let mut lent = lent::Lent::new(&list, windows);
-            times.push(lent.run(&list));
+            times.push(lent.run());
             lent.compare(&made);
         }
         let ours = least(times);

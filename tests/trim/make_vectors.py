@@ -5,22 +5,21 @@ Each FILE is of the oracle's `vectors add`, `add-long` or `add-scope`; the answe
 of numbers of 4 bytes, the least significant first; a double is two, the low half first, and a NaN is 7ff8000000000000:
 
     how many numbers the record has, this one among them
-    limit (a double)
-    vertices, and each one's flag
-    edges, and of each its two vertices and its length (a double)
+    vertices, edges, steps
     capacities: windows, events, entries of a cut list
-    steps, and each of them as 16 numbers, zeros at the end:
-        0 (a candidate), edge, into (ffffffff: none), queued, b0, b1 (doubles), source, refusal (0, 12, 13, 14)
-        1 (a pop), found (0 or 1), key (a double), number, kind (0 a window, 1 a vertex)
-        2 (a touch), vertex, distance (a double), refusal (0, 13), the vertex's distance afterwards (a double)
-    whole: 0 where the last step was refused, and then nothing follows; else 1 and
+    the refusal of the last step (12, 13, 14), or 0
+    limit (a double)
+    each vertex's flag
+    each edge's two vertices
+    each edge's length (a double)
+    of each step four numbers: 0 (a candidate with a point), 1 (one with a line), 2 (a pop) or 3 (a touch); edge or vertex; into (ffffffff: none); queued
+    of each step five doubles: b0, b1 and the source (x, y, s or ux, uy, c); or a touch's distance; zeros otherwise
+    where no step was refused:
         windows made
-        for each edge: live windows, and of each, in the order of the chain, 14 numbers: number, b0, b1, low (doubles), source
-            slivers, and of each its two ends (doubles); the bound on their number
-        for each vertex: its distance (a double)
-        events left, and of each, in the order of pops, its key (a double), number and kind
+        for each edge: live windows, and of each, in the order of the chain, 15 numbers: number, into, flags (1 a line, 2 alive, 4 queued), b0, b1, low, source (doubles)
+        each vertex's distance (a double)
+        events left, and of each, in the order of pops, its key (a double), number and kind (0 a window, 1 a vertex)
 
-A source is 7 numbers: 0 for a point or 1 for a line, and three doubles (x, y, s or ux, uy, c).
 A live window that is popped is queued no more. Ends are numbers from 0 to the edge's length, not always in order.
 """
 import struct
@@ -49,42 +48,47 @@ class Reader:
         return [(self.u32(), self.f64(), self.f64()) for _ in range(self.u32())]
 
 
-def padded(row):
-    assert len(row) <= 16
-    return row + [0] * (16 - len(row))
+ZERO = [0, 0]
 
 
 def step(r, detail):
+    """The step's numbers and doubles, and its refusal."""
     kind = r.u8()
     if kind == 0:
-        row = [0, r.u32(), r.u32(), r.u8()] + r.f64() + r.f64() + r.src()
-        row.append(r.u8())
-        if detail and row[-1] == 0:
+        edge, into, queued = r.u32(), r.u32(), r.u8()
+        ends = r.f64() + r.f64()
+        src = r.src()
+        refusal = r.u8()
+        if detail and refusal == 0:
             r.chain()
-    elif kind == 1:
-        row = [1, r.u8()] + r.f64() + [r.u32(), r.u8()]
-    else:
-        row = [2, r.u32()] + r.f64() + [r.u8()] + r.f64()
-    return padded(row)
+        return [src[0], edge, into, queued], ends + src[1:], refusal
+    if kind == 1:
+        r.u8(), r.f64(), r.u32(), r.u8()
+        return [2, 0, 0, 0], 5 * ZERO, 0
+    vertex, distance, refusal = r.u32(), r.f64(), r.u8()
+    r.f64()
+    return [3, vertex, 0, 0], distance + 4 * ZERO, refusal
 
 
 def state(r, edges, vertices):
     wins = []
     for _ in range(r.u32()):
-        r.u32(), r.u32(), r.u8(), r.u8()
-        wins.append([r.f64(), r.f64(), r.f64(), r.src()])
+        r.u32()
+        into, alive, queued = r.u32(), r.u8(), r.u8()
+        ends = [r.f64(), r.f64()]
+        low = r.f64()
+        src = r.src()
+        wins.append((ends, [into, src[0] + 2 * alive + 4 * queued] + ends[0] + ends[1] + low + src[1:]))
     row = [len(wins)]
     for _ in range(edges):
         chain = r.chain()
         row.append(len(chain))
         for number, b0, b1 in chain:
-            assert wins[number][:2] == [b0, b1]
-            row += [number] + sum(wins[number], [])
-        slivers = r.u32()
-        row.append(slivers)
-        for _ in range(slivers):
-            row += r.f64() + r.f64()
-        row.append(r.u32())
+            assert wins[number][0] == [b0, b1]
+            row += [number] + wins[number][1]
+        for _ in range(r.u32()):
+            r.f64(), r.f64()
+        r.u32()
     for _ in range(vertices):
         row += r.f64()
     events = r.u32()
@@ -95,24 +99,26 @@ def state(r, edges, vertices):
 
 
 def record(r, tally):
-    row = r.f64()
+    limit = r.f64()
     vertices = r.u32()
-    row += [vertices] + [r.u8() for _ in range(vertices)]
+    flags = [r.u8() for _ in range(vertices)]
     edges = r.u32()
-    row.append(edges)
+    ends, lengths = [], []
     for _ in range(edges):
-        row += [r.u32(), r.u32()] + r.f64()
-    row += [r.u32(), r.u32(), r.u32()]
+        ends += [r.u32(), r.u32()]
+        lengths += r.f64()
+    capacities = [r.u32(), r.u32(), r.u32()]
     detail, steps = r.u8(), r.u32()
-    row.append(steps)
+    ops, args, refusal = [], [], 0
     for _ in range(steps):
-        one = step(r, detail)
-        tally[one[0]] += 1
-        row += one
-    whole = r.u8()
-    row.append(whole)
-    tally[3] += 1 - whole
-    if whole:
+        numbers, doubles, refusal = step(r, detail)
+        tally[max(numbers[0], 1) - 1] += 1
+        ops += numbers
+        args += doubles
+    tally[3] += refusal != 0
+    assert r.u8() == (refusal == 0)
+    row = [vertices, edges, steps] + capacities + [refusal] + limit + flags + ends + lengths + ops + args
+    if refusal == 0:
         row += state(r, edges, vertices)
     row = [1 + len(row)] + row
     return struct.pack("<%dI" % len(row), *row)

@@ -56,7 +56,6 @@ taken-same : (x : Event) (live : ℕ → List Window) (e : ℕ) → map unqueued
 unfolding taken
 taken-same x live e = by-cases (λ (b : Bool). map unqueued (cond b (unqueuedIn (x .number) (live e)) (live e)) ≡ map unqueued (live e)) (eqb (x .kind) 0) (λ y. unqueued-in (x .number) (live e)) (λ z. refl)
 
-
 module _ (cuts windows : ℕ) (limit : Float) (flags : List ℕ) (mesh : Mesh) (edges vertices : ℕ) (cs : List Candidate) (s : State) (F : Follows limit (mesh .len) cs (s .stock .made) (s .live)) where
   -- the state follows the model with more candidates
   abbrev Next : List Candidate → State → Type 0

@@ -1,9 +1,9 @@
--- `mesh_vectors::all_f64` is safe and ends. Assumes nothing.
+-- `stored_numbers::all_f64` is safe and ends. Assumes nothing.
 use Prim.Native.Nat.{_≤_, _-_}
 use lib.ListN.{length}
 use borrow.Author.Needs.{needs}
-use Rattle.mesh_vectors.proofs.all_f64.Statement.{statement}
-use Rattle.mesh_vectors.proofs.all_f64.Tie as tie
+use Rattle.stored_numbers.proofs.all_f64.Statement.{statement}
+use Rattle.stored_numbers.proofs.all_f64.Tie as tie
 
 abbrev Inv-loop : tie.InvT-loop
 Inv-loop s n x i₀ i = n ≤ i

@@ -1,11 +1,11 @@
--- `mesh_vectors::read_doubles` is safe and ends. Assumes nothing.
+-- `stored_numbers::read_doubles` is safe and ends. Assumes nothing.
 use Prim.Native.Nat.{_≤_, _-_}
 use lib.ListN.{length, length-set}
 use mathlib.Core.Path.{_≡_}
 use native.Mathlib.Omega.{arith}
 use borrow.Author.Needs.{needs}
-use Rattle.mesh_vectors.proofs.read_doubles.Statement.{statement}
-use Rattle.mesh_vectors.proofs.read_doubles.Tie as tie
+use Rattle.stored_numbers.proofs.read_doubles.Statement.{statement}
+use Rattle.stored_numbers.proofs.read_doubles.Tie as tie
 
 abbrev Inv-loop : tie.InvT-loop
 Inv-loop s k to₀ i₀ to i = (length to ≡ length to₀) × (i ≤ length to₀)
