@@ -7,7 +7,7 @@ use oracle::job::Job;
 use oracle::vector::Vec3;
 use std::{hint::black_box, time::Instant};
 
-const TURNS: usize = 9;
+const TURNS: usize = 25;
 
 #[cfg(lent)]
 unsafe extern "C" {
@@ -115,14 +115,11 @@ fn shuffled((v, t): Mesh) -> Mesh {
     (moved, order.iter().map(|&i| t[i].map(renumber)).collect())
 }
 
-/// The least time of some turns, in milliseconds.
-fn least<T>(mut run: impl FnMut() -> T) -> f64 {
-    let times = (0..TURNS).map(|_| {
-        let start = Instant::now();
-        black_box(run());
-        start.elapsed().as_secs_f64() * 1e3
-    });
-    times.fold(f64::INFINITY, f64::min)
+/// In milliseconds.
+fn time<T>(run: impl FnOnce() -> T) -> f64 {
+    let start = Instant::now();
+    black_box(run());
+    start.elapsed().as_secs_f64() * 1e3
 }
 
 fn job((v, t): &Mesh) -> Job {
@@ -241,7 +238,7 @@ impl Lent {
     }
 }
 
-/// One line; the answer is the time of the library's topology, without the checks.
+/// One line; the answer is the time of the library's topology, without the checks. The programs take turns, and of each the least time counts.
 fn measure(name: &str, mesh: &Mesh) -> f64 {
     let (v, t) = mesh;
     let job = job(mesh);
@@ -249,33 +246,40 @@ fn measure(name: &str, mesh: &Mesh) -> f64 {
     let pseudo = vec![false; v.len()];
     let topo = Topology::new(v, t, &pseudo).expect("at most two faces an edge");
     assert!(topo.faces.iter().all(|f| f[0] != NONE));
-    let check = least(|| job.check());
-    let new = least(|| Topology::new(v, t, &pseudo));
+    #[cfg(lent)]
+    let mut lent = Lent::new(&job);
+    #[cfg(lent)]
+    {
+        assert_eq!(lent.build(&job), topo.edges.len() as u64);
+        lent.compare(&topo);
+    }
+    let mut least = [f64::INFINITY; 4];
+    for _ in 0..TURNS {
+        least[0] = least[0].min(time(|| Topology::new(v, t, &pseudo)));
+        least[1] = least[1].min(time(|| job.check()));
+        #[cfg(lent)]
+        {
+            least[2] = least[2].min(time(|| lent.build(&job)));
+            least[3] = least[3].min(time(|| Lent::check(&job)));
+        }
+    }
+    let [new, check, all, checks] = least;
     print!(
         "| {name} | {} | {} | {new:.2} | {check:.2} |",
         t.len(),
         topo.edges.len()
     );
-    #[cfg(lent)]
-    {
-        let mut lent = Lent::new(&job);
-        assert_eq!(lent.build(&job), topo.edges.len() as u64);
-        lent.compare(&topo);
-        let checks = least(|| Lent::check(&job));
-        let all = least(|| lent.build(&job));
-        let ours = all - checks;
-        println!(
-            " {ours:.2} | {checks:.2} | {:.2} | {:.2} |",
-            ours / new,
-            all / (new + check)
-        );
-        return ours;
-    }
-    #[cfg(not(lent))]
-    {
+    if !cfg!(lent) {
         println!();
-        new
+        return new;
     }
+    let ours = all - checks;
+    println!(
+        " {ours:.2} | {checks:.2} | {:.2} | {:.2} |",
+        ours / new,
+        all / (new + check)
+    );
+    ours
 }
 
 fn main() {
