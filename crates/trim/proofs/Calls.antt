@@ -82,9 +82,9 @@ module _ (cuts : ℕ) (limit : Float) (flags : List ℕ) (e : ℕ) (len : Float)
 
   admitted : (end : End) → Core end → LowIs → Admits cuts (windowsOf s) limit flags len a b c p end
   admitted end core low m mesh cs k g y =
-      let wide : Wide (tinyOf len) (asWindow c) = subst (λ (l : Float). Wide (tinyOf l) (asWindow c)) (g .long) (admitted-wide limit (mesh .len) c (g .proper) y) in
+      let wide : Wide (tinyOf len) (asWindow c) = subst (λ (l : Float). Wide (tinyOf l) (asWindow c)) (g .long) (admitted-wide limit (mesh .len) c (g .proper y) y) in
       said m mesh cs k end low g (core m (k .live) (g .there) (g .holds)
-      (subst (λ (l : Float). Nonneg (tinyOf l)) (g .long) (proper-nonneg c (g .proper)))
+      (subst (λ (l : Float). Nonneg (tinyOf l)) (g .long) (proper-nonneg c (g .proper y)))
       (subst (λ (u : Window). Wide (tinyOf len) u) (sym (same-window low)) wide)
       (subst (λ (l : Float). Tidy (tinyOf l) (k .live e)) (g .long) (follows-tidy (g .follows) e)))
 

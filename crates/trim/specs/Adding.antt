@@ -50,7 +50,7 @@ Says m e p₀ (at p) r = Leaves m e p₀ p r
 
 -- the counts of the cut buffer and the window buffer, the limit, the flags of the vertices; the length and the ends of the candidate's edge; and the candidate
 module _ (cuts windows : ℕ) (limit : Float) (flags : List ℕ) (len : Float) (a b : ℕ) (c : Candidate) where
-  -- the buffers hold state s of a mesh of m edges, which follows the model, and c is proper
+  -- the buffers hold state s of a mesh of m edges, which follows the model, and c is proper where it is admitted
   pub record Given (m : ℕ) (mesh : Mesh) (cs : List Candidate) (s : State) (p : Place) : Type 0 where
     pub there : c .edge < m
     pub long : mesh .len (c .edge) ≡ len
@@ -59,7 +59,7 @@ module _ (cuts windows : ℕ) (limit : Float) (flags : List ℕ) (len : Float) (
     pub holds : Holds (p .made) m (p .links) (p .reals) (s .live)
     pub same : s .stock ≡ stockOf p
     pub follows : Follows limit (mesh .len) cs (s .stock .made) (s .live)
-    pub proper : Proper (mesh .len) c
+    pub proper : T (admits limit (mesh .len) c) → Proper (mesh .len) c
 
   -- from p, c is added
   abbrev pub Adds : Place → End → Type 0

@@ -95,7 +95,7 @@ module _ (limit : Float) (flags ends : List ℕ) (lens : List Float) (m : ℕ) (
         holds = S .holds;
         same = S .stock;
         follows = F;
-        proper =
+        proper = λ y.
             let d = doubles number checked in
             let on = passed-second first second is in
             proper (g .mesh .len) c d

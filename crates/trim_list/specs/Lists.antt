@@ -130,7 +130,7 @@ module _ (g : Setting) (ops : List ℕ) (args : List Float) (n : ℕ) (p : Place
     pub untouched : Untouched (λ e. e < g .edges) p (placeIn made queued b)
     pub demand3 : Claim n state
 
-  -- the list ends before operation k, which is refused by a number
+  -- the list ends before operation k, which is refused by a number; the state before it, of which demand 3 is said, stands in no buffer any more: they are zeroed
   pub record Ends (k number : ℕ) : Type 0 where
     pub state : State
     pub is : wholeRun ≡ ended k number state

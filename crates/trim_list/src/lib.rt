@@ -21,7 +21,7 @@ pub enum Step {
     Went { made: u32, queued: u32 },
 }
 
-// All operations of a list went; or the list ends before operation `at`, which is refused by its number.
+// All operations that both slices have whole slots of went; or the list ends before operation `at`, which is refused by its number.
 pub enum Ran {
     Done { made: u32, queued: u32 },
     Ended { at: u32, number: u32 },

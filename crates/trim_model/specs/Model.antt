@@ -40,7 +40,7 @@ empty = record { edge = λ (e : ℕ). record { live = []; admitted = []; slivers
 abbrev pub asWindow : Candidate → Window
 asWindow c = record { b0 = c .b0; b1 = c .b1; low = lowestOf (c .src) (c .b0) (c .b1); src = c .src; into = c .into; queued = c .queued; num = 0 }
 
--- not admitted: width at most tiny, or lowest value above the limit
+-- not where its width is at most tiny, or its lowest value above the limit
 abbrev pub admits : Float → (ℕ → Float) → Candidate → Bool
 admits limit len c = not (le (width (c .b0) (c .b1)) (tinyOf (len (c .edge))) || lt limit (lowestOf (c .src) (c .b0) (c .b1)))
 

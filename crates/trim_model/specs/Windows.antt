@@ -19,7 +19,7 @@ pub record Window : Type 0 where
   pub queued : Bool
   pub num : ℕ
 
--- the Rust's `Win { b0, b1, ..u }`, as number n
+-- the Rust's `Win { b0, b1, ..u }`, as number n, with its lowest value, which the Rust sets when a field is done
 abbrev pub part : Window → Float → Float → ℕ → Window
 part u b0 b1 n = record { b0 = b0; b1 = b1; low = lowestOf (u .src) b0 b1; src = u .src; into = u .into; queued = u .queued; num = n }
 

@@ -19,7 +19,7 @@ pub record State : Type 0 where
   pub live : ℕ → List Window
   pub stock : Stock
 
--- a refusal by its number in 01, or what there is afterwards
+-- a refusal by its number (12 to 14 are 01's; a list's own are in trim_run), or what there is afterwards
 pub data Result : Type 0 where
   stopped : ℕ → Result
   went : State → Result
