@@ -1,16 +1,20 @@
 // Stored cases as rows of numbers of 4 bytes, the least significant first; a double is two, the low half first. For the programs that replay such files.
-ghost use Prim.Native.Nat.{_≤_, _<_};
-ghost use lib.ListN.{length};
+ghost use Prim.Native.Nat.{_+_, _*_, _%_, _≤_, _<_, min};
+ghost use mathlib.Core.Path.{_≡_};
+ghost use lib.ListN.{length, getD, drop};
+ghost use lib.Ieee.{binary64, toBits};
+ghost use Rattle.nat_laws.specs.Lists.{listOf};
+ghost use Rattle.stored_numbers.specs.Numbers.{numberAt, doubleAt, allAre};
 
 fn wide(x: u8) -> u32
-    ensures { λ r. ⌜ r ≤ 255 ⌝ }
+    ensures { λ r. ⌜ (r ≡ x) × (r ≤ 255) ⌝ }
 {
     x as u32
 }
 
 // Byte i of s, 0 past the end.
 fn octet(s: &[u8], i: usize) -> u32
-    ensures { λ r. ⌜ r ≤ 255 ⌝ }
+    ensures { λ r. ⌜ (r ≡ getD (now (s .entry)) i 0) × (r ≤ 255) ⌝ }
 {
     if i < s.len() {
         return wide(s[i]);
@@ -21,6 +25,7 @@ fn octet(s: &[u8], i: usize) -> u32
 // Number k of s, 0 past the end.
 pub fn number(s: &[u8], k: usize) -> u32
     requires { ⌜ k < 4_000_000 ⌝ }
+    ensures { λ r. ⌜ r ≡ numberAt (now (s .entry)) k ⌝ }
 {
     let i = 4 * k;
     octet(s, i) + 256 * octet(s, i + 1) + 65_536 * octet(s, i + 2) + 16_777_216 * octet(s, i + 3)
@@ -29,12 +34,13 @@ pub fn number(s: &[u8], k: usize) -> u32
 // The double at number k of s.
 pub fn double(s: &[u8], k: usize) -> f64
     requires { ⌜ k < 3_000_000 ⌝ }
+    ensures { λ r. ⌜ r ≡ doubleAt (now (s .entry)) k ⌝ }
 {
     vectors::float((number(s, k) as u64) + 4_294_967_296 * (number(s, k + 1) as u64))
 }
 
 pub fn at_most(n: usize, most: usize) -> usize
-    ensures { λ r. ⌜ r ≤ most ⌝ }
+    ensures { λ r. ⌜ r ≡ min n most ⌝ }
 {
     if n < most { n } else { most }
 }
@@ -42,7 +48,7 @@ pub fn at_most(n: usize, most: usize) -> usize
 // Number k of s, and no more than most.
 pub fn count(s: &[u8], k: usize, most: usize) -> usize
     requires { ⌜ k < 4_000_000 ⌝ }
-    ensures { λ r. ⌜ r ≤ most ⌝ }
+    ensures { λ r. ⌜ r ≡ min (numberAt (now (s .entry)) k) most ⌝ }
 {
     at_most(number(s, k) as usize, most)
 }
@@ -50,6 +56,7 @@ pub fn count(s: &[u8], k: usize, most: usize) -> usize
 // The numbers of s from number k on, as many as fill the slice.
 pub fn read_doubles(s: &[u8], k: usize, to: &mut [f64])
     requires { ⌜ (k < 1_000_000) × (length (now to) ≤ 200_000) ⌝ }
+    ensures { λ r. ⌜ now (to .exit) ≡ listOf (length (now (to .entry))) (λ i. doubleAt (now (s .entry)) (k + 2 * i)) ⌝ }
 {
     let mut i = 0;
     while i < to.len() {
@@ -60,6 +67,7 @@ pub fn read_doubles(s: &[u8], k: usize, to: &mut [f64])
 
 pub fn read_numbers(s: &[u8], k: usize, to: &mut [u32])
     requires { ⌜ (k < 1_000_000) × (length (now to) ≤ 200_000) ⌝ }
+    ensures { λ r. ⌜ now (to .exit) ≡ listOf (length (now (to .entry))) (λ i. numberAt (now (s .entry)) (k + i)) ⌝ }
 {
     let mut i = 0;
     while i < to.len() {
@@ -70,6 +78,7 @@ pub fn read_numbers(s: &[u8], k: usize, to: &mut [u32])
 
 pub fn read_bytes(s: &[u8], k: usize, to: &mut [u8])
     requires { ⌜ (k < 1_000_000) × (length (now to) ≤ 200_000) ⌝ }
+    ensures { λ r. ⌜ now (to .exit) ≡ listOf (length (now (to .entry))) (λ i. numberAt (now (s .entry)) (k + i) % 256) ⌝ }
 {
     let mut i = 0;
     while i < to.len() {
@@ -79,7 +88,9 @@ pub fn read_bytes(s: &[u8], k: usize, to: &mut [u8])
 }
 
 // Whether all from element n on are x.
-pub fn all_u32(s: &[u32], n: usize, x: u32) -> bool {
+pub fn all_u32(s: &[u32], n: usize, x: u32) -> bool
+    ensures { λ r. ⌜ r ≡ allAre (λ y. y) x (drop n (now (s .entry))) ⌝ }
+{
     let mut i = n;
     while i < s.len() {
         if s[i] != x {
@@ -90,7 +101,9 @@ pub fn all_u32(s: &[u32], n: usize, x: u32) -> bool {
     true
 }
 
-pub fn all_f64(s: &[f64], n: usize, x: f64) -> bool {
+pub fn all_f64(s: &[f64], n: usize, x: f64) -> bool
+    ensures { λ r. ⌜ r ≡ allAre (toBits binary64) (toBits binary64 x) (drop n (now (s .entry))) ⌝ }
+{
     let mut i = n;
     while i < s.len() {
         if vectors::pattern(s[i]) != vectors::pattern(x) {
