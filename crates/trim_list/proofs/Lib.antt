@@ -1,4 +1,4 @@
 pub mod Steps
-pub mod Offers
+pub mod Candidates
 pub mod Loop
 pub mod Whole

@@ -4,7 +4,7 @@ use buffers::read_f64;
 use buffers::read_u32;
 use heap::Pushed;
 use trim::Added;
-use trim_run::Offer;
+use trim_run::CandidateWindow;
 use trim_run::Op;
 use trim_split::Counts;
 ghost use Prim.Native.Nat.{ℕ, _*_, _≤_, _<_};
@@ -12,7 +12,7 @@ ghost use mathlib.Core.Path.{_≡_};
 ghost use lib.ListN.{length};
 ghost use Rattle.chains.specs.Chains.{headOf};
 ghost use Rattle.trim_run.specs.Operations.{asCandidate, asOperation};
-ghost use Rattle.trim_run.specs.Operations.{offer as Operations·offer};
+ghost use Rattle.trim_run.specs.Operations.{add as Operations·add};
 ghost use Rattle.trim_list.specs.Lists.{slices, cuts, settingOf, Ready, Operated, Runs, placeIn, Touches, edgeCount, cutCount, operationCount, lentSetting, ZeroSlices, ZeroCuts, RunWhole};
 
 // An operation is refused by its number; or so many windows are made and so many events queued.
@@ -102,10 +102,10 @@ fn zero_slices(
     buffers::zero_f64(vertex);
 }
 
-// A candidate is offered to its edge: refused by its number, or added.
-fn offer(
+// A candidate is refused by its number, or added to its edge.
+fn add_candidate(
     m: u32,
-    c: Offer,
+    c: CandidateWindow,
     limit: f64,
     ends: &[u32],
     lens: &[f64],
@@ -124,7 +124,7 @@ fn offer(
     queued: u32,
 ) -> Step
     requires { ⌜ Ready m made (slices (now edges) (now words) (now reals) (now keys) (now events) (now vertex)) (cuts (now pts) (now out) (now keep) (now next)) ⌝ }
-    ensures { λ r. ⌜ Operated (settingOf (cuts (now (pts .entry)) (now (out .entry)) (now (keep .entry)) (now (next .entry))) (slices (now (edges .entry)) (now (words .entry)) (now (reals .entry)) (now (keys .entry)) (now (events .entry)) (now (vertex .entry))) limit (now (flags .entry)) (now (ends .entry)) (now (lens .entry)) m) (Operations·offer (asCandidate c)) made queued (slices (now (edges .entry)) (now (words .entry)) (now (reals .entry)) (now (keys .entry)) (now (events .entry)) (now (vertex .entry))) r (slices (now (edges .exit)) (now (words .exit)) (now (reals .exit)) (now (keys .exit)) (now (events .exit)) (now (vertex .exit))) ⌝ }
+    ensures { λ r. ⌜ Operated (settingOf (cuts (now (pts .entry)) (now (out .entry)) (now (keep .entry)) (now (next .entry))) (slices (now (edges .entry)) (now (words .entry)) (now (reals .entry)) (now (keys .entry)) (now (events .entry)) (now (vertex .entry))) limit (now (flags .entry)) (now (ends .entry)) (now (lens .entry)) m) (Operations·add (asCandidate c)) made queued (slices (now (edges .entry)) (now (words .entry)) (now (reals .entry)) (now (keys .entry)) (now (events .entry)) (now (vertex .entry))) r (slices (now (edges .exit)) (now (words .exit)) (now (reals .exit)) (now (keys .exit)) (now (events .exit)) (now (vertex .exit))) ⌝ }
 {
     let src = c.src;
     let l = read_f64(lens, 1, c.edge.0, 0);
@@ -192,7 +192,7 @@ fn operate(
     ensures { λ r. ⌜ Operated (settingOf (cuts (now (pts .entry)) (now (out .entry)) (now (keep .entry)) (now (next .entry))) (slices (now (edges .entry)) (now (words .entry)) (now (reals .entry)) (now (keys .entry)) (now (events .entry)) (now (vertex .entry))) limit (now (flags .entry)) (now (ends .entry)) (now (lens .entry)) m) (asOperation op) made queued (slices (now (edges .entry)) (now (words .entry)) (now (reals .entry)) (now (keys .entry)) (now (events .entry)) (now (vertex .entry))) r (slices (now (edges .exit)) (now (words .exit)) (now (reals .exit)) (now (keys .exit)) (now (events .exit)) (now (vertex .exit))) ⌝ }
 {
     match op {
-        Op::Add(c) => offer(
+        Op::Add(c) => add_candidate(
             m,
             c,
             limit,

@@ -27,8 +27,8 @@ use Rattle.trim_state.specs.Follows.{Follows}
 use Rattle.trim_state.proofs.Follows.{follows-unqueue, follows-demand3}
 use Rattle.trim_state.proofs.Made.{Made, act-made, After, finish-after, add-after}
 use Rattle.live_windows.specs.Live.{unqueuedIn}
-use Rattle.trim_run.specs.Operations.{Operation, offer, pop, touch, unknown, candidateOf, candidates, Doubles, DoublesOf}
-use Rattle.trim_run.specs.Run.{taken, popped, hasLength, isOnEdge, offering, operate}
+use Rattle.trim_run.specs.Operations.{Operation, add, pop, touch, unknown, candidateOf, candidates, Doubles, DoublesOf}
+use Rattle.trim_run.specs.Run.{taken, popped, hasLength, isOnEdge, tryAdd, operate}
 use Rattle.trim_run.specs.Demand3.{Demand3}
 
 -- a candidate that is not refused
@@ -72,9 +72,9 @@ module _ (cuts windows : ℕ) (limit : Float) (flags : List ℕ) (mesh : Mesh) (
   abbrev Go : (State → Type 0) → Result → Type 0
   Go P r = After cuts windows limit flags P r
 
-  offer-after : (c : Candidate) → Doubles (mesh .len) c → Go (Next (c ∷ [])) (offering cuts windows limit flags mesh edges vertices c s)
-  unfolding offering
-  offer-after c d =
+  candidate-after : (c : Candidate) → Doubles (mesh .len) c → Go (Next (c ∷ [])) (tryAdd cuts windows limit flags mesh edges vertices c s)
+  unfolding tryAdd
+  candidate-after c d =
       let l = mesh .len (c .edge) in
       by-cases (λ (b : Bool). (T b → T (ltb (c .edge) edges && hasLength l)) → Go (Next (c ∷ [])) (cond b (cond (isOnEdge l (c .b0) && isOnEdge l (c .b1)) (state.addOf cuts windows limit flags mesh c s) (state.stopped 42)) (state.stopped 41))) (ltb (c .edge) edges && hasLength l)
       (λ y f. by-cases (λ (b : Bool). (T b → T (isOnEdge l (c .b0) && isOnEdge l (c .b1))) → Go (Next (c ∷ [])) (cond b (state.addOf cuts windows limit flags mesh c s) (state.stopped 42))) (isOnEdge l (c .b0) && isOnEdge l (c .b1))
@@ -90,7 +90,7 @@ module _ (cuts windows : ℕ) (limit : Float) (flags : List ℕ) (mesh : Mesh) (
 
   operate-after : (o : Operation) → DoublesOf (mesh .len) o → Go (Next (candidateOf o)) (operate cuts windows limit flags mesh edges vertices o s)
   unfolding operate candidateOf
-  operate-after (offer c) d = offer-after c d
+  operate-after (add c) d = candidate-after c d
   operate-after pop d = pop-after (popping (s .stock .queue) (s .stock .queued))
   operate-after (touch v d) k = by-cases (λ (b : Bool). Go (Next []) (cond b (finish (s .live) (act cuts windows limit flags (actions.touch v d) (s .stock))) (state.stopped 43))) (ltb v vertices) (λ y. touch-after v d) (λ y. tt)
   operate-after unknown d = tt

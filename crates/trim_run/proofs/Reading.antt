@@ -8,7 +8,7 @@ use borrow.Author.Tests.{eq-eqb, ne-eqb}
 use lib.Dec.{eqb}
 use lib.Ieee.{Float}
 use Rattle.trim_model.specs.Model.{Candidate}
-use Rattle.trim_run.specs.Operations.{offer, pop, touch, unknown, wordAt, realAt, candidateAt, sourceAt, operationAt}
+use Rattle.trim_run.specs.Operations.{add, pop, touch, unknown, wordAt, realAt, candidateAt, sourceAt, operationAt}
 
 module _ (words : List ℕ) (reals : List Float) (k kind : ℕ) (is : kind ≡ wordAt words k 0) where
   -- the tests of the kind, in their order
@@ -18,14 +18,14 @@ module _ (words : List ℕ) (reals : List Float) (k kind : ℕ) (is : kind ≡ w
   other : (n : ℕ) → kind ≢ n → eqb (wordAt words k 0) n ≡ false
   other n h = ne-eqb (wordAt words k 0) n (λ d. h (is ∙ d))
 
-  pub read-point : kind ≡ 0 → (c : Candidate) → c ≡ candidateAt words reals k (sourceAt reals k false) → offer c ≡ operationAt words reals k
+  pub read-point : kind ≡ 0 → (c : Candidate) → c ≡ candidateAt words reals k (sourceAt reals k false) → add c ≡ operationAt words reals k
   unfolding operationAt
-  read-point h c d = rw (test 0 h) (ap offer d)
+  read-point h c d = rw (test 0 h) (ap add d)
 
   module _ (not0 : kind ≢ 0) where
-    pub read-line : kind ≡ 1 → (c : Candidate) → c ≡ candidateAt words reals k (sourceAt reals k true) → offer c ≡ operationAt words reals k
+    pub read-line : kind ≡ 1 → (c : Candidate) → c ≡ candidateAt words reals k (sourceAt reals k true) → add c ≡ operationAt words reals k
     unfolding operationAt
-    read-line h c d = rw (other 0 not0, test 1 h) (ap offer d)
+    read-line h c d = rw (other 0 not0, test 1 h) (ap add d)
 
     module _ (not1 : kind ≢ 1) where
       pub read-pop : kind ≡ 2 → pop ≡ operationAt words reals k

@@ -12,12 +12,12 @@ use Rattle.source.specs.declared.Src.{Src}
 use Rattle.source.specs.declared.Src.the-variants.{Point, Line}
 use Rattle.windows.specs.Windows.{srcOf}
 use Rattle.trim_model.specs.Model.{Candidate}
-use Rattle.trim_run.specs.declared.Offer.{Offer}
+use Rattle.trim_run.specs.declared.CandidateWindow.{CandidateWindow}
 use Rattle.trim_run.specs.declared.Op.{Op}
 use Rattle.trim_run.specs.declared.Op.the-variants.{Add, Pop, Touch, Unknown}
 
 pub data Operation : Type 0 where
-  offer : Candidate → Operation  -- kind 0, from a point, or 1, from a line
+  add : Candidate → Operation  -- kind 0, from a point, or 1, from a line
   pop : Operation  -- kind 2
   touch : ℕ → Float → Operation  -- kind 3
   unknown : Operation  -- any other
@@ -43,8 +43,8 @@ module _ (words : List ℕ) (reals : List Float) where
 
   unfoldable pub operationAt : ℕ → Operation
   operationAt k =
-      cond (eqb (word k 0) 0) (offer (candidateAt k (Point (real k 2) (real k 3) (real k 4))))
-      (cond (eqb (word k 0) 1) (offer (candidateAt k (Line (real k 2) (real k 3) (real k 4))))
+      cond (eqb (word k 0) 0) (add (candidateAt k (Point (real k 2) (real k 3) (real k 4))))
+      (cond (eqb (word k 0) 1) (add (candidateAt k (Line (real k 2) (real k 3) (real k 4))))
       (cond (eqb (word k 0) 2) pop
       (cond (eqb (word k 0) 3) (touch (word k 1) (real k 0))
       unknown)))
@@ -57,7 +57,7 @@ module _ (words : List ℕ) (reals : List Float) where
 
 -- the candidates among them
 unfoldable pub candidateOf : Operation → List Candidate
-candidateOf (offer c) = c ∷ []
+candidateOf (add c) = c ∷ []
 candidateOf pop = []
 candidateOf (touch v d) = []
 candidateOf unknown = []
@@ -72,11 +72,11 @@ candidates (o ∷ ops) = candidateOf o ++ candidates ops
 abbrev pub sourceAt : List Float → ℕ → Bool → Src
 sourceAt reals k line = srcOf line (realAt reals k 2) (realAt reals k 3) (realAt reals k 4)
 
-abbrev pub asCandidate : Offer → Candidate
+abbrev pub asCandidate : CandidateWindow → Candidate
 asCandidate c = record { edge = c .edge .0; b0 = c .b0; b1 = c .b1; src = c .src; into = c .into .0; queued = c .queued }
 
 abbrev pub asOperation : Op → Operation
-asOperation (Add c) = offer (asCandidate c)
+asOperation (Add c) = add (asCandidate c)
 asOperation Pop = pop
 asOperation (Touch v d) = touch (v .0) d
 asOperation Unknown = unknown
@@ -89,7 +89,7 @@ pub record Doubles (len : ℕ → Float) (c : Candidate) : Type 0 where
 
 -- and so are those of an operation
 abbrev pub DoublesOf : (ℕ → Float) → Operation → Type 0
-DoublesOf len (offer c) = Doubles len c
+DoublesOf len (add c) = Doubles len c
 DoublesOf len pop = Unit {0}
 DoublesOf len (touch v d) = Unit {0}
 DoublesOf len unknown = Unit {0}

@@ -16,7 +16,7 @@ use Rattle.trim_model.specs.Windows.{Window}
 use Rattle.trim_model.specs.Model.{Candidate}
 use Rattle.trim_state.specs.State.{State, Result, stopped, went, finish, Mesh, addOf}
 use Rattle.live_windows.specs.Live.{unqueuedIn}
-use Rattle.trim_run.specs.Operations.{Operation, offer, pop, touch, unknown}
+use Rattle.trim_run.specs.Operations.{Operation, add, pop, touch, unknown}
 
 -- ---- a pop: the first event is taken out, and a live window that it names is no longer queued
 unfoldable pub taken : Event → (ℕ → List Window) → ℕ → List Window
@@ -41,17 +41,17 @@ abbrev pub refusalOf : ℕ → ℕ → Float → Float → Float → ℕ
 refusalOf edges e l b0 b1 = cond (ltb e edges && hasLength l) (cond (isOnEdge l b0 && isOnEdge l b1) 0 42) 41
 
 module _ (cuts windows : ℕ) (limit : Float) (flags : List ℕ) (mesh : Mesh) (edges vertices : ℕ) where
-  unfoldable pub offering : Candidate → State → Result
+  unfoldable pub tryAdd : Candidate → State → Result
   unfolding addOf
-  offering c s =
+  tryAdd c s =
       let l = mesh .len (c .edge) in
       cond (ltb (c .edge) edges && hasLength l)
       (cond (isOnEdge l (c .b0) && isOnEdge l (c .b1)) (addOf cuts windows limit flags mesh c s) (stopped 42))
       (stopped 41)
 
   unfoldable pub operate : Operation → State → Result
-  unfolding offering popped
-  operate (offer c) s = offering c s
+  unfolding tryAdd popped
+  operate (add c) s = tryAdd c s
   operate pop s = went (popped s (popping (s .stock .queue) (s .stock .queued)))
   operate (touch v d) s = cond (ltb v vertices) (finish (s .live) (act cuts windows limit flags (actions.touch v d) (s .stock))) (stopped 43)
   operate unknown s = stopped 40

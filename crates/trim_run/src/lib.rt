@@ -25,7 +25,7 @@ ghost use Rattle.trim_run.specs.Run.{popped as Run·popped};
 ghost use Rattle.trim_run.specs.Represents.{Represents, Checked};
 
 // A candidate, and an operation that was read.
-pub struct Offer {
+pub struct CandidateWindow {
     pub edge: EdgeId,
     pub b0: f64,
     pub b1: f64,
@@ -35,7 +35,7 @@ pub struct Offer {
 }
 
 pub enum Op {
-    Add(Offer),
+    Add(CandidateWindow),
     Pop,
     Touch(VertexId, f64),
     Unknown,
@@ -70,7 +70,7 @@ fn is_queued(ops: &[u32], k: u32) -> bool
     false
 }
 
-fn candidate_at(ops: &[u32], args: &[f64], k: u32, line: bool) -> Offer
+fn candidate_at(ops: &[u32], args: &[f64], k: u32, line: bool) -> CandidateWindow
     ensures { λ r. ⌜ asCandidate r ≡ candidateAt (now (ops .entry)) (now (args .entry)) k (sourceAt (now (args .entry)) k line) ⌝ }
 {
     let edge = read_u32(ops, 4, k, 1);
@@ -79,7 +79,7 @@ fn candidate_at(ops: &[u32], args: &[f64], k: u32, line: bool) -> Offer
     let b0 = read_f64(args, 5, k, 0);
     let b1 = read_f64(args, 5, k, 1);
     let src = source_at(args, k, line);
-    Offer {
+    CandidateWindow {
         edge: EdgeId(edge),
         b0,
         b1,

@@ -1,4 +1,4 @@
--- An offer: it is refused by its number, or it is added. Assumes nothing.
+-- A candidate: it is refused by its number, or it is added. Assumes nothing.
 use Prim.Native.Nat.{ℕ, _*_, _+_, _≤_, _<_}
 use native.Mathlib.Omega.{arith}
 use mathlib.Core.Bool.{Bool, true, false, cond, _&&_}
@@ -23,8 +23,8 @@ use Rattle.trim_split.specs.declared.Counts.{Counts}
 use Rattle.trim.specs.declared.Added.{Added}
 use Rattle.trim.specs.declared.Added.the-variants.{Stopped as Added·Stopped, Went as Added·Went}
 use Rattle.trim.specs.Adding.{Given, Adds, Bounded, endOf}
-use Rattle.trim_run.specs.Operations.{offer, Doubles}
-use Rattle.trim_run.specs.Run.{hasLength, isOnEdge, refusalOf, offering, operate}
+use Rattle.trim_run.specs.Operations.{add, Doubles}
+use Rattle.trim_run.specs.Run.{hasLength, isOnEdge, refusalOf, tryAdd, operate}
 use Rattle.trim_run.specs.Represents.{Checked}
 use Rattle.trim_run.proofs.Follow.{proper}
 use Rattle.trim_list.specs.declared.Step.the-variants.{Stopped, Went}
@@ -68,27 +68,27 @@ module _ (limit : Float) (flags ends : List ℕ) (lens : List Float) (m : ℕ) (
   doubles number h = record { start = h .start; end = h .end; length = subst (λ (z : Float). T (fits binary64 z)) long (h .length) }
 
   -- by the tests on the length that was read
-  offering-is : (s : State) → operate (g .cuts) (g .windows) limit flags (g .mesh) m (g .vertices) (offer c) s ≡ cond first (cond second (added s) (stopped 42)) (stopped 41)
-  unfolding operate offering
-  offering-is s = ap (λ (z : Float). cond (ltb (c .edge) m && hasLength z) (cond (isOnEdge z (c .b0) && isOnEdge z (c .b1)) (added s) (stopped 42)) (stopped 41)) (sym long)
+  trying-is : (s : State) → operate (g .cuts) (g .windows) limit flags (g .mesh) m (g .vertices) (add c) s ≡ cond first (cond second (added s) (stopped 42)) (stopped 41)
+  unfolding operate tryAdd
+  trying-is s = ap (λ (z : Float). cond (ltb (c .edge) m && hasLength z) (cond (isOnEdge z (c .b0) && isOnEdge z (c .b1)) (added s) (stopped 42)) (stopped 41)) (sym long)
 
-  pub offer-refused : (number : ℕ) → Checked m (c .edge) l (c .b0) (c .b1) number → number ≢ 0 → Operated g (offer c) made queued b (Stopped number) b
-  offer-refused number h k = record { doubles = doubles number h; fits = tt; says = λ s cs S F. offering-is s ∙ refused first second number (added s) (h .number) k }
+  pub candidate-refused : (number : ℕ) → Checked m (c .edge) l (c .b0) (c .b1) number → number ≢ 0 → Operated g (add c) made queued b (Stopped number) b
+  candidate-refused number h k = record { doubles = doubles number h; fits = tt; says = λ s cs S F. trying-is s ∙ refused first second number (added s) (h .number) k }
 
   -- it is refused by no number
   module _ (number : ℕ) (checked : Checked m (c .edge) l (c .b0) (c .b1) number) (none : number ≡ 0) where
     is : _≡_ {A = ℕ} 0 (cond first (cond second 0 42) 41)
     is = sym none ∙ checked .number
 
-    pub offer-there : c .edge < m
-    offer-there = ltb→lt (c .edge) m (and-l (ltb (c .edge) m) (hasLength l) (passed-first first second is))
+    pub candidate-there : c .edge < m
+    candidate-there = ltb→lt (c .edge) m (and-l (ltb (c .edge) m) (hasLength l) (passed-first first second is))
 
     -- of the ends that were read
     module _ (low high : ℕ) (isLow : low ≡ getD ends (2 * c .edge + 0) 0) (isHigh : high ≡ getD ends (2 * c .edge + 1) 0) where
       given : (s : State) (cs : List Candidate) → Stands m made queued b s → Follows limit (g .mesh .len) cs (s .stock .made) (s .live)
           → Given (g .cuts) (g .windows) limit flags l low high c m (g .mesh) cs s (placeIn made queued b)
       given s cs S F = record {
-        there = offer-there;
+        there = candidate-there;
         long = sym long;
         low = sym isLow;
         high = sym isHigh;
@@ -109,24 +109,24 @@ module _ (limit : Float) (flags ends : List ℕ) (lens : List Float) (m : ℕ) (
       AddsTo r b′ = Adds (g .cuts) (g .windows) limit flags l low high c (placeIn made queued b)
           (endOf r (links (b′ .edges) (b′ .words)) (b′ .reals) (queue (b′ .keys) (b′ .events)) (b′ .vertex))
 
-      adds : (s : State) → operate (g .cuts) (g .windows) limit flags (g .mesh) m (g .vertices) (offer c) s ≡ added s
-      adds s = offering-is s ∙ passed-both first second (added s) is
+      adds : (s : State) → operate (g .cuts) (g .windows) limit flags (g .mesh) m (g .vertices) (add c) s ≡ added s
+      adds s = trying-is s ∙ passed-both first second (added s) is
 
-      pub offer-stopped : (n : ℕ) (b′ : Slices) → AddsTo (Added·Stopped n) b′ → Operated g (offer c) made queued b (Stopped n) b′
-      offer-stopped n b′ h = record { doubles = doubles number checked; fits = tt; says = λ s cs S F. adds s ∙ h m (g .mesh) cs s (given s cs S F) }
+      pub candidate-stopped : (n : ℕ) (b′ : Slices) → AddsTo (Added·Stopped n) b′ → Operated g (add c) made queued b (Stopped n) b′
+      candidate-stopped n b′ h = record { doubles = doubles number checked; fits = tt; says = λ s cs S F. adds s ∙ h m (g .mesh) cs s (given s cs S F) }
 
-      pub offer-went : (now : Counts) (b′ : Slices) → Bounded (g .windows) (Added·Went now) → AddsTo (Added·Went now) b′ → Operated g (offer c) made queued b (Went (now .made) (now .queued)) b′
-      offer-went now b′ fits h = record {
+      pub candidate-went : (now : Counts) (b′ : Slices) → Bounded (g .windows) (Added·Went now) → AddsTo (Added·Went now) b′ → Operated g (add c) made queued b (Went (now .made) (now .queued)) b′
+      candidate-went now b′ fits h = record {
         doubles = doubles number checked;
         fits = fits;
         says = λ s cs S F.
             let r = h m (g .mesh) cs s (given s cs S F) in
-            record { state = record { live = r .live; stock = _ }; is = adds s ∙ r .is; stands = record { holds = r .holds; stock = refl }; untouched = untouched-wider (λ k. k ≡ c .edge) (λ e. e < m) (λ e h. subst (λ (k : ℕ). k < m) (sym h) offer-there) (placeIn made queued b) (placeIn (now .made) (now .queued) b′) (r .untouched) };
+            record { state = record { live = r .live; stock = _ }; is = adds s ∙ r .is; stands = record { holds = r .holds; stock = refl }; untouched = untouched-wider (λ k. k ≡ c .edge) (λ e. e < m) (λ e h. subst (λ (k : ℕ). k < m) (sym h) candidate-there) (placeIn made queued b) (placeIn (now .made) (now .queued) b′) (r .untouched) };
       }
 
     -- what `add` requires
-    pub offer-ready : Ready m made b x → Running·Ready (c .edge) made 0 (b .edges) (b .words) (b .reals)
-    offer-ready r = record { fits = r .fits; linked = omega arith; edge = omega (arith, offer-there, r .edges) }
+    pub candidate-ready : Ready m made b x → Running·Ready (c .edge) made 0 (b .edges) (b .words) (b .reals)
+    candidate-ready r = record { fits = r .fits; linked = omega arith; edge = omega (arith, candidate-there, r .edges) }
 
-pub offer-sizes : (m made : ℕ) (b : Slices) (x : Cuts) → Ready m made b x → Sizes (length (x .pts)) (x .keep) (x .out) (x .next)
-offer-sizes m made b x r = record { keeps = r .keeps; outs = r .outs; nexts = r .nexts }
+pub candidate-sizes : (m made : ℕ) (b : Slices) (x : Cuts) → Ready m made b x → Sizes (length (x .pts)) (x .keep) (x .out) (x .next)
+candidate-sizes m made b x r = record { keeps = r .keeps; outs = r .outs; nexts = r .nexts }
