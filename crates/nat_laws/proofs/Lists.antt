@@ -1,5 +1,6 @@
 -- What holds of each element of a list, through append and from one property to another; and lists that functions make. Assumes nothing.
 use Prim.Native.Nat.{ℕ, zero, suc, _<_}
+use mathlib.Core.Bool.{Bool, true, false, cond}
 use mathlib.Core.List.{List, [], _∷_, _++_}
 use mathlib.Core.Logic.{_≢_}
 use mathlib.Core.Path.{_≡_, refl, sym, ap, _∙_}
@@ -7,7 +8,7 @@ use native.Mathlib.Decide.{ℕ-discrete}
 use native.Mathlib.Omega.{arith}
 use lib.ListN.{length, getD, set, length-append, List·getD-append}
 use lib.Seq.{getD-at, set-at, set-append-left}
-use Rattle.nat_laws.specs.Lists.{All, listOf}
+use Rattle.nat_laws.specs.Lists.{All, listOf, insertBy, sortBy}
 
 module _ {A : Type 0} where
   -- what holds of everything
@@ -69,3 +70,18 @@ module _ {A : Type 0} where
         ap (λ l. l ++ (g n ∷ [])) (ih (omega (arith, e)))
         ∙ ap (λ x. set (listOf n f) k (g k) ++ (x ∷ [])) (h n (omega arith) e)
         ∙ sym (set-append-left (listOf n f) (f n ∷ []) k (g k) (rw (length-listOf n f) (omega (arith, e))))
+
+-- what holds of each stays so where a list is put in order
+module _ {A : Type 0} (before : A → A → Bool) (P : A → Type 0) where
+  pub all-insertBy : (u : A) (l : List A) → P u → All P l → All P (insertBy before u l)
+  unfolding insertBy
+  all-insertBy u [] h k = (h, tt)
+  all-insertBy u (v ∷ vs) h k = go (before v u) (all-insertBy u vs h (k .1)) where
+    go : (c : Bool) → All P (insertBy before u vs) → All P (cond c (v ∷ insertBy before u vs) (u ∷ v ∷ vs))
+    go true r = (k .0, r)
+    go false r = (h, k)
+
+  pub all-sortBy : (l : List A) → All P l → All P (sortBy before l)
+  unfolding sortBy
+  all-sortBy [] h = tt
+  all-sortBy (u ∷ us) h = all-insertBy u (sortBy before us) (h .0) (all-sortBy us (h .1))

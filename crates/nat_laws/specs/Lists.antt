@@ -1,5 +1,6 @@
--- What holds of each element of a list, and of each two; the list that a function makes. Definitions only.
+-- What holds of each element of a list, and of each two; the list that a function makes; a list put in order. Definitions only.
 use Prim.Native.Nat.{ℕ, zero, suc}
+use mathlib.Core.Bool.{Bool, cond}
 use mathlib.Core.List.{List, [], _∷_, _++_}
 
 module _ {A : Type 0} where
@@ -16,3 +17,15 @@ module _ {A : Type 0} where
   unfoldable pub listOf : ℕ → (ℕ → A) → List A
   listOf zero f = []
   listOf (suc n) f = listOf n f ++ (f n ∷ [])
+
+-- by a test whether one comes before another
+module _ {A : Type 0} (before : A → A → Bool) where
+  -- u behind the first elements that come before it
+  unfoldable pub insertBy : A → List A → List A
+  insertBy u [] = u ∷ []
+  insertBy u (v ∷ vs) = cond (before v u) (v ∷ insertBy u vs) (u ∷ v ∷ vs)
+
+  unfoldable pub sortBy : List A → List A
+  unfolding insertBy
+  sortBy [] = []
+  sortBy (u ∷ us) = insertBy u (sortBy us)

@@ -14,6 +14,7 @@ use native.Mathlib.Omega.{arith}
 use lib.Dec.{T}
 use lib.Ieee.{Float, lt, le}
 use lib.Ieee.Fits.{and-i}
+use Rattle.nat_laws.specs.Lists.{insertBy, sortBy}
 use Rattle.float64.specs.Scalar.{minOf, maxOf}
 use Rattle.float64.specs.TotalOrder.{totalLess}
 use Rattle.float64.specs.Scalar as scalar
@@ -51,17 +52,17 @@ module _ (X : ℕ) where
   split-any u n (p ∷ ps) (inr h) = inr (fresh-any u n ps h)
 
   insert-here : (u : Window) (l : List Window) → HoldsWindow u → Any HoldsWindow (insert u l)
-  unfolding insert
+  unfolding insertBy
   insert-here u [] h = inl h
   insert-here u (v ∷ vs) h = by-cases (λ (c : Bool). Any HoldsWindow (cond c (v ∷ insert u vs) (u ∷ v ∷ vs))) (totalLess (v .b0) (u .b0)) (λ y. inr (insert-here u vs h)) (λ n. inl h)
 
   insert-there : (u : Window) (l : List Window) → Any HoldsWindow l → Any HoldsWindow (insert u l)
-  unfolding insert
+  unfolding insertBy
   insert-there u [] h = absurd h
   insert-there u (v ∷ vs) h = by-cases (λ (c : Bool). Any HoldsWindow (cond c (v ∷ insert u vs) (u ∷ v ∷ vs))) (totalLess (v .b0) (u .b0)) (λ y. ⊎-elim inl (λ k. inr (insert-there u vs k)) h) (λ n. inr h)
 
   pub sorted-any : (l : List Window) → Any HoldsWindow l → Any HoldsWindow (sorted l)
-  unfolding sorted
+  unfolding sortBy
   sorted-any [] h = h
   sorted-any (u ∷ us) h = ⊎-elim (insert-here u (sorted us)) (λ k. insert-there u (sorted us) (sorted-any us k)) h
 

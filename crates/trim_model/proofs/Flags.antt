@@ -7,6 +7,7 @@ use mathlib.Core.Path.{_≡_, refl, sym, ap, _∙_, subst}
 use lib.Dec.{T}
 use lib.Ieee.{Float, lt, le}
 use lib.ListN.{length}
+use Rattle.nat_laws.specs.Lists.{insertBy, sortBy}
 use Rattle.float64.specs.Notation.{_⊕_, _⊖_}
 use Rattle.float64.specs.Scalar.{minOf, maxOf}
 use Rattle.float64.specs.TotalOrder.{totalLess}
@@ -42,14 +43,14 @@ split-flags u n (p ∷ ps) = ap (λ (l : List Window). unqueued (part u (p .from
 
 -- `insert` looks at the starts only
 pub insert-flags : (u : Window) (l : List Window) → map unqueued (insert u l) ≡ insert (unqueued u) (map unqueued l)
-unfolding insert
+unfolding insertBy
 insert-flags u [] = refl
 insert-flags u (v ∷ vs) = by-cases (λ (c : Bool). map unqueued (cond c (v ∷ insert u vs) (u ∷ v ∷ vs)) ≡ cond c (unqueued v ∷ insert (unqueued u) (map unqueued vs)) (unqueued u ∷ unqueued v ∷ map unqueued vs)) (totalLess (v .b0) (u .b0))
     (λ y. ap (λ (l : List Window). unqueued v ∷ l) (insert-flags u vs))
     (λ n. refl)
 
 sorted-flags : (l : List Window) → map unqueued (sorted l) ≡ sorted (map unqueued l)
-unfolding sorted
+unfolding sortBy
 sorted-flags [] = refl
 sorted-flags (u ∷ us) = insert-flags u (sorted us) ∙ ap (insert (unqueued u)) (sorted-flags us)
 

@@ -6,6 +6,7 @@ use mathlib.Core.Path.{_≡_, refl, sym, ap, _∙_}
 use native.Mathlib.Decide.{decLe}
 use native.Mathlib.Omega.{arith}
 use lib.Dec.{T}
+use Rattle.nat_laws.specs.Lists.{insertBy, sortBy}
 use Rattle.float64.specs.TotalOrder.{totalLess}
 use Rattle.nat_laws.proofs.Tests.{holds, fails}
 use Rattle.trim_model.specs.Windows.{Window, insert, sorted}
@@ -26,7 +27,7 @@ abbrev pub Differ : Window → Window → Type 0
 Differ u v = (rank (u .b0) ≡ rank (v .b0)) → ⊥
 
 insert-by : (u v : Window) (l : List Window) (b : Bool) → totalLess (v .b0) (u .b0) ≡ b → insert u (v ∷ l) ≡ cond b (v ∷ insert u l) (u ∷ v ∷ l)
-unfolding insert
+unfolding insertBy
 insert-by u v l b e = ap (λ (c : Bool). cond c (v ∷ insert u l) (u ∷ v ∷ l)) e
 
 -- u stands before v, or behind it
@@ -40,7 +41,7 @@ insert-comm : (u v : Window) → Start u → Start v → Differ u v → (l : Lis
 insert-comm u v g k d [] G = nil (decLe (rank (u .b0)) (rank (v .b0)))
   where
     one : (a : Window) → insert a [] ≡ a ∷ []
-    one a = unfold insert in refl
+    one a = unfold insertBy in refl
 
     nil : Dec (rank (u .b0) ≤ rank (v .b0)) → insert u (insert v []) ≡ insert v (insert u [])
     nil (yes h) = let z : rank (u .b0) < rank (v .b0) = omega (arith, d) in ap (insert u) (one v) ∙ first u v g k z [] ∙ ap (λ (l : List Window). u ∷ l) (sym (one v)) ∙ sym (later v u k g z []) ∙ ap (insert v) (sym (one u))
@@ -76,26 +77,26 @@ insert-comm u v g k d (x ∷ xs) G = go (totalLess (x .b0) (u .b0)) refl (totalL
 
 -- ---- starts that differ
 insert-back : (P : Window → Type 0) (u : Window) (l : List Window) → All P (insert u l) → P u × All P l
-unfolding insert
+unfolding insertBy
 insert-back P u [] = λ h. h
 insert-back P u (v ∷ vs) = by-cases (λ (c : Bool). All P (cond c (v ∷ insert u vs) (u ∷ v ∷ vs)) → P u × All P (v ∷ vs)) (totalLess (v .b0) (u .b0))
     (λ y h. let r = insert-back P u vs (h .1) in (r .0, (h .0, r .1)))
     (λ n h. (h .0, h .1))
 
 insert-differ : (u : Window) (l : List Window) → Pairs Differ (insert u l) → All (Differ u) l × Pairs Differ l
-unfolding insert
+unfolding insertBy
 insert-differ u [] = λ h. (tt, tt)
 insert-differ u (v ∷ vs) = by-cases (λ (c : Bool). Pairs Differ (cond c (v ∷ insert u vs) (u ∷ v ∷ vs)) → All (Differ u) (v ∷ vs) × Pairs Differ (v ∷ vs)) (totalLess (v .b0) (u .b0))
     (λ y h. let r = insert-differ u vs (h .1) in let s = insert-back (Differ v) u vs (h .0) in (((λ e. s .0 (sym e)), r .0), (s .1, r .1)))
     (λ n h. h)
 
 pub sorted-back : (P : Window → Type 0) (l : List Window) → All P (sorted l) → All P l
-unfolding sorted
+unfolding sortBy
 sorted-back P [] h = tt
 sorted-back P (u ∷ us) h = let r = insert-back P u (sorted us) h in (r .0, sorted-back P us (r .1))
 
 pub sorted-differ : (l : List Window) → Pairs Differ (sorted l) → Pairs Differ l
-unfolding sorted
+unfolding sortBy
 sorted-differ [] h = tt
 sorted-differ (u ∷ us) h = let r = insert-differ u (sorted us) h in (sorted-back (Differ u) us (r .0), sorted-differ us (r .1))
 
@@ -109,7 +110,7 @@ pairs-left (u ∷ us) m h = (all-left (Differ u) us m (h .0), pairs-left us m (h
 
 -- ---- a list whose starts rise is sorted
 pub sorted-self : (p : ℕ) (l : List Window) → All Start l → From p l → Pairs Differ l → sorted l ≡ l
-unfolding sorted
+unfolding sortBy
 sorted-self p [] G h d = refl
 sorted-self p (u ∷ us) G h d = ap (insert u) (sorted-self (rank (u .b0)) us (G .1) (h .1) (d .1)) ∙ front us (G .1) (h .1) (d .0)
   where
@@ -117,12 +118,12 @@ sorted-self p (u ∷ us) G h d = ap (insert u) (sorted-self (rank (u .b0)) us (G
     front [] G h d = nil
       where
         nil : insert u [] ≡ u ∷ []
-        nil = unfold insert in refl
+        nil = unfold insertBy in refl
     front (v ∷ vs) G' h d = let i = h .0 in let e = d .0 in let z : rank (u .b0) < rank (v .b0) = omega (arith, e) in first u v (G .0) (G' .0) z vs
 
 -- ---- the new windows are set in one by one
 through : (n : Window) → Start n → (l ns : List Window) → All Start l → All Start ns → All (Differ n) l → sorted (l ++ (n ∷ ns)) ≡ insert n (sorted (l ++ ns))
-unfolding sorted
+unfolding sortBy
 through n g [] ns G K d = refl
 through n g (u ∷ us) ns G K d =
     ap (insert u) (through n g us ns (G .1) K (d .1))
@@ -136,7 +137,7 @@ pairs-move n (u ∷ us) ns h =
     (((λ e. a .0 (sym e)), r .0), (all-append (Differ u) us ns (all-left (Differ u) us (n ∷ ns) (h .0)) (a .1), r .1))
 
 pub sorted-is : (l ns : List Window) → All Start l → All Start ns → Pairs Differ (l ++ ns) → sorted (l ++ ns) ≡ insertAll ns (sorted l)
-unfolding sorted insertAll
+unfolding sortBy insertAll
 sorted-is l [] G K d = ap sorted (append-nil l)
 sorted-is l (n ∷ ns) G K d =
     let m = pairs-move n l ns d in
@@ -144,7 +145,7 @@ sorted-is l (n ∷ ns) G K d =
 
 -- between what stands before and what stands behind
 insert-mid : (n : Window) → Start n → (pre m suf : List Window) → All (λ (u : Window). Start u × (rank (u .b0) < rank (n .b0))) pre → All (λ (u : Window). Start u × (rank (n .b0) < rank (u .b0))) suf → insert n (pre ++ (m ++ suf)) ≡ pre ++ (insert n m ++ suf)
-unfolding insert
+unfolding insertBy
 insert-mid n g (u ∷ us) m suf a b = later n u g (a .0 .0) (a .0 .1) (us ++ (m ++ suf)) ∙ ap (λ (l : List Window). u ∷ l) (insert-mid n g us m suf (a .1) b)
 insert-mid n g [] [] [] a b = refl
 insert-mid n g [] [] (v ∷ vs) a b = first n v g (b .0 .0) (b .0 .1) vs

@@ -11,6 +11,7 @@ use native.Mathlib.Omega.{arith}
 use lib.Dec.{eqb}
 use lib.ListN.{length}
 use lib.Ieee.{Float, le}
+use Rattle.nat_laws.specs.Lists.{insertBy, sortBy}
 use Rattle.float64.specs.TotalOrder.{totalLess}
 use Rattle.better.specs.Stretches.{Interval}
 use Rattle.trim_model.specs.Intervals.{width, tinyOf, pieces, wideOf}
@@ -57,12 +58,12 @@ split-times n u a [] = zero-le
 split-times n u a (p ∷ ps) = let f = fresh-times n u a ps in omega arith
 
 insert-times : (n : ℕ) (u : Window) (l : List Window) → times n (insert u l) ≡ range n (u .num) (suc (u .num)) + times n l
-unfolding times insert
+unfolding times insertBy
 insert-times n u [] = refl
 insert-times n u (v ∷ vs) = by-cases (λ (c : Bool). times n (cond c (v ∷ insert u vs) (u ∷ v ∷ vs)) ≡ range n (u .num) (suc (u .num)) + times n (v ∷ vs)) (totalLess (v .b0) (u .b0)) (λ z. omega (arith, insert-times n u vs)) (λ y. refl)
 
 sorted-times : (n : ℕ) (l : List Window) → times n (sorted l) ≡ times n l
-unfolding times sorted
+unfolding times sortBy
 sorted-times n [] = refl
 sorted-times n (u ∷ us) = omega (arith, insert-times n u (sorted us), sorted-times n us)
 

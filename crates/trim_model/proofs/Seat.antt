@@ -7,6 +7,7 @@ use native.Mathlib.Omega.{arith}
 use lib.Dec.{T}
 use lib.Ieee.{Float, le}
 use lib.Ieee.Bits.{is-true}
+use Rattle.nat_laws.specs.Lists.{insertBy}
 use Rattle.float64.specs.TotalOrder.{totalLess}
 use Rattle.nat_laws.proofs.Tests.{holds}
 use Rattle.float_laws.proofs.Total.{total-lt, total-trans}
@@ -56,13 +57,13 @@ seat-parts n xs zs =
     ∙ sym (append-assoc xs (takeWhile (startsUnder n) zs ++ (n ∷ [])) (dropWhile (startsUnder n) zs))
 
 insert-at : (n : Window) (zs : List Window) → insert n zs ≡ takeWhile (startsUnder n) zs ++ (n ∷ dropWhile (startsUnder n) zs)
-unfolding insert takeWhile dropWhile
+unfolding insertBy takeWhile dropWhile
 insert-at n [] = refl
 insert-at n (v ∷ vs) = by-cases (λ (c : Bool). cond c (v ∷ insert n vs) (n ∷ v ∷ vs) ≡ cond c (v ∷ takeWhile (startsUnder n) vs) [] ++ (n ∷ cond c (dropWhile (startsUnder n) vs) (v ∷ vs))) (startsUnder n v) (λ y. ap (λ (l : List Window). v ∷ l) (insert-at n vs)) (λ z. refl)
 
 -- insertion is seating, behind windows that start before n
 pub insert-seat : (n : Window) (xs zs : List Window) → All (Under n) xs → insert n (xs ++ zs) ≡ seat n xs zs
-unfolding insert
+unfolding insertBy
 insert-seat n [] zs h = insert-at n zs
 insert-seat n (u ∷ us) zs h = ap (λ (c : Bool). cond c (u ∷ insert n (us ++ zs)) (n ∷ u ∷ (us ++ zs))) (h .0) ∙ ap (λ (l : List Window). u ∷ l) (insert-seat n us zs (h .1))
 

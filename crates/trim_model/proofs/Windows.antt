@@ -7,6 +7,8 @@ use native.Mathlib.Nat.{le-suc, le-trans}
 use native.Mathlib.Omega.{arith}
 use lib.Dec.{T}
 use lib.Ieee.{Float, binary64, add, sub, lt}
+use Rattle.nat_laws.proofs.Lists.{all-sortBy}
+use Rattle.nat_laws.specs.Lists.{insertBy, sortBy}
 use Rattle.float64.specs.TotalOrder.{totalLess}
 use Rattle.better.specs.Stretches.{Interval}
 use Rattle.trim_model.specs.Intervals.{width}
@@ -50,12 +52,12 @@ split-count X Y u n [] = refl
 split-count X Y u n (p ∷ ps) = omega (arith, fresh-count X Y u n ps)
 
 insert-count : (X Y : ℕ) (u : Window) (l : List Window) → wcount X Y (insert u l) ≡ has X Y (rank (u .b0)) (rank (u .b1)) + wcount X Y l
-unfolding wcount insert
+unfolding wcount insertBy
 insert-count X Y u [] = refl
 insert-count X Y u (v ∷ vs) = by-cases (λ (c : Bool). wcount X Y (cond c (v ∷ insert u vs) (u ∷ v ∷ vs)) ≡ has X Y (rank (u .b0)) (rank (u .b1)) + wcount X Y (v ∷ vs)) (totalLess (v .b0) (u .b0)) (λ y. omega (arith, insert-count X Y u vs)) (λ n. refl)
 
 pub sorted-count : (X Y : ℕ) (l : List Window) → wcount X Y (sorted l) ≡ wcount X Y l
-unfolding wcount sorted
+unfolding wcount sortBy
 sorted-count X Y [] = refl
 sorted-count X Y (u ∷ us) = omega (arith, insert-count X Y u (sorted us), sorted-count X Y us)
 
@@ -157,18 +159,11 @@ abbrev pub FineWindow : Float → ℕ → ℕ → Window → Type 0
 FineWindow t m M u = Fine t m M (u .b0) (u .b1)
 
 -- ---- sorting
-insert-all : (P : Window → Type 0) (u : Window) (l : List Window) → P u → All P l → All P (insert u l)
-unfolding insert
-insert-all P u [] h k = (h, tt)
-insert-all P u (v ∷ vs) h k = by-cases (λ (c : Bool). All P (cond c (v ∷ insert u vs) (u ∷ v ∷ vs))) (totalLess (v .b0) (u .b0)) (λ y. (k .0, insert-all P u vs h (k .1))) (λ n. (h, k))
-
 pub sorted-all : (P : Window → Type 0) (l : List Window) → All P l → All P (sorted l)
-unfolding sorted
-sorted-all P [] h = tt
-sorted-all P (u ∷ us) h = insert-all P u (sorted us) (h .0) (sorted-all P us (h .1))
+sorted-all P l h = all-sortBy (λ v w. totalLess (v .b0) (w .b0)) P l h
 
 insert-from : (p : ℕ) (u : Window) (l : List Window) → Point (u .b0) → All (λ (v : Window). Point (v .b0)) l → p ≤ rank (u .b0) → From p l → From p (insert u l)
-unfolding insert
+unfolding insertBy
 insert-from p u [] g G i h = (i, tt)
 insert-from p u (v ∷ vs) g G i h =
     by-cases (λ (c : Bool). From p (cond c (v ∷ insert u vs) (u ∷ v ∷ vs))) (totalLess (v .b0) (u .b0))
@@ -176,7 +171,7 @@ insert-from p u (v ∷ vs) g G i h =
     (λ n. (i, (total-no (G .0) g n, h .1)))
 
 pub sorted-from : (p : ℕ) (l : List Window) → All (λ (v : Window). Point (v .b0)) l → All (λ (v : Window). p ≤ rank (v .b0)) l → From p (sorted l)
-unfolding sorted
+unfolding sortBy
 sorted-from p [] G h = tt
 sorted-from p (u ∷ us) G h = insert-from p u (sorted us) (G .0) (sorted-all (λ (v : Window). Point (v .b0)) us (G .1)) (h .0) (sorted-from p us (G .1) (h .1))
 

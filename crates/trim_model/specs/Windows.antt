@@ -3,6 +3,7 @@ use Prim.Native.Nat.{ℕ, suc}
 use mathlib.Core.Bool.{Bool, true, false, _&&_}
 use mathlib.Core.List.{List, [], _∷_}
 use lib.Ieee.{Float}
+use Rattle.nat_laws.specs.Lists.{insertBy, sortBy}
 use Rattle.float64.specs.TotalOrder.{totalLess}
 use Rattle.source.specs.declared.Src.{Src}
 use Rattle.source.specs.Distance.{lowestOf}
@@ -39,14 +40,11 @@ abbrev pub unqueued : Window → Window
 unqueued u = record { b0 = u .b0; b1 = u .b1; low = u .low; src = u .src; into = u .into; queued = false; num = u .num }
 
 -- `sort_by` of the starts with `total_cmp`, which is stable
-unfoldable pub insert : Window → List Window → List Window
-insert u [] = u ∷ []
-insert u (v ∷ vs) = if totalLess (v .b0) (u .b0) then v ∷ insert u vs else u ∷ v ∷ vs
+abbrev pub insert : Window → List Window → List Window
+insert u l = insertBy (λ v w. totalLess (v .b0) (w .b0)) u l
 
-unfoldable pub sorted : List Window → List Window
-unfolding insert
-sorted [] = []
-sorted (u ∷ us) = insert u (sorted us)
+abbrev pub sorted : List Window → List Window
+sorted l = sortBy (λ v w. totalLess (v .b0) (w .b0)) l
 
 module _ {A : Type 0} (p : A → Bool) where
   -- the leading elements that pass, and the others
