@@ -111,7 +111,7 @@ after-none : (v : List Float) (triangles : List ℕ) (m after : MeshBuffers) (k 
 unfolding afterwards topologyOf
 after-none v triangles m after k z s e = e ∙ rw (z, s) refl
 
-same-number : {r : Meshed} {n k : ℕ} → r ≡ Edges n → r ≡ Edges k → n ≡ k
+pub same-number : {r : Meshed} {n k : ℕ} → r ≡ Edges n → r ≡ Edges k → n ≡ k
 same-number e f = cc
 
 -- What an answer with n edges says, by the contract of `build`.

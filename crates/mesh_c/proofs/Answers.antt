@@ -10,11 +10,9 @@ use Rattle.topology.specs.Edges.{edges}
 use Rattle.mesh.specs.declared.Meshed.{Meshed}
 use Rattle.mesh.specs.declared.Meshed.the-variants.{Edges, Refused, ThirdFace}
 use Rattle.mesh.specs.Topology.{MeshBuffers}
+use Rattle.mesh.proofs.Fields.{same-number}
 use Rattle.mesh.specs.Answer.{numberOf, countsIn, meshRefusal, Answered}
 use Rattle.mesh_c.specs.Exports.{noOthers, packed, Packed}
-
-same-count : {m : Meshed} {n k : ℕ} → m ≡ Edges n → m ≡ Edges k → n ≡ k
-same-count e f = cc
 
 not-refused : {m : Meshed} {n : ℕ} {c : Checked} → m ≡ Edges n → m ≡ Refused c → ⊥
 not-refused e f = let z : _≡_ {A = ℕ} 0 1 = cc in omega arith
@@ -38,7 +36,7 @@ module _ (j : Job) (m : Meshed) (before after : MeshBuffers) (a : Answered j noO
   packed-edges n e =
       let z : meshRefusal j (countsIn before noOthers) ≡ 0 = sym (told (Edges n) e) in
       record {
-        number = unrefused (meshRefusal j (countsIn before noOthers)) (length (edges (j .triangles))) n z (same-count e (a .edge-count z));
+        number = unrefused (meshRefusal j (countsIn before noOthers)) (length (edges (j .triangles))) n z (same-number e (a .edge-count z));
         buffers = a .buffers;
       }
 
