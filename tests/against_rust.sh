@@ -1,0 +1,12 @@
+#!/bin/sh
+# Times a static library of ours against the Rust (oracle/) in one run, from the repository's root: tests/against_rust.sh NAME
+# builds crates/NAME_c and tests/NAME/bench.rs and runs it. Needs rt, cargo and rustc on x86-64.
+set -eu
+cd "$(dirname "$0")/.."
+name=$1
+out=target/tests
+mkdir -p "$out"
+cargo build --quiet --offline --release --manifest-path oracle/Cargo.toml
+rt staticlib "${name}_c" >&2
+${RUSTC:-rustc} --edition 2024 -O --check-cfg 'cfg(lent)' --cfg lent -L native=target/staticlib -l static="${name}_c" --extern oracle=oracle/target/release/liboracle.rlib -o "$out/${name}_bench" "tests/$name/bench.rs"
+"$out/${name}_bench"
