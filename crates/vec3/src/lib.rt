@@ -1,5 +1,6 @@
 // Vectors of three f64, in the Rust's order of operations: each sum and product is rounded by itself, left to right.
 
+use sqrt_hypot::ThreeRoots;
 ghost use mathlib.Core.Path.{_≡_};
 ghost use Rattle.vec3.specs.Vec.{scaleOf, axpyOf, subOf, dotOf, crossOf, normOf};
 
@@ -60,4 +61,11 @@ pub fn norm(a: Vec3) -> f64
     ensures { λ r. ⌜ r ≡ normOf a ⌝ }
 {
     sqrt_hypot::sqrt(dot(a, a))
+}
+
+// The norms of three vectors, their roots taken side by side.
+pub fn norms(a: Vec3, b: Vec3, c: Vec3) -> ThreeRoots
+    ensures { λ r. ⌜ (r .x ≡ normOf a) × ((r .y ≡ normOf b) × (r .z ≡ normOf c)) ⌝ }
+{
+    sqrt_hypot::sqrt3(dot(a, a), dot(b, b), dot(c, c))
 }
