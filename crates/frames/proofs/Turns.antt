@@ -1,5 +1,5 @@
 -- The numbers as the code computes them, and the turns of the loops. Assumes nothing.
-use Prim.Native.Nat.{ℕ, _+_, _*_, _/_, _%_, _≤_}
+use Prim.Native.Nat.{ℕ, _+_, _*_, _/_, _%_, _<_, _≤_}
 use mathlib.Core.Path.{_≡_, refl, sym, ap, _∙_}
 use mathlib.Core.Bool.{Bool, true, false, cond}
 use mathlib.Core.List.{List, [], _∷_}
@@ -18,7 +18,7 @@ use Rattle.buffers.specs.declared.FaceId.{FaceId}
 use Rattle.buffers.specs.declared.VertexId.{VertexId}
 use Rattle.buffers.specs.Slots.{fill}
 use Rattle.topology.specs.Edges.{between, offEnds, corner, sideEdge}
-use Rattle.frames.specs.Stored.{lowAt, highAt, faceAt, sideAt, vectorAt, unitAt, inward, originAt, endAt, withLengths, normalOf, withNormals, xOf, otherAt, localAt, thirdAt, yOf}
+use Rattle.frames.specs.Stored.{lowAt, highAt, faceAt, vectorAt, unitAt, across, inward, originAt, endAt, withLengths, normalOf, withNormals, xOf, otherAt, localAt, thirdAt, yOf}
 
 pub vector-of : (r : Vec3) (a b c x y z : Float) → r ≡ record { x = a; y = b; z = c } → a ≡ x → b ≡ y → c ≡ z → r ≡ record { x = x; y = y; z = z }
 vector-of r a b c x y z e p q s = e ∙ (λ i. record { x = p i; y = q i; z = s i })
@@ -28,22 +28,19 @@ vertex-is v k =
     let e : 3 * k + 0 ≡ 3 * k = omega arith in
     λ i. record { x = getD v (e i) nan; y = getD v (3 * k + 1) nan; z = getD v (3 * k + 2) nan }
 
-pub inward-steps : (o xhat third w p r : Vec3) (k n : Float) → w ≡ subOf third o → k ≡ dotOf w xhat → p ≡ axpyOf w (neg k) xhat → n ≡ normOf p → r ≡ scaleOf p (one ⊘ n) → r ≡ inward o xhat third
-unfolding inward
-inward-steps o xhat third w p r k n up along across high unit = rw (← up, ← along, ← across, ← high) unit
-
-pub length-steps : (o b d x : Vec3) (len : Float) (r r′ : List Float) (e : ℕ) → d ≡ subOf b o → len ≡ normOf d → x ≡ scaleOf d (one ⊘ len) → r′ ≡ fill 4 r e 0 (len ∷ x .x ∷ x .y ∷ x .z ∷ []) → r′ ≡ fill 4 r e 0 (lenOf o b ∷ xhatOf o b .x ∷ xhatOf o b .y ∷ xhatOf o b .z ∷ [])
-unfolding lenOf xhatOf
-length-steps o b d x len r r′ e from long unit h = rw (← from, ← long, ← unit) h
+pub across-steps : (v reals : List Float) (e a b l t : ℕ) (o xhat third w p : Vec3) (k : Float) → l ≡ lower a b → o ≡ vertexAt v l → xhat ≡ unitAt reals e → third ≡ vertexAt v t → w ≡ subOf third o → k ≡ dotOf w xhat → p ≡ axpyOf w (neg k) xhat → p ≡ across (vertexAt v (lower a b)) (unitAt reals e) (vertexAt v t)
+unfolding across
+across-steps v reals e a b l t o xhat third w p k first from unit to up along h = rw (← first, ← from, ← unit, ← to, ← up, ← along) h
 
 module _ (v : List Float) (edgeWords : List ℕ) where
   pub lengths-start : (r : List Float) → r ≡ withLengths v edgeWords 0 r
   unfolding withLengths
   lengths-start r = refl
 
-  pub lengths-turn : (r₀ r r′ : List Float) (e : ℕ) (o b : Vec3) → r ≡ withLengths v edgeWords e r₀ → o ≡ originAt v edgeWords e → b ≡ endAt v edgeWords e → r′ ≡ fill 4 r e 0 (lenOf o b ∷ xhatOf o b .x ∷ xhatOf o b .y ∷ xhatOf o b .z ∷ []) → r′ ≡ withLengths v edgeWords (e + 1) r₀
-  unfolding withLengths
-  lengths-turn r₀ r r′ e o b so-far p q h = rw (add-one e) (h ∙ (λ i. fill 4 (so-far i) e 0 (lenOf (p i) (q i) ∷ xhatOf (p i) (q i) .x ∷ xhatOf (p i) (q i) .y ∷ xhatOf (p i) (q i) .z ∷ [])))
+  -- the next edge written
+  pub lengths-turn : (s r r′ : List Float) (e n : ℕ) (d x : Vec3) (len : Float) → n ≡ e + 1 → d ≡ subOf (endAt v edgeWords e) (originAt v edgeWords e) → len ≡ normOf d → x ≡ scaleOf d (one ⊘ len) → r′ ≡ fill 4 r e 0 (len ∷ x .x ∷ x .y ∷ x .z ∷ []) → r ≡ withLengths v edgeWords e s → r′ ≡ withLengths v edgeWords n s
+  unfolding withLengths lenOf xhatOf
+  lengths-turn s r r′ e n d x len next from long unit h so-far = rw (next, add-one e, ← so-far, ← from, ← long, ← unit) h
 
   pub lengths-done : (r₀ r : List Float) (e n : ℕ) → r ≡ withLengths v edgeWords e r₀ → e ≤ n → n ≤ e → r ≡ withLengths v edgeWords n r₀
   lengths-done r₀ r e n p l m = p ∙ ap (λ (k : ℕ). withLengths v edgeWords k r₀) (let g : e ≡ n = omega arith in g)
@@ -56,26 +53,26 @@ module _ (v : List Float) (edgeWords : List ℕ) where
   unfolding yOf
   y-steps triangleWords reals e f k p o d u r g a b c h = h ∙ (λ i. dotOf ((c ∙ (λ j. subOf p (a j))) i) ((b ∙ (λ j. vectorAt 9 reals f (3 * g j))) i))
 
--- the start of a side's edge
-pub start-is : (triangles : List ℕ) (h a b r : ℕ) → a ≡ getD triangles (3 * (h / 3) + h % 3) 0 → b ≡ getD triangles (3 * (h / 3) + (h % 3 + 1) % 3) 0 → r ≡ lower a b → r ≡ sideEdge triangles h .low
-unfolding sideEdge between corner
-start-is triangles h a b r ea eb q =
-    let z : (h % 3 + 0) % 3 ≡ h % 3 = omega arith in
-    rw (q, z, ea, eb) refl
-
 module _ (v : List Float) (triangles triangleWords : List ℕ) (edgeReals : List Float) where
-  pub normal-steps : (h e k l : ℕ) (o u t r : Vec3) → e ≡ sideAt triangleWords h → k ≡ getD triangles (3 * (h / 3) + (h % 3 + 2) % 3) 0 → l ≡ sideEdge triangles h .low → o ≡ vertexAt v l → u ≡ unitAt edgeReals e → t ≡ vertexAt v k → r ≡ inward o u t → r ≡ normalOf v triangles triangleWords edgeReals h
-  unfolding normalOf corner
-  normal-steps h e k l o u t r a b s c d g z =
-      z ∙ (λ i. inward ((c ∙ (λ j. vertexAt v (s j))) i) ((d ∙ (λ j. unitAt edgeReals (a j))) i) ((g ∙ (λ j. vertexAt v (b j))) i))
+  -- the normal of side k of face f, from what is read
+  normal-is : (f k : ℕ) → k < 3 → (e a b c : ℕ) (p : Vec3) → e ≡ getD triangleWords (6 * f + k) 0 → a ≡ getD triangles (3 * f + k) 0 → b ≡ getD triangles (3 * f + (k + 1) % 3) 0 → c ≡ getD triangles (3 * f + (k + 2) % 3) 0 → p ≡ across (vertexAt v (lower a b)) (unitAt edgeReals e) (vertexAt v c) → scaleOf p (one ⊘ normOf p) ≡ normalOf v triangles triangleWords edgeReals (3 * f + k)
+  unfolding normalOf inward sideEdge between corner
+  normal-is f k l e a b c p ee ea eb ec ep =
+      let d : (3 * f + k) / 3 ≡ f = omega arith in
+      let m : (3 * f + k) % 3 ≡ k = omega arith in
+      let z : (k + 0) % 3 ≡ k = omega arith in
+      rw (d, m, z, ← ee, ← ea, ← eb, ← ec, ← ep) refl
+
+  -- the next side written
+  pub normals-turn : (s r r′ : List Float) (f k : ℕ) → k < 3 → (h n e a b c : ℕ) (p u : Vec3) (height : Float) → h ≡ 3 * f + k → n ≡ h + 1 → e ≡ getD triangleWords (6 * f + k) 0 → a ≡ getD triangles (3 * f + k) 0 → b ≡ getD triangles (3 * f + (k + 1) % 3) 0 → c ≡ getD triangles (3 * f + (k + 2) % 3) 0 → p ≡ across (vertexAt v (lower a b)) (unitAt edgeReals e) (vertexAt v c) → height ≡ normOf p → u ≡ scaleOf p (one ⊘ height) → r′ ≡ fill 3 r h 0 (u .x ∷ u .y ∷ u .z ∷ []) → r ≡ withNormals v triangles triangleWords edgeReals h s → r′ ≡ withNormals v triangles triangleWords edgeReals n s
+  unfolding withNormals
+  normals-turn s r r′ f k l h n e a b c p u height here next ee ea eb ec ep long unit stored so-far =
+      let q : u ≡ normalOf v triangles triangleWords edgeReals h = rw here (unit ∙ (ap (λ (x : Float). scaleOf p (one ⊘ x)) long ∙ normal-is f k l e a b c p ee ea eb ec ep)) in
+      rw (next, add-one h) (stored ∙ (λ i. fill 3 (so-far i) h 0 (q i .x ∷ q i .y ∷ q i .z ∷ [])))
 
   pub normals-start : (r : List Float) → r ≡ withNormals v triangles triangleWords edgeReals 0 r
   unfolding withNormals
   normals-start r = refl
-
-  pub normals-turn : (r₀ r r′ : List Float) (h : ℕ) (n : Vec3) → r ≡ withNormals v triangles triangleWords edgeReals h r₀ → n ≡ normalOf v triangles triangleWords edgeReals h → r′ ≡ fill 3 r h 0 (n .x ∷ n .y ∷ n .z ∷ []) → r′ ≡ withNormals v triangles triangleWords edgeReals (h + 1) r₀
-  unfolding withNormals
-  normals-turn r₀ r r′ h n so-far p q = rw (add-one h) (q ∙ (λ i. fill 3 (so-far i) h 0 (p i .x ∷ p i .y ∷ p i .z ∷ [])))
 
   pub normals-done : (r₀ r : List Float) (h n : ℕ) → r ≡ withNormals v triangles triangleWords edgeReals h r₀ → h ≤ n → n ≤ h → r ≡ withNormals v triangles triangleWords edgeReals n r₀
   normals-done r₀ r h n p l m = p ∙ ap (λ (k : ℕ). withNormals v triangles triangleWords edgeReals k r₀) (let g : h ≡ n = omega arith in g)

@@ -43,11 +43,17 @@ unitAt reals e = vectorAt 4 reals e 1
 abbrev pub normalAt : List Float → ℕ → Vec3
 normalAt reals h = vectorAt 3 reals h 0
 
--- from the lower end of an edge with a unit vector into the face with the third vertex, of length one
-unfoldable pub inward : Vec3 → Vec3 → Vec3 → Vec3
-inward o xhat third =
+-- from an edge, with its lower end and its unit vector, to the third vertex of a face, at a right angle
+unfoldable pub across : Vec3 → Vec3 → Vec3 → Vec3
+across o xhat third =
     let w : Vec3 = subOf third o in
-    let p : Vec3 = axpyOf w (neg (dotOf w xhat)) xhat in
+    axpyOf w (neg (dotOf w xhat)) xhat
+
+-- the same, of length one
+unfoldable pub inward : Vec3 → Vec3 → Vec3 → Vec3
+unfolding across
+inward o xhat third =
+    let p : Vec3 = across o xhat third in
     scaleOf p (one ⊘ normOf p)
 
 module _ (v : List Float) (edgeWords : List ℕ) where

@@ -5,22 +5,32 @@ use buffers::FaceId;
 use buffers::VertexId;
 use buffers::read_f64;
 use buffers::read_u32;
-use buffers::write_f64;
 use topology::lower_of;
 use vec3::Vec3;
 ghost use mathlib.Core.Path.{_≡_};
-ghost use mathlib.Core.List.{[], _∷_};
-ghost use Prim.Native.Nat.{_+_, _<_};
+ghost use mathlib.Core.List.{List, [], _∷_};
+ghost use Prim.Native.Nat.{_+_, _*_, _%_, _≤_, _<_};
 ghost use lib.ListN.{length};
 ghost use Rattle.buffers.specs.Slots.{fill};
-ghost use Rattle.job_checks.specs.Edge.{vertexAt, lenOf, xhatOf};
-ghost use Rattle.topology.specs.Edges.{sideEdge, offEnds};
-ghost use Rattle.frames.specs.Stored.{lowAt, highAt, sideAt, vectorAt, unitAt, inward, originAt, endAt, withLengths, normalOf, withNormals, xOf, otherAt, localAt, thirdAt, yOf};
+ghost use lib.Ieee.{Float};
+ghost use Rattle.vec3.specs.Vec.{subOf};
+ghost use Rattle.job_checks.specs.Edge.{vertexAt, lower};
+ghost use Rattle.topology.specs.Edges.{offEnds};
+ghost use Rattle.frames.specs.Stored.{vectorAt, unitAt, across, originAt, endAt, withLengths, withNormals, xOf, otherAt, localAt, thirdAt, yOf};
 
+// One test where all three are inside.
 fn vector(reals: &[f64], stride: u32, slot: u32, field: u32) -> Vec3
     requires { ⌜ field + 2 < 4294967296 ⌝ }
     ensures { λ r. ⌜ r ≡ vectorAt stride (now (reals .entry)) slot field ⌝ }
 {
+    let i = (stride as usize) * (slot as usize) + (field as usize);
+    if i + 2 < reals.len() {
+        return Vec3 {
+            x: reals[i],
+            y: reals[i + 1],
+            z: reals[i + 2],
+        };
+    }
     Vec3 {
         x: read_f64(reals, stride, slot, field),
         y: read_f64(reals, stride, slot, field + 1),
@@ -34,39 +44,25 @@ fn vertex(vertices: &[f64], k: u32) -> Vec3
     vector(vertices, 3, k, 0)
 }
 
-fn store_four(reals: &mut [f64], slot: u32, length: f64, u: Vec3)
-    ensures { λ r. ⌜ now (reals .exit) ≡ fill 4 (now (reals .entry)) slot 0 (length ∷ u .x ∷ u .y ∷ u .z ∷ []) ⌝ }
+fn store_four(reals: &mut [f64], slot: u32, len: f64, u: Vec3)
+    requires { ⌜ 4 * slot + 4 ≤ length (now reals) ⌝ }
+    ensures { λ r. ⌜ now (reals .exit) ≡ fill 4 (now (reals .entry)) slot 0 (len ∷ u .x ∷ u .y ∷ u .z ∷ []) ⌝ }
 {
-    write_f64(reals, 4, slot, 0, length);
-    write_f64(reals, 4, slot, 1, u.x);
-    write_f64(reals, 4, slot, 2, u.y);
-    write_f64(reals, 4, slot, 3, u.z);
+    let i = 4 * (slot as usize);
+    reals[i] = len;
+    reals[i + 1] = u.x;
+    reals[i + 2] = u.y;
+    reals[i + 3] = u.z;
 }
 
 fn store_three(reals: &mut [f64], slot: u32, u: Vec3)
+    requires { ⌜ 3 * slot + 3 ≤ length (now reals) ⌝ }
     ensures { λ r. ⌜ now (reals .exit) ≡ fill 3 (now (reals .entry)) slot 0 (u .x ∷ u .y ∷ u .z ∷ []) ⌝ }
 {
-    write_f64(reals, 3, slot, 0, u.x);
-    write_f64(reals, 3, slot, 1, u.y);
-    write_f64(reals, 3, slot, 2, u.z);
-}
-
-// The length and the unit vector of the edge from o to b.
-fn store_length(reals: &mut [f64], e: u32, o: Vec3, b: Vec3)
-    ensures { λ r. ⌜ now (reals .exit) ≡ fill 4 (now (reals .entry)) e 0 (lenOf o b ∷ xhatOf o b .x ∷ xhatOf o b .y ∷ xhatOf o b .z ∷ []) ⌝ }
-{
-    let d = vec3::sub(b, o);
-    let len = vec3::norm(d);
-    store_four(reals, e, len, vec3::scale(d, 1.0 / len));
-}
-
-// The normal over the edge from o along xhat, towards the third vertex.
-fn inward(o: Vec3, xhat: Vec3, third: Vec3) -> Vec3
-    ensures { λ r. ⌜ r ≡ inward o xhat third ⌝ }
-{
-    let w = vec3::sub(third, o);
-    let p = vec3::axpy(w, -vec3::dot(w, xhat), xhat);
-    vec3::scale(p, 1.0 / vec3::norm(p))
+    let i = 3 * (slot as usize);
+    reals[i] = u.x;
+    reals[i + 1] = u.y;
+    reals[i + 2] = u.z;
 }
 
 fn origin(vertices: &[f64], edge_words: &[u32], e: u32) -> Vec3
@@ -81,42 +77,90 @@ fn end(vertices: &[f64], edge_words: &[u32], e: u32) -> Vec3
     vertex(vertices, read_u32(edge_words, 6, e, 1))
 }
 
+// From the start of edge e to its end.
+fn edge_vector(vertices: &[f64], edge_words: &[u32], e: u32) -> Vec3
+    ensures { λ r. ⌜ r ≡ subOf (endAt (now (vertices .entry)) (now («edge_words» .entry)) e) (originAt (now (vertices .entry)) (now («edge_words» .entry)) e) ⌝ }
+{
+    let o = origin(vertices, edge_words, e);
+    let b = end(vertices, edge_words, e);
+    vec3::sub(b, o)
+}
+
+// The length and the unit vector of edge e.
+fn store_length(vertices: &[f64], edge_words: &[u32], e: u32, edge_reals: &mut [f64])
+    requires { ⌜ 4 * e + 4 ≤ length (now «edge_reals») ⌝ }
+    ensures { λ r. ⌜ ((s : List Float) → now («edge_reals» .entry) ≡ withLengths (now (vertices .entry)) (now («edge_words» .entry)) e s → now («edge_reals» .exit) ≡ withLengths (now (vertices .entry)) (now («edge_words» .entry)) (e + 1) s) ⌝ }
+{
+    let d = edge_vector(vertices, edge_words, e);
+    let len = vec3::norm(d);
+    store_four(edge_reals, e, len, vec3::scale(d, 1.0 / len));
+}
+
+// Of the edges e, e + 1 and e + 2.
+fn store_three_lengths(vertices: &[f64], edge_words: &[u32], e: u32, edge_reals: &mut [f64])
+    requires { ⌜ (4 * e + 12 ≤ length (now «edge_reals»)) × (e + 2 < 4294967296) ⌝ }
+    ensures { λ r. ⌜ ((s : List Float) → now («edge_reals» .entry) ≡ withLengths (now (vertices .entry)) (now («edge_words» .entry)) e s → now («edge_reals» .exit) ≡ withLengths (now (vertices .entry)) (now («edge_words» .entry)) (e + 3) s) ⌝ }
+{
+    let d = edge_vector(vertices, edge_words, e);
+    let d1 = edge_vector(vertices, edge_words, e + 1);
+    let d2 = edge_vector(vertices, edge_words, e + 2);
+    let len = vec3::norms(d, d1, d2);
+    store_four(edge_reals, e, len.x, vec3::scale(d, 1.0 / len.x));
+    store_four(edge_reals, e + 1, len.y, vec3::scale(d1, 1.0 / len.y));
+    store_four(edge_reals, e + 2, len.z, vec3::scale(d2, 1.0 / len.z));
+}
+
 pub fn lengths(vertices: &[f64], edge_words: &[u32], count: u32, edge_reals: &mut [f64])
+    requires { ⌜ 4 * count ≤ length (now «edge_reals») ⌝ }
     ensures { λ r. ⌜ now («edge_reals» .exit) ≡ withLengths (now (vertices .entry)) (now («edge_words» .entry)) count (now («edge_reals» .entry)) ⌝ }
 {
     let mut e: u32 = 0;
     while e < count {
-        let o = origin(vertices, edge_words, e);
-        let b = end(vertices, edge_words, e);
-        store_length(edge_reals, e, o, b);
-        e += 1;
+        if count - e < 3 {
+            store_length(vertices, edge_words, e, edge_reals);
+            e += 1;
+        } else {
+            store_three_lengths(vertices, edge_words, e, edge_reals);
+            e += 3;
+        }
     }
 }
 
-// The vertex where the edge of side h starts.
-fn side_start(triangles: &[u32], h: u32) -> u32
-    ensures { λ r. ⌜ r ≡ sideEdge (now (triangles .entry)) h .low ⌝ }
+// From the edge e of the vertices a and b to the third vertex, at a right angle. The edge's unit vector is read, not computed again.
+fn across(vertices: &[f64], edge_reals: &[f64], e: u32, a: u32, b: u32, third: u32) -> Vec3
+    ensures { λ r. ⌜ r ≡ across (vertexAt (now (vertices .entry)) (lower a b)) (unitAt (now («edge_reals» .entry)) e) (vertexAt (now (vertices .entry)) third) ⌝ }
 {
-    let a = read_u32(triangles, 3, h / 3, h % 3);
-    let b = read_u32(triangles, 3, h / 3, (h % 3 + 1) % 3);
-    lower_of(a, b)
+    let o = vertex(vertices, lower_of(a, b));
+    let xhat = vector(edge_reals, 4, e, 1);
+    let w = vec3::sub(vertex(vertices, third), o);
+    vec3::axpy(w, -vec3::dot(w, xhat), xhat)
 }
 
-// Of side h; its edge's unit vector is read, not computed again, and the edge's vertices from the triangle, which is at hand.
-fn normal(
+// The inward normals of the sides of face f.
+fn store_normals(
     vertices: &[f64],
     triangles: &[u32],
     triangle_words: &[u32],
     edge_reals: &[f64],
-    h: u32,
-) -> Vec3
-    ensures { λ r. ⌜ r ≡ normalOf (now (vertices .entry)) (now (triangles .entry)) (now («triangle_words» .entry)) (now («edge_reals» .entry)) h ⌝ }
+    f: u32,
+    triangle_reals: &mut [f64],
+)
+    requires { ⌜ (9 * f + 9 ≤ length (now «triangle_reals»)) × (3 * f + 2 < 4294967296) ⌝ }
+    ensures { λ r. ⌜ ((s : List Float) → now («triangle_reals» .entry) ≡ withNormals (now (vertices .entry)) (now (triangles .entry)) (now («triangle_words» .entry)) (now («edge_reals» .entry)) (3 * f) s → now («triangle_reals» .exit) ≡ withNormals (now (vertices .entry)) (now (triangles .entry)) (now («triangle_words» .entry)) (now («edge_reals» .entry)) (3 * f + 3) s) ⌝ }
 {
-    let e = read_u32(triangle_words, 6, h / 3, h % 3);
-    let k = read_u32(triangles, 3, h / 3, (h % 3 + 2) % 3);
-    let o = vertex(vertices, side_start(triangles, h));
-    let xhat = vector(edge_reals, 4, e, 1);
-    inward(o, xhat, vertex(vertices, k))
+    let a = read_u32(triangles, 3, f, 0);
+    let b = read_u32(triangles, 3, f, 1);
+    let c = read_u32(triangles, 3, f, 2);
+    let e = read_u32(triangle_words, 6, f, 0);
+    let e1 = read_u32(triangle_words, 6, f, 1);
+    let e2 = read_u32(triangle_words, 6, f, 2);
+    let p = across(vertices, edge_reals, e, a, b, c);
+    let p1 = across(vertices, edge_reals, e1, b, c, a);
+    let p2 = across(vertices, edge_reals, e2, c, a, b);
+    let height = vec3::norms(p, p1, p2);
+    store_three(triangle_reals, 3 * f, vec3::scale(p, 1.0 / height.x));
+    store_three(triangle_reals, 3 * f + 1, vec3::scale(p1, 1.0 / height.y));
+    store_three(triangle_reals, 3 * f + 2, vec3::scale(p2, 1.0 / height.z));
 }
 
 pub fn normals(
@@ -126,15 +170,21 @@ pub fn normals(
     edge_reals: &[f64],
     triangle_reals: &mut [f64],
 )
-    requires { ⌜ length (now triangles) < 4294967296 ⌝ }
+    requires { ⌜ (length (now triangles) < 4294967296) × ((length (now triangles) % 3 ≡ 0) × (3 * length (now triangles) ≤ length (now «triangle_reals»))) ⌝ }
     ensures { λ r. ⌜ now («triangle_reals» .exit) ≡ withNormals (now (vertices .entry)) (now (triangles .entry)) (now («triangle_words» .entry)) (now («edge_reals» .entry)) (length (now (triangles .entry))) (now («triangle_reals» .entry)) ⌝ }
 {
-    let sides = triangles.len() as u32;
-    let mut h: u32 = 0;
-    while h < sides {
-        let n = normal(vertices, triangles, triangle_words, edge_reals, h);
-        store_three(triangle_reals, h, n);
-        h += 1;
+    let faces = (triangles.len() / 3) as u32;
+    let mut f: u32 = 0;
+    while f < faces {
+        store_normals(
+            vertices,
+            triangles,
+            triangle_words,
+            edge_reals,
+            f,
+            triangle_reals,
+        );
+        f += 1;
     }
 }
 

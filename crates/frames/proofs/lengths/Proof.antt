@@ -1,9 +1,10 @@
 use Prim.Native.Nat.{_≤_, _-_}
 use mathlib.Core.Path.{_≡_, refl, _∙_}
+use native.Mathlib.Omega.{arith}
 use borrow.Author.Needs.{needs}
 use lib.ListN.{length}
 use Rattle.frames.specs.Stored.{withLengths}
-use Rattle.frames.proofs.Turns.{lengths-start, lengths-turn, lengths-done}
+use Rattle.frames.proofs.Turns.{lengths-start, lengths-done}
 use Rattle.frames.proofs.lengths.Statement.{statement}
 use Rattle.frames.proofs.lengths.Tie as tie
 
@@ -16,14 +17,11 @@ abbrev μ-loop : tie.MeasureT-loop
 loop-holds : tie.Need-loop-holds Inv-loop μ-loop
 loop-holds c = (search needs, (refl, lengths-start _ _ _))
 
-origin-requires : tie.Need-origin-requires Inv-loop μ-loop
-origin-requires c κs = search needs
-
-end-requires : tie.Need-end-requires Inv-loop μ-loop
-end-requires c κs = search needs
+sub-if1 : tie.Need-sub-if1 Inv-loop μ-loop
+sub-if1 c = search needs
 
 store-length-requires : tie.Need-store-length-requires Inv-loop μ-loop
-store-length-requires c κs = search needs
+store-length-requires c κs = omega (arith, c .before .before .before .before .before .before .before .pre, c .before .before .before .loop .inv .1 .0, c .before .before .loop-test .taken)
 
 add-e : tie.Need-add-e Inv-loop μ-loop
 add-e c = search needs
@@ -32,11 +30,19 @@ loop-less : tie.Need-loop-less Inv-loop μ-loop
 loop-less c = search needs
 
 loop-again : tie.Need-loop-again Inv-loop μ-loop
-loop-again c =
-    let stored = c .before .before in
-    let ended = stored .before .before in
-    let l = ended .before .before .before .loop in
-    (search needs, (stored .store-length .kept .0 ∙ l .inv .1 .0, lengths-turn _ _ _ _ _ (l .e) _ _ (l .inv .1 .1) (ended .before .origin .ensures) (ended .end .ensures) (stored .store-length .ensures)))
+loop-again c = (search needs, (c .before .before .store-length .kept .1 .1 .1 .0 ∙ c .before .before .before .before .before .before .loop .inv .1 .0, c .before .before .store-length .ensures _ (c .before .before .before .before .before .before .loop .inv .1 .1)))
+
+store-three-lengths-requires : tie.Need-store-three-lengths-requires Inv-loop μ-loop
+store-three-lengths-requires c κs = (omega (arith, c .before .before .before .before .before .before .before .pre, c .before .before .before .loop .inv .1 .0, c .before .before .loop-test .taken, c .before .if1 .left), omega (arith, c .before .before .loop-test .taken, c .before .if1 .left))
+
+add-e-2 : tie.Need-add-e-2 Inv-loop μ-loop
+add-e-2 c = search needs
+
+loop-less-2 : tie.Need-loop-less-2 Inv-loop μ-loop
+loop-less-2 c = search needs
+
+loop-again-2 : tie.Need-loop-again-2 Inv-loop μ-loop
+loop-again-2 c = (search needs, (c .before .before .store-three-lengths .kept .1 .1 .1 .0 ∙ c .before .before .before .before .before .before .loop .inv .1 .0, c .before .before .store-three-lengths .ensures _ (c .before .before .before .before .before .before .loop .inv .1 .1)))
 
 same-length : tie.Need-same-length Inv-loop μ-loop
 same-length c = search needs
@@ -51,11 +57,14 @@ lengths-spec =
     Inv-loop
     μ-loop
     loop-holds
-    origin-requires
-    end-requires
+    sub-if1
     store-length-requires
     add-e
     loop-less
     loop-again
+    store-three-lengths-requires
+    add-e-2
+    loop-less-2
+    loop-again-2
     same-length
     returns)

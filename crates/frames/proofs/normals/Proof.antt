@@ -1,50 +1,43 @@
-use Prim.Native.Nat.{_≤_, _-_}
+use Prim.Native.Nat.{_≤_, _+_, _-_, _*_, _/_}
 use mathlib.Core.Path.{_≡_, refl, _∙_}
 use native.Mathlib.Omega.{arith}
 use borrow.Author.Needs.{needs}
 use lib.ListN.{length}
 use Rattle.frames.specs.Stored.{withNormals}
-use Rattle.frames.proofs.Turns.{normals-start, normals-turn, normals-done}
+use Rattle.frames.proofs.Turns.{normals-start, normals-done}
 use Rattle.frames.proofs.normals.Statement.{statement}
 use Rattle.frames.proofs.normals.Tie as tie
 
 abbrev Inv-loop : tie.InvT-loop
-Inv-loop vertices triangles triangle-words edge-reals triangle-reals₀ sides h₀ triangle-reals h =
-    (h ≤ sides) × ((length triangle-reals ≡ length triangle-reals₀) × ((sides ≡ length triangles) × (triangle-reals ≡ withNormals vertices triangles triangle-words edge-reals h triangle-reals₀)))
+Inv-loop vertices triangles triangle-words edge-reals triangle-reals₀ faces f₀ triangle-reals f = (f ≤ faces) × ((length triangle-reals ≡ length triangle-reals₀) × ((faces ≡ length triangles / 3) × (triangle-reals ≡ withNormals vertices triangles triangle-words edge-reals (3 * f) triangle-reals₀)))
 
 abbrev μ-loop : tie.MeasureT-loop
-μ-loop vertices triangles triangle-words edge-reals triangle-reals₀ sides h₀ triangle-reals h = sides - h
+μ-loop vertices triangles triangle-words edge-reals triangle-reals₀ faces f₀ triangle-reals f = faces - f
 
-cast-sides : tie.Need-cast-sides Inv-loop μ-loop
-cast-sides c = search needs
+cast-faces : tie.Need-cast-faces Inv-loop μ-loop
+cast-faces c = search needs
 
 loop-holds : tie.Need-loop-holds Inv-loop μ-loop
 loop-holds c = (search needs, (refl, (refl, normals-start _ _ _ _ _)))
 
-normal-requires : tie.Need-normal-requires Inv-loop μ-loop
-normal-requires c κs = search needs
+store-normals-requires : tie.Need-store-normals-requires Inv-loop μ-loop
+store-normals-requires c κs = (omega (arith, c .before .before .before .before .before .before .before .before .pre .1 .1, c .before .before .loop .inv .1 .0, c .before .before .loop .inv .1 .1 .0, c .before .loop-test .taken), omega (arith, c .before .before .before .before .before .before .before .before .pre .0, c .before .before .loop .inv .1 .1 .0, c .before .loop-test .taken))
 
-store-three-requires : tie.Need-store-three-requires Inv-loop μ-loop
-store-three-requires c κs = search needs
-
-add-h : tie.Need-add-h Inv-loop μ-loop
-add-h c = search needs
+add-f : tie.Need-add-f Inv-loop μ-loop
+add-f c = search needs
 
 loop-less : tie.Need-loop-less Inv-loop μ-loop
 loop-less c = search needs
 
 loop-again : tie.Need-loop-again Inv-loop μ-loop
-loop-again c =
-    let stored = c .before .before in
-    let made = stored .before .before in
-    let l = made .before .before .loop in
-    (search needs, (stored .store-three .kept .0 ∙ l .inv .1 .0, (l .inv .1 .1 .0, normals-turn _ _ _ _ _ _ _ (l .h) _ (l .inv .1 .1 .1) (made .normal .ensures) (stored .store-three .ensures))))
+loop-again c = let l = c .before .before .before .before .before .loop in
+    (search needs, (c .before .before .store-normals .kept .1 .1 .1 .1 .1 .0 ∙ l .inv .1 .0, (l .inv .1 .1 .0, normals-done _ _ _ _ _ _ (3 * l .f + 3) _ (c .before .before .store-normals .ensures _ (l .inv .1 .1 .1)) (omega arith) (omega arith))))
 
 same-length : tie.Need-same-length Inv-loop μ-loop
 same-length c = search needs
 
 returns : tie.Need-returns Inv-loop μ-loop
-returns c = let l = c .before .loop in normals-done _ _ _ _ _ _ (l .h) _ (l .inv .1 .1 .1) (omega arith) (omega arith)
+returns c = let l = c .before .loop in normals-done _ _ _ _ _ _ (3 * l .f) _ (l .inv .1 .1 .1) (omega (arith, l .inv .0, l .inv .1 .1 .0)) (omega (arith, c .loop-test .left, l .inv .1 .1 .0, c .before .before .before .before .before .before .before .pre .1 .0))
 
 pub normals-spec : {M : Type 1} → statement M
 normals-spec =
@@ -52,11 +45,10 @@ normals-spec =
     (tie.spec
     Inv-loop
     μ-loop
-    cast-sides
+    cast-faces
     loop-holds
-    normal-requires
-    store-three-requires
-    add-h
+    store-normals-requires
+    add-f
     loop-less
     loop-again
     same-length

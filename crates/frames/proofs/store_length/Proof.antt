@@ -1,10 +1,11 @@
-use Rattle.frames.proofs.Turns.{length-steps}
+use mathlib.Core.Path.{refl}
+use Rattle.frames.proofs.Turns.{lengths-turn}
 use borrow.Author.Needs.{needs}
 use Rattle.frames.proofs.store_length.Statement.{statement}
 use Rattle.frames.proofs.store_length.Tie as tie
 
-sub-requires : tie.Need-sub-requires
-sub-requires c κs = search needs
+edge-vector-requires : tie.Need-edge-vector-requires
+edge-vector-requires c κs = search needs
 
 norm-requires : tie.Need-norm-requires
 norm-requires c κs = search needs
@@ -19,11 +20,15 @@ same-length : tie.Need-same-length
 same-length c = search needs
 
 returns : tie.Need-returns
-returns c =
-    let four = c .before .before in
-    length-steps _ _ _ _ _ _ _ _ (four .before .before .before .before .sub .ensures) (four .before .before .before .norm .ensures) (four .before .scale .ensures) (four .store-four .ensures)
+returns c = λ s so-far. lengths-turn _ _ s _ _ (c .before .before .before .before .before .before .before .before .before .before .args .e) _ _ _ _ refl (c .before .before .before .before .before .before .edge-vector .ensures) (c .before .before .before .before .before .norm .ensures) (c .before .before .before .scale .ensures) (c .before .before .store-four .ensures) so-far
 
 pub store-length-spec : {M : Type 1} → statement M
 store-length-spec =
     tie.close
-    (tie.spec sub-requires norm-requires scale-requires store-four-requires same-length returns)
+    (tie.spec
+    edge-vector-requires
+    norm-requires
+    scale-requires
+    store-four-requires
+    same-length
+    returns)
