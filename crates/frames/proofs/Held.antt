@@ -24,7 +24,7 @@ use Rattle.frames.specs.Held.{HoldsEdges, HoldsFaces, HoldsSides, HoldsL
 use Rattle.frames.proofs.Turns.{local-below}
 
 -- the slots below n written, one after the other
-unfoldable filled : ℕ → (ℕ → List Float) → ℕ → List Float → List Float
+unfoldable pub filled : ℕ → (ℕ → List Float) → ℕ → List Float → List Float
 filled s row zero r = r
 filled s row (suc k) r = fill s (filled s row k r) k 0 (row k)
 
@@ -53,17 +53,17 @@ module _ (s : ℕ) (row : ℕ → List Float) (whole : (k : ℕ) → length (row
   filled-at n r k a l m b = sym (slot-at s (filled s row n r) k a nan b) ∙ ap (λ (x : List Float). getD x a nan) (filled-slot n r k l m)
 
 module _ (v : List Float) (edgeWords : List ℕ) where
-  lengthRow : ℕ → List Float
+  pub lengthRow : ℕ → List Float
   lengthRow e =
       let x : Vec3 = xhatOf (originAt v edgeWords e) (endAt v edgeWords e) in
       lenOf (originAt v edgeWords e) (endAt v edgeWords e) ∷ x .x ∷ x .y ∷ x .z ∷ []
 
-  lengths-filled : (n : ℕ) (r : List Float) → withLengths v edgeWords n r ≡ filled 4 lengthRow n r
+  pub lengths-filled : (n : ℕ) (r : List Float) → withLengths v edgeWords n r ≡ filled 4 lengthRow n r
   unfolding withLengths filled lengthRow
   lengths-filled zero r = refl
   lengths-filled (suc n) r = ap (λ (x : List Float). fill 4 x n 0 (lengthRow n)) (lengths-filled n r)
 
-  four : (e : ℕ) → length (lengthRow e) ≡ 4
+  pub four : (e : ℕ) → length (lengthRow e) ≡ 4
   unfolding lengthRow
   four e = refl
 
@@ -84,17 +84,17 @@ module _ (v : List Float) (edgeWords : List ℕ) where
     lengths-past e l = rw (lengths-filled n r) (filled-past 4 lengthRow four n r e l)
 
 module _ (v : List Float) (triangles triangleWords : List ℕ) (edgeReals : List Float) where
-  normalRow : ℕ → List Float
+  pub normalRow : ℕ → List Float
   normalRow h =
       let n : Vec3 = normalOf v triangles triangleWords edgeReals h in
       n .x ∷ n .y ∷ n .z ∷ []
 
-  normals-filled : (n : ℕ) (r : List Float) → withNormals v triangles triangleWords edgeReals n r ≡ filled 3 normalRow n r
+  pub normals-filled : (n : ℕ) (r : List Float) → withNormals v triangles triangleWords edgeReals n r ≡ filled 3 normalRow n r
   unfolding withNormals filled normalRow
   normals-filled zero r = refl
   normals-filled (suc n) r = ap (λ (x : List Float). fill 3 x n 0 (normalRow n)) (normals-filled n r)
 
-  three : (h : ℕ) → length (normalRow h) ≡ 3
+  pub three : (h : ℕ) → length (normalRow h) ≡ 3
   unfolding normalRow
   three h = refl
 

@@ -1,4 +1,5 @@
 -- `mesh::complete` meets its contract. Assumes nothing.
+use native.Mathlib.Omega.{arith}
 use Rattle.mesh.proofs.Making.{completed}
 use borrow.Author.Needs.{needs}
 use Rattle.mesh.proofs.complete.Statement.{statement}
@@ -13,17 +14,23 @@ cast-build c = search needs
 build-requires : tie.Need-build-requires
 build-requires c κs = search needs
 
-zero-f64-requires : tie.Need-zero-f64-requires
-zero-f64-requires c κs = search needs
-
 lengths-requires : tie.Need-lengths-requires
 lengths-requires c κs = search needs
 
-zero-f64-requires-2 : tie.Need-zero-f64-requires-2
-zero-f64-requires-2 c κs = search needs
+mul-zero-f64-from : tie.Need-mul-zero-f64-from
+mul-zero-f64-from c = search needs
+
+zero-f64-from-requires : tie.Need-zero-f64-from-requires
+zero-f64-from-requires c κs = search needs
 
 normals-requires : tie.Need-normals-requires
 normals-requires c κs = search needs
+
+mul-zero-f64-from-2 : tie.Need-mul-zero-f64-from-2
+mul-zero-f64-from-2 c = record { fits = omega (arith, c .before .before .before .before .before .before .before .before .before .before .before .before .before .before .before .before .before .before .before .before .before .before .before .before .before .before .before .before .before .before .before .before .before .pre .0 .few) }
+
+zero-f64-from-requires-2 : tie.Need-zero-f64-from-requires-2
+zero-f64-from-requires-2 c κs = search needs
 
 same-length : tie.Need-same-length
 same-length c = search needs
@@ -38,7 +45,7 @@ same-length-4 : tie.Need-same-length-4
 same-length-4 c = search needs
 
 returns : tie.Need-returns
-returns c = completed _ _ _ _ _ _ _ _ _ _ _ _ _ _ _ _ (c .before .before .before .before .before .before .before .before .before .before .before .before .before .before .before .before .before .before .before .before .before .before .before .before .before .before .zero-u32 .ensures) (c .before .before .before .before .before .before .before .before .before .before .before .before .before .before .before .before .before .before .before .before .before .build .ensures .0) (c .before .before .before .before .before .before .before .before .before .before .before .before .before .before .before .before .before .before .before .before .before .build .ensures .1) (c .before .before .before .before .before .before .before .before .before .before .before .before .before .before .before .zero-f64 .ensures) (c .before .before .before .before .before .before .before .before .before .before .before .lengths .ensures) (c .before .before .before .before .before .before .before .zero-f642 .ensures) (c .before .before .normals .ensures)
+returns c = completed _ _ _ _ _ _ _ _ _ _ _ _ _ _ _ _ (c .before .before .before .before .before .before .before .before .before .before .before .before .before .before .before .before .before .before .before .before .before .before .before .before .before .before .zero-u32 .ensures) (c .before .before .before .before .before .before .before .before .before .before .before .before .before .before .before .before .before .before .before .before .before .build .ensures .0) (c .before .before .before .before .before .before .before .before .before .before .before .before .before .before .before .before .before .before .before .before .before .build .ensures .1) (c .before .before .before .before .before .before .before .before .before .before .before .before .before .before .before .lengths .ensures) (c .before .before .before .before .before .before .before .before .before .before .before .zero-f64-from .ensures) (c .before .before .before .before .before .before .normals .ensures) (c .before .before .zero-f64-from2 .ensures)
 
 pub complete-spec : {M : Type 1} → statement M
 complete-spec =
@@ -47,10 +54,12 @@ complete-spec =
     zero-u32-requires
     cast-build
     build-requires
-    zero-f64-requires
     lengths-requires
-    zero-f64-requires-2
+    mul-zero-f64-from
+    zero-f64-from-requires
     normals-requires
+    mul-zero-f64-from-2
+    zero-f64-from-requires-2
     same-length
     same-length-2
     same-length-3
