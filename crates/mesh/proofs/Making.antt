@@ -1,5 +1,5 @@
 -- How the buffers come to hold a topology: what each way through `topology` leaves. Assumes nothing.
-use Prim.Native.Nat.{ℕ, _*_, _/_}
+use Prim.Native.Nat.{ℕ, _*_, _/_, _≤_}
 use mathlib.Core.Path.{_≡_, refl, sym, ap, _∙_}
 use mathlib.Core.Bool.{Bool, true, false, cond}
 use mathlib.Core.List.{List}
@@ -9,6 +9,7 @@ use lib.Ieee.{Float}
 use Rattle.float64.specs.Scalar.{zero}
 use Rattle.buffers.specs.Zero.{zeroFrom}
 use Rattle.topology.specs.Edges.{edges, sharedByThree}
+use Rattle.topology.proofs.Edges.{edge-count}
 use Rattle.edge_table.specs.declared.Table.{Table}
 use Rattle.edge_table.specs.declared.Table.the-variants.{Edges, ThirdFace}
 use Rattle.edge_table.specs.Table.{Mesh, tableOf, edgeWords, Built, Filled}
@@ -51,6 +52,10 @@ module _ (triangles : List ℕ) (r : Table) (is : r ≡ tableOf triangles) where
   pub has-edges : (n : ℕ) → r ≡ Edges n → (sharedByThree triangles ≡ false) × (n ≡ length (edges triangles))
   unfolding tableOf
   has-edges n e = edges-case (sharedByThree triangles) (length (edges triangles)) n (sym is ∙ e)
+
+  -- no more than one for each side
+  pub few-edges : (n : ℕ) → r ≡ Edges n → n ≤ length triangles
+  few-edges n e = omega (arith, has-edges n e .1, edge-count triangles)
 
 -- buffers count by their lengths where they are zeroed
 zeros : {m n : ℕ} → m ≡ n → replicate {A = ℕ} m 0 ≡ replicate n 0

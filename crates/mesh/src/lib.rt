@@ -6,11 +6,9 @@ use edge_table::Table;
 use job_checks::BufferCounts;
 use job_checks::Checked;
 ghost use mathlib.Core.Path.{_≡_};
-ghost use Prim.Native.Nat.{_*_, _/_, _≤_};
-ghost use lib.ListN.{length, replicate};
-ghost use Rattle.float64.specs.Scalar.{zero};
+ghost use Prim.Native.Nat.{_≤_};
+ghost use lib.ListN.{length};
 ghost use Rattle.job_checks.specs.Job.{job};
-ghost use Rattle.vertex_faces.specs.Ranges.{InRange};
 ghost use Rattle.mesh.specs.Topology.{meshBuffers, zeroed, Fits, Completed, Made};
 ghost use Rattle.mesh.specs.Answer.{numberOf, countsOf, Answered};
 
@@ -70,7 +68,7 @@ fn complete(
     triangle_words: &[u32],
     triangle_reals: &mut [f64],
 )
-    requires { ⌜ InRange (now triangles) (length (now vertices) / 3) × ((length (now vertices) / 3 ≤ 65535) × ((3 * (length (now vertices) / 3) ≤ length (now «vertex_words»)) × (length (now triangles) ≤ length (now round)))) ⌝ }
+    requires { ⌜ Fits (now vertices) (now triangles) (length (now «vertex_words»)) (length (now «edge_words»)) (length (now «edge_reals»)) (length (now round)) (length (now «triangle_words»)) (length (now «triangle_reals»)) × (edges ≤ length (now triangles)) ⌝ }
     ensures { λ r. ⌜ Completed (now (vertices .entry)) (now (triangles .entry)) edges (now («edge_words» .entry)) (now («triangle_words» .entry))
         (now («vertex_words» .entry)) (now («edge_reals» .entry)) (now (round .entry)) (now («triangle_reals» .entry))
         (now («vertex_words» .exit)) (now («edge_reals» .exit)) (now (round .exit)) (now («triangle_reals» .exit)) ⌝ }

@@ -1,6 +1,6 @@
 -- `mesh::complete` meets its contract. Assumes nothing.
 use native.Mathlib.Omega.{arith}
-use Rattle.mesh.proofs.Making.{completed}
+use Rattle.mesh.proofs.Making.{in-range, completed}
 use borrow.Author.Needs.{needs}
 use Rattle.mesh.proofs.complete.Statement.{statement}
 use Rattle.mesh.proofs.complete.Tie as tie
@@ -9,13 +9,13 @@ zero-u32-requires : tie.Need-zero-u32-requires
 zero-u32-requires c κs = search needs
 
 cast-build : tie.Need-cast-build
-cast-build c = search needs
+cast-build c = omega (arith, c .before .before .before .before .before .before .before .before .before .before .before .before .before .pre .0 .mesh .few-vertices)
 
 build-requires : tie.Need-build-requires
-build-requires c κs = search needs
+build-requires c κs = (in-range _ _ (c .before .before .before .before .before .before .before .before .before .before .before .before .before .before .pre .0 .mesh), (omega (arith, c .before .before .before .before .before .before .before .before .before .before .before .before .before .before .pre .0 .vertices-fit, c .before .before .before .before .zero-u32 .kept .0), c .before .before .before .before .before .before .before .before .before .before .before .before .before .before .pre .0 .round-fits))
 
 lengths-requires : tie.Need-lengths-requires
-lengths-requires c κs = search needs
+lengths-requires c κs = omega (arith, c .before .before .before .before .before .before .before .before .before .before .before .before .before .before .before .before .before .before .before .before .pre .0 .edge-reals-fit, c .before .before .before .before .before .before .before .before .before .before .before .before .before .before .before .before .before .before .before .before .pre .1)
 
 mul-zero-f64-from : tie.Need-mul-zero-f64-from
 mul-zero-f64-from c = search needs
@@ -24,10 +24,10 @@ zero-f64-from-requires : tie.Need-zero-f64-from-requires
 zero-f64-from-requires c κs = search needs
 
 normals-requires : tie.Need-normals-requires
-normals-requires c κs = search needs
+normals-requires c κs = (omega (arith, c .before .before .before .before .before .before .before .before .before .before .before .before .before .before .before .before .before .before .before .before .before .before .before .before .before .before .before .before .before .pre .0 .mesh .whole, c .before .before .before .before .before .before .before .before .before .before .before .before .before .before .before .before .before .before .before .before .before .before .before .before .before .before .before .before .before .pre .0 .mesh .few-triangles), (omega (arith, c .before .before .before .before .before .before .before .before .before .before .before .before .before .before .before .before .before .before .before .before .before .before .before .before .before .before .before .before .before .pre .0 .mesh .whole), c .before .before .before .before .before .before .before .before .before .before .before .before .before .before .before .before .before .before .before .before .before .before .before .before .before .before .before .before .before .pre .0 .triangle-reals-fit))
 
 mul-zero-f64-from-2 : tie.Need-mul-zero-f64-from-2
-mul-zero-f64-from-2 c = record { fits = omega (arith, c .before .before .before .before .before .before .before .before .before .before .before .before .before .before .before .before .before .before .before .before .before .before .before .before .before .before .before .before .before .before .before .before .before .pre .0 .few) }
+mul-zero-f64-from-2 c = record { fits = omega (arith, c .before .before .before .before .before .before .before .before .before .before .before .before .before .before .before .before .before .before .before .before .before .before .before .before .before .before .before .before .before .before .before .before .before .pre .0 .mesh .whole, c .before .before .before .before .before .before .before .before .before .before .before .before .before .before .before .before .before .before .before .before .before .before .before .before .before .before .before .before .before .before .before .before .before .pre .0 .mesh .few-triangles) }
 
 zero-f64-from-requires-2 : tie.Need-zero-f64-from-requires-2
 zero-f64-from-requires-2 c κs = search needs

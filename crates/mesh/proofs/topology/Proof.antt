@@ -1,7 +1,7 @@
 -- `mesh::topology` meets its contract. Assumes nothing.
 use native.Mathlib.Omega.{arith}
 use Rattle.edge_table.proofs.Reading.{mesh-most}
-use Rattle.mesh.proofs.Making.{in-range, made-third, made-filled}
+use Rattle.mesh.proofs.Making.{few-edges, made-third, made-filled}
 use borrow.Author.Needs.{needs}
 use Rattle.mesh.proofs.topology.Statement.{statement}
 use Rattle.mesh.proofs.topology.Tie as tie
@@ -23,7 +23,18 @@ enum-known-edges c = search needs
 complete-requires : tie.Need-complete-requires
 complete-requires c κs =
     let fits = c .before .before .before .before .before .before .before .before .before .before .before .before .before .before .before .before .before .before .before .before .before .before .before .before .before .before .before .pre in
-    (in-range _ _ (fits .mesh), (fits .mesh .few-vertices, (fits .vertices-fit, omega (arith, fits .round-fits, c .before .before .before .before .before .before .before .before .before .before .before .before .before .before .before .build .kept .1 .0))))
+    let build = c .before .before .before .before .before .before .before .before .before .before .before .before .before .before .before .build in (
+      record {
+        mesh = fits .mesh;
+        vertices-fit = fits .vertices-fit;
+        edges-fit = omega (arith, fits .edges-fit, build .kept .1 .1 .0);
+        edge-reals-fit = fits .edge-reals-fit;
+        round-fits = omega (arith, fits .round-fits, build .kept .1 .0);
+        triangles-fit = omega (arith, fits .triangles-fit, build .kept .1 .1 .1 .0);
+        triangle-reals-fit = fits .triangle-reals-fit;
+      },
+      few-edges _ _ (build .ensures .answer) _ (c .before .before .before .before .before .before .before .edges .given .1),
+    )
 
 same-length : tie.Need-same-length
 same-length c = search needs
