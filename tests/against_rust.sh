@@ -8,5 +8,5 @@ out=target/tests
 mkdir -p "$out"
 cargo build --quiet --offline --release --manifest-path oracle/Cargo.toml
 rt staticlib "${name}_c" >&2
-${RUSTC:-rustc} --edition 2024 -O --check-cfg 'cfg(lent)' --cfg lent -L native=target/staticlib -l static="${name}_c" --extern oracle=oracle/target/release/liboracle.rlib -o "$out/${name}_bench" "tests/$name/bench.rs"
+${RUSTC:-rustc} --edition 2024 -O -L native=target/staticlib -l static="${name}_c" --extern oracle=oracle/target/release/liboracle.rlib -o "$out/${name}_bench" "tests/$name/bench.rs"
 "$out/${name}_bench"

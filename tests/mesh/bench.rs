@@ -1,5 +1,4 @@
 //! Times the topology of the static library and the Rust's `Topology::new` on the same meshes and compares every number. Usage: bench
-//! Without `--cfg lent` the Rust's alone.
 use oracle::exact::{Buffers, NONE, Topology};
 use oracle::generate::rng::Rng;
 use oracle::generate::workshop::{self, Shape};
@@ -9,7 +8,6 @@ use std::{hint::black_box, time::Instant};
 
 const TURNS: usize = 25;
 
-#[cfg(lent)]
 unsafe extern "C" {
     /// The refusals 1 to 5, 0 for none.
     fn sirmolaat_mesh_check(
@@ -115,11 +113,13 @@ fn shuffled((v, t): Mesh) -> Mesh {
     (moved, order.iter().map(|&i| t[i].map(renumber)).collect())
 }
 
-/// In milliseconds.
+/// In milliseconds, without the time that it takes to drop what was made.
 fn time<T>(run: impl FnOnce() -> T) -> f64 {
     let start = Instant::now();
-    black_box(run());
-    start.elapsed().as_secs_f64() * 1e3
+    let made = black_box(run());
+    let elapsed = start.elapsed();
+    drop(made);
+    elapsed.as_secs_f64() * 1e3
 }
 
 fn job((v, t): &Mesh) -> Job {
@@ -136,7 +136,6 @@ fn job((v, t): &Mesh) -> Job {
     }
 }
 
-#[cfg(lent)]
 struct Lent {
     vertex_words: Vec<u32>,
     edge_words: Vec<u32>,
@@ -146,7 +145,6 @@ struct Lent {
     triangle_reals: Vec<f64>,
 }
 
-#[cfg(lent)]
 impl Lent {
     fn new(job: &Job) -> Lent {
         let (n, sides) = (job.flags.len(), job.triangles.len());
@@ -238,7 +236,21 @@ impl Lent {
     }
 }
 
-/// One line; the answer is the time of the library's topology, without the checks. The programs take turns, and of each the least time counts.
+/// The least times of four programs: TURNS turns of each, turn by turn or one program after the other.
+fn least(turn_by_turn: bool, mut programs: [&mut dyn FnMut() -> f64; 4]) -> [f64; 4] {
+    let (rounds, turns) = if turn_by_turn { (TURNS, 1) } else { (1, TURNS) };
+    let mut least = [f64::INFINITY; 4];
+    for _ in 0..rounds {
+        for (least, program) in least.iter_mut().zip(&mut programs) {
+            for _ in 0..turns {
+                *least = least.min(program());
+            }
+        }
+    }
+    least
+}
+
+/// Two lines, one for each way to take turns; the answer is the time of the library's topology, without the checks, turn by turn.
 fn measure(name: &str, mesh: &Mesh) -> f64 {
     let (v, t) = mesh;
     let job = job(mesh);
@@ -246,47 +258,38 @@ fn measure(name: &str, mesh: &Mesh) -> f64 {
     let pseudo = vec![false; v.len()];
     let topo = Topology::new(v, t, &pseudo).expect("at most two faces an edge");
     assert!(topo.faces.iter().all(|f| f[0] != NONE));
-    #[cfg(lent)]
     let mut lent = Lent::new(&job);
-    #[cfg(lent)]
-    {
-        assert_eq!(lent.build(&job), topo.edges.len() as u64);
-        lent.compare(&topo);
-    }
-    let mut least = [f64::INFINITY; 4];
-    for _ in 0..TURNS {
-        least[0] = least[0].min(time(|| Topology::new(v, t, &pseudo)));
-        least[1] = least[1].min(time(|| job.check()));
-        #[cfg(lent)]
-        {
-            least[2] = least[2].min(time(|| lent.build(&job)));
-            least[3] = least[3].min(time(|| Lent::check(&job)));
-        }
-    }
-    let [new, check, all, checks] = least;
-    print!(
-        "| {name} | {} | {} | {new:.2} | {check:.2} |",
-        t.len(),
-        topo.edges.len()
-    );
-    if !cfg!(lent) {
-        println!();
-        return new;
-    }
-    let ours = all - checks;
-    println!(
-        " {ours:.2} | {checks:.2} | {:.2} | {:.2} |",
-        ours / new,
-        all / (new + check)
-    );
-    ours
+    assert_eq!(lent.build(&job), topo.edges.len() as u64);
+    lent.compare(&topo);
+    let [first, _] = [true, false].map(|turn_by_turn| {
+        let [new, check, all, checks] = least(
+            turn_by_turn,
+            [
+                &mut || time(|| Topology::new(v, t, &pseudo)),
+                &mut || time(|| job.check()),
+                &mut || time(|| lent.build(&job)),
+                &mut || time(|| Lent::check(&job)),
+            ],
+        );
+        let ours = all - checks;
+        println!(
+            "| {name} | {} | {} | {} | {new:.2} | {ours:.2} | {:.2} | {check:.2} | {checks:.2} | {:.2} |",
+            t.len(),
+            topo.edges.len(),
+            if turn_by_turn { "by turns" } else { "in a row" },
+            ours / new,
+            all / (new + check)
+        );
+        ours
+    });
+    first
 }
 
 fn main() {
     println!(
-        "| mesh | triangles | edges | Topology::new, ms | its checks, ms | topology, ms | checks, ms | topology / new | all / all |"
+        "| mesh | triangles | edges | turns | Topology::new, ms | topology, ms | ratio | the Rust's checks, ms | checks, ms | all / all |"
     );
-    println!("|---|---:|---:|---:|---:|---:|---:|---:|---:|");
+    println!("|---|---:|---:|---|---:|---:|---:|---:|---:|---:|");
     let sizes = [2_000, 30_000, 131_070];
     // 104 by 104 squares a side at most: the next larger one passes the bound on triangles.
     let sphere = |n: usize| workshop::mesh(Shape::Sphere, n.min(129_792), &mut Rng::new(1));

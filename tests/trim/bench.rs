@@ -1,5 +1,5 @@
 //! Replays the candidates and pops of real fields through the Rust's `add`, published reading, and through that of the static library, in one run.
-//! Usage: bench. Without `--cfg lent` the Rust's alone.
+//! Usage: bench.
 use oracle::exact::{Buffers, Field, Src, Topology, Win};
 use oracle::generate::workshop::{self, Shape};
 use oracle::reading::{Patched, Published, Reading};
@@ -114,7 +114,6 @@ fn rust<R: Reading>(list: &List) -> (f64, Field<'_, R>) {
     (start.elapsed().as_secs_f64(), black_box(field))
 }
 
-#[cfg(lent)]
 mod lent {
     use super::{List, Patched, Step};
     use oracle::exact::{Field, Src, Win};
@@ -274,10 +273,17 @@ mod lent {
             let (k, (kind, [x, y, s])) = (id as usize, source(w.src));
             let low = w.src.lowest::<Patched>(w.b0, w.b1);
             let reals = [w.b0, w.b1, low, x, y, s].map(f64::to_bits);
-            let stored: Vec<u64> = self.reals[6 * k..6 * k + 6].iter().map(|r| r.to_bits()).collect();
+            let stored: Vec<u64> = self.reals[6 * k..6 * k + 6]
+                .iter()
+                .map(|r| r.to_bits())
+                .collect();
             assert_eq!(stored, reals, "window {id}");
             let flags = kind + 2 * u32::from(w.alive) + 4 * u32::from(w.queued);
-            assert_eq!(self.words[4 * k..4 * k + 3], [w.edge, w.into, flags], "window {id}");
+            assert_eq!(
+                self.words[4 * k..4 * k + 3],
+                [w.edge, w.into, flags],
+                "window {id}"
+            );
         }
 
         /// The windows made, each edge's chain, the distances of the vertices and how many events are left, against the reading that is proved.
@@ -311,26 +317,19 @@ fn measure(name: &str, shape: Shape, triangles: usize, lines: usize, limit: f64)
     let made = rust::<Patched>(&list).1;
     let live: usize = made.on_edge.iter().map(Vec::len).sum();
     let windows = made.wins.len();
-    print!(
-        "| {name} | {adds} | {windows} | {live} | {:.1} |",
-        1e9 * published / adds as f64
-    );
-    #[cfg(lent)]
-    {
-        let mut times = vec![];
-        for _ in 0..TURNS {
-            let mut lent = lent::Lent::new(&list, windows);
-            times.push(lent.run());
-            lent.compare(&made);
-        }
-        let ours = least(times);
-        print!(
-            " {:.1} | {:.2} |",
-            1e9 * ours / adds as f64,
-            ours / published
-        );
+    let mut times = vec![];
+    for _ in 0..TURNS {
+        let mut lent = lent::Lent::new(&list, windows);
+        times.push(lent.run());
+        lent.compare(&made);
     }
-    println!();
+    let ours = least(times);
+    println!(
+        "| {name} | {adds} | {windows} | {live} | {:.1} | {:.1} | {:.2} |",
+        1e9 * published / adds as f64,
+        1e9 * ours / adds as f64,
+        ours / published
+    );
 }
 
 fn main() {
