@@ -1,10 +1,8 @@
 -- The definitions over buffers are the topology's where the buffers hold it. Assumes nothing.
-use Prim.Native.Nat.{ℕ, zero, suc, _+_, _*_, _/_, _%_, _<_, _≤_}
-use mathlib.Core.Path.{_≡_, refl, sym, ap, subst, _∙_}
+use Prim.Native.Nat.{ℕ, _+_, _*_, _/_, _%_, _<_, _≤_}
+use mathlib.Core.Path.{_≡_, refl, sym, ap, _∙_}
 use mathlib.Core.Bool.{cond}
-use mathlib.Core.List.{List, [], _∷_}
-use mathlib.Core.Logic.{⊎-elim}
-use native.Mathlib.Nat.{le-of-suc-le-suc, not-suc-le-zero, eq-or-lt-of-le, mul-suc}
+use mathlib.Core.List.{List}
 use native.Mathlib.Omega.{arith}
 use lib.Dec.{eqb}
 use lib.ListN.{length, getD}
@@ -14,105 +12,31 @@ use Rattle.float64.specs.Notation.{_⊘_}
 use Rattle.vec3.specs.declared.Vec3.{Vec3}
 use Rattle.vec3.specs.Vec.{scaleOf, subOf, dotOf}
 use Rattle.job_checks.specs.Edge.{vertexAt, lenOf, xhatOf, perpendicularOf, altitudeOf}
-use Rattle.buffers.specs.Slots.{slot, fill}
-use Rattle.buffers.proofs.Strides.{slot-at, length-fill, fill-same, fill-other}
 use Rattle.topology.specs.Edges.{offEnds, corner, edges, triEdge, other, local, third}
 use Rattle.topology.specs.Frames.{origin, end, len, xhat, yhat, coordsX, coordsY}
 use Rattle.topology.proofs.Edges.{tri-edge-there, tri-edge-is}
-use Rattle.frames.specs.Stored.{vectorAt, lengthAt, unitAt, normalAt, inward, originAt, endAt, withLengths, normalOf, withNormals, xOf, otherAt, localAt, thirdAt, yOf}
+use Rattle.frames.specs.Stored.{vectorAt, lengthAt, unitAt, normalAt, across, unitOf, lengthRow, originAt, endAt, withLengths, acrossOf, normalOf, withNormals, xOf, otherAt, localAt, thirdAt, yOf}
 use Rattle.frames.specs.Held.{HoldsEdges, HoldsFaces, HoldsSides, HoldsLengths, HoldsNormals}
+use Rattle.frames.proofs.Rows.{rows-at, vectors-at}
 use Rattle.frames.proofs.Turns.{local-below}
 
--- the slots below n written, one after the other
-unfoldable pub filled : ℕ → (ℕ → List Float) → ℕ → List Float → List Float
-filled s row zero r = r
-filled s row (suc k) r = fill s (filled s row k r) k 0 (row k)
-
-module _ (s : ℕ) (row : ℕ → List Float) (whole : (k : ℕ) → length (row k) ≡ s) where
-  length-filled : (n : ℕ) (r : List Float) → length (filled s row n r) ≡ length r
-  unfolding filled
-  length-filled zero r = refl
-  length-filled (suc n) r = length-fill s (row n) (filled s row n r) n 0 ∙ length-filled n r
-
-  -- each has its row
-  filled-slot : (n : ℕ) (r : List Float) (k : ℕ) → k < n → s * n ≤ length r → slot s (filled s row n r) k ≡ row k
-  unfolding filled
-  filled-slot zero r k l m = absurd (not-suc-le-zero l)
-  filled-slot (suc n) r k l m =
-      ⊎-elim (λ q. subst (λ (i : ℕ). slot s (fill s (filled s row n r) n 0 (row n)) i ≡ row i) (sym q) (fill-same s (filled s row n r) n (row n) (whole n) (omega (arith, length-filled n r, mul-suc s n))))
-      (λ l′. fill-other s (row n) (filled s row n r) n k 0 (λ e. omega arith) (omega (arith, whole n)) ∙ filled-slot n r k l′ (omega (arith, mul-suc s n)))
-      (eq-or-lt-of-le (le-of-suc-le-suc l))
-
-  -- the others are as they were
-  filled-past : (n : ℕ) (r : List Float) (k : ℕ) → n ≤ k → slot s (filled s row n r) k ≡ slot s r k
-  unfolding filled
-  filled-past zero r k l = refl
-  filled-past (suc n) r k l = fill-other s (row n) (filled s row n r) n k 0 (λ e. omega arith) (omega (arith, whole n)) ∙ filled-past n r k (omega arith)
-
-  filled-at : (n : ℕ) (r : List Float) (k a : ℕ) → k < n → s * n ≤ length r → a < s → getD (filled s row n r) (s * k + a) nan ≡ getD (row k) a nan
-  filled-at n r k a l m b = sym (slot-at s (filled s row n r) k a nan b) ∙ ap (λ (x : List Float). getD x a nan) (filled-slot n r k l m)
-
-module _ (v : List Float) (edgeWords : List ℕ) where
-  pub lengthRow : ℕ → List Float
-  lengthRow e =
-      let x : Vec3 = xhatOf (originAt v edgeWords e) (endAt v edgeWords e) in
-      lenOf (originAt v edgeWords e) (endAt v edgeWords e) ∷ x .x ∷ x .y ∷ x .z ∷ []
-
-  pub lengths-filled : (n : ℕ) (r : List Float) → withLengths v edgeWords n r ≡ filled 4 lengthRow n r
-  unfolding withLengths filled lengthRow
-  lengths-filled zero r = refl
-  lengths-filled (suc n) r = ap (λ (x : List Float). fill 4 x n 0 (lengthRow n)) (lengths-filled n r)
-
-  pub four : (e : ℕ) → length (lengthRow e) ≡ 4
+module _ (v : List Float) (edgeWords : List ℕ) (n : ℕ) (r : List Float) where
+  lengths-at : (e a : ℕ) → e < n → 4 * n ≤ length r → a < 4 → getD (withLengths v edgeWords n r) (4 * e + a) nan ≡ getD (lengthRow v edgeWords e) a nan
   unfolding lengthRow
-  four e = refl
+  lengths-at e a l m b = rows-at 4 (lengthRow v edgeWords) (λ k. refl) n r e a l m b
 
-  -- what is stored, below the count and past it
-  module _ (n : ℕ) (r : List Float) where
-    lengths-at : (e a : ℕ) → e < n → 4 * n ≤ length r → a < 4 → getD (withLengths v edgeWords n r) (4 * e + a) nan ≡ getD (lengthRow e) a nan
-    lengths-at e a l m b = rw (lengths-filled n r) (filled-at 4 lengthRow four n r e a l m b)
+  length-stored : (e : ℕ) → e < n → 4 * n ≤ length r → lengthAt (withLengths v edgeWords n r) e ≡ lenOf (originAt v edgeWords e) (endAt v edgeWords e)
+  unfolding lengthRow
+  length-stored e l m = lengths-at e 0 l m (omega arith)
 
-    pub length-stored : (e : ℕ) → e < n → 4 * n ≤ length r → lengthAt (withLengths v edgeWords n r) e ≡ lenOf (originAt v edgeWords e) (endAt v edgeWords e)
-    unfolding lengthRow
-    length-stored e l m = lengths-at e 0 l m (omega arith)
+  unit-stored : (e : ℕ) → e < n → 4 * n ≤ length r → unitAt (withLengths v edgeWords n r) e ≡ xhatOf (originAt v edgeWords e) (endAt v edgeWords e)
+  unfolding lengthRow
+  unit-stored e l m = λ i. record { x = lengths-at e 1 l m (omega arith) i; y = lengths-at e 2 l m (omega arith) i; z = lengths-at e 3 l m (omega arith) i }
 
-    pub unit-stored : (e : ℕ) → e < n → 4 * n ≤ length r → unitAt (withLengths v edgeWords n r) e ≡ xhatOf (originAt v edgeWords e) (endAt v edgeWords e)
-    unfolding lengthRow
-    unit-stored e l m = λ i. record { x = lengths-at e 1 l m (omega arith) i; y = lengths-at e 2 l m (omega arith) i; z = lengths-at e 3 l m (omega arith) i }
-
-    pub lengths-past : (e : ℕ) → n ≤ e → slot 4 (withLengths v edgeWords n r) e ≡ slot 4 r e
-    lengths-past e l = rw (lengths-filled n r) (filled-past 4 lengthRow four n r e l)
-
-module _ (v : List Float) (triangles triangleWords : List ℕ) (edgeReals : List Float) where
-  pub normalRow : ℕ → List Float
-  normalRow h =
-      let n : Vec3 = normalOf v triangles triangleWords edgeReals h in
-      n .x ∷ n .y ∷ n .z ∷ []
-
-  pub normals-filled : (n : ℕ) (r : List Float) → withNormals v triangles triangleWords edgeReals n r ≡ filled 3 normalRow n r
-  unfolding withNormals filled normalRow
-  normals-filled zero r = refl
-  normals-filled (suc n) r = ap (λ (x : List Float). fill 3 x n 0 (normalRow n)) (normals-filled n r)
-
-  pub three : (h : ℕ) → length (normalRow h) ≡ 3
-  unfolding normalRow
-  three h = refl
-
-  module _ (n : ℕ) (r : List Float) where
-    normals-at : (h a : ℕ) → h < n → 3 * n ≤ length r → a < 3 → getD (withNormals v triangles triangleWords edgeReals n r) (3 * h + a) nan ≡ getD (normalRow h) a nan
-    normals-at h a l m b = rw (normals-filled n r) (filled-at 3 normalRow three n r h a l m b)
-
-    pub normal-stored : (h : ℕ) → h < n → 3 * n ≤ length r → normalAt (withNormals v triangles triangleWords edgeReals n r) h ≡ normalOf v triangles triangleWords edgeReals h
-    unfolding normalRow
-    normal-stored h l m = λ i. record { x = normals-at h 0 l m (omega arith) i; y = normals-at h 1 l m (omega arith) i; z = normals-at h 2 l m (omega arith) i }
-
-    pub normals-past : (h : ℕ) → n ≤ h → slot 3 (withNormals v triangles triangleWords edgeReals n r) h ≡ slot 3 r h
-    normals-past h l = rw (normals-filled n r) (filled-past 3 normalRow three n r h l)
-
--- `inward` along the computed unit vector is the topology's normal
-inward-is : (o b t : Vec3) → inward o (xhatOf o b) t ≡ scaleOf (perpendicularOf o b t) (one ⊘ altitudeOf o b t)
-unfolding inward perpendicularOf altitudeOf
-inward-is o b t = refl
+-- along the computed unit vector it is the topology's normal
+normal-is : (o b t : Vec3) → unitOf (across o (xhatOf o b) t) ≡ scaleOf (perpendicularOf o b t) (one ⊘ altitudeOf o b t)
+unfolding unitOf across perpendicularOf altitudeOf
+normal-is o b t = refl
 
 module _ (v : List Float) (triangles edgeWords : List ℕ) (held : HoldsEdges triangles edgeWords) where
   module _ (e : ℕ) (l : e < length (edges triangles)) where
@@ -148,16 +72,16 @@ module _ (v : List Float) (triangles edgeWords : List ℕ) (held : HoldsEdges tr
 
 module _ (v : List Float) (triangles : List ℕ) (edgeReals : List Float) (long : HoldsLengths v triangles edgeReals) (triangleWords : List ℕ) (sides : HoldsSides triangles triangleWords) where
   normal-held : (h : ℕ) → h < length triangles → normalOf v triangles triangleWords edgeReals h ≡ yhat v triangles h
-  unfolding normalOf yhat xhat origin
+  unfolding acrossOf yhat xhat origin
   normal-held h l =
       let m : triEdge triangles h < length (edges triangles) = tri-edge-there triangles h l in
-      (λ i. inward (vertexAt v (sym (tri-edge-is triangles h l) i .low)) (unitAt edgeReals (sides h l i)) (vertexAt v (corner triangles h 2)))
-      ∙ ((λ i. inward (origin v triangles (triEdge triangles h)) (long .unit-is (triEdge triangles h) m i) (vertexAt v (corner triangles h 2)))
-      ∙ inward-is (origin v triangles (triEdge triangles h)) (end v triangles (triEdge triangles h)) (vertexAt v (corner triangles h 2)))
+      (λ i. unitOf (across (vertexAt v (sym (tri-edge-is triangles h l) i .low)) (unitAt edgeReals (sides h l i)) (vertexAt v (corner triangles h 2))))
+      ∙ ((λ i. unitOf (across (origin v triangles (triEdge triangles h)) (long .unit-is (triEdge triangles h) m i) (vertexAt v (corner triangles h 2))))
+      ∙ normal-is (origin v triangles (triEdge triangles h)) (end v triangles (triEdge triangles h)) (vertexAt v (corner triangles h 2)))
 
   -- what `normals` leaves
   pub normals-held : (r : List Float) → 3 * length triangles ≤ length r → HoldsNormals v triangles (withNormals v triangles triangleWords edgeReals (length triangles) r)
-  normals-held r m h l = normal-stored v triangles triangleWords edgeReals (length triangles) r h l m ∙ normal-held h l
+  normals-held r m h l = vectors-at (normalOf v triangles triangleWords edgeReals) (length triangles) r h l m ∙ normal-held h l
 
 pub other-held : (triangles edgeWords : List ℕ) → HoldsFaces triangles edgeWords → (e f : ℕ) → e < length (edges triangles) → otherAt edgeWords e f ≡ other triangles e f
 unfolding otherAt other

@@ -1,3 +1,3 @@
 pub mod Held
-pub mod Tails
+pub mod Rows
 pub mod Turns

@@ -4,21 +4,21 @@ use mathlib.Core.Path.{_≡_, refl, sym, ap, _∙_}
 use mathlib.Core.Bool.{Bool, true, false, cond}
 use mathlib.Core.List.{List, [], _∷_}
 use native.Mathlib.Omega.{arith}
-use native.Mathlib.Numerals.{add-one}
 use borrow.Author.Tests.{eq-eqb, ne-eqb}
 use lib.Dec.{eqb}
-use lib.ListN.{getD}
+use lib.ListN.{length, getD, replicate}
 use lib.Ieee.{Float, nan, neg}
-use Rattle.float64.specs.Scalar.{one}
+use Rattle.float64.specs.Scalar.{one, zero as zero64}
 use Rattle.float64.specs.Notation.{_⊘_}
 use Rattle.vec3.specs.declared.Vec3.{Vec3}
 use Rattle.vec3.specs.Vec.{scaleOf, axpyOf, subOf, dotOf, normOf}
 use Rattle.job_checks.specs.Edge.{vertexAt, lower, lenOf, xhatOf}
 use Rattle.buffers.specs.declared.FaceId.{FaceId}
 use Rattle.buffers.specs.declared.VertexId.{VertexId}
-use Rattle.buffers.specs.Slots.{fill}
+use Rattle.buffers.specs.Zero.{zeroFrom}
 use Rattle.topology.specs.Edges.{between, offEnds, corner, sideEdge}
-use Rattle.frames.specs.Stored.{lowAt, highAt, faceAt, vectorAt, unitAt, across, inward, originAt, endAt, withLengths, normalOf, withNormals, xOf, otherAt, localAt, thirdAt, yOf}
+use Rattle.frames.specs.Stored.{lowAt, highAt, faceAt, vectorAt, normalAt, unitAt, across, unitOf, withRows, row3, unitRow, originAt, endAt, lengthRow, withLengths, acrossOf, withAcross, withNormals, xOf, otherAt, localAt, thirdAt, yOf}
+use Rattle.frames.proofs.Rows.{rows-same, length-rows, vectors-at, vectors-past, zero-past-rows}
 
 pub vector-of : (r : Vec3) (a b c x y z : Float) → r ≡ record { x = a; y = b; z = c } → a ≡ x → b ≡ y → c ≡ z → r ≡ record { x = x; y = y; z = z }
 vector-of r a b c x y z e p q s = e ∙ (λ i. record { x = p i; y = q i; z = s i })
@@ -33,17 +33,14 @@ unfolding across
 across-steps v reals e a b l t o xhat third w p k first from unit to up along h = rw (← first, ← from, ← unit, ← to, ← up, ← along) h
 
 module _ (v : List Float) (edgeWords : List ℕ) where
-  pub lengths-start : (r : List Float) → r ≡ withLengths v edgeWords 0 r
-  unfolding withLengths
-  lengths-start r = refl
+  -- an edge's row as it is computed
+  pub length-row : (e : ℕ) (d x : Vec3) (len : Float) → d ≡ subOf (endAt v edgeWords e) (originAt v edgeWords e) → len ≡ normOf d → x ≡ scaleOf d (one ⊘ len) → len ∷ x .x ∷ x .y ∷ x .z ∷ [] ≡ lengthRow v edgeWords e
+  unfolding lengthRow lenOf xhatOf
+  length-row e d x len from long unit = rw (← from, ← long, ← unit) refl
 
-  -- the next edge written
-  pub lengths-turn : (s r r′ : List Float) (e n : ℕ) (d x : Vec3) (len : Float) → n ≡ e + 1 → d ≡ subOf (endAt v edgeWords e) (originAt v edgeWords e) → len ≡ normOf d → x ≡ scaleOf d (one ⊘ len) → r′ ≡ fill 4 r e 0 (len ∷ x .x ∷ x .y ∷ x .z ∷ []) → r ≡ withLengths v edgeWords e s → r′ ≡ withLengths v edgeWords n s
-  unfolding withLengths lenOf xhatOf
-  lengths-turn s r r′ e n d x len next from long unit h so-far = rw (next, add-one e, ← so-far, ← from, ← long, ← unit) h
-
-  pub lengths-done : (r₀ r : List Float) (e n : ℕ) → r ≡ withLengths v edgeWords e r₀ → e ≤ n → n ≤ e → r ≡ withLengths v edgeWords n r₀
-  lengths-done r₀ r e n p l m = p ∙ ap (λ (k : ℕ). withLengths v edgeWords k r₀) (let g : e ≡ n = omega arith in g)
+  pub lengths-made : (n : ℕ) (r₀ r₁ r₂ : List Float) → r₁ ≡ withLengths v edgeWords n r₀ → r₂ ≡ zeroFrom zero64 (4 * n) r₁ → r₂ ≡ withLengths v edgeWords n (replicate (length r₀) zero64)
+  unfolding lengthRow
+  lengths-made n r₀ r₁ r₂ made zeroed = zeroed ∙ (ap (zeroFrom zero64 (4 * n)) made ∙ zero-past-rows zero64 4 (lengthRow v edgeWords) (λ k. refl) n r₀)
 
   pub x-steps : (reals : List Float) (e : ℕ) (p o d u : Vec3) (r : Float) → o ≡ originAt v edgeWords e → u ≡ unitAt reals e → d ≡ subOf p o → r ≡ dotOf d u → r ≡ xOf v edgeWords reals e p
   unfolding xOf
@@ -54,28 +51,33 @@ module _ (v : List Float) (edgeWords : List ℕ) where
   y-steps triangleWords reals e f k p o d u r g a b c h = h ∙ (λ i. dotOf ((c ∙ (λ j. subOf p (a j))) i) ((b ∙ (λ j. vectorAt 9 reals f (3 * g j))) i))
 
 module _ (v : List Float) (triangles triangleWords : List ℕ) (edgeReals : List Float) where
-  -- the normal of side k of face f, from what is read
-  normal-is : (f k : ℕ) → k < 3 → (e a b c : ℕ) (p : Vec3) → e ≡ getD triangleWords (6 * f + k) 0 → a ≡ getD triangles (3 * f + k) 0 → b ≡ getD triangles (3 * f + (k + 1) % 3) 0 → c ≡ getD triangles (3 * f + (k + 2) % 3) 0 → p ≡ across (vertexAt v (lower a b)) (unitAt edgeReals e) (vertexAt v c) → scaleOf p (one ⊘ normOf p) ≡ normalOf v triangles triangleWords edgeReals (3 * f + k)
-  unfolding normalOf inward sideEdge between corner
-  normal-is f k l e a b c p ee ea eb ec ep =
+  -- over side k of face f, from what is read
+  pub across-row : (f k : ℕ) → k < 3 → (h e a b c : ℕ) (p : Vec3) → h ≡ 3 * f + k → e ≡ getD triangleWords (6 * f + k) 0 → a ≡ getD triangles (3 * f + k) 0 → b ≡ getD triangles (3 * f + (k + 1) % 3) 0 → c ≡ getD triangles (3 * f + (k + 2) % 3) 0 → p ≡ across (vertexAt v (lower a b)) (unitAt edgeReals e) (vertexAt v c) → row3 p ≡ row3 (acrossOf v triangles triangleWords edgeReals h)
+  unfolding acrossOf sideEdge between corner
+  across-row f k l h e a b c p here ee ea eb ec ep =
       let d : (3 * f + k) / 3 ≡ f = omega arith in
       let m : (3 * f + k) % 3 ≡ k = omega arith in
       let z : (k + 0) % 3 ≡ k = omega arith in
-      rw (d, m, z, ← ee, ← ea, ← eb, ← ec, ← ep) refl
+      rw (here, d, m, z, ← ee, ← ea, ← eb, ← ec, ← ep) refl
 
-  -- the next side written
-  pub normals-turn : (s r r′ : List Float) (f k : ℕ) → k < 3 → (h n e a b c : ℕ) (p u : Vec3) (height : Float) → h ≡ 3 * f + k → n ≡ h + 1 → e ≡ getD triangleWords (6 * f + k) 0 → a ≡ getD triangles (3 * f + k) 0 → b ≡ getD triangles (3 * f + (k + 1) % 3) 0 → c ≡ getD triangles (3 * f + (k + 2) % 3) 0 → p ≡ across (vertexAt v (lower a b)) (unitAt edgeReals e) (vertexAt v c) → height ≡ normOf p → u ≡ scaleOf p (one ⊘ height) → r′ ≡ fill 3 r h 0 (u .x ∷ u .y ∷ u .z ∷ []) → r ≡ withNormals v triangles triangleWords edgeReals h s → r′ ≡ withNormals v triangles triangleWords edgeReals n s
-  unfolding withNormals
-  normals-turn s r r′ f k l h n e a b c p u height here next ee ea eb ec ep long unit stored so-far =
-      let q : u ≡ normalOf v triangles triangleWords edgeReals h = rw here (unit ∙ (ap (λ (x : Float). scaleOf p (one ⊘ x)) long ∙ normal-is f k l e a b c p ee ea eb ec ep)) in
-      rw (next, add-one h) (stored ∙ (λ i. fill 3 (so-far i) h 0 (q i .x ∷ q i .y ∷ q i .z ∷ [])))
+  -- the vectors across, scaled to length one and the rest zeroed, are the normals
+  pub normals-made : (n : ℕ) (r₀ r₁ r₂ r₃ : List Float) → 3 * n ≤ length r₀ → r₁ ≡ withAcross v triangles triangleWords edgeReals n r₀ → r₂ ≡ withRows 3 (unitRow r₁) n r₁ → r₃ ≡ zeroFrom zero64 (3 * n) r₂ → r₃ ≡ withNormals v triangles triangleWords edgeReals n (replicate (length r₀) zero64)
+  normals-made n r₀ r₁ r₂ r₃ long raw scaled zeroed =
+      let of : ℕ → Vec3 = acrossOf v triangles triangleWords edgeReals in
+      let same : length r₁ ≡ length r₀ = ap length raw ∙ length-rows 3 (λ (h : ℕ). row3 (of h)) (λ k. refl) n r₀ in
+      let at : (h : ℕ) → h < n → normalAt r₁ h ≡ of h = λ h l. ap (λ (x : List Float). normalAt x h) raw ∙ vectors-at of n r₀ h l long in
+      let unit : r₂ ≡ withNormals v triangles triangleWords edgeReals n r₁ = scaled ∙ rows-same 3 (unitRow r₁) (λ (h : ℕ). row3 (unitOf (of h))) n r₁ (λ h l. ap (λ (p : Vec3). row3 (unitOf p)) (at h l)) in
+      zeroed
+      ∙ (ap (zeroFrom zero64 (3 * n)) unit
+      ∙ (zero-past-rows zero64 3 (λ (h : ℕ). row3 (unitOf (of h))) (λ k. refl) n r₁
+      ∙ ap (λ (k : ℕ). withNormals v triangles triangleWords edgeReals n (replicate k zero64)) same))
 
-  pub normals-start : (r : List Float) → r ≡ withNormals v triangles triangleWords edgeReals 0 r
-  unfolding withNormals
-  normals-start r = refl
-
-  pub normals-done : (r₀ r : List Float) (h n : ℕ) → r ≡ withNormals v triangles triangleWords edgeReals h r₀ → h ≤ n → n ≤ h → r ≡ withNormals v triangles triangleWords edgeReals n r₀
-  normals-done r₀ r h n p l m = p ∙ ap (λ (k : ℕ). withNormals v triangles triangleWords edgeReals k r₀) (let g : h ≡ n = omega arith in g)
+-- side h's vector as it is read when the slots below n are scaled, and its row when it is scaled too
+pub unit-row : (r₀ r : List Float) (n h : ℕ) (p u : Vec3) (height : Float) → n ≤ h → r ≡ withRows 3 (unitRow r₀) n r₀ → p ≡ normalAt r h → height ≡ normOf p → u ≡ scaleOf p (one ⊘ height) → row3 u ≡ unitRow r₀ h
+unfolding unitOf
+unit-row r₀ r n h p u height l so-far read long unit =
+    let at : normalAt r₀ h ≡ p = sym (read ∙ (ap (λ (x : List Float). normalAt x h) so-far ∙ vectors-past (λ (k : ℕ). unitOf (normalAt r₀ k)) n r₀ h l)) in
+    rw (at, ← long, ← unit) refl
 
 pub other-here : (w : List ℕ) (e f a b : ℕ) → a ≡ faceAt w e 0 → b ≡ faceAt w e 1 → a ≡ f → b ≡ otherAt w e f
 unfolding otherAt

@@ -49,12 +49,21 @@ across o xhat third =
     let w : Vec3 = subOf third o in
     axpyOf w (neg (dotOf w xhat)) xhat
 
--- the same, of length one
-unfoldable pub inward : Vec3 → Vec3 → Vec3 → Vec3
-unfolding across
-inward o xhat third =
-    let p : Vec3 = across o xhat third in
-    scaleOf p (one ⊘ normOf p)
+-- along p, of length one
+unfoldable pub unitOf : Vec3 → Vec3
+unitOf p = scaleOf p (one ⊘ normOf p)
+
+-- the reals with the first n slots of s written, each with its row
+unfoldable pub withRows : ℕ → (ℕ → List Float) → ℕ → List Float → List Float
+withRows s row zero reals = reals
+withRows s row (suc k) reals = fill s (withRows s row k reals) k 0 (row k)
+
+abbrev pub row3 : Vec3 → List Float
+row3 u = u .x ∷ u .y ∷ u .z ∷ []
+
+-- the vector in slot h, scaled to length one
+abbrev pub unitRow : List Float → ℕ → List Float
+unitRow reals h = row3 (unitOf (normalAt reals h))
 
 module _ (v : List Float) (edgeWords : List ℕ) where
   abbrev pub originAt : ℕ → Vec3
@@ -63,28 +72,30 @@ module _ (v : List Float) (edgeWords : List ℕ) where
   abbrev pub endAt : ℕ → Vec3
   endAt e = vertexAt v (highAt edgeWords e)
 
-  -- the reals with the lengths and unit vectors of the first n edges written
-  unfoldable pub withLengths : ℕ → List Float → List Float
-  withLengths zero reals = reals
-  withLengths (suc e) reals =
-      let xhat : Vec3 = xhatOf (originAt e) (endAt e) in
-      fill 4 (withLengths e reals) e 0 (lenOf (originAt e) (endAt e) ∷ xhat .x ∷ xhat .y ∷ xhat .z ∷ [])
+  -- the length and the unit vector of edge e
+  unfoldable pub lengthRow : ℕ → List Float
+  lengthRow e = lenOf (originAt e) (endAt e) ∷ row3 (xhatOf (originAt e) (endAt e))
+
+  abbrev pub withLengths : ℕ → List Float → List Float
+  withLengths n reals = withRows 4 lengthRow n reals
 
   -- p along edge e from its lower end
   unfoldable pub xOf : List Float → ℕ → Vec3 → Float
   xOf edgeReals e p = dotOf (subOf p (originAt e)) (unitAt edgeReals e)
 
 module _ (v : List Float) (triangles triangleWords : List ℕ) (edgeReals : List Float) where
-  -- the normal of side h, from its edge's stored unit vector and its triangle's vertices
-  unfoldable pub normalOf : ℕ → Vec3
-  normalOf h = inward (vertexAt v (sideEdge triangles h .low)) (unitAt edgeReals (sideAt triangleWords h)) (vertexAt v (corner triangles h 2))
+  -- over side h, from its edge's stored unit vector and its triangle's vertices: to the third vertex, and the normal
+  unfoldable pub acrossOf : ℕ → Vec3
+  acrossOf h = across (vertexAt v (sideEdge triangles h .low)) (unitAt edgeReals (sideAt triangleWords h)) (vertexAt v (corner triangles h 2))
 
-  -- the reals with the normals of the first n sides written
-  unfoldable pub withNormals : ℕ → List Float → List Float
-  withNormals zero reals = reals
-  withNormals (suc h) reals =
-      let n : Vec3 = normalOf h in
-      fill 3 (withNormals h reals) h 0 (n .x ∷ n .y ∷ n .z ∷ [])
+  abbrev pub withAcross : ℕ → List Float → List Float
+  withAcross n reals = withRows 3 (λ (h : ℕ). row3 (acrossOf h)) n reals
+
+  abbrev pub normalOf : ℕ → Vec3
+  normalOf h = unitOf (acrossOf h)
+
+  abbrev pub withNormals : ℕ → List Float → List Float
+  withNormals n reals = withRows 3 (λ (h : ℕ). row3 (normalOf h)) n reals
 
 -- the face of edge e that is not f
 unfoldable pub otherAt : List ℕ → ℕ → ℕ → ℕ

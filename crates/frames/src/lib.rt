@@ -5,18 +5,20 @@ use buffers::FaceId;
 use buffers::VertexId;
 use buffers::read_f64;
 use buffers::read_u32;
+use buffers::zero_f64_from;
 use topology::lower_of;
 use vec3::Vec3;
 ghost use mathlib.Core.Path.{_≡_};
 ghost use mathlib.Core.List.{List, [], _∷_};
 ghost use Prim.Native.Nat.{_+_, _*_, _%_, _≤_, _<_};
-ghost use lib.ListN.{length};
+ghost use lib.ListN.{length, replicate};
 ghost use Rattle.buffers.specs.Slots.{fill};
 ghost use lib.Ieee.{Float};
+ghost use Rattle.float64.specs.Scalar.{zero};
 ghost use Rattle.vec3.specs.Vec.{subOf};
 ghost use Rattle.job_checks.specs.Edge.{vertexAt, lower};
 ghost use Rattle.topology.specs.Edges.{offEnds};
-ghost use Rattle.frames.specs.Stored.{vectorAt, unitAt, across, originAt, endAt, withLengths, withNormals, xOf, otherAt, localAt, thirdAt, yOf};
+ghost use Rattle.frames.specs.Stored.{vectorAt, unitAt, across, withRows, unitRow, originAt, endAt, withLengths, withAcross, withNormals, xOf, otherAt, localAt, thirdAt, yOf};
 
 // One test where all three are inside.
 fn vector(reals: &[f64], stride: u32, slot: u32, field: u32) -> Vec3
@@ -110,9 +112,10 @@ fn store_three_lengths(vertices: &[f64], edge_words: &[u32], e: u32, edge_reals:
     store_four(edge_reals, e + 2, len.z, vec3::scale(d2, 1.0 / len.z));
 }
 
+// Of the first `count` edges; the other slots are zeroed.
 pub fn lengths(vertices: &[f64], edge_words: &[u32], count: u32, edge_reals: &mut [f64])
     requires { ⌜ 4 * count ≤ length (now «edge_reals») ⌝ }
-    ensures { λ r. ⌜ now («edge_reals» .exit) ≡ withLengths (now (vertices .entry)) (now («edge_words» .entry)) count (now («edge_reals» .entry)) ⌝ }
+    ensures { λ r. ⌜ now («edge_reals» .exit) ≡ withLengths (now (vertices .entry)) (now («edge_words» .entry)) count (replicate (length (now («edge_reals» .entry))) zero) ⌝ }
 {
     let mut e: u32 = 0;
     while e < count {
@@ -124,6 +127,7 @@ pub fn lengths(vertices: &[f64], edge_words: &[u32], count: u32, edge_reals: &mu
             e += 3;
         }
     }
+    zero_f64_from(edge_reals, 4 * (count as usize));
 }
 
 // From the edge e of the vertices a and b to the third vertex, at a right angle. The edge's unit vector is read, not computed again.
@@ -136,8 +140,8 @@ fn across(vertices: &[f64], edge_reals: &[f64], e: u32, a: u32, b: u32, third: u
     vec3::axpy(w, -vec3::dot(w, xhat), xhat)
 }
 
-// The inward normals of the sides of face f.
-fn store_normals(
+// Over the sides of face f.
+fn store_across(
     vertices: &[f64],
     triangles: &[u32],
     triangle_words: &[u32],
@@ -146,7 +150,7 @@ fn store_normals(
     triangle_reals: &mut [f64],
 )
     requires { ⌜ (9 * f + 9 ≤ length (now «triangle_reals»)) × (3 * f + 2 < 4294967296) ⌝ }
-    ensures { λ r. ⌜ ((s : List Float) → now («triangle_reals» .entry) ≡ withNormals (now (vertices .entry)) (now (triangles .entry)) (now («triangle_words» .entry)) (now («edge_reals» .entry)) (3 * f) s → now («triangle_reals» .exit) ≡ withNormals (now (vertices .entry)) (now (triangles .entry)) (now («triangle_words» .entry)) (now («edge_reals» .entry)) (3 * f + 3) s) ⌝ }
+    ensures { λ r. ⌜ ((s : List Float) → now («triangle_reals» .entry) ≡ withAcross (now (vertices .entry)) (now (triangles .entry)) (now («triangle_words» .entry)) (now («edge_reals» .entry)) (3 * f) s → now («triangle_reals» .exit) ≡ withAcross (now (vertices .entry)) (now (triangles .entry)) (now («triangle_words» .entry)) (now («edge_reals» .entry)) (3 * f + 3) s) ⌝ }
 {
     let a = read_u32(triangles, 3, f, 0);
     let b = read_u32(triangles, 3, f, 1);
@@ -157,26 +161,25 @@ fn store_normals(
     let p = across(vertices, edge_reals, e, a, b, c);
     let p1 = across(vertices, edge_reals, e1, b, c, a);
     let p2 = across(vertices, edge_reals, e2, c, a, b);
-    let height = vec3::norms(p, p1, p2);
-    store_three(triangle_reals, 3 * f, vec3::scale(p, 1.0 / height.x));
-    store_three(triangle_reals, 3 * f + 1, vec3::scale(p1, 1.0 / height.y));
-    store_three(triangle_reals, 3 * f + 2, vec3::scale(p2, 1.0 / height.z));
+    store_three(triangle_reals, 3 * f, p);
+    store_three(triangle_reals, 3 * f + 1, p1);
+    store_three(triangle_reals, 3 * f + 2, p2);
 }
 
-pub fn normals(
+fn all_across(
     vertices: &[f64],
     triangles: &[u32],
     triangle_words: &[u32],
     edge_reals: &[f64],
+    faces: u32,
     triangle_reals: &mut [f64],
 )
-    requires { ⌜ (length (now triangles) < 4294967296) × ((length (now triangles) % 3 ≡ 0) × (3 * length (now triangles) ≤ length (now «triangle_reals»))) ⌝ }
-    ensures { λ r. ⌜ now («triangle_reals» .exit) ≡ withNormals (now (vertices .entry)) (now (triangles .entry)) (now («triangle_words» .entry)) (now («edge_reals» .entry)) (length (now (triangles .entry))) (now («triangle_reals» .entry)) ⌝ }
+    requires { ⌜ (9 * faces ≤ length (now «triangle_reals»)) × (3 * faces < 4294967296) ⌝ }
+    ensures { λ r. ⌜ now («triangle_reals» .exit) ≡ withAcross (now (vertices .entry)) (now (triangles .entry)) (now («triangle_words» .entry)) (now («edge_reals» .entry)) (3 * faces) (now («triangle_reals» .entry)) ⌝ }
 {
-    let faces = (triangles.len() / 3) as u32;
     let mut f: u32 = 0;
     while f < faces {
-        store_normals(
+        store_across(
             vertices,
             triangles,
             triangle_words,
@@ -186,6 +189,56 @@ pub fn normals(
         );
         f += 1;
     }
+}
+
+// The three vectors of face f, scaled to length one.
+fn store_units(reals: &mut [f64], f: u32)
+    requires { ⌜ (9 * f + 9 ≤ length (now reals)) × (3 * f + 2 < 4294967296) ⌝ }
+    ensures { λ r. ⌜ ((s : List Float) → now (reals .entry) ≡ withRows 3 (unitRow s) (3 * f) s → now (reals .exit) ≡ withRows 3 (unitRow s) (3 * f + 3) s) ⌝ }
+{
+    let p = vector(reals, 3, 3 * f, 0);
+    let p1 = vector(reals, 3, 3 * f + 1, 0);
+    let p2 = vector(reals, 3, 3 * f + 2, 0);
+    let height = vec3::norms(p, p1, p2);
+    store_three(reals, 3 * f, vec3::scale(p, 1.0 / height.x));
+    store_three(reals, 3 * f + 1, vec3::scale(p1, 1.0 / height.y));
+    store_three(reals, 3 * f + 2, vec3::scale(p2, 1.0 / height.z));
+}
+
+fn all_units(reals: &mut [f64], faces: u32)
+    requires { ⌜ (9 * faces ≤ length (now reals)) × (3 * faces < 4294967296) ⌝ }
+    ensures { λ r. ⌜ now (reals .exit) ≡ withRows 3 (unitRow (now (reals .entry))) (3 * faces) (now (reals .entry)) ⌝ }
+{
+    let mut f: u32 = 0;
+    while f < faces {
+        store_units(reals, f);
+        f += 1;
+    }
+}
+
+// The inward normals of all sides; the other slots are zeroed. Two passes: the first reads from all over the buffers and has little else to do, so that
+// many reads are under way at once, and the second has the long chains of roots.
+pub fn normals(
+    vertices: &[f64],
+    triangles: &[u32],
+    triangle_words: &[u32],
+    edge_reals: &[f64],
+    triangle_reals: &mut [f64],
+)
+    requires { ⌜ (length (now triangles) < 4294967296) × ((length (now triangles) % 3 ≡ 0) × (3 * length (now triangles) ≤ length (now «triangle_reals»))) ⌝ }
+    ensures { λ r. ⌜ now («triangle_reals» .exit) ≡ withNormals (now (vertices .entry)) (now (triangles .entry)) (now («triangle_words» .entry)) (now («edge_reals» .entry)) (length (now (triangles .entry))) (replicate (length (now («triangle_reals» .entry))) zero) ⌝ }
+{
+    let faces = (triangles.len() / 3) as u32;
+    all_across(
+        vertices,
+        triangles,
+        triangle_words,
+        edge_reals,
+        faces,
+        triangle_reals,
+    );
+    all_units(triangle_reals, faces);
+    zero_f64_from(triangle_reals, 3 * triangles.len());
 }
 
 // The face of an edge that is not f, `no_face` where there is none.

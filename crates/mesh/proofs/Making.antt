@@ -1,5 +1,5 @@
 -- How the buffers come to hold a topology: what each way through `topology` leaves. Assumes nothing.
-use Prim.Native.Nat.{ℕ, _*_, _/_, _≤_}
+use Prim.Native.Nat.{ℕ, _/_, _≤_}
 use mathlib.Core.Path.{_≡_, refl, sym, ap, _∙_}
 use mathlib.Core.Bool.{Bool, true, false, cond}
 use mathlib.Core.List.{List}
@@ -7,7 +7,6 @@ use native.Mathlib.Omega.{arith}
 use lib.ListN.{length, replicate}
 use lib.Ieee.{Float}
 use Rattle.float64.specs.Scalar.{zero}
-use Rattle.buffers.specs.Zero.{zeroFrom}
 use Rattle.topology.specs.Edges.{edges, sharedByThree}
 use Rattle.topology.proofs.Edges.{edge-count}
 use Rattle.edge_table.specs.declared.Table.{Table}
@@ -15,7 +14,6 @@ use Rattle.edge_table.specs.declared.Table.the-variants.{Edges, ThirdFace}
 use Rattle.edge_table.specs.Table.{Mesh, tableOf, edgeWords, Built, Filled}
 use Rattle.vertex_faces.specs.Ranges.{withRanges, startOf, endOf, roundOf, InRange}
 use Rattle.frames.specs.Stored.{withLengths, withNormals}
-use Rattle.frames.proofs.Tails.{zero-past-lengths, zero-past-normals}
 use Rattle.mesh.specs.Topology.{MeshBuffers, meshBuffers, zeroed, Completed, filled, topologyOf, Made}
 
 pub in-range : (triangles : List ℕ) (n : ℕ) → Mesh triangles n → InRange triangles n
@@ -26,13 +24,13 @@ pub same-buffers : {a a′ b b′ : List ℕ} {c c′ : List Float} {d d′ e e�
 same-buffers p q r s t u = λ i. record { vertex-words = p i; edge-words = q i; edge-reals = r i; round = s i; triangle-words = t i; triangle-reals = u i }
 
 -- what is added to the table, one callee after the other
-pub completed : (v : List Float) (triangles : List ℕ) (n : ℕ) (ew tw vw : List ℕ) (er : List Float) (r : List ℕ) (tr : List Float) (vw₁ vw′ : List ℕ) (er₁ er′ : List Float) (r′ : List ℕ) (tr₁ tr′ : List Float) → vw₁ ≡ replicate (length vw) 0 → vw′ ≡ withRanges (startOf triangles) (endOf triangles) (length v / 3) vw₁ → r′ ≡ roundOf triangles (length v / 3) (length r) → er₁ ≡ withLengths v ew n er → er′ ≡ zeroFrom zero (4 * n) er₁ → tr₁ ≡ withNormals v triangles tw er′ (length triangles) tr → tr′ ≡ zeroFrom zero (3 * length triangles) tr₁ → Completed v triangles n ew tw vw er r tr vw′ er′ r′ tr′
-completed v triangles n ew tw vw er r tr vw₁ vw′ er₁ er′ r′ tr₁ tr′ z a b c d e f =
+pub completed : (v : List Float) (triangles : List ℕ) (n : ℕ) (ew tw vw : List ℕ) (er : List Float) (r : List ℕ) (tr : List Float) (vw₁ vw′ : List ℕ) (er′ : List Float) (r′ : List ℕ) (tr′ : List Float) → vw₁ ≡ replicate (length vw) 0 → vw′ ≡ withRanges (startOf triangles) (endOf triangles) (length v / 3) vw₁ → r′ ≡ roundOf triangles (length v / 3) (length r) → er′ ≡ withLengths v ew n (replicate (length er) zero) → tr′ ≡ withNormals v triangles tw er′ (length triangles) (replicate (length tr) zero) → Completed v triangles n ew tw vw er r tr vw′ er′ r′ tr′
+completed v triangles n ew tw vw er r tr vw₁ vw′ er′ r′ tr′ z a b d f =
     record {
       ranges = a ∙ ap (withRanges (startOf triangles) (endOf triangles) (length v / 3)) z;
       faces-round = b;
-      lengths = d ∙ (ap (zeroFrom zero (4 * n)) c ∙ zero-past-lengths v ew n er);
-      normals = f ∙ (ap (zeroFrom zero (3 * length triangles)) e ∙ zero-past-normals v triangles tw er′ (length triangles) tr);
+      lengths = d;
+      normals = f;
     }
 
 -- what an answer of the table says of the mesh

@@ -1,6 +1,5 @@
 // A mesh's topology in six buffers that a caller lends: the checks of its job, then the edge table, the faces round each vertex, and the frames.
 use buffers::zero_f64;
-use buffers::zero_f64_from;
 use buffers::zero_u32;
 use edge_table::Table;
 use job_checks::BufferCounts;
@@ -75,9 +74,7 @@ fn complete(
 {
     zero_u32(vertex_words);
     vertex_faces::build(triangles, vertex_words, (vertices.len() / 3) as u32, round);
-    // what is written over need not be zeroed
     frames::lengths(vertices, edge_words, edges, edge_reals);
-    zero_f64_from(edge_reals, 4 * (edges as usize));
     frames::normals(
         vertices,
         triangles,
@@ -85,7 +82,6 @@ fn complete(
         edge_reals,
         triangle_reals,
     );
-    zero_f64_from(triangle_reals, 3 * triangles.len());
 }
 
 // The topology of a mesh that passed the checks, or refusal 10 and every buffer zero.

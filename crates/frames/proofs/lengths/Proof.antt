@@ -4,7 +4,8 @@ use native.Mathlib.Omega.{arith}
 use borrow.Author.Needs.{needs}
 use lib.ListN.{length}
 use Rattle.frames.specs.Stored.{withLengths}
-use Rattle.frames.proofs.Turns.{lengths-start, lengths-done}
+use Rattle.frames.proofs.Rows.{rows-start, rows-done}
+use Rattle.frames.proofs.Turns.{lengths-made}
 use Rattle.frames.proofs.lengths.Statement.{statement}
 use Rattle.frames.proofs.lengths.Tie as tie
 
@@ -15,7 +16,7 @@ abbrev μ-loop : tie.MeasureT-loop
 μ-loop vertices edge-words count edge-reals₀ e₀ edge-reals e = count - e
 
 loop-holds : tie.Need-loop-holds Inv-loop μ-loop
-loop-holds c = (search needs, (refl, lengths-start _ _ _))
+loop-holds c = (search needs, (refl, rows-start 4 _ _))
 
 sub-if1 : tie.Need-sub-if1 Inv-loop μ-loop
 sub-if1 c = search needs
@@ -44,11 +45,17 @@ loop-less-2 c = search needs
 loop-again-2 : tie.Need-loop-again-2 Inv-loop μ-loop
 loop-again-2 c = (search needs, (c .before .before .store-three-lengths .kept .1 .1 .1 .0 ∙ c .before .before .before .before .before .before .loop .inv .1 .0, c .before .before .store-three-lengths .ensures _ (c .before .before .before .before .before .before .loop .inv .1 .1)))
 
+mul-zero-f64-from : tie.Need-mul-zero-f64-from Inv-loop μ-loop
+mul-zero-f64-from c = search needs
+
+zero-f64-from-requires : tie.Need-zero-f64-from-requires Inv-loop μ-loop
+zero-f64-from-requires c κs = search needs
+
 same-length : tie.Need-same-length Inv-loop μ-loop
 same-length c = search needs
 
 returns : tie.Need-returns Inv-loop μ-loop
-returns c = lengths-done _ _ _ _ (c .before .loop .e) _ (c .before .loop .inv .1 .1) (c .before .loop .inv .0) (c .loop-test .left)
+returns c = let l = c .before .before .before .before .before .loop in lengths-made _ _ _ _ _ _ (rows-done 4 _ _ _ (l .e) _ (l .inv .1 .1) (l .inv .0) (c .before .before .before .before .loop-test .left)) (c .before .before .zero-f64-from .ensures)
 
 pub lengths-spec : {M : Type 1} → statement M
 lengths-spec =
@@ -66,5 +73,7 @@ lengths-spec =
     add-e-2
     loop-less-2
     loop-again-2
+    mul-zero-f64-from
+    zero-f64-from-requires
     same-length
     returns)

@@ -1,55 +1,47 @@
-use Prim.Native.Nat.{_≤_, _+_, _-_, _*_, _/_}
-use mathlib.Core.Path.{_≡_, refl, _∙_}
+use Prim.Native.Nat.{_*_, _/_}
 use native.Mathlib.Omega.{arith}
-use borrow.Author.Needs.{needs}
 use lib.ListN.{length}
-use Rattle.frames.specs.Stored.{withNormals}
-use Rattle.frames.proofs.Turns.{normals-start, normals-done}
+use Rattle.frames.proofs.Rows.{rows-done}
+use Rattle.frames.proofs.Turns.{normals-made}
+use borrow.Author.Needs.{needs}
 use Rattle.frames.proofs.normals.Statement.{statement}
 use Rattle.frames.proofs.normals.Tie as tie
 
-abbrev Inv-loop : tie.InvT-loop
-Inv-loop vertices triangles triangle-words edge-reals triangle-reals₀ faces f₀ triangle-reals f = (f ≤ faces) × ((length triangle-reals ≡ length triangle-reals₀) × ((faces ≡ length triangles / 3) × (triangle-reals ≡ withNormals vertices triangles triangle-words edge-reals (3 * f) triangle-reals₀)))
-
-abbrev μ-loop : tie.MeasureT-loop
-μ-loop vertices triangles triangle-words edge-reals triangle-reals₀ faces f₀ triangle-reals f = faces - f
-
-cast-faces : tie.Need-cast-faces Inv-loop μ-loop
+cast-faces : tie.Need-cast-faces
 cast-faces c = search needs
 
-loop-holds : tie.Need-loop-holds Inv-loop μ-loop
-loop-holds c = (search needs, (refl, (refl, normals-start _ _ _ _ _)))
+all-across-requires : tie.Need-all-across-requires
+all-across-requires c κs = search needs
 
-store-normals-requires : tie.Need-store-normals-requires Inv-loop μ-loop
-store-normals-requires c κs = (omega (arith, c .before .before .before .before .before .before .before .before .pre .1 .1, c .before .before .loop .inv .1 .0, c .before .before .loop .inv .1 .1 .0, c .before .loop-test .taken), omega (arith, c .before .before .before .before .before .before .before .before .pre .0, c .before .before .loop .inv .1 .1 .0, c .before .loop-test .taken))
+all-units-requires : tie.Need-all-units-requires
+all-units-requires c κs = search needs
 
-add-f : tie.Need-add-f Inv-loop μ-loop
-add-f c = search needs
+mul-zero-f64-from : tie.Need-mul-zero-f64-from
+mul-zero-f64-from c = search needs
 
-loop-less : tie.Need-loop-less Inv-loop μ-loop
-loop-less c = search needs
+zero-f64-from-requires : tie.Need-zero-f64-from-requires
+zero-f64-from-requires c κs = search needs
 
-loop-again : tie.Need-loop-again Inv-loop μ-loop
-loop-again c = let l = c .before .before .before .before .before .loop in
-    (search needs, (c .before .before .store-normals .kept .1 .1 .1 .1 .1 .0 ∙ l .inv .1 .0, (l .inv .1 .1 .0, normals-done _ _ _ _ _ _ (3 * l .f + 3) _ (c .before .before .store-normals .ensures _ (l .inv .1 .1 .1)) (omega arith) (omega arith))))
-
-same-length : tie.Need-same-length Inv-loop μ-loop
+same-length : tie.Need-same-length
 same-length c = search needs
 
-returns : tie.Need-returns Inv-loop μ-loop
-returns c = let l = c .before .loop in normals-done _ _ _ _ _ _ (3 * l .f) _ (l .inv .1 .1 .1) (omega (arith, l .inv .0, l .inv .1 .1 .0)) (omega (arith, c .loop-test .left, l .inv .1 .1 .0, c .before .before .before .before .before .before .before .pre .1 .0))
+returns : tie.Need-returns
+returns c =
+    let n = length (c .before .before .before .before .before .before .before .before .before .before .before .before .before .before .before .before .before .args .triangles .now) in
+    let p = c .before .before .before .before .before .before .before .before .before .before .before .before .before .before .before .before .before .pre in
+    normals-made _ _ _ _ n _ _ _ _ (p .1 .1)
+    (rows-done 3 _ _ _ (3 * (n / 3)) n (c .before .before .before .before .before .before .before .before .before .before .all-across .ensures) (omega arith) (omega (arith, p .1 .0)))
+    (rows-done 3 _ _ _ (3 * (n / 3)) n (c .before .before .before .before .before .before .all-units .ensures) (omega arith) (omega (arith, p .1 .0)))
+    (c .before .before .zero-f64-from .ensures)
 
 pub normals-spec : {M : Type 1} → statement M
 normals-spec =
     tie.close
     (tie.spec
-    Inv-loop
-    μ-loop
     cast-faces
-    loop-holds
-    store-normals-requires
-    add-f
-    loop-less
-    loop-again
+    all-across-requires
+    all-units-requires
+    mul-zero-f64-from
+    zero-f64-from-requires
     same-length
     returns)

@@ -17,20 +17,8 @@ build-requires c κs = (in-range _ _ (c .before .before .before .before .before 
 lengths-requires : tie.Need-lengths-requires
 lengths-requires c κs = omega (arith, c .before .before .before .before .before .before .before .before .before .before .before .before .before .before .before .before .before .before .before .before .pre .0 .edge-reals-fit, c .before .before .before .before .before .before .before .before .before .before .before .before .before .before .before .before .before .before .before .before .pre .1)
 
-mul-zero-f64-from : tie.Need-mul-zero-f64-from
-mul-zero-f64-from c = search needs
-
-zero-f64-from-requires : tie.Need-zero-f64-from-requires
-zero-f64-from-requires c κs = search needs
-
 normals-requires : tie.Need-normals-requires
-normals-requires c κs = (omega (arith, c .before .before .before .before .before .before .before .before .before .before .before .before .before .before .before .before .before .before .before .before .before .before .before .before .before .before .before .before .before .pre .0 .mesh .whole, c .before .before .before .before .before .before .before .before .before .before .before .before .before .before .before .before .before .before .before .before .before .before .before .before .before .before .before .before .before .pre .0 .mesh .few-triangles), (omega (arith, c .before .before .before .before .before .before .before .before .before .before .before .before .before .before .before .before .before .before .before .before .before .before .before .before .before .before .before .before .before .pre .0 .mesh .whole), c .before .before .before .before .before .before .before .before .before .before .before .before .before .before .before .before .before .before .before .before .before .before .before .before .before .before .before .before .before .pre .0 .triangle-reals-fit))
-
-mul-zero-f64-from-2 : tie.Need-mul-zero-f64-from-2
-mul-zero-f64-from-2 c = record { fits = omega (arith, c .before .before .before .before .before .before .before .before .before .before .before .before .before .before .before .before .before .before .before .before .before .before .before .before .before .before .before .before .before .before .before .before .before .pre .0 .mesh .whole, c .before .before .before .before .before .before .before .before .before .before .before .before .before .before .before .before .before .before .before .before .before .before .before .before .before .before .before .before .before .before .before .before .before .pre .0 .mesh .few-triangles) }
-
-zero-f64-from-requires-2 : tie.Need-zero-f64-from-requires-2
-zero-f64-from-requires-2 c κs = search needs
+normals-requires c κs = (omega (arith, c .before .before .before .before .before .before .before .before .before .before .before .before .before .before .before .before .before .before .before .before .before .before .before .before .before .pre .0 .mesh .whole, c .before .before .before .before .before .before .before .before .before .before .before .before .before .before .before .before .before .before .before .before .before .before .before .before .before .pre .0 .mesh .few-triangles), (omega (arith, c .before .before .before .before .before .before .before .before .before .before .before .before .before .before .before .before .before .before .before .before .before .before .before .before .before .pre .0 .mesh .whole), c .before .before .before .before .before .before .before .before .before .before .before .before .before .before .before .before .before .before .before .before .before .before .before .before .before .pre .0 .triangle-reals-fit))
 
 same-length : tie.Need-same-length
 same-length c = search needs
@@ -45,7 +33,7 @@ same-length-4 : tie.Need-same-length-4
 same-length-4 c = search needs
 
 returns : tie.Need-returns
-returns c = completed _ _ _ _ _ _ _ _ _ _ _ _ _ _ _ _ (c .before .before .before .before .before .before .before .before .before .before .before .before .before .before .before .before .before .before .before .before .before .before .before .before .before .before .zero-u32 .ensures) (c .before .before .before .before .before .before .before .before .before .before .before .before .before .before .before .before .before .before .before .before .before .build .ensures .0) (c .before .before .before .before .before .before .before .before .before .before .before .before .before .before .before .before .before .before .before .before .before .build .ensures .1) (c .before .before .before .before .before .before .before .before .before .before .before .before .before .before .before .lengths .ensures) (c .before .before .before .before .before .before .before .before .before .before .before .zero-f64-from .ensures) (c .before .before .before .before .before .before .normals .ensures) (c .before .before .zero-f64-from2 .ensures)
+returns c = completed _ _ _ _ _ _ _ _ _ _ _ _ _ _ (c .before .before .before .before .before .before .before .before .before .before .before .before .before .before .before .before .before .before .zero-u32 .ensures) (c .before .before .before .before .before .before .before .before .before .before .before .before .before .build .ensures .0) (c .before .before .before .before .before .before .before .before .before .before .before .before .before .build .ensures .1) (c .before .before .before .before .before .before .before .lengths .ensures) (c .before .before .normals .ensures)
 
 pub complete-spec : {M : Type 1} → statement M
 complete-spec =
@@ -55,11 +43,7 @@ complete-spec =
     cast-build
     build-requires
     lengths-requires
-    mul-zero-f64-from
-    zero-f64-from-requires
     normals-requires
-    mul-zero-f64-from-2
-    zero-f64-from-requires-2
     same-length
     same-length-2
     same-length-3

@@ -1,0 +1,51 @@
+use Prim.Native.Nat.{_≤_, _+_, _-_, _*_}
+use mathlib.Core.Path.{_≡_, refl, _∙_}
+use native.Mathlib.Omega.{arith}
+use borrow.Author.Needs.{needs}
+use lib.ListN.{length}
+use Rattle.frames.specs.Stored.{withRows, unitRow}
+use Rattle.frames.proofs.Rows.{rows-start, rows-done}
+use Rattle.frames.proofs.all_units.Statement.{statement}
+use Rattle.frames.proofs.all_units.Tie as tie
+
+abbrev Inv-loop : tie.InvT-loop
+Inv-loop reals₀ faces f₀ reals f = (f ≤ faces) × ((length reals ≡ length reals₀) × (reals ≡ withRows 3 (unitRow reals₀) (3 * f) reals₀))
+
+abbrev μ-loop : tie.MeasureT-loop
+μ-loop reals₀ faces f₀ reals f = faces - f
+
+loop-holds : tie.Need-loop-holds Inv-loop μ-loop
+loop-holds c = (search needs, (refl, rows-start 3 _ _))
+
+store-units-requires : tie.Need-store-units-requires Inv-loop μ-loop
+store-units-requires c κs = (omega (arith, c .before .before .before .before .pre .0, c .before .before .loop .inv .1 .0, c .before .loop-test .taken), omega (arith, c .before .before .before .before .pre .1, c .before .loop-test .taken))
+
+add-f : tie.Need-add-f Inv-loop μ-loop
+add-f c = search needs
+
+loop-less : tie.Need-loop-less Inv-loop μ-loop
+loop-less c = search needs
+
+loop-again : tie.Need-loop-again Inv-loop μ-loop
+loop-again c = let l = c .before .before .before .before .before .loop in
+    (search needs, (c .before .before .store-units .kept .0 ∙ l .inv .1 .0, rows-done 3 _ _ _ (3 * l .f + 3) _ (c .before .before .store-units .ensures (c .before .before .before .before .before .before .before .args .reals .now) (l .inv .1 .1)) (omega arith) (omega arith)))
+
+same-length : tie.Need-same-length Inv-loop μ-loop
+same-length c = search needs
+
+returns : tie.Need-returns Inv-loop μ-loop
+returns c = let l = c .before .loop in rows-done 3 _ _ _ (3 * l .f) _ (l .inv .1 .1) (omega (arith, l .inv .0)) (omega (arith, c .loop-test .left))
+
+pub all-units-spec : {M : Type 1} → statement M
+all-units-spec =
+    tie.close
+    (tie.spec
+    Inv-loop
+    μ-loop
+    loop-holds
+    store-units-requires
+    add-f
+    loop-less
+    loop-again
+    same-length
+    returns)
