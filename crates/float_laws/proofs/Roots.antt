@@ -27,11 +27,11 @@ infinite : T (le zero (inf false))
 unfolding le ofBits
 infinite = tt
 
-no-minus : T (le zero (inf true)) → ⊥
+pub no-minus : T (le zero (inf true)) → ⊥
 unfolding le ofBits
 no-minus h = h
 
-no-sign : (m : ℕ) (e : ℤ) → T (le zero (fin true m e)) → m ≡ 0
+pub no-sign : (m : ℕ) (e : ℤ) → T (le zero (fin true m e)) → m ≡ 0
 unfolding le ofBits
 no-sign m e h = zero-of m (up e) (up-pos e) (omega (arith, signed false (0 * 1 * down e) true (m * up e * 1) h .1))
 
