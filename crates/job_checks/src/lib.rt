@@ -148,7 +148,8 @@ fn any_out_of_range(coords: &[f64]) -> bool
     false
 }
 
-// The edge from o to b, and the altitude of the third vertex over it.
+// The edge from o to b, and the altitude of the third vertex over it, the root of dot(p, p). It is not taken: it is
+// 0.000_001 or more from 9.999_999_999_999_998e-13 on, the double before 1e-12.
 fn degenerate(o: Vec3, b: Vec3, third: Vec3) -> bool
     ensures { λ r. ⌜ r ≡ degenerate o b third ⌝ }
 {
@@ -158,7 +159,7 @@ fn degenerate(o: Vec3, b: Vec3, third: Vec3) -> bool
         let xhat = vec3::scale(d, 1.0 / len);
         let w = vec3::sub(third, o);
         let p = vec3::axpy(w, -vec3::dot(w, xhat), xhat);
-        if 0.000_001 <= vec3::norm(p) {
+        if 9.999_999_999_999_998e-13 <= vec3::dot(p, p) {
             return false;
         }
         return true;
