@@ -1,14 +1,23 @@
 -- The length and the altitude as the code computes and compares them, step by step. Assumes nothing.
+use Prim.Native.Nat.{ℕ, _<_}
 use mathlib.Core.Path.{_≡_}
-use mathlib.Core.Bool.{true, false}
+use mathlib.Core.Bool.{Bool, true, false, cond}
+use lib.Dec.{ltb}
 use lib.Ieee.{Float, le, neg}
 use Rattle.float64.specs.Scalar.{one}
 use Rattle.float64.specs.Notation.{_⊘_}
 use Rattle.vec3.specs.declared.Vec3.{Vec3}
 use Rattle.vec3.specs.Vec.{scaleOf, axpyOf, subOf, dotOf, normOf}
-use Rattle.job_checks.specs.Edge.{lenOf, xhatOf, perpendicularOf, altitudeOf}
+use Rattle.job_checks.specs.Edge.{lower, higher, lenOf, xhatOf, perpendicularOf, altitudeOf}
 use Rattle.job_checks.specs.Refusals.{minLength, degenerate}
 use Rattle.job_checks.proofs.Altitude.{minRadicand, altitude-test}
+
+pub lower-below : (a b n : ℕ) → a < n → b < n → (lower a b < n) × (higher a b < n)
+lower-below a b n p q = go (ltb a b)
+  where
+    go : (s : Bool) → (cond s a b < n) × (cond s b a < n)
+    go true = (p, q)
+    go false = (q, p)
 
 module _ (o b third d : Vec3) (len : Float) (from : d ≡ subOf b o) (long : len ≡ normOf d) where
   pub short-edge : le minLength len ≡ false → degenerate o b third ≡ true

@@ -6,7 +6,7 @@ ghost use mathlib.Core.Bool.{false};
 ghost use Prim.Native.Nat.{_*_, _/_, _<_, _≤_};
 ghost use lib.ListN.{length};
 ghost use Rattle.job_checks.specs.Any.{anyBelow, firstOf};
-ghost use Rattle.job_checks.specs.Edge.{vertexAt};
+ghost use Rattle.job_checks.specs.Edge.{vertexAt, lower, higher};
 ghost use Rattle.job_checks.specs.Job.{job};
 ghost use Rattle.job_checks.specs.Refusals.{
   refusalNumber,
@@ -178,15 +178,32 @@ fn vertex(v: &[f64], k: usize) -> Vec3
     }
 }
 
+fn lower(a: usize, b: usize) -> usize
+    ensures { λ r. ⌜ r ≡ lower a b ⌝ }
+{
+    if a < b {
+        return a;
+    }
+    b
+}
+
+fn higher(a: usize, b: usize) -> usize
+    ensures { λ r. ⌜ r ≡ higher a b ⌝ }
+{
+    if a < b {
+        return b;
+    }
+    a
+}
+
 // The edge of a and b starts at its lower-numbered vertex.
 fn degenerate_edge(v: &[f64], a: usize, b: usize, third: usize) -> bool
     requires { ⌜ (a < length (now v) / 3) × ((b < length (now v) / 3) × (third < length (now v) / 3)) ⌝ }
     ensures { λ r. ⌜ r ≡ degenerateEdge (now (v .entry)) a b third ⌝ }
 {
-    if a < b {
-        return degenerate(vertex(v, a), vertex(v, b), vertex(v, third));
-    }
-    degenerate(vertex(v, b), vertex(v, a), vertex(v, third))
+    let o = lower(a, b);
+    let end = higher(a, b);
+    degenerate(vertex(v, o), vertex(v, end), vertex(v, third))
 }
 
 fn degenerate_triangle(v: &[f64], a: usize, b: usize, c: usize) -> bool
