@@ -1,5 +1,5 @@
 -- The rounded square root keeps the order. So a root is compared with a bound by comparing its argument with another bound, and no root is taken. Assumes nothing.
---     sqrt-mono (0 ≤ x ≤ y gives √x ≤ √y), LeastRoot c t u (t is the least double whose root is c or more, and u the double before it), sqrt-bound (c ≤ √x exactly where t ≤ x)
+--     sqrt-mono (0 ≤ x ≤ y gives √x ≤ √y), LeastRoot c t u (t is the least double whose root is c or more, and u the double before it), sqrt-bound (c ≤ √x exactly where t ≤ x, of every double x, a NaN and those below 0 among them)
 use Prim.Native.Nat.{ℕ, zero, suc, _+_, _*_, _^_, _≤_, _<_}
 use mathlib.Core.Bool.{Bool, true, false}
 use mathlib.Core.Logic.{inl, inr}
@@ -31,7 +31,7 @@ same true b f g = sym (is-true b (f tt))
 same false b f g = sym (is-false b (not-T b g))
 
 -- ---- of two fractions
--- a / c below b / d, and S / F between their roots, squared, the wrong way round
+-- where a / c is below b / d, no S / (4 * F) is at most a / c and at least b / d
 crossed : (S F a c b d : ℕ) → 0 < F → S * c ≤ 4 * (a * F) → 4 * (b * F) ≤ S * d → a * d < b * c → ⊥
 crossed S F a c b d P h k l = omega (arith, mul-le-mul-right d h, mul-le-mul-right c k, mul-lt-mul-of-pos-right l P, mul-right-comm S c d, move a d, move b c)
   where

@@ -1,5 +1,5 @@
 -- The square root and the hypotenuse of numbers are numbers, and not below zero. Assumes nothing.
---     sqrt-nonneg (of x where 0 ≤ x), hypot-nonneg (of any two numbers)
+--     sqrt-nonneg (of x where 0 ≤ x), hypot-nonneg (of any two numbers); no-minus, no-sign (of values from 0 on only -0 has a minus sign)
 use Prim.Native.Nat.{ℕ, _+_, _-_, _*_, _/_, _^_, compare}
 use mathlib.Core.Bool.{Bool, true, false, cond}
 use mathlib.Core.Path.{_≡_, subst}
