@@ -14,8 +14,9 @@ use lib.ListN.{length, getD, set, length-append, List·getD-append, List·getD-e
 use lib.Seq.{getD-append-seam, getD-at}
 use Rattle.buffers.specs.Slots.{fill}
 use Rattle.job_checks.specs.Edge.{lower, higher}
+use Rattle.job_checks.proofs.Edge.{lower-below}
 use Rattle.topology.specs.Edges.{Edge, noEdge, noFace, between, corner, sideEdge, find, edgesOf, facesAmong, sharedByThree}
-use Rattle.topology.proofs.Find.{either, entered, find-at, find-last}
+use Rattle.topology.proofs.Find.{entered, find-at, find-last}
 use Rattle.topology.proofs.Edges.{numbered, few-edges, number-kept}
 use Rattle.topology.proofs.Faces.{OfSide, listed-face}
 use Rattle.topology.proofs.Growth.{other-edge, faces-more, faces-same, faces-none, faces-some, third-face}
@@ -80,9 +81,6 @@ module _ (triangles : List ℕ) (h : ℕ) where
     side-is low high p q =
         let z : (h % 3 + 0) % 3 ≡ h % 3 = omega arith in
         rw (p, q, z, ea, eb) refl
-
-  lower-below : (a b v : ℕ) → a < v → b < v → (lower a b < v) × (higher a b < v)
-  lower-below a b v p q = ⊎-elim (λ s. rw s (p, q)) (λ s. rw s (q, p)) (either (ltb a b))
 
   module _ (v : ℕ) (m : Mesh triangles v) (l : h < length triangles) where
     pub side-below : (sideEdge triangles h .low < v) × (sideEdge triangles h .high < v)

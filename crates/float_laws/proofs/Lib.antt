@@ -6,6 +6,7 @@ pub mod Round
 pub mod Sum
 pub mod Product
 pub mod Roots
+pub mod RootOrder
 pub mod MinMax
 pub mod Bounds
 pub mod Middle

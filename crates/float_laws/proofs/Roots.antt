@@ -1,5 +1,5 @@
 -- The square root and the hypotenuse of numbers are numbers, and not below zero. Assumes nothing.
---     sqrt-nonneg (of x where 0 ≤ x), hypot-nonneg (of any two numbers)
+--     sqrt-nonneg (of x where 0 ≤ x), hypot-nonneg (of any two numbers); no-minus, no-sign (of values from 0 on only -0 has a minus sign)
 use Prim.Native.Nat.{ℕ, _+_, _-_, _*_, _/_, _^_, compare}
 use mathlib.Core.Bool.{Bool, true, false, cond}
 use mathlib.Core.Path.{_≡_, subst}
@@ -27,11 +27,11 @@ infinite : T (le zero (inf false))
 unfolding le ofBits
 infinite = tt
 
-no-minus : T (le zero (inf true)) → ⊥
+pub no-minus : T (le zero (inf true)) → ⊥
 unfolding le ofBits
 no-minus h = h
 
-no-sign : (m : ℕ) (e : ℤ) → T (le zero (fin true m e)) → m ≡ 0
+pub no-sign : (m : ℕ) (e : ℤ) → T (le zero (fin true m e)) → m ≡ 0
 unfolding le ofBits
 no-sign m e h = zero-of m (up e) (up-pos e) (omega (arith, signed false (0 * 1 * down e) true (m * up e * 1) h .1))
 

@@ -1,13 +1,23 @@
--- The length and the altitude as the code computes them, step by step. Assumes nothing.
+-- The length and the altitude as the code computes and compares them, step by step. Assumes nothing.
+use Prim.Native.Nat.{ℕ, _<_}
 use mathlib.Core.Path.{_≡_}
-use mathlib.Core.Bool.{true, false}
+use mathlib.Core.Bool.{Bool, true, false, cond}
+use lib.Dec.{ltb}
 use lib.Ieee.{Float, le, neg}
 use Rattle.float64.specs.Scalar.{one}
 use Rattle.float64.specs.Notation.{_⊘_}
 use Rattle.vec3.specs.declared.Vec3.{Vec3}
 use Rattle.vec3.specs.Vec.{scaleOf, axpyOf, subOf, dotOf, normOf}
-use Rattle.job_checks.specs.Edge.{lenOf, xhatOf, perpendicularOf, altitudeOf}
-use Rattle.job_checks.specs.Refusals.{minLength, minAltitude, degenerate}
+use Rattle.job_checks.specs.Edge.{lower, higher, lenOf, xhatOf, perpendicularOf, altitudeOf}
+use Rattle.job_checks.specs.Refusals.{minLength, degenerate}
+use Rattle.job_checks.proofs.Altitude.{minRadicand, altitude-test}
+
+pub lower-below : (a b n : ℕ) → a < n → b < n → (lower a b < n) × (higher a b < n)
+lower-below a b n p q = go (ltb a b)
+  where
+    go : (s : Bool) → (cond s a b < n) × (cond s b a < n)
+    go true = (p, q)
+    go false = (q, p)
 
 module _ (o b third d : Vec3) (len : Float) (from : d ≡ subOf b o) (long : len ≡ normOf d) where
   pub short-edge : le minLength len ≡ false → degenerate o b third ≡ true
@@ -17,13 +27,13 @@ module _ (o b third d : Vec3) (len : Float) (from : d ≡ subOf b o) (long : len
 module _
     (o b third d xhat w p : Vec3) (len k n : Float)
     (from : d ≡ subOf b o) (long : len ≡ normOf d) (unit : xhat ≡ scaleOf d (one ⊘ len))
-    (up : w ≡ subOf third o) (along : k ≡ dotOf w xhat) (across : p ≡ axpyOf w (neg k) xhat) (high : n ≡ normOf p)
+    (up : w ≡ subOf third o) (along : k ≡ dotOf w xhat) (across : p ≡ axpyOf w (neg k) xhat) (high : n ≡ dotOf p p)
     (fine : le minLength len ≡ true)
   where
-    pub low-vertex : le minAltitude n ≡ false → degenerate o b third ≡ true
+    pub low-vertex : le minRadicand n ≡ false → degenerate o b third ≡ true
     unfolding degenerate lenOf altitudeOf perpendicularOf xhatOf
-    low-vertex h = rw (← from, ← long, fine, ← unit, ← up, ← along, ← across, ← high, h)
+    low-vertex h = rw (← from, ← long, fine, ← unit, ← up, ← along, ← across, altitude-test p, ← high, h)
 
-    pub sound-edge : le minAltitude n ≡ true → degenerate o b third ≡ false
+    pub sound-edge : le minRadicand n ≡ true → degenerate o b third ≡ false
     unfolding degenerate lenOf altitudeOf perpendicularOf xhatOf
-    sound-edge h = rw (← from, ← long, fine, ← unit, ← up, ← along, ← across, ← high, h)
+    sound-edge h = rw (← from, ← long, fine, ← unit, ← up, ← along, ← across, altitude-test p, ← high, h)

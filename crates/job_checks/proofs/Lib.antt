@@ -1,3 +1,4 @@
+pub mod Altitude
 pub mod Any
 pub mod Edge
 pub mod Sound

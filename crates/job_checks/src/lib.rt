@@ -6,7 +6,7 @@ ghost use mathlib.Core.Bool.{false};
 ghost use Prim.Native.Nat.{_*_, _/_, _<_, _≤_};
 ghost use lib.ListN.{length};
 ghost use Rattle.job_checks.specs.Any.{anyBelow, firstOf};
-ghost use Rattle.job_checks.specs.Edge.{vertexAt};
+ghost use Rattle.job_checks.specs.Edge.{vertexAt, lower, higher};
 ghost use Rattle.job_checks.specs.Job.{job};
 ghost use Rattle.job_checks.specs.Refusals.{
   refusalNumber,
@@ -148,7 +148,8 @@ fn any_out_of_range(coords: &[f64]) -> bool
     false
 }
 
-// The edge from o to b, and the altitude of the third vertex over it.
+// The edge from o to b, and the altitude of the third vertex over it, the root of dot(p, p). It is not taken: it is
+// 0.000_001 or more from 9.999_999_999_999_998e-13 on, the double before 1e-12.
 fn degenerate(o: Vec3, b: Vec3, third: Vec3) -> bool
     ensures { λ r. ⌜ r ≡ degenerate o b third ⌝ }
 {
@@ -158,7 +159,7 @@ fn degenerate(o: Vec3, b: Vec3, third: Vec3) -> bool
         let xhat = vec3::scale(d, 1.0 / len);
         let w = vec3::sub(third, o);
         let p = vec3::axpy(w, -vec3::dot(w, xhat), xhat);
-        if 0.000_001 <= vec3::norm(p) {
+        if 9.999_999_999_999_998e-13 <= vec3::dot(p, p) {
             return false;
         }
         return true;
@@ -177,15 +178,32 @@ fn vertex(v: &[f64], k: usize) -> Vec3
     }
 }
 
+fn lower(a: usize, b: usize) -> usize
+    ensures { λ r. ⌜ r ≡ lower a b ⌝ }
+{
+    if a < b {
+        return a;
+    }
+    b
+}
+
+fn higher(a: usize, b: usize) -> usize
+    ensures { λ r. ⌜ r ≡ higher a b ⌝ }
+{
+    if a < b {
+        return b;
+    }
+    a
+}
+
 // The edge of a and b starts at its lower-numbered vertex.
 fn degenerate_edge(v: &[f64], a: usize, b: usize, third: usize) -> bool
     requires { ⌜ (a < length (now v) / 3) × ((b < length (now v) / 3) × (third < length (now v) / 3)) ⌝ }
     ensures { λ r. ⌜ r ≡ degenerateEdge (now (v .entry)) a b third ⌝ }
 {
-    if a < b {
-        return degenerate(vertex(v, a), vertex(v, b), vertex(v, third));
-    }
-    degenerate(vertex(v, b), vertex(v, a), vertex(v, third))
+    let o = lower(a, b);
+    let end = higher(a, b);
+    degenerate(vertex(v, o), vertex(v, end), vertex(v, third))
 }
 
 fn degenerate_triangle(v: &[f64], a: usize, b: usize, c: usize) -> bool

@@ -23,14 +23,14 @@ dot-requires c κs = search needs
 axpy-requires : tie.Need-axpy-requires
 axpy-requires c κs = search needs
 
-norm-requires-2 : tie.Need-norm-requires-2
-norm-requires-2 c κs = search needs
+dot-requires-2 : tie.Need-dot-requires-2
+dot-requires-2 c κs = search needs
 
 returns : tie.Need-returns
-returns c = sym (sound-edge _ _ _ _ _ _ _ _ _ _ (c .before .before .before .before .before .before .before .before .sub .ensures) (c .before .before .before .before .before .before .before .norm .ensures) (c .before .before .before .before .before .scale .ensures) (c .before .before .before .before .sub2 .ensures) (c .before .before .before .dot .ensures) (c .before .before .axpy .ensures) (c .before .norm2 .ensures) (c .before .before .before .before .before .before .if1 .taken) (c .if2 .taken))
+returns c = sym (sound-edge _ _ _ _ _ _ _ _ _ _ (c .before .before .before .before .before .before .before .before .sub .ensures) (c .before .before .before .before .before .before .before .norm .ensures) (c .before .before .before .before .before .scale .ensures) (c .before .before .before .before .sub2 .ensures) (c .before .before .before .dot .ensures) (c .before .before .axpy .ensures) (c .before .dot2 .ensures) (c .before .before .before .before .before .before .if1 .taken) (c .if2 .taken))
 
 returns-2 : tie.Need-returns-2
-returns-2 c = sym (low-vertex _ _ _ _ _ _ _ _ _ _ (c .before .before .before .before .before .before .before .before .sub .ensures) (c .before .before .before .before .before .before .before .norm .ensures) (c .before .before .before .before .before .scale .ensures) (c .before .before .before .before .sub2 .ensures) (c .before .before .before .dot .ensures) (c .before .before .axpy .ensures) (c .before .norm2 .ensures) (c .before .before .before .before .before .before .if1 .taken) (c .if2 .left))
+returns-2 c = sym (low-vertex _ _ _ _ _ _ _ _ _ _ (c .before .before .before .before .before .before .before .before .sub .ensures) (c .before .before .before .before .before .before .before .norm .ensures) (c .before .before .before .before .before .scale .ensures) (c .before .before .before .before .sub2 .ensures) (c .before .before .before .dot .ensures) (c .before .before .axpy .ensures) (c .before .dot2 .ensures) (c .before .before .before .before .before .before .if1 .taken) (c .if2 .left))
 
 returns-3 : tie.Need-returns-3
 returns-3 c = sym (short-edge _ _ _ _ _ (c .before .before .sub .ensures) (c .before .norm .ensures) (c .if1 .left))
@@ -45,7 +45,7 @@ degenerate-spec =
     sub-requires-2
     dot-requires
     axpy-requires
-    norm-requires-2
+    dot-requires-2
     returns
     returns-2
     returns-3)

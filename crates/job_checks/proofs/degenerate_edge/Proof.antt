@@ -1,15 +1,21 @@
 -- `job_checks::degenerate_edge` meets its contract. Assumes nothing.
-use borrow.Author.Tests.{lt-ltb, le-ltb}
 use Rattle.job_checks.specs.Refusals.{degenerateEdge}
+use Rattle.job_checks.proofs.Edge.{lower-below}
 use borrow.Author.Needs.{needs}
 use Rattle.job_checks.proofs.degenerate_edge.Statement.{statement}
 use Rattle.job_checks.proofs.degenerate_edge.Tie as tie
 
+lower-requires : tie.Need-lower-requires
+lower-requires c κs = search needs
+
+higher-requires : tie.Need-higher-requires
+higher-requires c κs = search needs
+
 vertex-requires : tie.Need-vertex-requires
-vertex-requires c κs = search needs
+vertex-requires c κs = rw (c .before .lower .ensures) (lower-below _ _ _ (c .before .before .before .pre .0) (c .before .before .before .pre .1 .0) .0)
 
 vertex-requires-2 : tie.Need-vertex-requires-2
-vertex-requires-2 c κs = search needs
+vertex-requires-2 c κs = rw (c .before .higher .ensures) (lower-below _ _ _ (c .before .before .before .before .pre .0) (c .before .before .before .before .pre .1 .0) .1)
 
 vertex-requires-3 : tie.Need-vertex-requires-3
 vertex-requires-3 c κs = search needs
@@ -19,35 +25,16 @@ degenerate-requires c κs = search needs
 
 returns : tie.Need-returns
 unfolding degenerateEdge
-returns c = rw (c .degenerate .ensures, c .before .vertex3 .ensures, c .before .before .vertex2 .ensures, c .before .before .before .vertex .ensures, lt-ltb _ _ (c .before .before .before .before .if1 .taken))
-
-vertex-requires-4 : tie.Need-vertex-requires-4
-vertex-requires-4 c κs = search needs
-
-vertex-requires-5 : tie.Need-vertex-requires-5
-vertex-requires-5 c κs = search needs
-
-vertex-requires-6 : tie.Need-vertex-requires-6
-vertex-requires-6 c κs = search needs
-
-degenerate-requires-2 : tie.Need-degenerate-requires-2
-degenerate-requires-2 c κs = search needs
-
-returns-2 : tie.Need-returns-2
-unfolding degenerateEdge
-returns-2 c = rw (c .degenerate2 .ensures, c .before .vertex6 .ensures, c .before .before .vertex5 .ensures, c .before .before .before .vertex4 .ensures, le-ltb _ _ (c .before .before .before .before .if1 .left))
+returns c = rw (c .degenerate .ensures, c .before .vertex3 .ensures, c .before .before .vertex2 .ensures, c .before .before .before .vertex .ensures, c .before .before .before .before .higher .ensures, c .before .before .before .before .before .lower .ensures)
 
 pub degenerate-edge-spec : {M : Type 1} → statement M
 degenerate-edge-spec =
     tie.close
     (tie.spec
+    lower-requires
+    higher-requires
     vertex-requires
     vertex-requires-2
     vertex-requires-3
     degenerate-requires
-    returns
-    vertex-requires-4
-    vertex-requires-5
-    vertex-requires-6
-    degenerate-requires-2
-    returns-2)
+    returns)
