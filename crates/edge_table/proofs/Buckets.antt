@@ -1,9 +1,9 @@
 -- Laws of buckets: a bucket is one of so many, and the last edge of a bucket among the first n. Assumes nothing.
-use Prim.Native.Nat.{ℕ, zero, suc, _+_, _*_, _%_, _/_, _<_, _≤_}
-use mathlib.Core.Path.{_≡_, refl}
+use Prim.Native.Nat.{ℕ, zero, suc, _+_, _-_, _*_, _%_, _/_, _<_, _≤_}
+use mathlib.Core.Path.{_≡_, refl, sym, ap, _∙_}
 use mathlib.Core.List.{List, [], _∷_, _++_}
 use mathlib.Core.Logic.{⊎-elim}
-use native.Mathlib.Nat.{mod-lt, div-lt-iff-lt-mul, mul-lt-mul-of-pos-right, mul-comm, mul-le-mul-left}
+use native.Mathlib.Nat.{mod-lt, mul-add-mod-self-left, div-lt-iff-lt-mul, mul-lt-mul-of-pos-right, mul-comm, mul-le-mul-left}
 use native.Mathlib.Omega.{arith}
 use borrow.Author.Tests.{eq-eqb, ne-eqb}
 use lib.Dec.{eqb}
@@ -23,9 +23,14 @@ scaled-fits m size l =
     let p : m % 4294967296 * size ≤ m % 4294967296 * 393210 = mul-le-mul-left (m % 4294967296) l in
     omega (arith, mod-lt m {m = 4294967296} (omega arith))
 
+pub once-over : (n size : ℕ) → size ≤ n → (n - size) % size ≡ n % size
+once-over n size l =
+    let e : size * 1 + (n - size) ≡ n = omega arith in
+    sym (mul-add-mod-self-left size 1 (n - size)) ∙ ap (λ (k : ℕ). k % size) e
+
 pub bucket-below : (size : ℕ) (x : Edge) → 0 < size → bucketOf size x < size
 unfolding bucketOf
-bucket-below size x l = mod-lt (x .low + (x .low * 1640531535 + x .high * 2654435761) % 4294967296 * size / 4294967296) l
+bucket-below size x l = mod-lt (4 * x .low + (x .high - x .low) % 8 + (x .high - x .low) / 8 * 2654435761 % 4294967296 * size / 4294967296) l
 
 module _ (size : ℕ) (es : List Edge) (b : ℕ) where
   pub last-le : (n : ℕ) → lastIn size es b n ≤ n

@@ -16,6 +16,7 @@ use Rattle.buffers.specs.Slots.{fill}
 use Rattle.job_checks.specs.Edge.{lower, higher}
 use Rattle.job_checks.proofs.Edge.{lower-below}
 use Rattle.topology.specs.Edges.{Edge, noEdge, noFace, between, corner, sideEdge, find, edgesOf, facesAmong, sharedByThree}
+use Rattle.topology.proofs.Triangles.{ends}
 use Rattle.topology.proofs.Find.{entered, find-at, find-last}
 use Rattle.topology.proofs.Edges.{numbered, few-edges, number-kept}
 use Rattle.topology.proofs.Faces.{OfSide, listed-face}
@@ -82,6 +83,10 @@ module _ (triangles : List ℕ) (h : ℕ) where
         let z : (h % 3 + 0) % 3 ≡ h % 3 = omega arith in
         rw (p, q, z, ea, eb) refl
 
+  side-ordered : sideEdge triangles h .low ≤ sideEdge triangles h .high
+  unfolding sideEdge
+  side-ordered = ⊎-elim (λ w. omega arith) (λ w. omega arith) (ends (corner triangles h 0) (corner triangles h 1))
+
   module _ (v : ℕ) (m : Mesh triangles v) (l : h < length triangles) where
     pub side-below : (sideEdge triangles h .low < v) × (sideEdge triangles h .high < v)
     unfolding sideEdge between corner
@@ -90,11 +95,11 @@ module _ (triangles : List ℕ) (h : ℕ) where
         (m .there (3 * (h / 3) + (h % 3 + 0) % 3) (omega (arith, m .whole)))
         (m .there (3 * (h / 3) + (h % 3 + 1) % 3) (omega (arith, m .whole)))
 
-    pub ends-below : (low high : ℕ) → record { low = low; high = high } ≡ sideEdge triangles h → (low < v) × ((high < v) × ((0 < length triangles) × (length triangles ≤ 393210)))
+    pub ends-below : (low high : ℕ) → record { low = low; high = high } ≡ sideEdge triangles h → (low ≤ high) × ((high < v) × ((0 < length triangles) × (length triangles ≤ 393210)))
     ends-below low high q =
         let lo : low ≡ sideEdge triangles h .low = ap (λ (x : Edge). x .low) q in
         let hi : high ≡ sideEdge triangles h .high = ap (λ (x : Edge). x .high) q in
-        omega (arith, side-below .0, side-below .1, m .whole, m .few-triangles)
+        omega (arith, side-ordered, side-below .1, m .whole, m .few-triangles)
 
 -- the numbers of the sides
 module _ (triangles : List ℕ) (h k : ℕ) (number : find (sideEdge triangles h) (edgesOf triangles (suc h)) ≡ k) (words : List ℕ) (fits : 6 * (h / 3) + h % 3 < length words)

@@ -1,6 +1,6 @@
 -- What the words of the edge table hold. Definitions only.
 -- In a link the number of an edge stands plus one, and 0 is none.
-use Prim.Native.Nat.{ℕ, zero, suc, _+_, _*_, _/_, _%_}
+use Prim.Native.Nat.{ℕ, zero, suc, _+_, _-_, _*_, _/_, _%_}
 use mathlib.Core.Bool.{cond, _&&_}
 use mathlib.Core.List.{List, [], _∷_}
 use lib.Dec.{ltb, eqb}
@@ -12,10 +12,12 @@ use Rattle.topology.specs.Edges.{Edge, noEdge, noFace}
 unfoldable pub wordsOf : ℕ → ℕ → (ℕ → ℕ → ℕ) → List ℕ
 wordsOf n s word = listOf n (λ (p : ℕ). word (p / s) (p % s))
 
--- The bucket of an edge among size of them. The distance of its ends, high - low, is scattered by a factor modulo 2^32, of which 1640531535 is the
--- negative; from there the lower end counts on. So edges along a grid or a strip stand side by side, and those at one vertex far apart.
+-- The bucket of an edge among size of them. By how far its ends are apart edges fall into runs of eight, which are scattered by a factor modulo 2^32; from
+-- there the lower end counts on in steps of four. So edges along a grid or a strip stand side by side, and those at one vertex by eights.
 unfoldable pub bucketOf : ℕ → Edge → ℕ
-bucketOf size x = (x .low + (x .low * 1640531535 + x .high * 2654435761) % 4294967296 * size / 4294967296) % size
+bucketOf size x =
+    let apart = x .high - x .low in
+    (4 * x .low + apart % 8 + apart / 8 * 2654435761 % 4294967296 * size / 4294967296) % size
 
 -- the link to the last of the first n edges that is in bucket b
 unfoldable pub lastIn : ℕ → List Edge → ℕ → ℕ → ℕ

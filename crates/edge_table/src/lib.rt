@@ -1,7 +1,7 @@
 // The edges of a mesh, numbered by first appearance, in buffers that a caller lends. An edge is looked up through buckets: as many
 // as the mesh has sides, each a chain of edges through the edge buffer, the newest first. `bucketOf` in specs/ spreads them.
 // On grids, strips, double fans and spheres of up to 131,070 triangles, on one with its numbers shuffled, and where each vertex is joined with
-// every other, a look-up took less than one step and no chain had more than 6 edges. Nothing proves that: the worst case, a mesh whose E edges all
+// every other, a look-up took less than one step and no chain had more than 7 edges. Nothing proves that: the worst case, a mesh whose E edges all
 // meet in one bucket, takes a step for each edge so far, E (E - 1) / 2 to enter them.
 use buffers::read_u32;
 use buffers::write_u32;
@@ -24,15 +24,20 @@ pub enum Table {
 }
 
 fn bucket_of(low: u32, high: u32, size: u32) -> u32
-    requires { ⌜ (low < 65535) × ((high < 65535) × ((0 < size) × (size ≤ 393210))) ⌝ }
+    requires { ⌜ (low ≤ high) × ((high < 65535) × ((0 < size) × (size ≤ 393210))) ⌝ }
     ensures { λ r. ⌜ r ≡ bucketOf size (record { low = low; high = high }) ⌝ }
 {
-    let mixed = ((low as u64) * 1640531535 + (high as u64) * 2654435761) % 4294967296;
-    let place = (low as u64) + mixed * (size as u64) / 4294967296;
+    let apart = (high - low) as u64;
+    let from = apart / 8 * 2654435761 % 4294967296 * (size as u64) / 4294967296;
+    let place = 4 * (low as u64) + apart % 8 + from;
     if place < (size as u64) {
         return place as u32;
     }
-    (place % (size as u64)) as u32
+    let rest = place - (size as u64);
+    if rest < (size as u64) {
+        return rest as u32;
+    }
+    (rest % (size as u64)) as u32
 }
 
 // The link to the edge with these ends on the chain from a link on, or 0. Links fall, so the chain ends.

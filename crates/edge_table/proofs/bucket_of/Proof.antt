@@ -1,28 +1,34 @@
 -- `edge_table::bucket_of` meets its contract: with ends below 65,535 nothing wraps. Assumes nothing.
-use Prim.Native.Nat.{_+_, _*_, _/_, _%_}
-use mathlib.Core.Path.{refl, sym}
+use Prim.Native.Nat.{_+_, _-_, _*_, _/_, _%_}
+use mathlib.Core.Path.{sym, _∙_}
 use native.Mathlib.Nat.{mod-lt, mod-eq-of-lt}
 use native.Mathlib.Omega.{arith}
-use borrow.Author.Needs.{needs}
 use Rattle.edge_table.specs.Words.{bucketOf}
-use Rattle.edge_table.proofs.Buckets.{scaled-below, scaled-fits}
+use Rattle.edge_table.proofs.Buckets.{scaled-below, scaled-fits, once-over}
+use borrow.Author.Needs.{needs}
 use Rattle.edge_table.proofs.bucket_of.Statement.{statement}
 use Rattle.edge_table.proofs.bucket_of.Tie as tie
 
-mul-mixed : tie.Need-mul-mixed
-mul-mixed c = search needs
+sub-apart : tie.Need-sub-apart
+sub-apart c = search needs
 
-mul-mixed-2 : tie.Need-mul-mixed-2
-mul-mixed-2 c = search needs
+cast-apart : tie.Need-cast-apart
+cast-apart c = search needs
 
-add-mixed : tie.Need-add-mixed
-add-mixed c = search needs
+mul-from : tie.Need-mul-from
+mul-from c = search needs
+
+mul-from-2 : tie.Need-mul-from-2
+mul-from-2 c = let a = c .args in record { fits = scaled-fits ((a .high - a .low) / 8 * 2654435761) (a .size) (c .pre .1 .1 .1) }
 
 mul-place : tie.Need-mul-place
-mul-place c = record { fits = scaled-fits (c .args .low * 1640531535 + c .args .high * 2654435761) (c .args .size) (c .pre .1 .1 .1) }
+mul-place c = search needs
 
 add-place : tie.Need-add-place
-add-place c = record { fits = omega (arith, scaled-below (c .args .low * 1640531535 + c .args .high * 2654435761) (c .args .size) (c .pre .1 .1 .0), c .pre .0, c .pre .1 .1 .1) }
+add-place c = search needs
+
+add-place-2 : tie.Need-add-place-2
+add-place-2 c = let a = c .args in record { fits = omega (arith, scaled-below ((a .high - a .low) / 8 * 2654435761) (a .size) (c .pre .1 .1 .0), c .pre .0, c .pre .1 .0, c .pre .1 .1 .1) }
 
 cast-result : tie.Need-cast-result
 cast-result c = search needs
@@ -31,29 +37,42 @@ returns : tie.Need-returns
 unfolding bucketOf
 returns c = sym (mod-eq-of-lt (c .if1 .taken))
 
-rem-result : tie.Need-rem-result
-rem-result c = search needs
+sub-rest : tie.Need-sub-rest
+sub-rest c = search needs
 
 cast-result-2 : tie.Need-cast-result-2
-cast-result-2 c =
-    let a = c .before .args in
-    omega (arith, mod-lt (a .low + (a .low * 1640531535 + a .high * 2654435761) % 4294967296 * a .size / 4294967296) {m = a .size} (c .before .pre .1 .1 .0), c .before .pre .1 .1 .1)
+cast-result-2 c = search needs
 
 returns-2 : tie.Need-returns-2
 unfolding bucketOf
-returns-2 c = refl
+returns-2 c = sym (mod-eq-of-lt (c .if2 .taken)) ∙ once-over _ _ (c .before .if1 .left)
+
+rem-result : tie.Need-rem-result
+rem-result c = search needs
+
+cast-result-3 : tie.Need-cast-result-3
+cast-result-3 c = let a = c .before .before .args in omega (arith, mod-lt ((4 * a .low + (a .high - a .low) % 8 + (a .high - a .low) / 8 * 2654435761 % 4294967296 * a .size / 4294967296) - a .size) {m = a .size} (c .before .before .pre .1 .1 .0), c .before .before .pre .1 .1 .1)
+
+returns-3 : tie.Need-returns-3
+unfolding bucketOf
+returns-3 c = once-over _ _ (c .before .if1 .left)
 
 pub bucket-of-spec : {M : Type 1} → statement M
 bucket-of-spec =
     tie.close
     (tie.spec
-    mul-mixed
-    mul-mixed-2
-    add-mixed
+    sub-apart
+    cast-apart
+    mul-from
+    mul-from-2
     mul-place
     add-place
+    add-place-2
     cast-result
     returns
-    rem-result
+    sub-rest
     cast-result-2
-    returns-2)
+    returns-2
+    rem-result
+    cast-result-3
+    returns-3)
