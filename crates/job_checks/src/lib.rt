@@ -5,6 +5,8 @@ ghost use mathlib.Core.Path.{_≡_};
 ghost use mathlib.Core.Bool.{false};
 ghost use Prim.Native.Nat.{_*_, _/_, _<_, _≤_};
 ghost use lib.ListN.{length};
+ghost use Rattle.vec3.specs.declared.Vec3.{Vec3};
+ghost use Rattle.vec3.specs.Vec.{subOf, normOf};
 ghost use Rattle.job_checks.specs.Any.{anyBelow, firstOf};
 ghost use Rattle.job_checks.specs.Edge.{vertexAt, lower, higher};
 ghost use Rattle.job_checks.specs.Job.{job};
@@ -148,13 +150,11 @@ fn any_out_of_range(coords: &[f64]) -> bool
     false
 }
 
-// The edge from o to b, and the altitude of the third vertex over it, the root of dot(p, p). It is not taken: it is
+// The edge from o along d, which is so long, and the altitude of the third vertex over it, the root of dot(p, p). It is not taken: it is
 // 0.000_001 or more from 9.999_999_999_999_998e-13 on, the double before 1e-12.
-fn degenerate(o: Vec3, b: Vec3, third: Vec3) -> bool
-    ensures { λ r. ⌜ r ≡ degenerate o b third ⌝ }
+fn degenerate(o: Vec3, d: Vec3, len: f64, third: Vec3) -> bool
+    ensures { λ r. ⌜ ((b : Vec3) → d ≡ subOf b o → len ≡ normOf d → r ≡ degenerate o b third) ⌝ }
 {
-    let d = vec3::sub(b, o);
-    let len = vec3::norm(d);
     if 0.001 <= len {
         let xhat = vec3::scale(d, 1.0 / len);
         let w = vec3::sub(third, o);
@@ -197,26 +197,40 @@ fn higher(a: usize, b: usize) -> usize
 }
 
 // The edge of a and b starts at its lower-numbered vertex.
-fn degenerate_edge(v: &[f64], a: usize, b: usize, third: usize) -> bool
-    requires { ⌜ (a < length (now v) / 3) × ((b < length (now v) / 3) × (third < length (now v) / 3)) ⌝ }
+fn edge_vector(v: &[f64], a: usize, b: usize) -> Vec3
+    requires { ⌜ (a < length (now v) / 3) × (b < length (now v) / 3) ⌝ }
+    ensures { λ r. ⌜ r ≡ subOf (vertexAt (now (v .entry)) (higher a b)) (vertexAt (now (v .entry)) (lower a b)) ⌝ }
+{
+    let start = lower(a, b);
+    let end = higher(a, b);
+    vec3::sub(vertex(v, end), vertex(v, start))
+}
+
+// Of the edge of a and b, its vector and its length.
+fn degenerate_edge(v: &[f64], a: usize, b: usize, third: usize, d: Vec3, len: f64) -> bool
+    requires { ⌜ (a < length (now v) / 3) × ((b < length (now v) / 3) × ((third < length (now v) / 3) × ((d ≡ subOf (vertexAt (now v) (higher a b)) (vertexAt (now v) (lower a b))) × (len ≡ normOf d)))) ⌝ }
     ensures { λ r. ⌜ r ≡ degenerateEdge (now (v .entry)) a b third ⌝ }
 {
     let o = lower(a, b);
-    let end = higher(a, b);
-    degenerate(vertex(v, o), vertex(v, end), vertex(v, third))
+    degenerate(vertex(v, o), d, len, vertex(v, third))
 }
 
+// The three lengths are taken together, since their roots are.
 fn degenerate_triangle(v: &[f64], a: usize, b: usize, c: usize) -> bool
     requires { ⌜ (a < length (now v) / 3) × ((b < length (now v) / 3) × (c < length (now v) / 3)) ⌝ }
     ensures { λ r. ⌜ r ≡ degenerateIn (now (v .entry)) a b c ⌝ }
 {
-    if degenerate_edge(v, a, b, c) {
+    let ab = edge_vector(v, a, b);
+    let bc = edge_vector(v, b, c);
+    let ca = edge_vector(v, c, a);
+    let len = vec3::norms(ab, bc, ca);
+    if degenerate_edge(v, a, b, c, ab, len.x) {
         return true;
     }
-    if degenerate_edge(v, b, c, a) {
+    if degenerate_edge(v, b, c, a, bc, len.y) {
         return true;
     }
-    if degenerate_edge(v, c, a, b) {
+    if degenerate_edge(v, c, a, b, ca, len.z) {
         return true;
     }
     false

@@ -6,6 +6,18 @@ use borrow.Author.Needs.{needs}
 use Rattle.job_checks.proofs.degenerate_triangle.Statement.{statement}
 use Rattle.job_checks.proofs.degenerate_triangle.Tie as tie
 
+edge-vector-requires : tie.Need-edge-vector-requires
+edge-vector-requires c κs = search needs
+
+edge-vector-requires-2 : tie.Need-edge-vector-requires-2
+edge-vector-requires-2 c κs = search needs
+
+edge-vector-requires-3 : tie.Need-edge-vector-requires-3
+edge-vector-requires-3 c κs = search needs
+
+norms-requires : tie.Need-norms-requires
+norms-requires c κs = search needs
+
 degenerate-edge-requires : tie.Need-degenerate-edge-requires
 degenerate-edge-requires c κs = search needs
 
@@ -35,6 +47,10 @@ pub degenerate-triangle-spec : {M : Type 1} → statement M
 degenerate-triangle-spec =
     tie.close
     (tie.spec
+    edge-vector-requires
+    edge-vector-requires-2
+    edge-vector-requires-3
+    norms-requires
     degenerate-edge-requires
     returns
     degenerate-edge-requires-2
