@@ -1,5 +1,5 @@
 // The frames of a mesh in lent buffers: each edge's length and unit vector, each triangle's inward normals, and the readers of the topology.
-// Reads past an end give 0 or a NaN and writes there change nothing, so none of these functions asks anything of the buffers' content.
+// Reads past an end give 0 or a NaN, so none of these functions asks anything of the buffers' content; those that write ask that there is room.
 use buffers::EdgeId;
 use buffers::FaceId;
 use buffers::VertexId;
