@@ -6,8 +6,8 @@
 use buffers::read_u32;
 use buffers::write_u32;
 use buffers::zero_u32;
-use topology::higher_of;
-use topology::lower_of;
+use job_checks::higher_of;
+use job_checks::lower_of;
 ghost use mathlib.Core.Path.{_≡_};
 ghost use mathlib.Core.List.{[], _∷_};
 ghost use Prim.Native.Nat.{_+_, _*_, _/_, _<_, _≤_};

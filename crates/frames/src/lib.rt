@@ -6,7 +6,7 @@ use buffers::VertexId;
 use buffers::read_f64;
 use buffers::read_u32;
 use buffers::zero_f64_from;
-use topology::lower_of;
+use job_checks::lower_of;
 use vec3::Vec3;
 ghost use mathlib.Core.Path.{_≡_};
 ghost use mathlib.Core.List.{List, [], _∷_};

@@ -167,18 +167,19 @@ fn degenerate(o: Vec3, d: Vec3, len: f64, third: Vec3) -> bool
     true
 }
 
-fn vertex(v: &[f64], k: usize) -> Vec3
+fn vertex(v: &[f64], k: u32) -> Vec3
     requires { ⌜ k < length (now v) / 3 ⌝ }
     ensures { λ r. ⌜ r ≡ vertexAt (now (v .entry)) k ⌝ }
 {
+    let i = 3 * (k as usize);
     Vec3 {
-        x: v[3 * k],
-        y: v[3 * k + 1],
-        z: v[3 * k + 2],
+        x: v[i],
+        y: v[i + 1],
+        z: v[i + 2],
     }
 }
 
-fn lower(a: usize, b: usize) -> usize
+pub fn lower_of(a: u32, b: u32) -> u32
     ensures { λ r. ⌜ r ≡ lower a b ⌝ }
 {
     if a < b {
@@ -187,7 +188,7 @@ fn lower(a: usize, b: usize) -> usize
     b
 }
 
-fn higher(a: usize, b: usize) -> usize
+pub fn higher_of(a: u32, b: u32) -> u32
     ensures { λ r. ⌜ r ≡ higher a b ⌝ }
 {
     if a < b {
@@ -197,26 +198,26 @@ fn higher(a: usize, b: usize) -> usize
 }
 
 // The edge of a and b starts at its lower-numbered vertex.
-fn edge_vector(v: &[f64], a: usize, b: usize) -> Vec3
+fn edge_vector(v: &[f64], a: u32, b: u32) -> Vec3
     requires { ⌜ (a < length (now v) / 3) × (b < length (now v) / 3) ⌝ }
     ensures { λ r. ⌜ r ≡ subOf (vertexAt (now (v .entry)) (higher a b)) (vertexAt (now (v .entry)) (lower a b)) ⌝ }
 {
-    let start = lower(a, b);
-    let end = higher(a, b);
+    let start = lower_of(a, b);
+    let end = higher_of(a, b);
     vec3::sub(vertex(v, end), vertex(v, start))
 }
 
 // Of the edge of a and b, its vector and its length.
-fn degenerate_edge(v: &[f64], a: usize, b: usize, third: usize, d: Vec3, len: f64) -> bool
+fn degenerate_edge(v: &[f64], a: u32, b: u32, third: u32, d: Vec3, len: f64) -> bool
     requires { ⌜ (a < length (now v) / 3) × ((b < length (now v) / 3) × ((third < length (now v) / 3) × ((d ≡ subOf (vertexAt (now v) (higher a b)) (vertexAt (now v) (lower a b))) × (len ≡ normOf d)))) ⌝ }
     ensures { λ r. ⌜ r ≡ degenerateEdge (now (v .entry)) a b third ⌝ }
 {
-    let o = lower(a, b);
+    let o = lower_of(a, b);
     degenerate(vertex(v, o), d, len, vertex(v, third))
 }
 
 // The three lengths are taken together, since their roots are.
-fn degenerate_triangle(v: &[f64], a: usize, b: usize, c: usize) -> bool
+fn degenerate_triangle(v: &[f64], a: u32, b: u32, c: u32) -> bool
     requires { ⌜ (a < length (now v) / 3) × ((b < length (now v) / 3) × (c < length (now v) / 3)) ⌝ }
     ensures { λ r. ⌜ r ≡ degenerateIn (now (v .entry)) a b c ⌝ }
 {
@@ -243,9 +244,9 @@ fn any_degenerate(v: &[f64], triangles: &[u32]) -> bool
 {
     let mut t = 0;
     while t < triangles.len() / 3 {
-        let a = wide(triangles[3 * t]);
-        let b = wide(triangles[3 * t + 1]);
-        let c = wide(triangles[3 * t + 2]);
+        let a = triangles[3 * t];
+        let b = triangles[3 * t + 1];
+        let c = triangles[3 * t + 2];
         if degenerate_triangle(v, a, b, c) {
             return true;
         }

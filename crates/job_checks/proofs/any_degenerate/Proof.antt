@@ -22,53 +22,44 @@ abbrev μ-loop : tie.MeasureT-loop
 loop-holds : tie.Need-loop-holds Inv-loop μ-loop
 loop-holds c = (search needs, none-yet _)
 
-mul-wide : tie.Need-mul-wide Inv-loop μ-loop
-mul-wide c = search needs
+mul-a : tie.Need-mul-a Inv-loop μ-loop
+mul-a c = search needs
 
-mul-wide-2 : tie.Need-mul-wide-2 Inv-loop μ-loop
-mul-wide-2 c = search needs
+mul-a-2 : tie.Need-mul-a-2 Inv-loop μ-loop
+mul-a-2 c = search needs
 
-shared-slice-read-wide : tie.Need-shared-slice-read-wide Inv-loop μ-loop
-shared-slice-read-wide c = search needs
+shared-slice-read-a : tie.Need-shared-slice-read-a Inv-loop μ-loop
+shared-slice-read-a c = search needs
 
-wide-requires : tie.Need-wide-requires Inv-loop μ-loop
-wide-requires c κs = search needs
+mul-b : tie.Need-mul-b Inv-loop μ-loop
+mul-b c = search needs
 
-mul-wide-3 : tie.Need-mul-wide-3 Inv-loop μ-loop
-mul-wide-3 c = search needs
+add-b : tie.Need-add-b Inv-loop μ-loop
+add-b c = search needs
 
-add-wide : tie.Need-add-wide Inv-loop μ-loop
-add-wide c = search needs
+mul-b-2 : tie.Need-mul-b-2 Inv-loop μ-loop
+mul-b-2 c = search needs
 
-mul-wide-4 : tie.Need-mul-wide-4 Inv-loop μ-loop
-mul-wide-4 c = search needs
+shared-slice-read-b : tie.Need-shared-slice-read-b Inv-loop μ-loop
+shared-slice-read-b c = search needs
 
-shared-slice-read-wide-2 : tie.Need-shared-slice-read-wide-2 Inv-loop μ-loop
-shared-slice-read-wide-2 c = search needs
+mul-c : tie.Need-mul-c Inv-loop μ-loop
+mul-c c = search needs
 
-wide-requires-2 : tie.Need-wide-requires-2 Inv-loop μ-loop
-wide-requires-2 c κs = search needs
+add-c : tie.Need-add-c Inv-loop μ-loop
+add-c c = search needs
 
-mul-wide-5 : tie.Need-mul-wide-5 Inv-loop μ-loop
-mul-wide-5 c = search needs
+mul-c-2 : tie.Need-mul-c-2 Inv-loop μ-loop
+mul-c-2 c = search needs
 
-add-wide-2 : tie.Need-add-wide-2 Inv-loop μ-loop
-add-wide-2 c = search needs
-
-mul-wide-6 : tie.Need-mul-wide-6 Inv-loop μ-loop
-mul-wide-6 c = search needs
-
-shared-slice-read-wide-3 : tie.Need-shared-slice-read-wide-3 Inv-loop μ-loop
-shared-slice-read-wide-3 c = search needs
-
-wide-requires-3 : tie.Need-wide-requires-3 Inv-loop μ-loop
-wide-requires-3 c κs = search needs
+shared-slice-read-c : tie.Need-shared-slice-read-c Inv-loop μ-loop
+shared-slice-read-c c = search needs
 
 degenerate-triangle-requires : tie.Need-degenerate-triangle-requires Inv-loop μ-loop
-degenerate-triangle-requires c κs = let t = c .before .before .before .before .before .before .before .loop .t in (rw (c .before .before .before .before .wide .ensures) (present _ _ _ (none-below _ _ (c .before .before .before .before .before .before .before .before .before .before .pre) (3 * t) (search needs))), (rw (c .before .before .wide2 .ensures) (present _ _ _ (none-below _ _ (c .before .before .before .before .before .before .before .before .before .before .pre) (3 * t + 1) (search needs))), rw (c .wide3 .ensures) (present _ _ _ (none-below _ _ (c .before .before .before .before .before .before .before .before .before .before .pre) (3 * t + 2) (search needs)))))
+degenerate-triangle-requires c κs = let t = c .before .before .before .before .loop .t in (present _ _ _ (none-below _ _ (c .before .before .before .before .before .before .before .pre) (3 * t) (search needs)), (present _ _ _ (none-below _ _ (c .before .before .before .before .before .before .before .pre) (3 * t + 1) (search needs)), present _ _ _ (none-below _ _ (c .before .before .before .before .before .before .before .pre) (3 * t + 2) (search needs))))
 
 returns : tie.Need-returns Inv-loop μ-loop
-returns c = sym (found _ _ _ (c .before .before .before .before .before .before .before .before .loop-test .taken) (rw (← c .before .before .before .before .before .before .wide .ensures, ← c .before .before .before .before .wide2 .ensures, ← c .before .before .wide3 .ensures) (sym (c .before .degenerate-triangle .ensures) ∙ c .if1 .taken)))
+returns c = sym (found _ _ _ (c .before .before .before .before .before .loop-test .taken) (sym (c .before .degenerate-triangle .ensures) ∙ c .if1 .taken))
 
 add-t : tie.Need-add-t Inv-loop μ-loop
 add-t c = search needs
@@ -77,7 +68,7 @@ loop-less : tie.Need-loop-less Inv-loop μ-loop
 loop-less c = search needs
 
 loop-again : tie.Need-loop-again Inv-loop μ-loop
-loop-again c = (search needs, none-more _ _ (c .before .before .before .before .before .before .before .before .before .loop .inv .1) (rw (← c .before .before .before .before .before .before .wide .ensures, ← c .before .before .before .before .wide2 .ensures, ← c .before .before .wide3 .ensures) (sym (c .before .degenerate-triangle .ensures) ∙ c .if1 .left)))
+loop-again c = (search needs, none-more _ _ (c .before .before .before .before .before .before .loop .inv .1) (sym (c .before .degenerate-triangle .ensures) ∙ c .if1 .left))
 
 returns-2 : tie.Need-returns-2 Inv-loop μ-loop
 returns-2 c = sym (none-at-all _ _ _ (c .before .loop .inv .0) (c .loop-test .left) (c .before .loop .inv .1))
@@ -89,20 +80,17 @@ any-degenerate-spec =
     Inv-loop
     μ-loop
     loop-holds
-    mul-wide
-    mul-wide-2
-    shared-slice-read-wide
-    wide-requires
-    mul-wide-3
-    add-wide
-    mul-wide-4
-    shared-slice-read-wide-2
-    wide-requires-2
-    mul-wide-5
-    add-wide-2
-    mul-wide-6
-    shared-slice-read-wide-3
-    wide-requires-3
+    mul-a
+    mul-a-2
+    shared-slice-read-a
+    mul-b
+    add-b
+    mul-b-2
+    shared-slice-read-b
+    mul-c
+    add-c
+    mul-c-2
+    shared-slice-read-c
     degenerate-triangle-requires
     returns
     add-t

@@ -8,11 +8,11 @@ use borrow.Author.Needs.{needs}
 use Rattle.job_checks.proofs.degenerate_edge.Statement.{statement}
 use Rattle.job_checks.proofs.degenerate_edge.Tie as tie
 
-lower-requires : tie.Need-lower-requires
-lower-requires c κs = search needs
+lower-of-requires : tie.Need-lower-of-requires
+lower-of-requires c κs = search needs
 
 vertex-requires : tie.Need-vertex-requires
-vertex-requires c κs = rw (c .lower .ensures) (lower-below _ _ _ (c .before .before .pre .0) (c .before .before .pre .1 .0) .0)
+vertex-requires c κs = rw (c .lower-of .ensures) (lower-below _ _ _ (c .before .before .pre .0) (c .before .before .pre .1 .0) .0)
 
 vertex-requires-2 : tie.Need-vertex-requires-2
 vertex-requires-2 c κs = search needs
@@ -23,11 +23,11 @@ degenerate-requires c κs = search needs
 returns : tie.Need-returns
 unfolding degenerateEdge
 returns c =
-    let o : _ ≡ vertexAt (c .before .before .before .before .before .args .v .now) (lower (c .before .before .before .before .before .args .a) (c .before .before .before .before .before .args .b)) = c .before .before .vertex .ensures ∙ ap (vertexAt (c .before .before .before .before .before .args .v .now)) (c .before .before .before .lower .ensures) in
+    let o : _ ≡ vertexAt (c .before .before .before .before .before .args .v .now) (lower (c .before .before .before .before .before .args .a) (c .before .before .before .before .before .args .b)) = c .before .before .vertex .ensures ∙ ap (vertexAt (c .before .before .before .before .before .args .v .now)) (c .before .before .before .lower-of .ensures) in
     c .degenerate .ensures (vertexAt (c .before .before .before .before .before .args .v .now) (higher (c .before .before .before .before .before .args .a) (c .before .before .before .before .before .args .b))) (c .before .before .before .before .before .pre .1 .1 .1 .0 ∙ ap (subOf (vertexAt (c .before .before .before .before .before .args .v .now) (higher (c .before .before .before .before .before .args .a) (c .before .before .before .before .before .args .b)))) (sym o)) (c .before .before .before .before .before .pre .1 .1 .1 .1)
     ∙ (λ i. degenerate (o i) (vertexAt (c .before .before .before .before .before .args .v .now) (higher (c .before .before .before .before .before .args .a) (c .before .before .before .before .before .args .b))) (c .before .vertex2 .ensures i))
 
 pub degenerate-edge-spec : {M : Type 1} → statement M
 degenerate-edge-spec =
     tie.close
-    (tie.spec lower-requires vertex-requires vertex-requires-2 degenerate-requires returns)
+    (tie.spec lower-of-requires vertex-requires vertex-requires-2 degenerate-requires returns)

@@ -4,30 +4,30 @@ use borrow.Author.Needs.{needs}
 use Rattle.job_checks.proofs.edge_vector.Statement.{statement}
 use Rattle.job_checks.proofs.edge_vector.Tie as tie
 
-lower-requires : tie.Need-lower-requires
-lower-requires c κs = search needs
+lower-of-requires : tie.Need-lower-of-requires
+lower-of-requires c κs = search needs
 
-higher-requires : tie.Need-higher-requires
-higher-requires c κs = search needs
+higher-of-requires : tie.Need-higher-of-requires
+higher-of-requires c κs = search needs
 
 vertex-requires : tie.Need-vertex-requires
-vertex-requires c κs = rw (c .higher .ensures) (lower-below _ _ _ (c .before .before .before .pre .0) (c .before .before .before .pre .1) .1)
+vertex-requires c κs = rw (c .higher-of .ensures) (lower-below _ _ _ (c .before .before .before .pre .0) (c .before .before .before .pre .1) .1)
 
 vertex-requires-2 : tie.Need-vertex-requires-2
-vertex-requires-2 c κs = rw (c .before .before .lower .ensures) (lower-below _ _ _ (c .before .before .before .before .pre .0) (c .before .before .before .before .pre .1) .0)
+vertex-requires-2 c κs = rw (c .before .before .lower-of .ensures) (lower-below _ _ _ (c .before .before .before .before .pre .0) (c .before .before .before .before .pre .1) .0)
 
 sub-requires : tie.Need-sub-requires
 sub-requires c κs = search needs
 
 returns : tie.Need-returns
-returns c = rw (c .sub .ensures, c .before .vertex2 .ensures, c .before .before .vertex .ensures, c .before .before .before .higher .ensures, c .before .before .before .before .lower .ensures)
+returns c = rw (c .sub .ensures, c .before .vertex2 .ensures, c .before .before .vertex .ensures, c .before .before .before .higher-of .ensures, c .before .before .before .before .lower-of .ensures)
 
 pub edge-vector-spec : {M : Type 1} → statement M
 edge-vector-spec =
     tie.close
     (tie.spec
-    lower-requires
-    higher-requires
+    lower-of-requires
+    higher-of-requires
     vertex-requires
     vertex-requires-2
     sub-requires
