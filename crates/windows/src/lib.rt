@@ -3,7 +3,6 @@
 use buffers::EdgeId;
 use buffers::FaceId;
 use buffers::WindowId;
-use buffers::read_f64;
 use buffers::read_u32;
 use buffers::write_f64;
 use buffers::write_u32;
@@ -11,7 +10,7 @@ use source::Src;
 use source::Win;
 ghost use mathlib.Core.Path.{_≡_};
 ghost use mathlib.Core.Bool.{cond};
-ghost use Prim.Native.Nat.{_+_, _/_, _%_, _<_};
+ghost use Prim.Native.Nat.{_+_, _*_, _/_, _%_, _≤_, _<_};
 ghost use mathlib.Core.List.{[], _∷_};
 ghost use lib.ListN.{length};
 ghost use Rattle.buffers.specs.Slots.{fill};
@@ -89,17 +88,17 @@ fn source_of(line: bool, s0: f64, s1: f64, s2: f64) -> Src
 }
 
 fn load_win(reals: &[f64], id: WindowId, line: bool) -> Win
+    requires { ⌜ 6 * id .0 + 6 ≤ length (now reals) ⌝ }
     ensures { λ r. ⌜ r ≡ winAt line (now (reals .entry)) (id .0) ⌝ }
 {
-    let k = id.0;
-    let b0 = read_f64(reals, 6, k, 0);
-    let b1 = read_f64(reals, 6, k, 1);
-    let low = read_f64(reals, 6, k, 2);
-    let s0 = read_f64(reals, 6, k, 3);
-    let s1 = read_f64(reals, 6, k, 4);
-    let s2 = read_f64(reals, 6, k, 5);
-    let src = source_of(line, s0, s1, s2);
-    Win { b0, b1, low, src }
+    let i = 6 * (id.0 as usize);
+    let src = source_of(line, reals[i + 3], reals[i + 4], reals[i + 5]);
+    Win {
+        b0: reals[i],
+        b1: reals[i + 1],
+        low: reals[i + 2],
+        src,
+    }
 }
 
 // A window is read or written only where the buffer counts for it: each of these functions is lent both slices, since both make the count.
@@ -107,15 +106,15 @@ pub fn load(words: &[u32], reals: &[f64], id: WindowId) -> WindowRecord
     requires { ⌜ id .0 < capacityOf (length (now words)) (length (now reals)) ⌝ }
     ensures { λ r. ⌜ r ≡ windowAt (now (words .entry)) (now (reals .entry)) (id .0) ⌝ }
 {
-    let k = id.0;
-    let flags = read_u32(words, 4, k, 2);
+    let i = 4 * (id.0 as usize);
+    let flags = words[i + 2];
     let win = load_win(reals, id, has_flag(flags, 1));
     WindowRecord {
-        edge: EdgeId(read_u32(words, 4, k, 0)),
-        into: FaceId(read_u32(words, 4, k, 1)),
+        edge: EdgeId(words[i]),
+        into: FaceId(words[i + 1]),
         alive: has_flag(flags, 2),
         queued: has_flag(flags, 4),
-        link: read_u32(words, 4, k, 3),
+        link: words[i + 3],
         win,
     }
 }
