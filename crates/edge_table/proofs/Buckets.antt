@@ -23,8 +23,8 @@ scaled-fits m size l =
     let p : m % 4294967296 * size ≤ m % 4294967296 * 393210 = mul-le-mul-left (m % 4294967296) l in
     omega (arith, mod-lt m {m = 4294967296} (omega arith))
 
-pub once-over : (n size : ℕ) → size ≤ n → (n - size) % size ≡ n % size
-once-over n size l =
+pub sub-mod-self : (n size : ℕ) → size ≤ n → (n - size) % size ≡ n % size
+sub-mod-self n size l =
     let e : size * 1 + (n - size) ≡ n = omega arith in
     sym (mul-add-mod-self-left size 1 (n - size)) ∙ ap (λ (k : ℕ). k % size) e
 

@@ -14,7 +14,7 @@ use lib.ListN.{length, getD, set, length-append, List·getD-append, List·getD-e
 use lib.Seq.{getD-append-seam, getD-at}
 use Rattle.buffers.specs.Slots.{fill}
 use Rattle.job_checks.specs.Edge.{lower, higher}
-use Rattle.job_checks.proofs.Edge.{lower-below}
+use Rattle.job_checks.proofs.Edge.{ends-below as both-below}
 use Rattle.topology.specs.Edges.{Edge, noEdge, noFace, between, corner, sideEdge, find, edgesOf, facesAmong, sharedByThree}
 use Rattle.topology.proofs.Triangles.{ends}
 use Rattle.topology.proofs.Find.{entered, find-at, find-last}
@@ -91,7 +91,7 @@ module _ (triangles : List ℕ) (h : ℕ) where
     pub side-below : (sideEdge triangles h .low < v) × (sideEdge triangles h .high < v)
     unfolding sideEdge between corner
     side-below =
-        lower-below (corner triangles h 0) (corner triangles h 1) v
+        both-below (corner triangles h 0) (corner triangles h 1) v
         (m .there (3 * (h / 3) + (h % 3 + 0) % 3) (omega (arith, m .whole)))
         (m .there (3 * (h / 3) + (h % 3 + 1) % 3) (omega (arith, m .whole)))
 

@@ -12,12 +12,13 @@ use Rattle.topology.specs.Edges.{Edge, noEdge, noFace}
 unfoldable pub wordsOf : ℕ → ℕ → (ℕ → ℕ → ℕ) → List ℕ
 wordsOf n s word = listOf n (λ (p : ℕ). word (p / s) (p % s))
 
--- The bucket of an edge among size of them. By how far its ends are apart edges fall into runs of eight, which are scattered by a factor modulo 2^32; from
--- there the lower end counts on in steps of four. So edges along a grid or a strip stand side by side, and those at one vertex by eights.
+-- The bucket of an edge among size of them. Edges are grouped by eights of high - low. A group's base is its number times 2654435761 modulo 2^32, scaled to
+-- size; from there the bucket is high - low modulo 8 plus four times the lower end. So edges of a grid or a strip lie side by side, and those at one lower
+-- end in runs of eight.
 unfoldable pub bucketOf : ℕ → Edge → ℕ
 bucketOf size x =
-    let apart = x .high - x .low in
-    (4 * x .low + apart % 8 + apart / 8 * 2654435761 % 4294967296 * size / 4294967296) % size
+    let difference = x .high - x .low in
+    (4 * x .low + difference % 8 + difference / 8 * 2654435761 % 4294967296 * size / 4294967296) % size
 
 -- the link to the last of the first n edges that is in bucket b
 unfoldable pub lastIn : ℕ → List Edge → ℕ → ℕ → ℕ

@@ -27,17 +27,17 @@ fn bucket_of(low: u32, high: u32, size: u32) -> u32
     requires { ⌜ (low ≤ high) × ((high < 65535) × ((0 < size) × (size ≤ 393210))) ⌝ }
     ensures { λ r. ⌜ r ≡ bucketOf size (record { low = low; high = high }) ⌝ }
 {
-    let apart = (high - low) as u64;
-    let from = apart / 8 * 2654435761 % 4294967296 * (size as u64) / 4294967296;
-    let place = 4 * (low as u64) + apart % 8 + from;
+    let difference = (high - low) as u64;
+    let base = difference / 8 * 2654435761 % 4294967296 * (size as u64) / 4294967296;
+    let place = 4 * (low as u64) + difference % 8 + base;
     if place < (size as u64) {
         return place as u32;
     }
-    let rest = place - (size as u64);
-    if rest < (size as u64) {
-        return rest as u32;
+    let reduced = place - (size as u64);
+    if reduced < (size as u64) {
+        return reduced as u32;
     }
-    (rest % (size as u64)) as u32
+    (reduced % (size as u64)) as u32
 }
 
 // The link to the edge with these ends on the chain from a link on, or 0. Links fall, so the chain ends.

@@ -1,4 +1,4 @@
--- The definitions over buffers are the topology's where the buffers hold it. Assumes nothing.
+-- The definitions over buffers are the topology's where the buffers hold it, for the layers that read them. Assumes nothing.
 use Prim.Native.Nat.{ℕ, _+_, _*_, _/_, _%_, _<_, _≤_}
 use mathlib.Core.Path.{_≡_, refl, sym, ap, _∙_}
 use mathlib.Core.Bool.{cond}
@@ -11,11 +11,11 @@ use Rattle.float64.specs.Scalar.{one}
 use Rattle.float64.specs.Notation.{_⊘_}
 use Rattle.vec3.specs.declared.Vec3.{Vec3}
 use Rattle.vec3.specs.Vec.{scaleOf, subOf, dotOf}
-use Rattle.job_checks.specs.Edge.{vertexAt, lenOf, xhatOf, perpendicularOf, altitudeOf}
+use Rattle.job_checks.specs.Edge.{vertexAt, lenOf, xhatOf, perpendicularFrom, perpendicularOf, altitudeOf}
 use Rattle.topology.specs.Edges.{offEnds, corner, edges, triEdge, other, local, third}
 use Rattle.topology.specs.Frames.{origin, end, len, xhat, yhat, coordsX, coordsY}
 use Rattle.topology.proofs.Edges.{tri-edge-there, tri-edge-is}
-use Rattle.frames.specs.Stored.{vectorAt, lengthAt, unitAt, normalAt, across, unitOf, lengthRow, originAt, endAt, withLengths, acrossOf, normalOf, withNormals, xOf, otherAt, localAt, thirdAt, yOf}
+use Rattle.frames.specs.Stored.{vectorAt, lengthAt, unitAt, normalAt, unitOf, lengthRow, originAt, endAt, withLengths, perpendicularAt, normalOf, withNormals, xOf, otherAt, localAt, thirdAt, yOf}
 use Rattle.frames.specs.Held.{HoldsEdges, HoldsFaces, HoldsSides, HoldsLengths, HoldsNormals}
 use Rattle.frames.proofs.Rows.{rows-at, vectors-at}
 use Rattle.frames.proofs.Turns.{local-below}
@@ -34,17 +34,17 @@ module _ (v : List Float) (edgeWords : List ℕ) (n : ℕ) (r : List Float) wher
   unit-stored e l m = λ i. record { x = lengths-at e 1 l m (omega arith) i; y = lengths-at e 2 l m (omega arith) i; z = lengths-at e 3 l m (omega arith) i }
 
 -- along the computed unit vector it is the topology's normal
-normal-is : (o b t : Vec3) → unitOf (across o (xhatOf o b) t) ≡ scaleOf (perpendicularOf o b t) (one ⊘ altitudeOf o b t)
-unfolding unitOf across perpendicularOf altitudeOf
+normal-is : (o b t : Vec3) → unitOf (perpendicularFrom o (xhatOf o b) t) ≡ scaleOf (perpendicularOf o b t) (one ⊘ altitudeOf o b t)
+unfolding unitOf perpendicularOf altitudeOf
 normal-is o b t = refl
 
 module _ (v : List Float) (triangles edgeWords : List ℕ) (held : HoldsEdges triangles edgeWords) where
   module _ (e : ℕ) (l : e < length (edges triangles)) where
-    pub origin-held : originAt v edgeWords e ≡ origin v triangles e
+    origin-held : originAt v edgeWords e ≡ origin v triangles e
     unfolding origin
     origin-held = ap (vertexAt v) (held .low e l)
 
-    pub end-held : endAt v edgeWords e ≡ end v triangles e
+    end-held : endAt v edgeWords e ≡ end v triangles e
     unfolding end
     end-held = ap (vertexAt v) (held .high e l)
 
@@ -72,11 +72,11 @@ module _ (v : List Float) (triangles edgeWords : List ℕ) (held : HoldsEdges tr
 
 module _ (v : List Float) (triangles : List ℕ) (edgeReals : List Float) (long : HoldsLengths v triangles edgeReals) (triangleWords : List ℕ) (sides : HoldsSides triangles triangleWords) where
   normal-held : (h : ℕ) → h < length triangles → normalOf v triangles triangleWords edgeReals h ≡ yhat v triangles h
-  unfolding acrossOf yhat xhat origin
+  unfolding perpendicularAt yhat xhat origin
   normal-held h l =
       let m : triEdge triangles h < length (edges triangles) = tri-edge-there triangles h l in
-      (λ i. unitOf (across (vertexAt v (sym (tri-edge-is triangles h l) i .low)) (unitAt edgeReals (sides h l i)) (vertexAt v (corner triangles h 2))))
-      ∙ ((λ i. unitOf (across (origin v triangles (triEdge triangles h)) (long .unit-is (triEdge triangles h) m i) (vertexAt v (corner triangles h 2))))
+      (λ i. unitOf (perpendicularFrom (vertexAt v (sym (tri-edge-is triangles h l) i .low)) (unitAt edgeReals (sides h l i)) (vertexAt v (corner triangles h 2))))
+      ∙ ((λ i. unitOf (perpendicularFrom (origin v triangles (triEdge triangles h)) (long .unit-is (triEdge triangles h) m i) (vertexAt v (corner triangles h 2))))
       ∙ normal-is (origin v triangles (triEdge triangles h)) (end v triangles (triEdge triangles h)) (vertexAt v (corner triangles h 2)))
 
   -- what `normals` leaves

@@ -13,7 +13,7 @@ use Rattle.buffers.specs.Slots.{slot, fill}
 use Rattle.buffers.specs.Zero.{zeroFrom}
 use Rattle.buffers.proofs.Strides.{slot-at, length-fill, fill-same, fill-other}
 use Rattle.buffers.proofs.Zeroing.{zero-whole}
-use Rattle.frames.specs.Stored.{normalAt, withRows, row3}
+use Rattle.frames.specs.Stored.{normalAt, fillThree, withRows, row3}
 
 module _ (s : ℕ) (row : ℕ → List Float) where
   pub rows-start : (r : List Float) → r ≡ withRows s row 0 r
@@ -25,8 +25,20 @@ module _ (s : ℕ) (row : ℕ → List Float) where
   unfolding withRows
   rows-turn r₀ r r′ vs k n next stored is so-far = rw (next, add-one k) (stored ∙ (λ i. fill s (so-far i) k 0 (is i)))
 
+  -- the next three slots written
+  pub rows-turn-three : (r₀ r r′ a b c : List Float) (k n : ℕ) → n ≡ k + 3 → r′ ≡ fillThree s r k a b c → a ≡ row k → b ≡ row (k + 1) → c ≡ row (k + 2) → r ≡ withRows s row k r₀ → r′ ≡ withRows s row n r₀
+  rows-turn-three r₀ r r′ a b c k n next stored p q t so-far =
+      let first = rows-turn r₀ r (fill s r k 0 a) a k (k + 1) refl refl p so-far in
+      let second = rows-turn r₀ (fill s r k 0 a) (fill s (fill s r k 0 a) (k + 1) 0 b) b (k + 1) (k + 2) (omega arith) refl q first in
+      rows-turn r₀ (fill s (fill s r k 0 a) (k + 1) 0 b) r′ c (k + 2) n (omega arith) stored t second
+
   pub rows-done : (r₀ r : List Float) (k n : ℕ) → r ≡ withRows s row k r₀ → k ≤ n → n ≤ k → r ≡ withRows s row n r₀
   rows-done r₀ r k n so-far l m = so-far ∙ ap (λ (i : ℕ). withRows s row i r₀) (let g : k ≡ n = omega arith in g)
+
+-- three slots stored one after the other
+pub three-stored : (s k : ℕ) (r r₁ r₂ r₃ a a′ b b′ c c′ : List Float) → r₁ ≡ fill s r k 0 a → r₂ ≡ fill s r₁ (k + 1) 0 b → r₃ ≡ fill s r₂ (k + 2) 0 c → a ≡ a′ → b ≡ b′ → c ≡ c′ → r₃ ≡ fillThree s r k a′ b′ c′
+three-stored s k r r₁ r₂ r₃ a a′ b b′ c c′ e₁ e₂ e₃ p q t =
+    e₃ ∙ (λ i. fill s ((e₂ ∙ (λ j. fill s ((e₁ ∙ (λ l. fill s r k 0 (p l))) j) (k + 1) 0 (q j))) i) (k + 2) 0 (t i))
 
 -- rows that are the same below n
 pub rows-same : (s : ℕ) (row row′ : ℕ → List Float) (n : ℕ) (r : List Float) → ((k : ℕ) → k < n → row k ≡ row′ k) → withRows s row n r ≡ withRows s row′ n r
@@ -50,7 +62,7 @@ module _ (s : ℕ) (row : ℕ → List Float) (whole : (k : ℕ) → length (row
       (eq-or-lt-of-le (le-of-suc-le-suc l))
 
   -- the others are as they were
-  pub rows-past : (n : ℕ) (r : List Float) (k : ℕ) → n ≤ k → slot s (withRows s row n r) k ≡ slot s r k
+  rows-past : (n : ℕ) (r : List Float) (k : ℕ) → n ≤ k → slot s (withRows s row n r) k ≡ slot s r k
   unfolding withRows
   rows-past zero r k l = refl
   rows-past (suc n) r k l = fill-other s (row n) (withRows s row n r) n k 0 (λ e. omega arith) (omega (arith, whole n)) ∙ rows-past n r k (omega arith)

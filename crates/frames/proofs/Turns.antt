@@ -12,12 +12,12 @@ use Rattle.float64.specs.Scalar.{one, zero as zero64}
 use Rattle.float64.specs.Notation.{_⊘_}
 use Rattle.vec3.specs.declared.Vec3.{Vec3}
 use Rattle.vec3.specs.Vec.{scaleOf, axpyOf, subOf, dotOf, normOf}
-use Rattle.job_checks.specs.Edge.{vertexAt, lower, lenOf, xhatOf}
+use Rattle.job_checks.specs.Edge.{vertexAt, lower, lenOf, xhatOf, perpendicularFrom}
 use Rattle.buffers.specs.declared.FaceId.{FaceId}
 use Rattle.buffers.specs.declared.VertexId.{VertexId}
 use Rattle.buffers.specs.Zero.{zeroFrom}
 use Rattle.topology.specs.Edges.{between, offEnds, corner, sideEdge}
-use Rattle.frames.specs.Stored.{lowAt, highAt, faceAt, vectorAt, normalAt, unitAt, across, unitOf, withRows, row3, unitRow, originAt, endAt, lengthRow, withLengths, acrossOf, withAcross, withNormals, xOf, otherAt, localAt, thirdAt, yOf}
+use Rattle.frames.specs.Stored.{lowAt, highAt, faceAt, vectorAt, normalAt, unitAt, unitOf, withRows, row3, unitRow, originAt, endAt, lengthRow, withLengths, perpendicularAt, perpendicularRow, withNormals, xOf, otherAt, localAt, thirdAt, yOf}
 use Rattle.frames.proofs.Rows.{rows-same, length-rows, vectors-at, vectors-past, zero-past-rows}
 
 pub vector-of : (r : Vec3) (a b c x y z : Float) → r ≡ record { x = a; y = b; z = c } → a ≡ x → b ≡ y → c ≡ z → r ≡ record { x = x; y = y; z = z }
@@ -28,9 +28,9 @@ vertex-is v k =
     let e : 3 * k + 0 ≡ 3 * k = omega arith in
     λ i. record { x = getD v (e i) nan; y = getD v (3 * k + 1) nan; z = getD v (3 * k + 2) nan }
 
-pub across-steps : (v reals : List Float) (e a b l t : ℕ) (o xhat third w p : Vec3) (k : Float) → l ≡ lower a b → o ≡ vertexAt v l → xhat ≡ unitAt reals e → third ≡ vertexAt v t → w ≡ subOf third o → k ≡ dotOf w xhat → p ≡ axpyOf w (neg k) xhat → p ≡ across (vertexAt v (lower a b)) (unitAt reals e) (vertexAt v t)
-unfolding across
-across-steps v reals e a b l t o xhat third w p k first from unit to up along h = rw (← first, ← from, ← unit, ← to, ← up, ← along) h
+pub perpendicular-steps : (v reals : List Float) (e a b l t : ℕ) (o xhat third w p : Vec3) (k : Float) → l ≡ lower a b → o ≡ vertexAt v l → xhat ≡ unitAt reals e → third ≡ vertexAt v t → w ≡ subOf third o → k ≡ dotOf w xhat → p ≡ axpyOf w (neg k) xhat → p ≡ perpendicularFrom (vertexAt v (lower a b)) (unitAt reals e) (vertexAt v t)
+unfolding perpendicularFrom
+perpendicular-steps v reals e a b l t o xhat third w p k first from unit to up along h = rw (← first, ← from, ← unit, ← to, ← up, ← along) h
 
 module _ (v : List Float) (edgeWords : List ℕ) where
   -- an edge's row as it is computed
@@ -52,18 +52,18 @@ module _ (v : List Float) (edgeWords : List ℕ) where
 
 module _ (v : List Float) (triangles triangleWords : List ℕ) (edgeReals : List Float) where
   -- over side k of face f, from what is read
-  pub across-row : (f k : ℕ) → k < 3 → (h e a b c : ℕ) (p : Vec3) → h ≡ 3 * f + k → e ≡ getD triangleWords (6 * f + k) 0 → a ≡ getD triangles (3 * f + k) 0 → b ≡ getD triangles (3 * f + (k + 1) % 3) 0 → c ≡ getD triangles (3 * f + (k + 2) % 3) 0 → p ≡ across (vertexAt v (lower a b)) (unitAt edgeReals e) (vertexAt v c) → row3 p ≡ row3 (acrossOf v triangles triangleWords edgeReals h)
-  unfolding acrossOf sideEdge between corner
-  across-row f k l h e a b c p here ee ea eb ec ep =
+  pub perpendicular-row : (f k : ℕ) → k < 3 → (h e a b c : ℕ) (p : Vec3) → h ≡ 3 * f + k → e ≡ getD triangleWords (6 * f + k) 0 → a ≡ getD triangles (3 * f + k) 0 → b ≡ getD triangles (3 * f + (k + 1) % 3) 0 → c ≡ getD triangles (3 * f + (k + 2) % 3) 0 → p ≡ perpendicularFrom (vertexAt v (lower a b)) (unitAt edgeReals e) (vertexAt v c) → row3 p ≡ perpendicularRow v triangles triangleWords edgeReals h
+  unfolding perpendicularAt sideEdge between corner
+  perpendicular-row f k l h e a b c p here ee ea eb ec ep =
       let d : (3 * f + k) / 3 ≡ f = omega arith in
       let m : (3 * f + k) % 3 ≡ k = omega arith in
       let z : (k + 0) % 3 ≡ k = omega arith in
       rw (here, d, m, z, ← ee, ← ea, ← eb, ← ec, ← ep) refl
 
-  -- the vectors across, scaled to length one and the rest zeroed, are the normals
-  pub normals-made : (n : ℕ) (r₀ r₁ r₂ r₃ : List Float) → 3 * n ≤ length r₀ → r₁ ≡ withAcross v triangles triangleWords edgeReals n r₀ → r₂ ≡ withRows 3 (unitRow r₁) n r₁ → r₃ ≡ zeroFrom zero64 (3 * n) r₂ → r₃ ≡ withNormals v triangles triangleWords edgeReals n (replicate (length r₀) zero64)
+  -- the perpendiculars, scaled to length one and the rest zeroed, are the normals
+  pub normals-made : (n : ℕ) (r₀ r₁ r₂ r₃ : List Float) → 3 * n ≤ length r₀ → r₁ ≡ withRows 3 (perpendicularRow v triangles triangleWords edgeReals) n r₀ → r₂ ≡ withRows 3 (unitRow r₁) n r₁ → r₃ ≡ zeroFrom zero64 (3 * n) r₂ → r₃ ≡ withNormals v triangles triangleWords edgeReals n (replicate (length r₀) zero64)
   normals-made n r₀ r₁ r₂ r₃ long raw scaled zeroed =
-      let of : ℕ → Vec3 = acrossOf v triangles triangleWords edgeReals in
+      let of : ℕ → Vec3 = perpendicularAt v triangles triangleWords edgeReals in
       let same : length r₁ ≡ length r₀ = ap length raw ∙ length-rows 3 (λ (h : ℕ). row3 (of h)) (λ k. refl) n r₀ in
       let at : (h : ℕ) → h < n → normalAt r₁ h ≡ of h = λ h l. ap (λ (x : List Float). normalAt x h) raw ∙ vectors-at of n r₀ h l long in
       let unit : r₂ ≡ withNormals v triangles triangleWords edgeReals n r₁ = scaled ∙ rows-same 3 (unitRow r₁) (λ (h : ℕ). row3 (unitOf (of h))) n r₁ (λ h l. ap (λ (p : Vec3). row3 (unitOf p)) (at h l)) in
@@ -72,12 +72,15 @@ module _ (v : List Float) (triangles triangleWords : List ℕ) (edgeReals : List
       ∙ (zero-past-rows zero64 3 (λ (h : ℕ). row3 (unitOf (of h))) (λ k. refl) n r₁
       ∙ ap (λ (k : ℕ). withNormals v triangles triangleWords edgeReals n (replicate k zero64)) same))
 
--- side h's vector as it is read when the slots below n are scaled, and its row when it is scaled too
-pub unit-row : (r₀ r : List Float) (n h : ℕ) (p u : Vec3) (height : Float) → n ≤ h → r ≡ withRows 3 (unitRow r₀) n r₀ → p ≡ normalAt r h → height ≡ normOf p → u ≡ scaleOf p (one ⊘ height) → row3 u ≡ unitRow r₀ h
+-- side h's row as it is scaled
+pub unit-row : (r : List Float) (h : ℕ) (p u : Vec3) (height : Float) → p ≡ normalAt r h → height ≡ normOf p → u ≡ scaleOf p (one ⊘ height) → row3 u ≡ unitRow r h
 unfolding unitOf
-unit-row r₀ r n h p u height l so-far read long unit =
-    let at : normalAt r₀ h ≡ p = sym (read ∙ (ap (λ (x : List Float). normalAt x h) so-far ∙ vectors-past (λ (k : ℕ). unitOf (normalAt r₀ k)) n r₀ h l)) in
-    rw (at, ← long, ← unit) refl
+unit-row r h p u height read long unit = rw (← read, ← long, ← unit) refl
+
+-- when the slots below n are scaled the others are not
+pub unit-past : (r₀ r : List Float) (n h : ℕ) → n ≤ h → r ≡ withRows 3 (unitRow r₀) n r₀ → unitRow r h ≡ unitRow r₀ h
+unit-past r₀ r n h l so-far =
+    ap (λ (p : Vec3). row3 (unitOf p)) (ap (λ (x : List Float). normalAt x h) so-far ∙ vectors-past (λ (k : ℕ). unitOf (normalAt r₀ k)) n r₀ h l)
 
 pub other-here : (w : List ℕ) (e f a b : ℕ) → a ≡ faceAt w e 0 → b ≡ faceAt w e 1 → a ≡ f → b ≡ otherAt w e f
 unfolding otherAt

@@ -6,12 +6,12 @@ use mathlib.Core.Bool.{cond}
 use mathlib.Core.List.{List, [], _∷_}
 use lib.Dec.{eqb}
 use lib.ListN.{getD}
-use lib.Ieee.{Float, nan, neg}
+use lib.Ieee.{Float, nan}
 use Rattle.float64.specs.Scalar.{one}
 use Rattle.float64.specs.Notation.{_⊘_}
 use Rattle.vec3.specs.declared.Vec3.{Vec3}
-use Rattle.vec3.specs.Vec.{scaleOf, axpyOf, subOf, dotOf, normOf}
-use Rattle.job_checks.specs.Edge.{vertexAt, lenOf, xhatOf}
+use Rattle.vec3.specs.Vec.{scaleOf, subOf, dotOf, normOf}
+use Rattle.job_checks.specs.Edge.{vertexAt, lenOf, xhatOf, perpendicularFrom}
 use Rattle.buffers.specs.Slots.{fill}
 use Rattle.topology.specs.Edges.{Edge, offEnds, corner, sideEdge}
 
@@ -43,15 +43,13 @@ unitAt reals e = vectorAt 4 reals e 1
 abbrev pub normalAt : List Float → ℕ → Vec3
 normalAt reals h = vectorAt 3 reals h 0
 
--- from an edge, with its lower end and its unit vector, to the third vertex of a face, at a right angle
-unfoldable pub across : Vec3 → Vec3 → Vec3 → Vec3
-across o xhat third =
-    let w : Vec3 = subOf third o in
-    axpyOf w (neg (dotOf w xhat)) xhat
-
 -- along p, of length one
 unfoldable pub unitOf : Vec3 → Vec3
 unitOf p = scaleOf p (one ⊘ normOf p)
+
+-- the three slots from k on written
+abbrev pub fillThree : ℕ → List Float → ℕ → List Float → List Float → List Float → List Float
+fillThree s reals k a b c = fill s (fill s (fill s reals k 0 a) (k + 1) 0 b) (k + 2) 0 c
 
 -- the reals with the first n slots of s written, each with its row
 unfoldable pub withRows : ℕ → (ℕ → List Float) → ℕ → List Float → List Float
@@ -63,7 +61,7 @@ row3 u = u .x ∷ u .y ∷ u .z ∷ []
 
 -- the vector in slot h, scaled to length one
 abbrev pub unitRow : List Float → ℕ → List Float
-unitRow reals h = row3 (unitOf (normalAt reals h))
+unitRow reals h = row3 (unitOf (vectorAt 3 reals h 0))
 
 module _ (v : List Float) (edgeWords : List ℕ) where
   abbrev pub originAt : ℕ → Vec3
@@ -84,15 +82,16 @@ module _ (v : List Float) (edgeWords : List ℕ) where
   xOf edgeReals e p = dotOf (subOf p (originAt e)) (unitAt edgeReals e)
 
 module _ (v : List Float) (triangles triangleWords : List ℕ) (edgeReals : List Float) where
-  -- over side h, from its edge's stored unit vector and its triangle's vertices: to the third vertex, and the normal
-  unfoldable pub acrossOf : ℕ → Vec3
-  acrossOf h = across (vertexAt v (sideEdge triangles h .low)) (unitAt edgeReals (sideAt triangleWords h)) (vertexAt v (corner triangles h 2))
+  -- over side h, from its edge's stored unit vector, to the third vertex, not yet scaled; the Rust's `edges[e][0]` is the lower of the side's two vertices
+  unfoldable pub perpendicularAt : ℕ → Vec3
+  perpendicularAt h = perpendicularFrom (vertexAt v (sideEdge triangles h .low)) (unitAt edgeReals (sideAt triangleWords h)) (vertexAt v (corner triangles h 2))
 
-  abbrev pub withAcross : ℕ → List Float → List Float
-  withAcross n reals = withRows 3 (λ (h : ℕ). row3 (acrossOf h)) n reals
+  abbrev pub perpendicularRow : ℕ → List Float
+  perpendicularRow h = row3 (perpendicularAt h)
 
+  -- the inward normal of side h
   abbrev pub normalOf : ℕ → Vec3
-  normalOf h = unitOf (acrossOf h)
+  normalOf h = unitOf (perpendicularAt h)
 
   abbrev pub withNormals : ℕ → List Float → List Float
   withNormals n reals = withRows 3 (λ (h : ℕ). row3 (normalOf h)) n reals

@@ -9,18 +9,17 @@ use buffers::zero_f64_from;
 use job_checks::lower_of;
 use vec3::Vec3;
 ghost use mathlib.Core.Path.{_≡_};
-ghost use mathlib.Core.List.{List, [], _∷_};
+ghost use mathlib.Core.List.{[], _∷_};
 ghost use Prim.Native.Nat.{_+_, _*_, _%_, _≤_, _<_};
 ghost use lib.ListN.{length, replicate};
 ghost use Rattle.buffers.specs.Slots.{fill};
-ghost use lib.Ieee.{Float};
 ghost use Rattle.float64.specs.Scalar.{zero};
 ghost use Rattle.vec3.specs.Vec.{subOf};
-ghost use Rattle.job_checks.specs.Edge.{vertexAt, lower};
+ghost use Rattle.job_checks.specs.Edge.{vertexAt, lower, perpendicularFrom};
 ghost use Rattle.topology.specs.Edges.{offEnds};
-ghost use Rattle.frames.specs.Stored.{vectorAt, unitAt, across, withRows, unitRow, originAt, endAt, withLengths, withAcross, withNormals, xOf, otherAt, localAt, thirdAt, yOf};
+ghost use Rattle.frames.specs.Stored.{vectorAt, unitAt, fillThree, withRows, unitRow, originAt, endAt, lengthRow, withLengths, perpendicularRow, withNormals, xOf, otherAt, localAt, thirdAt, yOf};
 
-// One test where all three are inside.
+// Three reals of a slot from a field on; one test where all are inside.
 fn vector(reals: &[f64], stride: u32, slot: u32, field: u32) -> Vec3
     requires { ⌜ field + 2 < 4294967296 ⌝ }
     ensures { λ r. ⌜ r ≡ vectorAt stride (now (reals .entry)) slot field ⌝ }
@@ -91,17 +90,17 @@ fn edge_vector(vertices: &[f64], edge_words: &[u32], e: u32) -> Vec3
 // The length and the unit vector of edge e.
 fn store_length(vertices: &[f64], edge_words: &[u32], e: u32, edge_reals: &mut [f64])
     requires { ⌜ 4 * e + 4 ≤ length (now «edge_reals») ⌝ }
-    ensures { λ r. ⌜ ((s : List Float) → now («edge_reals» .entry) ≡ withLengths (now (vertices .entry)) (now («edge_words» .entry)) e s → now («edge_reals» .exit) ≡ withLengths (now (vertices .entry)) (now («edge_words» .entry)) (e + 1) s) ⌝ }
+    ensures { λ r. ⌜ now («edge_reals» .exit) ≡ fill 4 (now («edge_reals» .entry)) e 0 (lengthRow (now (vertices .entry)) (now («edge_words» .entry)) e) ⌝ }
 {
     let d = edge_vector(vertices, edge_words, e);
     let len = vec3::norm(d);
     store_four(edge_reals, e, len, vec3::scale(d, 1.0 / len));
 }
 
-// Of the edges e, e + 1 and e + 2.
+// The same of the edges e, e + 1 and e + 2.
 fn store_three_lengths(vertices: &[f64], edge_words: &[u32], e: u32, edge_reals: &mut [f64])
     requires { ⌜ (4 * e + 12 ≤ length (now «edge_reals»)) × (e + 2 < 4294967296) ⌝ }
-    ensures { λ r. ⌜ ((s : List Float) → now («edge_reals» .entry) ≡ withLengths (now (vertices .entry)) (now («edge_words» .entry)) e s → now («edge_reals» .exit) ≡ withLengths (now (vertices .entry)) (now («edge_words» .entry)) (e + 3) s) ⌝ }
+    ensures { λ r. ⌜ now («edge_reals» .exit) ≡ fillThree 4 (now («edge_reals» .entry)) e (lengthRow (now (vertices .entry)) (now («edge_words» .entry)) e) (lengthRow (now (vertices .entry)) (now («edge_words» .entry)) (e + 1)) (lengthRow (now (vertices .entry)) (now («edge_words» .entry)) (e + 2)) ⌝ }
 {
     let d = edge_vector(vertices, edge_words, e);
     let d1 = edge_vector(vertices, edge_words, e + 1);
@@ -131,8 +130,8 @@ pub fn lengths(vertices: &[f64], edge_words: &[u32], count: u32, edge_reals: &mu
 }
 
 // From the edge e of the vertices a and b to the third vertex, at a right angle. The edge's unit vector is read, not computed again.
-fn across(vertices: &[f64], edge_reals: &[f64], e: u32, a: u32, b: u32, third: u32) -> Vec3
-    ensures { λ r. ⌜ r ≡ across (vertexAt (now (vertices .entry)) (lower a b)) (unitAt (now («edge_reals» .entry)) e) (vertexAt (now (vertices .entry)) third) ⌝ }
+fn perpendicular(vertices: &[f64], edge_reals: &[f64], e: u32, a: u32, b: u32, third: u32) -> Vec3
+    ensures { λ r. ⌜ r ≡ perpendicularFrom (vertexAt (now (vertices .entry)) (lower a b)) (unitAt (now («edge_reals» .entry)) e) (vertexAt (now (vertices .entry)) third) ⌝ }
 {
     let o = vertex(vertices, lower_of(a, b));
     let xhat = vector(edge_reals, 4, e, 1);
@@ -140,8 +139,8 @@ fn across(vertices: &[f64], edge_reals: &[f64], e: u32, a: u32, b: u32, third: u
     vec3::axpy(w, -vec3::dot(w, xhat), xhat)
 }
 
-// Over the sides of face f.
-fn store_across(
+// The perpendiculars over the three sides of face f, not yet scaled.
+fn store_perpendiculars(
     vertices: &[f64],
     triangles: &[u32],
     triangle_words: &[u32],
@@ -150,7 +149,7 @@ fn store_across(
     triangle_reals: &mut [f64],
 )
     requires { ⌜ (9 * f + 9 ≤ length (now «triangle_reals»)) × (3 * f + 2 < 4294967296) ⌝ }
-    ensures { λ r. ⌜ ((s : List Float) → now («triangle_reals» .entry) ≡ withAcross (now (vertices .entry)) (now (triangles .entry)) (now («triangle_words» .entry)) (now («edge_reals» .entry)) (3 * f) s → now («triangle_reals» .exit) ≡ withAcross (now (vertices .entry)) (now (triangles .entry)) (now («triangle_words» .entry)) (now («edge_reals» .entry)) (3 * f + 3) s) ⌝ }
+    ensures { λ r. ⌜ now («triangle_reals» .exit) ≡ fillThree 3 (now («triangle_reals» .entry)) (3 * f) (perpendicularRow (now (vertices .entry)) (now (triangles .entry)) (now («triangle_words» .entry)) (now («edge_reals» .entry)) (3 * f)) (perpendicularRow (now (vertices .entry)) (now (triangles .entry)) (now («triangle_words» .entry)) (now («edge_reals» .entry)) (3 * f + 1)) (perpendicularRow (now (vertices .entry)) (now (triangles .entry)) (now («triangle_words» .entry)) (now («edge_reals» .entry)) (3 * f + 2)) ⌝ }
 {
     let a = read_u32(triangles, 3, f, 0);
     let b = read_u32(triangles, 3, f, 1);
@@ -158,15 +157,16 @@ fn store_across(
     let e = read_u32(triangle_words, 6, f, 0);
     let e1 = read_u32(triangle_words, 6, f, 1);
     let e2 = read_u32(triangle_words, 6, f, 2);
-    let p = across(vertices, edge_reals, e, a, b, c);
-    let p1 = across(vertices, edge_reals, e1, b, c, a);
-    let p2 = across(vertices, edge_reals, e2, c, a, b);
+    let p = perpendicular(vertices, edge_reals, e, a, b, c);
+    let p1 = perpendicular(vertices, edge_reals, e1, b, c, a);
+    let p2 = perpendicular(vertices, edge_reals, e2, c, a, b);
     store_three(triangle_reals, 3 * f, p);
     store_three(triangle_reals, 3 * f + 1, p1);
     store_three(triangle_reals, 3 * f + 2, p2);
 }
 
-fn all_across(
+// Of all faces.
+fn perpendiculars(
     vertices: &[f64],
     triangles: &[u32],
     triangle_words: &[u32],
@@ -175,11 +175,11 @@ fn all_across(
     triangle_reals: &mut [f64],
 )
     requires { ⌜ (9 * faces ≤ length (now «triangle_reals»)) × (3 * faces < 4294967296) ⌝ }
-    ensures { λ r. ⌜ now («triangle_reals» .exit) ≡ withAcross (now (vertices .entry)) (now (triangles .entry)) (now («triangle_words» .entry)) (now («edge_reals» .entry)) (3 * faces) (now («triangle_reals» .entry)) ⌝ }
+    ensures { λ r. ⌜ now («triangle_reals» .exit) ≡ withRows 3 (perpendicularRow (now (vertices .entry)) (now (triangles .entry)) (now («triangle_words» .entry)) (now («edge_reals» .entry))) (3 * faces) (now («triangle_reals» .entry)) ⌝ }
 {
     let mut f: u32 = 0;
     while f < faces {
-        store_across(
+        store_perpendiculars(
             vertices,
             triangles,
             triangle_words,
@@ -194,7 +194,7 @@ fn all_across(
 // The three vectors of face f, scaled to length one.
 fn store_units(reals: &mut [f64], f: u32)
     requires { ⌜ (9 * f + 9 ≤ length (now reals)) × (3 * f + 2 < 4294967296) ⌝ }
-    ensures { λ r. ⌜ ((s : List Float) → now (reals .entry) ≡ withRows 3 (unitRow s) (3 * f) s → now (reals .exit) ≡ withRows 3 (unitRow s) (3 * f + 3) s) ⌝ }
+    ensures { λ r. ⌜ now (reals .exit) ≡ fillThree 3 (now (reals .entry)) (3 * f) (unitRow (now (reals .entry)) (3 * f)) (unitRow (now (reals .entry)) (3 * f + 1)) (unitRow (now (reals .entry)) (3 * f + 2)) ⌝ }
 {
     let p = vector(reals, 3, 3 * f, 0);
     let p1 = vector(reals, 3, 3 * f + 1, 0);
@@ -205,7 +205,8 @@ fn store_units(reals: &mut [f64], f: u32)
     store_three(reals, 3 * f + 2, vec3::scale(p2, 1.0 / height.z));
 }
 
-fn all_units(reals: &mut [f64], faces: u32)
+// Of all faces.
+fn units(reals: &mut [f64], faces: u32)
     requires { ⌜ (9 * faces ≤ length (now reals)) × (3 * faces < 4294967296) ⌝ }
     ensures { λ r. ⌜ now (reals .exit) ≡ withRows 3 (unitRow (now (reals .entry))) (3 * faces) (now (reals .entry)) ⌝ }
 {
@@ -229,7 +230,7 @@ pub fn normals(
     ensures { λ r. ⌜ now («triangle_reals» .exit) ≡ withNormals (now (vertices .entry)) (now (triangles .entry)) (now («triangle_words» .entry)) (now («edge_reals» .entry)) (length (now (triangles .entry))) (replicate (length (now («triangle_reals» .entry))) zero) ⌝ }
 {
     let faces = (triangles.len() / 3) as u32;
-    all_across(
+    perpendiculars(
         vertices,
         triangles,
         triangle_words,
@@ -237,7 +238,7 @@ pub fn normals(
         faces,
         triangle_reals,
     );
-    all_units(triangle_reals, faces);
+    units(triangle_reals, faces);
     zero_f64_from(triangle_reals, 3 * triangles.len());
 }
 

@@ -1,1 +1,2 @@
+pub mod Approximation
 pub mod Words

@@ -8,12 +8,12 @@ use Rattle.float64.specs.Scalar.{one}
 use Rattle.float64.specs.Notation.{_⊘_}
 use Rattle.vec3.specs.declared.Vec3.{Vec3}
 use Rattle.vec3.specs.Vec.{scaleOf, axpyOf, subOf, dotOf, normOf}
-use Rattle.job_checks.specs.Edge.{lower, higher, lenOf, xhatOf, perpendicularOf, altitudeOf}
+use Rattle.job_checks.specs.Edge.{lower, higher, lenOf, xhatOf, perpendicularFrom, perpendicularOf, altitudeOf}
 use Rattle.job_checks.specs.Refusals.{minLength, degenerate}
 use Rattle.job_checks.proofs.Altitude.{minRadicand, altitude-test}
 
-pub lower-below : (a b n : ℕ) → a < n → b < n → (lower a b < n) × (higher a b < n)
-lower-below a b n p q = go (ltb a b)
+pub ends-below : (a b n : ℕ) → a < n → b < n → (lower a b < n) × (higher a b < n)
+ends-below a b n p q = go (ltb a b)
   where
     go : (s : Bool) → (cond s a b < n) × (cond s b a < n)
     go true = (p, q)
@@ -31,9 +31,9 @@ module _
     (fine : le minLength len ≡ true)
   where
     pub low-vertex : le minRadicand n ≡ false → degenerate o b third ≡ true
-    unfolding degenerate lenOf altitudeOf perpendicularOf xhatOf
+    unfolding degenerate lenOf altitudeOf perpendicularOf perpendicularFrom xhatOf
     low-vertex h = rw (← from, ← long, fine, ← unit, ← up, ← along, ← across, altitude-test p, ← high, h)
 
     pub sound-edge : le minRadicand n ≡ true → degenerate o b third ≡ false
-    unfolding degenerate lenOf altitudeOf perpendicularOf xhatOf
+    unfolding degenerate lenOf altitudeOf perpendicularOf perpendicularFrom xhatOf
     sound-edge h = rw (← from, ← long, fine, ← unit, ← up, ← along, ← across, altitude-test p, ← high, h)

@@ -29,13 +29,15 @@ unfoldable pub xhatOf : Vec3 → Vec3 → Vec3
 unfolding lenOf
 xhatOf o b = scaleOf (subOf b o) (one ⊘ lenOf o b)
 
--- from the edge to the third vertex, at a right angle
-unfoldable pub perpendicularOf : Vec3 → Vec3 → Vec3 → Vec3
-unfolding xhatOf
-perpendicularOf o b third =
-    let xhat : Vec3 = xhatOf o b in
+-- from an edge, with its start and its unit vector, to the third vertex, at a right angle
+unfoldable pub perpendicularFrom : Vec3 → Vec3 → Vec3 → Vec3
+perpendicularFrom o xhat third =
     let w : Vec3 = subOf third o in
     axpyOf w (neg (dotOf w xhat)) xhat
+
+unfoldable pub perpendicularOf : Vec3 → Vec3 → Vec3 → Vec3
+unfolding xhatOf perpendicularFrom
+perpendicularOf o b third = perpendicularFrom o (xhatOf o b) third
 
 -- document 01's height of the third vertex over the edge: what `yhat` is divided by
 unfoldable pub altitudeOf : Vec3 → Vec3 → Vec3 → Float

@@ -150,8 +150,8 @@ fn any_out_of_range(coords: &[f64]) -> bool
     false
 }
 
-// The edge from o along d, which is so long, and the altitude of the third vertex over it, the root of dot(p, p). It is not taken: it is
-// 0.000_001 or more from 9.999_999_999_999_998e-13 on, the double before 1e-12.
+// Whether the edge from o along d, of length `len`, is too short, or the altitude of the third vertex over it too small. The altitude is the root of dot(p, p),
+// which is not taken: it is 0.000_001 or more exactly where dot(p, p) is 9.999_999_999_999_998e-13 or more, the double before 1e-12 (`altitude-test`).
 fn degenerate(o: Vec3, d: Vec3, len: f64, third: Vec3) -> bool
     ensures { λ r. ⌜ ((b : Vec3) → d ≡ subOf b o → len ≡ normOf d → r ≡ degenerate o b third) ⌝ }
 {
@@ -207,7 +207,7 @@ fn edge_vector(v: &[f64], a: u32, b: u32) -> Vec3
     vec3::sub(vertex(v, end), vertex(v, start))
 }
 
-// Of the edge of a and b, its vector and its length.
+// `d` is the vector of the edge of a and b, `len` its length.
 fn degenerate_edge(v: &[f64], a: u32, b: u32, third: u32, d: Vec3, len: f64) -> bool
     requires { ⌜ (a < length (now v) / 3) × ((b < length (now v) / 3) × ((third < length (now v) / 3) × ((d ≡ subOf (vertexAt (now v) (higher a b)) (vertexAt (now v) (lower a b))) × (len ≡ normOf d)))) ⌝ }
     ensures { λ r. ⌜ r ≡ degenerateEdge (now (v .entry)) a b third ⌝ }
@@ -216,7 +216,7 @@ fn degenerate_edge(v: &[f64], a: u32, b: u32, third: u32, d: Vec3, len: f64) -> 
     degenerate(vertex(v, o), d, len, vertex(v, third))
 }
 
-// The three lengths are taken together, since their roots are.
+// The three lengths come first, so that their roots are taken side by side.
 fn degenerate_triangle(v: &[f64], a: u32, b: u32, c: u32) -> bool
     requires { ⌜ (a < length (now v) / 3) × ((b < length (now v) / 3) × (c < length (now v) / 3)) ⌝ }
     ensures { λ r. ⌜ r ≡ degenerateIn (now (v .entry)) a b c ⌝ }

@@ -67,5 +67,5 @@ pub fn norm(a: Vec3) -> f64
 pub fn norms(a: Vec3, b: Vec3, c: Vec3) -> ThreeRoots
     ensures { λ r. ⌜ (r .x ≡ normOf a) × ((r .y ≡ normOf b) × (r .z ≡ normOf c)) ⌝ }
 {
-    sqrt_hypot::sqrt3(dot(a, a), dot(b, b), dot(c, c))
+    sqrt_hypot::three_sqrts(dot(a, a), dot(b, b), dot(c, c))
 }

@@ -4,22 +4,22 @@ use mathlib.Core.Path.{sym, _∙_}
 use native.Mathlib.Nat.{mod-lt, mod-eq-of-lt}
 use native.Mathlib.Omega.{arith}
 use Rattle.edge_table.specs.Words.{bucketOf}
-use Rattle.edge_table.proofs.Buckets.{scaled-below, scaled-fits, once-over}
+use Rattle.edge_table.proofs.Buckets.{scaled-below, scaled-fits, sub-mod-self}
 use borrow.Author.Needs.{needs}
 use Rattle.edge_table.proofs.bucket_of.Statement.{statement}
 use Rattle.edge_table.proofs.bucket_of.Tie as tie
 
-sub-apart : tie.Need-sub-apart
-sub-apart c = search needs
+sub-difference : tie.Need-sub-difference
+sub-difference c = search needs
 
-cast-apart : tie.Need-cast-apart
-cast-apart c = search needs
+cast-difference : tie.Need-cast-difference
+cast-difference c = search needs
 
-mul-from : tie.Need-mul-from
-mul-from c = search needs
+mul-base : tie.Need-mul-base
+mul-base c = search needs
 
-mul-from-2 : tie.Need-mul-from-2
-mul-from-2 c = let a = c .args in record { fits = scaled-fits ((a .high - a .low) / 8 * 2654435761) (a .size) (c .pre .1 .1 .1) }
+mul-base-2 : tie.Need-mul-base-2
+mul-base-2 c = let a = c .args in record { fits = scaled-fits ((a .high - a .low) / 8 * 2654435761) (a .size) (c .pre .1 .1 .1) }
 
 mul-place : tie.Need-mul-place
 mul-place c = search needs
@@ -37,15 +37,15 @@ returns : tie.Need-returns
 unfolding bucketOf
 returns c = sym (mod-eq-of-lt (c .if1 .taken))
 
-sub-rest : tie.Need-sub-rest
-sub-rest c = search needs
+sub-reduced : tie.Need-sub-reduced
+sub-reduced c = search needs
 
 cast-result-2 : tie.Need-cast-result-2
 cast-result-2 c = search needs
 
 returns-2 : tie.Need-returns-2
 unfolding bucketOf
-returns-2 c = sym (mod-eq-of-lt (c .if2 .taken)) ∙ once-over _ _ (c .before .if1 .left)
+returns-2 c = sym (mod-eq-of-lt (c .if2 .taken)) ∙ sub-mod-self _ _ (c .before .if1 .left)
 
 rem-result : tie.Need-rem-result
 rem-result c = search needs
@@ -55,22 +55,22 @@ cast-result-3 c = let a = c .before .before .args in omega (arith, mod-lt ((4 * 
 
 returns-3 : tie.Need-returns-3
 unfolding bucketOf
-returns-3 c = once-over _ _ (c .before .if1 .left)
+returns-3 c = sub-mod-self _ _ (c .before .if1 .left)
 
 pub bucket-of-spec : {M : Type 1} → statement M
 bucket-of-spec =
     tie.close
     (tie.spec
-    sub-apart
-    cast-apart
-    mul-from
-    mul-from-2
+    sub-difference
+    cast-difference
+    mul-base
+    mul-base-2
     mul-place
     add-place
     add-place-2
     cast-result
     returns
-    sub-rest
+    sub-reduced
     cast-result-2
     returns-2
     rem-result

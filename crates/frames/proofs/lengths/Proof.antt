@@ -4,7 +4,7 @@ use native.Mathlib.Omega.{arith}
 use borrow.Author.Needs.{needs}
 use lib.ListN.{length}
 use Rattle.frames.specs.Stored.{withLengths}
-use Rattle.frames.proofs.Rows.{rows-start, rows-done}
+use Rattle.frames.proofs.Rows.{rows-start, rows-turn, rows-turn-three, rows-done}
 use Rattle.frames.proofs.Turns.{lengths-made}
 use Rattle.frames.proofs.lengths.Statement.{statement}
 use Rattle.frames.proofs.lengths.Tie as tie
@@ -31,7 +31,7 @@ loop-less : tie.Need-loop-less Inv-loop μ-loop
 loop-less c = search needs
 
 loop-again : tie.Need-loop-again Inv-loop μ-loop
-loop-again c = (search needs, (c .before .before .store-length .kept .1 .1 .1 .0 ∙ c .before .before .before .before .before .before .loop .inv .1 .0, c .before .before .store-length .ensures _ (c .before .before .before .before .before .before .loop .inv .1 .1)))
+loop-again c = (search needs, (c .before .before .store-length .kept .1 .1 .1 .0 ∙ c .before .before .before .before .before .before .loop .inv .1 .0, rows-turn 4 _ _ _ _ _ (c .before .before .before .before .before .before .loop .e) _ refl (c .before .before .store-length .ensures) refl (c .before .before .before .before .before .before .loop .inv .1 .1)))
 
 store-three-lengths-requires : tie.Need-store-three-lengths-requires Inv-loop μ-loop
 store-three-lengths-requires c κs = (omega (arith, c .before .before .before .before .before .before .before .pre, c .before .before .before .loop .inv .1 .0, c .before .before .loop-test .taken, c .before .if1 .left), omega (arith, c .before .before .loop-test .taken, c .before .if1 .left))
@@ -43,7 +43,7 @@ loop-less-2 : tie.Need-loop-less-2 Inv-loop μ-loop
 loop-less-2 c = search needs
 
 loop-again-2 : tie.Need-loop-again-2 Inv-loop μ-loop
-loop-again-2 c = (search needs, (c .before .before .store-three-lengths .kept .1 .1 .1 .0 ∙ c .before .before .before .before .before .before .loop .inv .1 .0, c .before .before .store-three-lengths .ensures _ (c .before .before .before .before .before .before .loop .inv .1 .1)))
+loop-again-2 c = (search needs, (c .before .before .store-three-lengths .kept .1 .1 .1 .0 ∙ c .before .before .before .before .before .before .loop .inv .1 .0, rows-turn-three 4 _ _ _ _ _ _ _ (c .before .before .before .before .before .before .loop .e) _ refl (c .before .before .store-three-lengths .ensures) refl refl refl (c .before .before .before .before .before .before .loop .inv .1 .1)))
 
 mul-zero-f64-from : tie.Need-mul-zero-f64-from Inv-loop μ-loop
 mul-zero-f64-from c = search needs

@@ -10,11 +10,11 @@ use Rattle.frames.proofs.normals.Tie as tie
 cast-faces : tie.Need-cast-faces
 cast-faces c = search needs
 
-all-across-requires : tie.Need-all-across-requires
-all-across-requires c κs = search needs
+perpendiculars-requires : tie.Need-perpendiculars-requires
+perpendiculars-requires c κs = search needs
 
-all-units-requires : tie.Need-all-units-requires
-all-units-requires c κs = search needs
+units-requires : tie.Need-units-requires
+units-requires c κs = search needs
 
 mul-zero-f64-from : tie.Need-mul-zero-f64-from
 mul-zero-f64-from c = search needs
@@ -30,8 +30,8 @@ returns c =
     let n = length (c .before .before .before .before .before .before .before .before .before .before .before .before .before .before .before .before .before .args .triangles .now) in
     let p = c .before .before .before .before .before .before .before .before .before .before .before .before .before .before .before .before .before .pre in
     normals-made _ _ _ _ n _ _ _ _ (p .1 .1)
-    (rows-done 3 _ _ _ (3 * (n / 3)) n (c .before .before .before .before .before .before .before .before .before .before .all-across .ensures) (omega arith) (omega (arith, p .1 .0)))
-    (rows-done 3 _ _ _ (3 * (n / 3)) n (c .before .before .before .before .before .before .all-units .ensures) (omega arith) (omega (arith, p .1 .0)))
+    (rows-done 3 _ _ _ (3 * (n / 3)) n (c .before .before .before .before .before .before .before .before .before .before .perpendiculars .ensures) (omega arith) (omega (arith, p .1 .0)))
+    (rows-done 3 _ _ _ (3 * (n / 3)) n (c .before .before .before .before .before .before .units .ensures) (omega arith) (omega (arith, p .1 .0)))
     (c .before .before .zero-f64-from .ensures)
 
 pub normals-spec : {M : Type 1} → statement M
@@ -39,8 +39,8 @@ normals-spec =
     tie.close
     (tie.spec
     cast-faces
-    all-across-requires
-    all-units-requires
+    perpendiculars-requires
+    units-requires
     mul-zero-f64-from
     zero-f64-from-requires
     same-length

@@ -1,5 +1,5 @@
-use mathlib.Core.Path.{refl}
-use Rattle.frames.proofs.Rows.{rows-turn}
+use mathlib.Core.Path.{ap, _∙_}
+use Rattle.buffers.specs.Slots.{fill}
 use Rattle.frames.proofs.Turns.{length-row}
 use borrow.Author.Needs.{needs}
 use Rattle.frames.proofs.store_length.Statement.{statement}
@@ -21,7 +21,7 @@ same-length : tie.Need-same-length
 same-length c = search needs
 
 returns : tie.Need-returns
-returns c = λ s so-far. rows-turn 4 _ s _ _ _ (c .before .before .before .before .before .before .before .before .before .before .args .e) _ refl (c .before .before .store-four .ensures) (length-row _ _ (c .before .before .before .before .before .before .before .before .before .before .args .e) _ _ _ (c .before .before .before .before .before .before .edge-vector .ensures) (c .before .before .before .before .before .norm .ensures) (c .before .before .before .scale .ensures)) so-far
+returns c = c .before .before .store-four .ensures ∙ ap (fill 4 (c .before .before .before .before .before .before .before .before .before .before .args .edge-reals .now) (c .before .before .before .before .before .before .before .before .before .before .args .e) 0) (length-row _ _ (c .before .before .before .before .before .before .before .before .before .before .args .e) _ _ _ (c .before .before .before .before .before .before .edge-vector .ensures) (c .before .before .before .before .before .norm .ensures) (c .before .before .before .scale .ensures))
 
 pub store-length-spec : {M : Type 1} → statement M
 store-length-spec =

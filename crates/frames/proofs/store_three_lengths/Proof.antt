@@ -1,7 +1,6 @@
 use Prim.Native.Nat.{_+_}
-use mathlib.Core.Path.{refl}
 use native.Mathlib.Omega.{arith}
-use Rattle.frames.proofs.Rows.{rows-turn}
+use Rattle.frames.proofs.Rows.{three-stored}
 use Rattle.frames.proofs.Turns.{length-row}
 use borrow.Author.Needs.{needs}
 use Rattle.frames.proofs.store_three_lengths.Statement.{statement}
@@ -53,11 +52,12 @@ same-length : tie.Need-same-length
 same-length c = search needs
 
 returns : tie.Need-returns
-returns c = λ s so-far.
+returns c =
     let e = c .before .before .before .before .before .before .before .before .before .before .before .before .before .before .before .before .before .before .before .before .before .before .before .before .before .args .e in
-    let first = rows-turn 4 _ s _ _ _ e (e + 1) refl (c .before .before .before .before .before .before .before .before .before .before .before .before .before .before .store-four .ensures) (length-row _ _ e _ _ _ (c .before .before .before .before .before .before .before .before .before .before .before .before .before .before .before .before .before .before .before .before .before .edge-vector .ensures) (c .before .before .before .before .before .before .before .before .before .before .before .before .before .before .before .before .before .before .norms .ensures .0) (c .before .before .before .before .before .before .before .before .before .before .before .before .before .before .before .scale .ensures)) so-far in
-    let second = rows-turn 4 _ s _ _ _ (e + 1) (e + 2) (omega arith) (c .before .before .before .before .before .before .before .before .store-four2 .ensures) (length-row _ _ (e + 1) _ _ _ (c .before .before .before .before .before .before .before .before .before .before .before .before .before .before .before .before .before .before .before .before .edge-vector2 .ensures) (c .before .before .before .before .before .before .before .before .before .before .before .before .before .before .before .before .before .before .norms .ensures .1 .0) (c .before .before .before .before .before .before .before .before .before .scale2 .ensures)) first in
-    rows-turn 4 _ s _ _ _ (e + 2) (e + 3) (omega arith) (c .before .before .store-four3 .ensures) (length-row _ _ (e + 2) _ _ _ (c .before .before .before .before .before .before .before .before .before .before .before .before .before .before .before .before .before .before .before .edge-vector3 .ensures) (c .before .before .before .before .before .before .before .before .before .before .before .before .before .before .before .before .before .before .norms .ensures .1 .1) (c .before .before .before .scale3 .ensures)) second
+    three-stored 4 e _ _ _ _ _ _ _ _ _ _ (c .before .before .before .before .before .before .before .before .before .before .before .before .before .before .store-four .ensures) (c .before .before .before .before .before .before .before .before .store-four2 .ensures) (c .before .before .store-four3 .ensures)
+    (length-row _ _ e _ _ _ (c .before .before .before .before .before .before .before .before .before .before .before .before .before .before .before .before .before .before .before .before .before .edge-vector .ensures) (c .before .before .before .before .before .before .before .before .before .before .before .before .before .before .before .before .before .before .norms .ensures .0) (c .before .before .before .before .before .before .before .before .before .before .before .before .before .before .before .scale .ensures))
+    (length-row _ _ (e + 1) _ _ _ (c .before .before .before .before .before .before .before .before .before .before .before .before .before .before .before .before .before .before .before .before .edge-vector2 .ensures) (c .before .before .before .before .before .before .before .before .before .before .before .before .before .before .before .before .before .before .norms .ensures .1 .0) (c .before .before .before .before .before .before .before .before .before .scale2 .ensures))
+    (length-row _ _ (e + 2) _ _ _ (c .before .before .before .before .before .before .before .before .before .before .before .before .before .before .before .before .before .before .before .edge-vector3 .ensures) (c .before .before .before .before .before .before .before .before .before .before .before .before .before .before .before .before .before .before .norms .ensures .1 .1) (c .before .before .before .scale3 .ensures))
 
 pub store-three-lengths-spec : {M : Type 1} → statement M
 store-three-lengths-spec =

@@ -1,6 +1,6 @@
 use Prim.Native.Nat.{_+_, _*_}
 use native.Mathlib.Omega.{arith}
-use Rattle.frames.proofs.Rows.{rows-turn}
+use Rattle.frames.proofs.Rows.{three-stored}
 use Rattle.frames.proofs.Turns.{unit-row}
 use borrow.Author.Needs.{needs}
 use Rattle.frames.proofs.store_units.Statement.{statement}
@@ -70,11 +70,13 @@ same-length : tie.Need-same-length
 same-length c = search needs
 
 returns : tie.Need-returns
-returns c = λ s so-far.
+returns c =
     let f = c .before .before .before .before .before .before .before .before .before .before .before .before .before .before .before .before .before .before .before .before .before .before .before .before .before .before .args .f in
-    let first = rows-turn 3 _ s _ _ _ (3 * f) (3 * f + 1) (omega arith) (c .before .before .before .before .before .before .before .before .before .before .before .before .before .before .store-three .ensures) (unit-row s _ (3 * f) (3 * f) _ _ _ (omega arith) so-far (c .before .before .before .before .before .before .before .before .before .before .before .before .before .before .before .before .before .before .before .before .before .before .before .vector .ensures) (c .before .before .before .before .before .before .before .before .before .before .before .before .before .before .before .before .before .before .norms .ensures .0) (c .before .before .before .before .before .before .before .before .before .before .before .before .before .before .before .scale .ensures)) so-far in
-    let second = rows-turn 3 _ s _ _ _ (3 * f + 1) (3 * f + 2) (omega arith) (c .before .before .before .before .before .before .before .before .store-three2 .ensures) (unit-row s _ (3 * f) (3 * f + 1) _ _ _ (omega arith) so-far (c .before .before .before .before .before .before .before .before .before .before .before .before .before .before .before .before .before .before .before .before .before .vector2 .ensures) (c .before .before .before .before .before .before .before .before .before .before .before .before .before .before .before .before .before .before .norms .ensures .1 .0) (c .before .before .before .before .before .before .before .before .before .scale2 .ensures)) first in
-    rows-turn 3 _ s _ _ _ (3 * f + 2) (3 * f + 3) (omega arith) (c .before .before .store-three3 .ensures) (unit-row s _ (3 * f) (3 * f + 2) _ _ _ (omega arith) so-far (c .before .before .before .before .before .before .before .before .before .before .before .before .before .before .before .before .before .before .before .vector3 .ensures) (c .before .before .before .before .before .before .before .before .before .before .before .before .before .before .before .before .before .before .norms .ensures .1 .1) (c .before .before .before .scale3 .ensures)) second
+    let r = c .before .before .before .before .before .before .before .before .before .before .before .before .before .before .before .before .before .before .before .before .before .before .before .before .before .before .args .reals .now in
+    three-stored 3 (3 * f) _ _ _ _ _ _ _ _ _ _ (c .before .before .before .before .before .before .before .before .before .before .before .before .before .before .store-three .ensures) (c .before .before .before .before .before .before .before .before .store-three2 .ensures) (c .before .before .store-three3 .ensures)
+    (unit-row r (3 * f) _ _ _ (c .before .before .before .before .before .before .before .before .before .before .before .before .before .before .before .before .before .before .before .before .before .before .before .vector .ensures) (c .before .before .before .before .before .before .before .before .before .before .before .before .before .before .before .before .before .before .norms .ensures .0) (c .before .before .before .before .before .before .before .before .before .before .before .before .before .before .before .scale .ensures))
+    (unit-row r (3 * f + 1) _ _ _ (c .before .before .before .before .before .before .before .before .before .before .before .before .before .before .before .before .before .before .before .before .before .vector2 .ensures) (c .before .before .before .before .before .before .before .before .before .before .before .before .before .before .before .before .before .before .norms .ensures .1 .0) (c .before .before .before .before .before .before .before .before .before .scale2 .ensures))
+    (unit-row r (3 * f + 2) _ _ _ (c .before .before .before .before .before .before .before .before .before .before .before .before .before .before .before .before .before .before .before .vector3 .ensures) (c .before .before .before .before .before .before .before .before .before .before .before .before .before .before .before .before .before .before .norms .ensures .1 .1) (c .before .before .before .scale3 .ensures))
 
 pub store-units-spec : {M : Type 1} → statement M
 store-units-spec =

@@ -3,7 +3,7 @@ use mathlib.Core.Path.{_≡_, sym, ap, _∙_}
 use Rattle.vec3.specs.Vec.{subOf}
 use Rattle.job_checks.specs.Edge.{vertexAt, lower, higher}
 use Rattle.job_checks.specs.Refusals.{degenerate, degenerateEdge}
-use Rattle.job_checks.proofs.Edge.{lower-below}
+use Rattle.job_checks.proofs.Edge.{ends-below}
 use borrow.Author.Needs.{needs}
 use Rattle.job_checks.proofs.degenerate_edge.Statement.{statement}
 use Rattle.job_checks.proofs.degenerate_edge.Tie as tie
@@ -12,7 +12,7 @@ lower-of-requires : tie.Need-lower-of-requires
 lower-of-requires c κs = search needs
 
 vertex-requires : tie.Need-vertex-requires
-vertex-requires c κs = rw (c .lower-of .ensures) (lower-below _ _ _ (c .before .before .pre .0) (c .before .before .pre .1 .0) .0)
+vertex-requires c κs = rw (c .lower-of .ensures) (ends-below _ _ _ (c .before .before .pre .0) (c .before .before .pre .1 .0) .0)
 
 vertex-requires-2 : tie.Need-vertex-requires-2
 vertex-requires-2 c κs = search needs

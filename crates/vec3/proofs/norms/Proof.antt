@@ -20,11 +20,11 @@ dot-requires-2 c κs = search needs
 dot-requires-3 : tie.Need-dot-requires-3
 dot-requires-3 c κs = search needs
 
-sqrt3-requires : tie.Need-sqrt3-requires
-sqrt3-requires c κs = search needs
+three-sqrts-requires : tie.Need-three-sqrts-requires
+three-sqrts-requires c κs = search needs
 
 returns : tie.Need-returns
-returns c = let r = c .sqrt3 .ensures in (root _ _ _ (r .0) (c .before .before .before .dot .ensures), (root _ _ _ (r .1 .0) (c .before .before .dot2 .ensures), root _ _ _ (r .1 .1) (c .before .dot3 .ensures)))
+returns c = let r = c .three-sqrts .ensures in (root _ _ _ (r .0) (c .before .before .before .dot .ensures), (root _ _ _ (r .1 .0) (c .before .before .dot2 .ensures), root _ _ _ (r .1 .1) (c .before .dot3 .ensures)))
 
 pub norms-spec : {M : Type 1} → statement M
-norms-spec = tie.close (tie.spec dot-requires dot-requires-2 dot-requires-3 sqrt3-requires returns)
+norms-spec = tie.close (tie.spec dot-requires dot-requires-2 dot-requires-3 three-sqrts-requires returns)

@@ -1,11 +1,11 @@
 use Prim.Native.Nat.{_+_, _*_}
 use mathlib.Core.Path.{refl}
 use native.Mathlib.Omega.{arith}
-use Rattle.frames.proofs.Rows.{rows-turn}
-use Rattle.frames.proofs.Turns.{across-row}
+use Rattle.frames.proofs.Rows.{three-stored}
+use Rattle.frames.proofs.Turns.{perpendicular-row}
 use borrow.Author.Needs.{needs}
-use Rattle.frames.proofs.store_across.Statement.{statement}
-use Rattle.frames.proofs.store_across.Tie as tie
+use Rattle.frames.proofs.store_perpendiculars.Statement.{statement}
+use Rattle.frames.proofs.store_perpendiculars.Tie as tie
 
 read-u32-requires : tie.Need-read-u32-requires
 read-u32-requires c κs = search needs
@@ -25,14 +25,14 @@ read-u32-requires-5 c κs = search needs
 read-u32-requires-6 : tie.Need-read-u32-requires-6
 read-u32-requires-6 c κs = search needs
 
-across-requires : tie.Need-across-requires
-across-requires c κs = search needs
+perpendicular-requires : tie.Need-perpendicular-requires
+perpendicular-requires c κs = search needs
 
-across-requires-2 : tie.Need-across-requires-2
-across-requires-2 c κs = search needs
+perpendicular-requires-2 : tie.Need-perpendicular-requires-2
+perpendicular-requires-2 c κs = search needs
 
-across-requires-3 : tie.Need-across-requires-3
-across-requires-3 c κs = search needs
+perpendicular-requires-3 : tie.Need-perpendicular-requires-3
+perpendicular-requires-3 c κs = search needs
 
 mul-store-three : tie.Need-mul-store-three
 mul-store-three c = omega (arith, c .before .before .before .before .before .before .before .before .before .before .before .before .before .before .before .pre .1)
@@ -62,17 +62,18 @@ same-length : tie.Need-same-length
 same-length c = search needs
 
 returns : tie.Need-returns
-returns c = λ s so-far.
+returns c =
     let f = c .before .before .before .before .before .before .before .before .before .before .before .before .before .before .before .before .before .before .before .before .before .before .before .before .before .before .args .f in
     let a = c .before .before .before .before .before .before .before .before .before .before .before .before .before .before .before .before .before .before .before .before .read-u32 .ensures in
     let b = c .before .before .before .before .before .before .before .before .before .before .before .before .before .before .before .before .before .before .before .read-u322 .ensures in
     let c′ = c .before .before .before .before .before .before .before .before .before .before .before .before .before .before .before .before .before .before .read-u323 .ensures in
-    let first = rows-turn 3 _ s _ _ _ (3 * f) (3 * f + 1) (omega arith) (c .before .before .before .before .before .before .before .before .before .before .store-three .ensures) (across-row _ _ _ _ f 0 (omega arith) (3 * f) _ _ _ _ _ (omega arith) (c .before .before .before .before .before .before .before .before .before .before .before .before .before .before .before .before .before .read-u324 .ensures) a b c′ (c .before .before .before .before .before .before .before .before .before .before .before .before .before .before .across .ensures)) so-far in
-    let second = rows-turn 3 _ s _ _ _ (3 * f + 1) (3 * f + 2) (omega arith) (c .before .before .before .before .before .before .store-three2 .ensures) (across-row _ _ _ _ f 1 (omega arith) (3 * f + 1) _ _ _ _ _ refl (c .before .before .before .before .before .before .before .before .before .before .before .before .before .before .before .before .read-u325 .ensures) b c′ a (c .before .before .before .before .before .before .before .before .before .before .before .before .before .across2 .ensures)) first in
-    rows-turn 3 _ s _ _ _ (3 * f + 2) (3 * f + 3) (omega arith) (c .before .before .store-three3 .ensures) (across-row _ _ _ _ f 2 (omega arith) (3 * f + 2) _ _ _ _ _ refl (c .before .before .before .before .before .before .before .before .before .before .before .before .before .before .before .read-u326 .ensures) c′ a b (c .before .before .before .before .before .before .before .before .before .before .before .before .across3 .ensures)) second
+    three-stored 3 (3 * f) _ _ _ _ _ _ _ _ _ _ (c .before .before .before .before .before .before .before .before .before .before .store-three .ensures) (c .before .before .before .before .before .before .store-three2 .ensures) (c .before .before .store-three3 .ensures)
+    (perpendicular-row _ _ _ _ f 0 (omega arith) (3 * f) _ _ _ _ _ (omega arith) (c .before .before .before .before .before .before .before .before .before .before .before .before .before .before .before .before .before .read-u324 .ensures) a b c′ (c .before .before .before .before .before .before .before .before .before .before .before .before .before .before .perpendicular .ensures))
+    (perpendicular-row _ _ _ _ f 1 (omega arith) (3 * f + 1) _ _ _ _ _ refl (c .before .before .before .before .before .before .before .before .before .before .before .before .before .before .before .before .read-u325 .ensures) b c′ a (c .before .before .before .before .before .before .before .before .before .before .before .before .before .perpendicular2 .ensures))
+    (perpendicular-row _ _ _ _ f 2 (omega arith) (3 * f + 2) _ _ _ _ _ refl (c .before .before .before .before .before .before .before .before .before .before .before .before .before .before .before .read-u326 .ensures) c′ a b (c .before .before .before .before .before .before .before .before .before .before .before .before .perpendicular3 .ensures))
 
-pub store-across-spec : {M : Type 1} → statement M
-store-across-spec =
+pub store-perpendiculars-spec : {M : Type 1} → statement M
+store-perpendiculars-spec =
     tie.close
     (tie.spec
     read-u32-requires
@@ -81,9 +82,9 @@ store-across-spec =
     read-u32-requires-4
     read-u32-requires-5
     read-u32-requires-6
-    across-requires
-    across-requires-2
-    across-requires-3
+    perpendicular-requires
+    perpendicular-requires-2
+    perpendicular-requires-3
     mul-store-three
     store-three-requires
     mul-store-three-2

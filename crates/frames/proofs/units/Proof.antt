@@ -4,9 +4,10 @@ use native.Mathlib.Omega.{arith}
 use borrow.Author.Needs.{needs}
 use lib.ListN.{length}
 use Rattle.frames.specs.Stored.{withRows, unitRow}
-use Rattle.frames.proofs.Rows.{rows-start, rows-done}
-use Rattle.frames.proofs.all_units.Statement.{statement}
-use Rattle.frames.proofs.all_units.Tie as tie
+use Rattle.frames.proofs.Rows.{rows-start, rows-turn-three, rows-done}
+use Rattle.frames.proofs.Turns.{unit-past}
+use Rattle.frames.proofs.units.Statement.{statement}
+use Rattle.frames.proofs.units.Tie as tie
 
 abbrev Inv-loop : tie.InvT-loop
 Inv-loop reals₀ faces f₀ reals f = (f ≤ faces) × ((length reals ≡ length reals₀) × (reals ≡ withRows 3 (unitRow reals₀) (3 * f) reals₀))
@@ -27,8 +28,9 @@ loop-less : tie.Need-loop-less Inv-loop μ-loop
 loop-less c = search needs
 
 loop-again : tie.Need-loop-again Inv-loop μ-loop
-loop-again c = let l = c .before .before .before .before .before .loop in
-    (search needs, (c .before .before .store-units .kept .0 ∙ l .inv .1 .0, rows-done 3 _ _ _ (3 * l .f + 3) _ (c .before .before .store-units .ensures (c .before .before .before .before .before .before .before .args .reals .now) (l .inv .1 .1)) (omega arith) (omega arith)))
+loop-again c =
+    let l = c .before .before .before .before .before .loop in
+    (search needs, (c .before .before .store-units .kept .0 ∙ l .inv .1 .0, rows-turn-three 3 _ _ _ _ _ _ _ (3 * l .f) (3 * (l .f + 1)) (omega arith) (c .before .before .store-units .ensures) (unit-past (c .before .before .before .before .before .before .before .args .reals .now) _ (3 * l .f) (3 * l .f) (omega arith) (l .inv .1 .1)) (unit-past (c .before .before .before .before .before .before .before .args .reals .now) _ (3 * l .f) (3 * l .f + 1) (omega arith) (l .inv .1 .1)) (unit-past (c .before .before .before .before .before .before .before .args .reals .now) _ (3 * l .f) (3 * l .f + 2) (omega arith) (l .inv .1 .1)) (l .inv .1 .1)))
 
 same-length : tie.Need-same-length Inv-loop μ-loop
 same-length c = search needs
@@ -36,8 +38,8 @@ same-length c = search needs
 returns : tie.Need-returns Inv-loop μ-loop
 returns c = let l = c .before .loop in rows-done 3 _ _ _ (3 * l .f) _ (l .inv .1 .1) (omega (arith, l .inv .0)) (omega (arith, c .loop-test .left))
 
-pub all-units-spec : {M : Type 1} → statement M
-all-units-spec =
+pub units-spec : {M : Type 1} → statement M
+units-spec =
     tie.close
     (tie.spec
     Inv-loop

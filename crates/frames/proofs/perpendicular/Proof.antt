@@ -1,7 +1,7 @@
-use Rattle.frames.proofs.Turns.{across-steps}
+use Rattle.frames.proofs.Turns.{perpendicular-steps}
 use borrow.Author.Needs.{needs}
-use Rattle.frames.proofs.across.Statement.{statement}
-use Rattle.frames.proofs.across.Tie as tie
+use Rattle.frames.proofs.perpendicular.Statement.{statement}
+use Rattle.frames.proofs.perpendicular.Tie as tie
 
 lower-of-requires : tie.Need-lower-of-requires
 lower-of-requires c κs = search needs
@@ -27,10 +27,10 @@ axpy-requires c κs = search needs
 returns : tie.Need-returns
 returns c =
     let a = c .before .before .before .before .before .before .before .before .before .args in
-    across-steps (a .vertices .now) (a .edge-reals .now) (a .e) (a .a) (a .b) _ (a .third) _ _ _ _ _ _ (c .before .before .before .before .before .before .lower-of .ensures) (c .before .before .before .before .before .vertex .ensures) (c .before .before .before .before .vector .ensures) (c .before .before .before .vertex2 .ensures) (c .before .before .sub .ensures) (c .before .dot .ensures) (c .axpy .ensures)
+    perpendicular-steps (a .vertices .now) (a .edge-reals .now) (a .e) (a .a) (a .b) _ (a .third) _ _ _ _ _ _ (c .before .before .before .before .before .before .lower-of .ensures) (c .before .before .before .before .before .vertex .ensures) (c .before .before .before .before .vector .ensures) (c .before .before .before .vertex2 .ensures) (c .before .before .sub .ensures) (c .before .dot .ensures) (c .axpy .ensures)
 
-pub across-spec : {M : Type 1} → statement M
-across-spec =
+pub perpendicular-spec : {M : Type 1} → statement M
+perpendicular-spec =
     tie.close
     (tie.spec
     lower-of-requires
