@@ -235,6 +235,17 @@ def checked_meshes(path):
             yield (0 if refusal == 10 else refusal), job
 
 
+# At the bounds of refusal 5. The altitude of vertex 2 is the rounded root of the rounded sum of the squares of its y and z: with a z of 2 ** -46 the sum is the
+# least double whose root is 1e-6, one below 1e-12.
+AT_THE_BOUNDS = [
+    (0, point(1, 0.001, 0.0, 0.0)),
+    (5, point(1, after(0.001, -1), 0.0, 0.0)),
+    (0, point(2, 1.5, 1e-6, 0.0)),
+    (0, point(2, 1.5, after(1e-6, -1), 2.0**-46)),
+    (5, point(2, 1.5, after(1e-6, -1), 0.0)),
+]
+
+
 def written_jobs():
     jobs = [(0, empty())]
     for change in SOUND[:-1]:
@@ -246,7 +257,7 @@ def written_jobs():
     # a vertex more, with its flag and slot, named by no triangle
     more = applied(SOUND[-1], append("flags", 1), put("buffers", 0, 5))
     jobs.append((0, more))
-    for refusal, change in DEFECTS:
+    for refusal, change in DEFECTS + AT_THE_BOUNDS:
         jobs.append((refusal, applied(change)))
     # the defect that is tried first is made last, so that nothing undoes it
     for (r1, c1), (r2, c2) in itertools.combinations(DEFECTS, 2):

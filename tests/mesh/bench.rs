@@ -78,7 +78,7 @@ fn fan(triangles: usize) -> Mesh {
     (v, t.collect())
 }
 
-/// Few vertices, each joined with every other: triangles whose three numbers add up to nothing, round the number of vertices.
+/// Few vertices, almost every two joined: the triangles a < b < c with a + b + c a multiple of the number of vertices.
 fn dense(triangles: usize) -> Mesh {
     let n = (6. * triangles as f64).sqrt() as usize;
     let mut rng = Rng::new(2);
@@ -198,6 +198,15 @@ impl Lent {
         }
     }
 
+    /// How many edges the fullest bucket has: an edge's sixth word is the link to the next of its bucket, which was entered before it.
+    fn longest_bucket(&self, edges: usize) -> u32 {
+        let mut from = vec![0; edges + 1];
+        for e in 0..edges {
+            from[e + 1] = from[self.edge_words[6 * e + 5] as usize] + 1;
+        }
+        from.into_iter().max().unwrap_or(0)
+    }
+
     /// Every number of the Rust's, to the bit.
     fn compare(&self, topo: &Topology) {
         let same = |a: &[f64], b: &[f64]| a.iter().zip(b).all(|(x, y)| x.to_bits() == y.to_bits());
@@ -250,19 +259,21 @@ fn least(turn_by_turn: bool, mut programs: [&mut dyn FnMut() -> f64; 4]) -> [f64
     least
 }
 
-/// Two lines, one for each way to take turns; the answer is the time of the library's topology, without the checks, turn by turn.
-fn measure(name: &str, mesh: &Mesh) -> f64 {
-    let (v, t) = mesh;
+/// Two lines, one for each way to take turns; the answer is the time of the library's topology, without the checks, by turns and in a row.
+/// Both programs read the same memory.
+fn measure(name: &str, mesh: &Mesh) -> [f64; 2] {
     let job = job(mesh);
     job.check().expect("a sound job");
+    let (v, t) = (job.vertices.as_chunks().0, job.triangles.as_chunks().0);
     let pseudo = vec![false; v.len()];
     let topo = Topology::new(v, t, &pseudo).expect("at most two faces an edge");
     assert!(topo.faces.iter().all(|f| f[0] != NONE));
     let mut lent = Lent::new(&job);
     assert_eq!(lent.build(&job), topo.edges.len() as u64);
     lent.compare(&topo);
-    let [first, _] = [true, false].map(|turn_by_turn| {
-        let [new, check, all, checks] = least(
+    let bucket = lent.longest_bucket(topo.edges.len());
+    let times = [true, false].map(|turn_by_turn| {
+        least(
             turn_by_turn,
             [
                 &mut || time(|| Topology::new(v, t, &pseudo)),
@@ -270,26 +281,35 @@ fn measure(name: &str, mesh: &Mesh) -> f64 {
                 &mut || time(|| lent.build(&job)),
                 &mut || time(|| Lent::check(&job)),
             ],
-        );
+        )
+    });
+    let checks = times[0][3].min(times[1][3]);
+    [0, 1].map(|way| {
+        let [new, check, all, _] = times[way];
         let ours = all - checks;
         println!(
-            "| {name} | {} | {} | {} | {new:.2} | {ours:.2} | {:.2} | {check:.2} | {checks:.2} | {:.2} |",
+            "| {name} | {} | {} | {bucket} | {} | {new:.2} | {ours:.2} | {:.2} | {check:.2} | {checks:.2} | {:.2} |",
             t.len(),
             topo.edges.len(),
-            if turn_by_turn { "by turns" } else { "in a row" },
+            ["by turns", "in a row"][way],
             ours / new,
             all / (new + check)
         );
         ours
-    });
-    first
+    })
 }
 
 fn main() {
+    let load = std::fs::read_to_string("/proc/loadavg").unwrap_or_default();
     println!(
-        "| mesh | triangles | edges | turns | Topology::new, ms | topology, ms | ratio | the Rust's checks, ms | checks, ms | all / all |"
+        "- other work as the run began: a load of {} on {} processors\n",
+        load.split(' ').next().unwrap_or("?"),
+        std::thread::available_parallelism().map_or(0, |n| n.get())
     );
-    println!("|---|---:|---:|---|---:|---:|---:|---:|---:|---:|");
+    println!(
+        "| mesh | triangles | edges | longest bucket | turns | Topology::new, ms | topology, ms | ratio | the oracle's checks, ms | checks, ms | all / all |"
+    );
+    println!("|---|---:|---:|---:|---|---:|---:|---:|---:|---:|---:|");
     let sizes = [2_000, 30_000, 131_070];
     // 104 by 104 squares a side at most: the next larger one passes the bound on triangles.
     let sphere = |n: usize| workshop::mesh(Shape::Sphere, n.min(129_792), &mut Rng::new(1));
@@ -299,7 +319,7 @@ fn main() {
         ("sphere", &sphere),
         ("two fans", &fan),
         ("sphere, shuffled", &|n| shuffled(sphere(n))),
-        ("all vertices joined", &dense),
+        ("dense", &dense),
     ];
     let mut growth = vec![];
     for (name, make) in meshes {
@@ -307,13 +327,23 @@ fn main() {
             let mesh = make(n);
             (mesh.1.len() as f64, measure(name, &mesh))
         });
-        let power = |a: (f64, f64), b: (f64, f64)| (b.1 / a.1).ln() / (b.0 / a.0).ln();
+        let power = |a: usize, b: usize, way: usize| {
+            (times[b].1[way] / times[a].1[way]).ln() / (times[b].0 / times[a].0).ln()
+        };
         growth.push(format!(
-            "{name}: n^{:.2} from 2,000 to 30,000, n^{:.2} on to the largest",
-            power(times[0], times[1]),
-            power(times[1], times[2])
+            "| {name} | {:.3} | {:.3} | {:.3} | {:.3} |",
+            power(0, 1, 0),
+            power(0, 1, 1),
+            power(1, 2, 0),
+            power(1, 2, 1)
         ));
     }
-    println!("\nGrowth of the time with the number of triangles:\n");
-    growth.iter().for_each(|line| println!("- {line}"));
+    println!(
+        "\nGrowth of the library's time, without its checks, as a power of the number of triangles:\n"
+    );
+    println!(
+        "| mesh | 2,000 to 30,000, by turns | in a row | 30,000 to the largest, by turns | in a row |"
+    );
+    println!("|---|---:|---:|---:|---:|");
+    growth.iter().for_each(|line| println!("{line}"));
 }

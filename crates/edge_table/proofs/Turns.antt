@@ -88,7 +88,7 @@ module _ (triangles : List ℕ) (h : ℕ) where
   side-ordered = ⊎-elim (λ w. omega arith) (λ w. omega arith) (ends (corner triangles h 0) (corner triangles h 1))
 
   module _ (v : ℕ) (m : Mesh triangles v) (l : h < length triangles) where
-    pub side-below : (sideEdge triangles h .low < v) × (sideEdge triangles h .high < v)
+    side-below : (sideEdge triangles h .low < v) × (sideEdge triangles h .high < v)
     unfolding sideEdge between corner
     side-below =
         both-below (corner triangles h 0) (corner triangles h 1) v
@@ -120,7 +120,7 @@ module _ (triangles : List ℕ) (h k : ℕ) (number : find (sideEdge triangles h
       go (no p) (yes q) (yes r) = absurd (ne (omega arith) (omega arith))
       go (no p) (yes q) (no r) = rw (lt-ltb b 3 (omega arith), lt-ltb (3 * j + b) (suc h) (omega arith), lt-ltb (3 * j + b) h (omega arith)) (number-kept triangles h (3 * j + b) (omega arith))
 
-    pub numbers-turn : Holds 6 (set words (6 * (h / 3) + h % 3) k) (triangleWord (suc h) (numberSoFar triangles (suc h)))
+    numbers-turn : Holds 6 (set words (6 * (h / 3) + h % 3) k) (triangleWord (suc h) (numberSoFar triangles (suc h)))
     numbers-turn =
         holds-set 6 words (triangleWord h (numberSoFar triangles h)) (triangleWord (suc h) (numberSoFar triangles (suc h))) holds (h / 3) (h % 3) k (omega arith) fits new-number old-number
 
@@ -154,10 +154,10 @@ module _ (triangles : List ℕ) (size h : ℕ) (heads edge triangle : List ℕ) 
     from-head : head ≡ lastIn size (edgesOf triangles h) (bucketOf size x) (length (edgesOf triangles h))
     from-head = eh ∙ (head-at bucket ∙ ap (λ (b : ℕ). lastIn size (edgesOf triangles h) b (length (edgesOf triangles h))) eb)
 
-    pub look-missing : r ≡ 0 → length (edgesOf triangles h) ≤ find x (edgesOf triangles h)
+    look-missing : r ≡ 0 → length (edgesOf triangles h) ≤ find x (edgesOf triangles h)
     look-missing = seek-missing size (edgesOf triangles h) edge (numbered triangles h) linked x links-fall head r from-head er
 
-    pub look-found : r ≢ 0 → (find x (edgesOf triangles h) < length (edgesOf triangles h)) × (r - 1 ≡ find x (edgesOf triangles h))
+    look-found : r ≢ 0 → (find x (edgesOf triangles h) < length (edgesOf triangles h)) × (r - 1 ≡ find x (edgesOf triangles h))
     look-found = seek-found size (edgesOf triangles h) edge (numbered triangles h) linked x links-fall head r from-head er
 
   -- the same for a side whose ends were computed
@@ -225,7 +225,7 @@ module _ (triangles : List ℕ) (size h : ℕ) (heads edge triangle : List ℕ) 
     unfolding facesSoFar
     some = faces-some triangles h e there
 
-    pub third-turn : getD edge (6 * e + 3) 0 ≢ noFace → sharedByThree triangles ≡ true
+    third-turn : getD edge (6 * e + 3) 0 ≢ noFace → sharedByThree triangles ≡ true
     third-turn ne =
         let two : 1 < length (facesSoFar triangles h e) = go (decLe (length (facesSoFar triangles h e)) 1) in
         third-face triangles h (suc h) l l (rw (faces-more triangles h) (omega (arith, length-append (facesAmong triangles (sideEdge triangles h) h) (h / 3 ∷ []), ap length faces-before)))
@@ -269,7 +269,7 @@ module _ (triangles : List ℕ) (size h : ℕ) (heads edge triangle : List ℕ) 
         go (yes q) = rw (q, faces-after, second-face (facesSoFar triangles h e) (h / 3) one-face .1 .1) (omega arith)
         go (no q) = rw (faces-kept j k (λ z. q (sym z ∙ number))) (p .two-faces j k)
 
-      pub found-turn : Partial triangles size (suc h) heads (set edge (6 * e + 3) (h / 3)) (set triangle (6 * (h / 3) + h % 3) e)
+      found-turn : Partial triangles size (suc h) heads (set edge (6 * e + 3) (h / 3)) (set triangle (6 * (h / 3) + h % 3) e)
       found-turn =
           partial triangles size h (edgesOf triangles h) same-edges heads (set edge (6 * e + 3) (h / 3)) (set triangle (6 * (h / 3) + h % 3) e)
           (p .head-words)
@@ -340,7 +340,7 @@ module _ (triangles : List ℕ) (size h : ℕ) (heads edge triangle : List ℕ) 
           rw (q, new-faces) (omega arith)
       go (no n) = rw (old-faces j (omega arith)) (p .two-faces j (omega arith))
 
-    pub new-turn : Partial triangles size (suc h)
+    new-turn : Partial triangles size (suc h)
         (set heads (1 * bucketOf size (sideEdge triangles h) + 0) (suc (length (edgesOf triangles h))))
         (fill 6 edge (length (edgesOf triangles h)) 0 (sideEdge triangles h .low ∷ sideEdge triangles h .high ∷ h / 3 ∷ noFace ∷ 0 ∷ lastIn size (edgesOf triangles h) (bucketOf size (sideEdge triangles h)) (length (edgesOf triangles h)) ∷ []))
         (set triangle (6 * (h / 3) + h % 3) (length (edgesOf triangles h)))

@@ -1,8 +1,7 @@
 // The edges of a mesh, numbered by first appearance, in buffers that a caller lends. An edge is looked up through buckets: as many
 // as the mesh has sides, each a chain of edges through the edge buffer, the newest first. `bucketOf` in specs/ spreads them.
-// On grids, strips, double fans and spheres of up to 131,070 triangles, on one with its numbers shuffled, and where each vertex is joined with
-// every other, a look-up took less than one step and no chain had more than 7 edges. Nothing proves that: the worst case, a mesh whose E edges all
-// meet in one bucket, takes a step for each edge so far, E (E - 1) / 2 to enter them.
+// On the meshes of tests/mesh/bench.rs no bucket has more than MOST edges. Nothing proves that: tests/mesh/worst.rs counts how full one can get, some
+// thousands, and from the code alone E edges take at most a step for each edge before, E (E - 1) / 2.
 use buffers::read_u32;
 use buffers::write_u32;
 use buffers::zero_u32;

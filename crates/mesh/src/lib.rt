@@ -55,7 +55,7 @@ fn clear(
     zero_f64(triangle_reals);
 }
 
-// What the edge table is the ground of, where it has so many edges.
+// What is computed from a table of `edges` edges: the faces round each vertex, lengths and normals.
 fn complete(
     vertices: &[f64],
     triangles: &[u32],
