@@ -6,7 +6,8 @@ use oracle::job::Job;
 use oracle::vector::Vec3;
 use std::{hint::black_box, time::Instant};
 
-const TURNS: usize = 25;
+const TURNS: usize = 30;
+const ROW: usize = 6;
 
 unsafe extern "C" {
     /// The refusals 1 to 5, 0 for none.
@@ -245,11 +246,11 @@ impl Lent {
     }
 }
 
-/// The least times of four programs: TURNS turns of each, turn by turn or one program after the other.
+/// The least times of four programs: TURNS turns of each, turn by turn, or ROW turns of one after the other before the next.
 fn least(turn_by_turn: bool, mut programs: [&mut dyn FnMut() -> f64; 4]) -> [f64; 4] {
-    let (rounds, turns) = if turn_by_turn { (TURNS, 1) } else { (1, TURNS) };
+    let turns = if turn_by_turn { 1 } else { ROW };
     let mut least = [f64::INFINITY; 4];
-    for _ in 0..rounds {
+    for _ in 0..TURNS / turns {
         for (least, program) in least.iter_mut().zip(&mut programs) {
             for _ in 0..turns {
                 *least = least.min(program());

@@ -1,6 +1,6 @@
 // The edges of a mesh, numbered by first appearance, in buffers that a caller lends. An edge is looked up through buckets: as many
 // as the mesh has sides, each a chain of edges through the edge buffer, the newest first. `bucketOf` in specs/ spreads them.
-// On the meshes of tests/mesh/bench.rs no bucket has more than MOST edges. Nothing proves that: tests/mesh/worst.rs counts how full one can get, some
+// On the meshes of tests/mesh/bench.rs no bucket has more than 7 edges. Nothing proves that: tests/mesh/worst.rs counts how full one can get, some
 // thousands, and from the code alone E edges take at most a step for each edge before, E (E - 1) / 2.
 use buffers::read_u32;
 use buffers::write_u32;
