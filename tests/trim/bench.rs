@@ -6,7 +6,7 @@ use oracle::reading::{Patched, Published, Reading};
 use oracle::vectors;
 use std::{hint::black_box, time::Instant};
 
-const TURNS: usize = 5;
+const TURNS: usize = 12;
 
 enum Step {
     Add(Win),
@@ -312,18 +312,16 @@ fn measure(name: &str, shape: Shape, triangles: usize, lines: usize, limit: f64)
     let list = Reader(&bytes).list();
     let adds = list.steps.iter().filter(|s| matches!(s, Step::Add(_)));
     let adds = adds.count();
-    let least = |times: Vec<f64>| times.into_iter().fold(f64::INFINITY, f64::min);
-    let published = least((0..TURNS).map(|_| rust::<Published>(&list).0).collect());
     let made = rust::<Patched>(&list).1;
     let live: usize = made.on_edge.iter().map(Vec::len).sum();
     let windows = made.wins.len();
-    let mut times = vec![];
+    let (mut published, mut ours) = (f64::INFINITY, f64::INFINITY);
     for _ in 0..TURNS {
+        published = published.min(rust::<Published>(&list).0);
         let mut lent = lent::Lent::new(&list, windows);
-        times.push(lent.run());
+        ours = ours.min(lent.run());
         lent.compare(&made);
     }
-    let ours = least(times);
     println!(
         "| {name} | {adds} | {windows} | {live} | {:.1} | {:.1} | {:.2} |",
         1e9 * published / adds as f64,
