@@ -19,7 +19,7 @@ use Rattle.float64.proofs.Scalar.{two-is}
 use Rattle.root_spec.proofs.Units.{FitsIn, fits-in, grid, grid-lt}
 use Rattle.float_laws.proofs.Signed.{SLe, signed, signed-up}
 use Rattle.float_laws.proofs.Order as order
-use Rattle.float_laws.proofs.Order.{Number, finite-number, le-antisym, eq-finite, neg-neg, neg-finite, neg-le, eq-le, eq-sym, le-number-l}
+use Rattle.float_laws.proofs.Order.{Number, past-infinity, finite-number, le-antisym, eq-finite, neg-neg, neg-finite, neg-le, eq-le, eq-sym, le-number-l}
 use Rattle.float_laws.proofs.Round.{round-own, round-signed, round-over, round-not}
 use Rattle.float_laws.proofs.Bounds.{Small, small-finite, small-add}
 use Rattle.float_laws.proofs.Sum.{add-mono, sub-turn, sub-of-neg}
@@ -110,16 +110,12 @@ half-under N M p q E h k =
     let b = mul-le-mul-right q k in
     simp ring (omega (arith, simp ring at a, simp ring at b))
 
-no-sum : (t : Bool) (n : ℕ) (g : ℤ) → T (le (inf false) (fin t n g)) → ⊥
-unfolding le
-no-sum t n g h = h
-
 over : (f : Format) (s : Bool) (m : ℕ) (e : ℤ) (v : Float) → FitsIn f m e → 2 ^ suc (emax f) * down e ≤ m * up e * 2 → T (finite v) → T (fits f v) → T (le (add f (fin s m e) (fin s m e)) v) → T (le (fin s m e) (div f v two))
 over f s m e nan H r F p h = absurd F
 over f s m e (inf t) H r F p h = absurd F
 over f false m e (fin t n g) H r F p h =
     let i = twice-is f false m e ∙ round-over f (m * up e * down e + m * up e * down e) (down e * down e) (mul-pos (down-pos e) (down-pos e)) (double-over (m * up e) (down e) (2 ^ suc (emax f)) r) in
-    absurd (no-sum t n g (subst (λ (v : Float). T (le v (fin t n g))) i h))
+    absurd (past-infinity t n g (subst (λ (v : Float). T (le v (fin t n g))) i h))
 over f true m e (fin t n g) H r F p h =
     order.le-trans (fin true m e) (round f true (m * up e) (down e)) (div f (fin t n g) two) (round-own f true m e H .0)
     (rw (half-is f t n g) (round-signed f true t (m * up e) (n * up g * 1) (down e) (2 * down g) (down-pos e) (mul-pos (lit< tt) (down-pos g)) (go t)))

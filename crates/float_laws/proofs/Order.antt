@@ -1,6 +1,6 @@
 -- The order of floats, for all values, infinities and both zeros included: `le`, `lt` and `eq` as an order of the numbers, that is of all values but the NaN. Assumes nothing.
 --     number      Number x (no NaN), le-number-l, le-number-r, lt-number-l, lt-number-r, eq-number-l, eq-number-r (a comparison that holds has numbers on both sides), finite-number, zero-finite
---     order       le-refl, le-trans, lt-trans, lt-le-trans, le-lt-trans, lt-irrefl, lt-le, eq-le
+--     order       le-refl, le-trans, lt-trans, lt-le-trans, le-lt-trans, lt-irrefl, lt-le, eq-le, past-infinity
 --     totality    le-total, le-or-lt, not-le-lt, not-lt-le, lt-not-le; le-is (`le` is the negation of `lt` the other way, as an equation)
 --     equality    le-antisym, eq-refl, eq-sym, eq-trans, eq-same, eq-same-sign (equal doubles are the same, or both are zeros)
 --     between     finite-between (two finite values), eq-finite
@@ -82,6 +82,11 @@ lt-le x y h = or-l (lt x y) (eq x y) h
 pub eq-le : (x y : Float) → T (eq x y) → T (le x y)
 unfolding le
 eq-le x y h = or-r (lt x y) (eq x y) h
+
+-- ---- no finite value is at infinity or past it
+pub past-infinity : (t : Bool) (n : ℕ) (d : ℤ) → T (le (inf false) (fin t n d)) → ⊥
+unfolding le
+past-infinity t n d h = h
 
 -- ---- transitivity and totality
 pub le-trans : (x y z : Float) → T (le x y) → T (le y z) → T (le x z)

@@ -22,7 +22,7 @@ use Rattle.float64.specs.Scalar as scalar
 use Rattle.float64.specs.TotalOrder.{totalKey}
 use Rattle.float_laws.proofs.Signed.{signed, unsigned, zero-of}
 use Rattle.float_laws.proofs.Order as order
-use Rattle.float_laws.proofs.Order.{Number, le-number-r, lt-number-l, le-or-lt, lt-not-le}
+use Rattle.float_laws.proofs.Order.{Number, past-infinity, le-number-r, lt-number-l, le-or-lt, lt-not-le}
 use Rattle.float_laws.proofs.Total.{lt-key, key-le}
 use Rattle.float_laws.proofs.Roots.{no-minus, no-sign, sqrt-nonneg}
 
@@ -75,10 +75,6 @@ at-most-infinity nan a = a
 at-most-infinity (inf true) a = tt
 at-most-infinity (inf false) a = tt
 at-most-infinity (fin s m e) a = tt
-
-past-infinity : (t : Bool) (n : ℕ) (d : ℤ) → T (le (inf false) (fin t n d)) → ⊥
-unfolding le
-past-infinity t n d h = h
 
 minus-zero : (e : ℤ) → T (le (fin true 0 e) scalar.zero)
 unfolding le ofBits
