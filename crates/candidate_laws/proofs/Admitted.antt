@@ -1,0 +1,50 @@
+-- A candidate window whose start is from 0 on and whose end is up to its edge's length, infinities among them, is proper where it is admitted: its width as
+-- computed is above tiny then, so both ends are finite. For whatever is offered that way: by insertion, by a vertex and by propagation. Assumes nothing.
+--     admitted-inside, admitted-proper; clipped-proper (x.max(0.) and y.min(l)), whole-proper (the whole edge, 0 and l)
+use Prim.Native.Nat.{ℕ}
+use mathlib.Core.Bool.{Bool, true, false, not, _||_}
+use lib.Dec.{T}
+use lib.Ieee.{Float, binary64, lt, le, fits}
+use lib.Ieee.Bits.{ofBits-fits}
+use mathlib.Core.Path.{_≡_, subst, sym}
+use Rattle.float64.specs.Scalar.{zero, minOf, maxOf}
+use Rattle.source.specs.Distance.{lowestOf}
+use Rattle.better.specs.Claim.{Point}
+use Rattle.float_bounds.specs.Within.{Start, End, Inside}
+use Rattle.float_bounds.proofs.Ends.{start-zero, max-start, end-length, min-end, wide-inside}
+use Rattle.trim_model.specs.Intervals.{width, tinyOf}
+use Rattle.trim_model.specs.Model.{Candidate, admits}
+use Rattle.trim_model.specs.Claim.{Proper}
+use Rattle.trim_model.proofs.Ranks.{tiny-nonneg}
+
+neither : (a b : Bool) → T (not (a || b)) → T (not a)
+neither true b h = h
+neither false b h = tt
+
+module _ (limit : Float) (len : ℕ → Float) (c : Candidate) (long : Point (len (c .edge))) (above : T (lt zero (len (c .edge)))) (offered : T (admits limit len c)) where
+  -- not at most tiny
+  wide : T (not (le (width (c .b0) (c .b1)) (tinyOf (len (c .edge)))))
+  wide = neither (le (width (c .b0) (c .b1)) (tinyOf (len (c .edge)))) (lt limit (lowestOf (c .src) (c .b0) (c .b1))) offered
+
+  module _ (start : Start (c .b0)) (end : End (len (c .edge)) (c .b1)) where
+    pub admitted-inside : Inside (len (c .edge)) (c .b0) (c .b1)
+    admitted-inside = wide-inside (len (c .edge)) (tinyOf (len (c .edge))) (c .b0) (c .b1) (long .number) (tiny-nonneg (len (c .edge)) long above .nonneg) start end wide
+
+    pub admitted-proper : Proper len c
+    admitted-proper =
+        record {
+          start = record { number = admitted-inside .start-finite; double = start .double };
+          end = record { number = admitted-inside .end-finite; double = end .double };
+          length = long;
+          positive = above;
+        }
+
+  -- `x.max(0.)` and `y.min(l)`, whatever doubles x and y are
+  pub clipped-proper : (x y : Float) → T (fits binary64 x) → T (fits binary64 y) → c .b0 ≡ maxOf x zero → c .b1 ≡ minOf y (len (c .edge)) → Proper len c
+  clipped-proper x y p q s e =
+      admitted-proper (subst Start (sym s) (max-start zero x start-zero p))
+      (subst (End (len (c .edge))) (sym e) (min-end (len (c .edge)) (len (c .edge)) y (end-length (len (c .edge)) (long .number) (long .double)) q))
+
+  -- the whole edge
+  pub whole-proper : c .b0 ≡ zero → c .b1 ≡ len (c .edge) → Proper len c
+  whole-proper s e = admitted-proper (subst Start (sym s) start-zero) (subst (End (len (c .edge))) (sym e) (end-length (len (c .edge)) (long .number) (long .double)))

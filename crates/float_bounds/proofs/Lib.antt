@@ -1,0 +1,3 @@
+pub mod Magnitude
+pub mod Reciprocal
+pub mod Ends
