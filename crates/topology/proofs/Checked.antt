@@ -1,4 +1,4 @@
--- The mesh of a job that passed the checks: the other laws' premises, and the ends of its edges. Assumes nothing.
+-- A mesh of valid triangles: the other laws' premises, and the ends of its edges. Assumes nothing.
 use Prim.Native.Nat.{ℕ, zero, suc, _+_, _*_, _/_, _%_, _<_}
 use mathlib.Core.Path.{_≡_, refl, sym, ap, _∙_}
 use mathlib.Core.List.{List}
@@ -6,9 +6,8 @@ use mathlib.Core.Logic.{⊎-elim, _⊎_, inl, inr}
 use native.Mathlib.Omega.{arith}
 use native.Mathlib.Nat.{le-of-suc-le-suc, not-suc-le-zero}
 use lib.ListN.{length, getD}
-use Rattle.job_checks.specs.declared.BufferCounts.{BufferCounts}
-use Rattle.job_checks.specs.Job.{Job, vertexCount, triangleCount}
-use Rattle.job_checks.specs.Sound.{Distinct, Sound}
+use Rattle.job_checks.specs.Sound.{Distinct}
+use Rattle.topology.specs.Checked.{ValidTriangles}
 use Rattle.topology.specs.Edges.{noEdge, between, corner, sideEdge, edges, triEdge}
 use Rattle.topology.proofs.Edges.{FromSide, edge-is-side}
 use Rattle.topology.proofs.Triangles.{ends, ends-rise, three-edges}
@@ -37,27 +36,31 @@ module _ (triangles : List ℕ) (h : ℕ) where
       (λ z. d .third-first (sym (corner-at 0 (3 * (h / 3) + 2) (omega arith)) ∙ (q ∙ corner-at 1 (3 * (h / 3)) (omega arith)))))
       (three-ways (h % 3) (omega arith))
 
-module _ (j : Job) (b : BufferCounts) (s : Sound j b) where
+module _ (triangles : List ℕ) (n : ℕ) (s : ValidTriangles triangles n) where
   -- a triangle's three numbers lie in the list
-  pub inside : (f : ℕ) → f < triangleCount j → 3 * f + 2 < length (j .triangles)
-  inside f l = omega (arith, s .whole .whole-triangles)
+  pub inside : (f : ℕ) → f < length triangles / 3 → 3 * f + 2 < length triangles
+  inside f l = omega (arith, s .whole)
 
-  pub corner-there : (h k : ℕ) → h < length (j .triangles) → corner (j .triangles) h k < vertexCount j
-  corner-there h k l = rw (corner-at (j .triangles) h k (3 * (h / 3) + (h % 3 + k) % 3) refl) (s .mesh .vertex-there (3 * (h / 3) + (h % 3 + k) % 3) (omega (arith, s .whole .whole-triangles)))
+  -- also of a triangle that has a side in it
+  pub side-inside : (h : ℕ) → h < length triangles → h / 3 < length triangles / 3
+  side-inside h l = omega (arith, s .whole)
 
-  side-rises : (h : ℕ) → h < length (j .triangles) → (sideEdge (j .triangles) h .low < sideEdge (j .triangles) h .high) × (sideEdge (j .triangles) h .high < vertexCount j)
+  pub corner-there : (h k : ℕ) → h < length triangles → corner triangles h k < n
+  corner-there h k l = rw (corner-at triangles h k (3 * (h / 3) + (h % 3 + k) % 3) refl) (s .there (3 * (h / 3) + (h % 3 + k) % 3) (omega (arith, s .whole)))
+
+  side-rises : (h : ℕ) → h < length triangles → (sideEdge triangles h .low < sideEdge triangles h .high) × (sideEdge triangles h .high < n)
   unfolding sideEdge
   side-rises h l = (
-    ends-rise (corner (j .triangles) h 0) (corner (j .triangles) h 1) (corners-differ (j .triangles) h (s .mesh .distinct (h / 3) (omega (arith, s .whole .whole-triangles)))),
-    ends-below (corner (j .triangles) h 0) (corner (j .triangles) h 1) (vertexCount j) (corner-there h 0 l) (corner-there h 1 l),
+    ends-rise (corner triangles h 0) (corner triangles h 1) (corners-differ triangles h (s .distinct (h / 3) (side-inside h l))),
+    ends-below (corner triangles h 0) (corner triangles h 1) n (corner-there h 0 l) (corner-there h 1 l),
   )
 
   -- an edge joins two vertices that are there, the lower one first
-  pub edge-ends : (e : ℕ) → e < length (edges (j .triangles)) → (getD (edges (j .triangles)) e noEdge .low < getD (edges (j .triangles)) e noEdge .high) × (getD (edges (j .triangles)) e noEdge .high < vertexCount j)
+  pub edge-ends : (e : ℕ) → e < length (edges triangles) → (getD (edges triangles) e noEdge .low < getD (edges triangles) e noEdge .high) × (getD (edges triangles) e noEdge .high < n)
   edge-ends e l =
-      let r : FromSide (j .triangles) (length (j .triangles)) (getD (edges (j .triangles)) e noEdge) = edge-is-side (j .triangles) e l in
+      let r : FromSide triangles (length triangles) (getD (edges triangles) e noEdge) = edge-is-side triangles e l in
       rw (r .1 .1) (side-rises (r .0) (r .1 .0))
 
   -- a face has three different edges
-  pub face-edges : (f : ℕ) → f < triangleCount j → Distinct (triEdge (j .triangles) (3 * f)) (triEdge (j .triangles) (3 * f + 1)) (triEdge (j .triangles) (3 * f + 2))
-  face-edges f l = three-edges (j .triangles) f (inside f l) (s .mesh .distinct f l)
+  pub face-edges : (f : ℕ) → f < length triangles / 3 → Distinct (triEdge triangles (3 * f)) (triEdge triangles (3 * f + 1)) (triEdge triangles (3 * f + 2))
+  face-edges f l = three-edges triangles f (inside f l) (s .distinct f l)

@@ -41,7 +41,7 @@ module _ (triangles : List ℕ) (e : Edge) where
   face-pairs R n all = subst (λ (fs : List ℕ). (i j : ℕ) → i < j → j < length fs → R (getD fs i noFace) (getD fs j noFace)) (among-chosen n) (chosen-pairs sides R n all)
 
 -- the faces of a side's edge hold the side's own
-side-listed : (triangles : List ℕ) (h : ℕ) → h < length triangles → Listed (h / 3) (edgeFaces triangles (triEdge triangles h))
+pub side-listed : (triangles : List ℕ) (h : ℕ) → h < length triangles → Listed (h / 3) (edgeFaces triangles (triEdge triangles h))
 unfolding edgeFaces
 side-listed triangles h l =
     rw (tri-edge-is triangles h l) (face-listed triangles (sideEdge triangles h) (length triangles) h l (same-self (sideEdge triangles h)))

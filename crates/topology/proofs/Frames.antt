@@ -1,4 +1,4 @@
--- The frames of a mesh that passed the checks: no edge is shorter and no altitude smaller than document 01 allows, so nothing is divided by zero. Assumes nothing.
+-- The frames of a mesh of regular triangles: no edge is shorter and no altitude smaller than document 01 allows, so nothing is divided by zero. Assumes nothing.
 use Prim.Native.Nat.{ℕ, _+_, _*_, _/_, _%_, _<_}
 use mathlib.Core.Path.{_≡_, ap}
 use mathlib.Core.Bool.{true, false, and-eq-true-iff}
@@ -9,16 +9,14 @@ use borrow.Author.Tests.{not-false}
 use lib.ListN.{length, getD}
 use lib.Ieee.{Float, le}
 use Rattle.vec3.specs.declared.Vec3.{Vec3}
-use Rattle.job_checks.specs.declared.BufferCounts.{BufferCounts}
 use Rattle.job_checks.specs.Edge.{vertexAt, lower, higher, lenOf, altitudeOf}
-use Rattle.job_checks.specs.Job.{Job}
 use Rattle.job_checks.specs.Refusals.{minLength, minAltitude, degenerate, degenerateEdge, degenerateIn}
-use Rattle.job_checks.specs.Sound.{Sound}
 use Rattle.job_checks.proofs.Any.{head-none, tail-none}
+use Rattle.topology.specs.Checked.{ValidTriangles, RegularTriangles}
 use Rattle.topology.specs.Edges.{Edge, noEdge, between, corner, sideEdge, edges, triEdge}
 use Rattle.topology.specs.Frames.{origin, end, len}
 use Rattle.topology.proofs.Edges.{FromSide, edge-is-side, tri-edge-is}
-use Rattle.topology.proofs.Checked.{three-ways, corner-at}
+use Rattle.topology.proofs.Checked.{three-ways, corner-at, side-inside}
 
 -- what a side that is not degenerate has
 module _ (o b third : Vec3) (e : degenerate o b third ≡ false) where
@@ -58,16 +56,16 @@ module _ (v : List Float) (triangles : List ℕ) (e h : ℕ) (q : getD (edges tr
     unfolding degenerateEdge
     side-tall = rw (origin-is, end-is) (tall _ _ (vertexAt v (corner triangles h 2)) d)
 
-module _ (j : Job) (b : BufferCounts) (s : Sound j b) where
-  regular-at : (h : ℕ) → h < length (j .triangles) → degenerateEdge (j .vertices) (corner (j .triangles) h 0) (corner (j .triangles) h 1) (corner (j .triangles) h 2) ≡ false
-  regular-at h l = regular-side (j .vertices) (j .triangles) h (s .mesh .regular (h / 3) (omega (arith, s .whole .whole-triangles)))
+module _ (v : List Float) (triangles : List ℕ) (n : ℕ) (s : ValidTriangles triangles n) (r : RegularTriangles v triangles) where
+  regular-at : (h : ℕ) → h < length triangles → degenerateEdge v (corner triangles h 0) (corner triangles h 1) (corner triangles h 2) ≡ false
+  regular-at h l = regular-side v triangles h (r .regular (h / 3) (side-inside triangles n s h l))
 
   -- every edge is long enough
-  pub edge-long : (e : ℕ) → e < length (edges (j .triangles)) → le minLength (len (j .vertices) (j .triangles) e) ≡ true
+  pub edge-long : (e : ℕ) → e < length (edges triangles) → le minLength (len v triangles e) ≡ true
   edge-long e l =
-      let r : FromSide (j .triangles) (length (j .triangles)) (getD (edges (j .triangles)) e noEdge) = edge-is-side (j .triangles) e l in
-      side-long (j .vertices) (j .triangles) e (r .0) (r .1 .1) (regular-at (r .0) (r .1 .0))
+      let q : FromSide triangles (length triangles) (getD (edges triangles) e noEdge) = edge-is-side triangles e l in
+      side-long v triangles e (q .0) (q .1 .1) (regular-at (q .0) (q .1 .0))
 
   -- and what the normal of every side is divided by
-  pub altitude-tall : (h : ℕ) → h < length (j .triangles) → le minAltitude (altitudeOf (origin (j .vertices) (j .triangles) (triEdge (j .triangles) h)) (end (j .vertices) (j .triangles) (triEdge (j .triangles) h)) (vertexAt (j .vertices) (corner (j .triangles) h 2))) ≡ true
-  altitude-tall h l = side-tall (j .vertices) (j .triangles) (triEdge (j .triangles) h) h (tri-edge-is (j .triangles) h l) (regular-at h l)
+  pub altitude-tall : (h : ℕ) → h < length triangles → le minAltitude (altitudeOf (origin v triangles (triEdge triangles h)) (end v triangles (triEdge triangles h)) (vertexAt v (corner triangles h 2))) ≡ true
+  altitude-tall h l = side-tall v triangles (triEdge triangles h) h (tri-edge-is triangles h l) (regular-at h l)

@@ -7,5 +7,6 @@ pub mod Frames
 pub mod Growth
 pub mod Other
 pub mod Rows
+pub mod Sides
 pub mod Triangles
 pub mod VertexFaces

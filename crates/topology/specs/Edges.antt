@@ -31,6 +31,10 @@ sameEdge x y = eqb (x .low) (y .low) && eqb (x .high) (y .high)
 unfoldable pub offEnds : ℕ → Edge → Bool
 offEnds k e = not (eqb k (e .low)) && not (eqb k (e .high))
 
+-- both vertices are ends of an edge
+unfoldable pub joins : ℕ → ℕ → Edge → Bool
+joins a b e = not (offEnds a e) && not (offEnds b e)
+
 -- the place of e in a list, or the list's length
 unfoldable pub find : Edge → List Edge → ℕ
 find e [] = 0
@@ -94,6 +98,19 @@ module _ (triangles : List ℕ) where
       cond (offEnds (getD triangles (3 * f) 0) ends) (getD triangles (3 * f) 0)
       (cond (offEnds (getD triangles (3 * f + 1) 0) ends) (getD triangles (3 * f + 1) 0)
       (getD triangles (3 * f + 2) 0))
+
+  -- the vertex that the edges e and o share, for two edges of one face: the first end of e if o has it, or else the second
+  unfoldable pub sharedVertex : ℕ → ℕ → ℕ
+  sharedVertex e o =
+      let ends : Edge = getD edges e noEdge in
+      cond (offEnds (ends .low) (getD edges o noEdge)) (ends .high) (ends .low)
+
+  -- the edge of face f between the vertices a and b: the first of its edges that has both
+  unfoldable pub edgeBetween : ℕ → ℕ → ℕ → ℕ
+  edgeBetween f a b =
+      cond (joins a b (getD edges (triEdge (3 * f)) noEdge)) (triEdge (3 * f))
+      (cond (joins a b (getD edges (triEdge (3 * f + 1)) noEdge)) (triEdge (3 * f + 1))
+      (triEdge (3 * f + 2)))
 
   -- the faces round vertex k among the first n sides, in rising order
   unfoldable pub facesRound : ℕ → ℕ → List ℕ

@@ -1,3 +1,4 @@
+pub mod Checked
 pub mod Edges
 pub mod Frames
 pub mod Rows
