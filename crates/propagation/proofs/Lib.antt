@@ -1,0 +1,2 @@
+pub mod Infinity
+pub mod Ends

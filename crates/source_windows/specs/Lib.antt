@@ -1,0 +1,4 @@
+pub mod Tolerance
+pub mod Wedge
+pub mod Segment
+pub mod Ends
