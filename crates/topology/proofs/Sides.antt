@@ -1,8 +1,8 @@
 -- Laws of a mesh of valid triangles, for those who walk from face to face and round a vertex. Assumes nothing.
---     edges of a face     face-has-side (a face of an edge has it as a side, the one that `local` names), local-of-side
+--     edges of a face     face-has-side (a face of an edge has it as a side, the one that `local` names), local-of-side, edge-is (its two vertices), face-there
 --     third vertex        third-is (the vertex opposite to the side), third-there (it is in range), third-off (it is not on the edge)
---     shared vertex       shared-is, shared-on (it is on both edges), shared-only (and no other), shared-there, shared-listed (the face is listed round it)
---     edge between two    between-is, between-side (it is a side of the face and has these two ends); next-edge (from an end of an edge to its third vertex)
+--     shared vertex       two-sides-share (two sides have one vertex in common, and the face is listed round it), corner-listed
+--     edge between two    between-of-side, between-either-way, next-edge (from an end of an edge to the third vertex of a face of it)
 use Prim.Native.Nat.{ℕ, _+_, _*_, _/_, _%_, _<_, _≤_}
 use mathlib.Core.Path.{_≡_, refl, sym, ap, subst, _∙_}
 use mathlib.Core.Bool.{Bool, true, false, not, cond, true≢false, and-false, and-comm}

@@ -1,0 +1,1 @@
+// How large the numbers of a checked mesh get: laws, in proofs/. There is no code here.
