@@ -9,6 +9,7 @@ use lib.Ieee.{Float, lt, le}
 use Rattle.heap.specs.declared.Event.{Event}
 use Rattle.heap.specs.declared.Pushed.{Pushed}
 use Rattle.heap.specs.declared.Pushed.the-variants.{Queued}
+use Rattle.heap.specs.declared.Item.the-variants.{Vertex}
 use Rattle.heap.specs.Queue.{Queue, pushing}
 use Rattle.actions.specs.Actions.{push, touch, stock, distanceOf, withDistance, queueing, act}
 
@@ -23,25 +24,25 @@ module _ (cuts windows : ℕ) (limit : Float) (flags : List ℕ) (made n : ℕ) 
     unfolding act queueing
     touch-longer h = let k : lt d (distanceOf vertex v) ≡ false = ap (lt d) (sym isRead) ∙ h in rw k
 
-    module _ (shorter : lt d r ≡ true) (vertex' : List Float) (isWritten : vertex' ≡ withDistance vertex v d) (f : Bool) (isFlag : f ≡ eqb (getD flags v 0) 1) where
+    module _ (shorter : lt d r ≡ true) (vertex' : List Float) (isWritten : vertex' ≡ withDistance vertex v d) (f : Bool) (isFlag : f ≡ eqb (getD flags (3 * v + 2) 0) 1) where
       pub touch-unflagged : f ≡ false → act cuts windows limit flags (touch v d) (stock made n q vertex) ≡ queueing made vertex' (Queued n, q)
       unfolding act queueing
       touch-unflagged h =
           let k : lt d (distanceOf vertex v) ≡ true = ap (lt d) (sym isRead) ∙ shorter in
-          let u : eqb (getD flags v 0) 1 ≡ false = sym isFlag ∙ h in
+          let u : eqb (getD flags (3 * v + 2) 0) 1 ≡ false = sym isFlag ∙ h in
           rw (k, u, isWritten)
 
       pub touch-beyond : f ≡ true → le d limit ≡ false → act cuts windows limit flags (touch v d) (stock made n q vertex) ≡ queueing made vertex' (Queued n, q)
       unfolding act queueing
       touch-beyond h b =
           let k : lt d (distanceOf vertex v) ≡ true = ap (lt d) (sym isRead) ∙ shorter in
-          let u : eqb (getD flags v 0) 1 ≡ true = sym isFlag ∙ h in
+          let u : eqb (getD flags (3 * v + 2) 0) 1 ≡ true = sym isFlag ∙ h in
           rw (k, u, b, isWritten)
 
-      pub touch-queued : f ≡ true → le d limit ≡ true → (e : Event) → e ≡ record { key = d; number = v; kind = 1 } → (p : Pushed × Queue) → p ≡ pushing q n e
+      pub touch-queued : f ≡ true → le d limit ≡ true → (e : Event) → e ≡ record { key = d; item = Vertex (record { 0 = v }) } → (p : Pushed × Queue) → p ≡ pushing q n e
           → act cuts windows limit flags (touch v d) (stock made n q vertex) ≡ queueing made vertex' p
       unfolding act
       touch-queued h b e isEvent p isPushed =
           let k : lt d (distanceOf vertex v) ≡ true = ap (lt d) (sym isRead) ∙ shorter in
-          let u : eqb (getD flags v 0) 1 ≡ true = sym isFlag ∙ h in
+          let u : eqb (getD flags (3 * v + 2) 0) 1 ≡ true = sym isFlag ∙ h in
           rw (k, u, b, isWritten, isPushed, isEvent)

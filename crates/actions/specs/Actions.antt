@@ -3,13 +3,16 @@ use Prim.Native.Nat.{ℕ, suc, _+_, _*_}
 use mathlib.Core.Bool.{Bool, cond, _&&_}
 use mathlib.Core.List.{List, [], _∷_}
 use lib.Dec.{ltb, leb, eqb}
-use lib.ListN.{getD, set}
+use lib.ListN.{length, getD, set}
 use lib.Ieee.{Float, nan, lt, le}
+use Rattle.buffers.specs.declared.Lack.the-variants.{Windows, Cuts}
+use Rattle.buffers.specs.Lack.{lackNumber}
 use Rattle.float64.specs.Notation.{if_then_else_}
 use Rattle.heap.specs.declared.Event.{Event}
 use Rattle.heap.specs.declared.Pushed.{Pushed}
 use Rattle.heap.specs.declared.Pushed.the-variants.{Full, Queued}
-use Rattle.heap.specs.Queue.{Queue, pushing}
+use Rattle.heap.specs.declared.Item.the-variants.{Vertex}
+use Rattle.heap.specs.Queue.{Queue, pushing, refusalNumber}
 
 pub data Action : Type 0 where
   list : ℕ → Action  -- one of the lists `pts`, `out`, `keep`, `next` and `pieces` comes to so many entries
@@ -32,34 +35,35 @@ pub data Outcome : Type 0 where
 abbrev pub stock : ℕ → ℕ → Queue → List Float → Stock
 stock made queued queue vertex = record { made = made; queued = queued; queue = queue; vertex = vertex }
 
--- the Rust's `vertex[v]`, and with d in its place
+-- the Rust's `vertex[v]`, of a vertex whose two numbers are there, and with d in its place
 abbrev pub distanceOf : List Float → ℕ → Float
-distanceOf vertex v = getD vertex (2 * v + 0) nan
+distanceOf vertex v = cond (ltb (2 * v + 1) (length vertex)) (getD vertex (2 * v + 0) nan) nan
 
 abbrev pub withDistance : List Float → ℕ → Float → List Float
 withDistance vertex v d = set vertex (2 * v + 0) d
 
--- what a push answers: 13 where the queue has no slot
+-- what a push answers
 unfoldable pub queueing : ℕ → List Float → Pushed × Queue → Outcome
-queueing made vertex (Full, q) = stopped 13
+queueing made vertex (Full, q) = stopped (refusalNumber Full)
 queueing made vertex (Queued n, q) = went (stock made n q vertex)
 
 unfoldable pub andThen : Outcome → (Stock → Outcome) → Outcome
 andThen (stopped n) next = stopped n
 andThen (went s) next = next s
 
--- the cut buffer's count and the window buffer's, the limit, and the flags of the vertices that pass distances round themselves
-module _ (cuts windows : ℕ) (limit : Float) (flags : List ℕ) where
+-- the cut buffer's count and the window buffer's, the limit, and the vertices' words, three for each: the third is 1 where a vertex passes distances
+-- round itself
+module _ (cuts windows : ℕ) (limit : Float) (vertexWords : List ℕ) where
   unfoldable pub act : Action → Stock → Outcome
   unfolding queueing
-  act (list n) s = cond (leb n cuts) (went s) (stopped 14)
-  act make s = cond (ltb (s .made) windows) (went (stock (suc (s .made)) (s .queued) (s .queue) (s .vertex))) (stopped 12)
+  act (list n) s = cond (leb n cuts) (went s) (stopped (lackNumber Cuts))
+  act make s = cond (ltb (s .made) windows) (went (stock (suc (s .made)) (s .queued) (s .queue) (s .vertex))) (stopped (lackNumber Windows))
   act (push e) s = queueing (s .made) (s .vertex) (pushing (s .queue) (s .queued) e)
   act (touch v d) s =
       if lt d (distanceOf (s .vertex) v) then
       (let vertex = withDistance (s .vertex) v d in
-      if eqb (getD flags v 0) 1 && le d limit then
-      queueing (s .made) vertex (pushing (s .queue) (s .queued) (record { key = d; number = v; kind = 1 }))
+      if eqb (getD vertexWords (3 * v + 2) 0) 1 && le d limit then
+      queueing (s .made) vertex (pushing (s .queue) (s .queued) (record { key = d; item = Vertex (record { 0 = v }) }))
       else went (stock (s .made) (s .queued) (s .queue) vertex))
       else went s
 

@@ -5,6 +5,7 @@ ghost use mathlib.Core.Path.{_≡_};
 ghost use Prim.Native.Nat.{_+_, _*_, _<_, min};
 ghost use lib.ListN.{set, getD, length, replicate};
 ghost use lib.Ieee.{nan};
+ghost use Rattle.buffers.specs.Lack.{lackNumber};
 ghost use Rattle.buffers.specs.Slots.{slotsOf};
 ghost use Rattle.float64.specs.Scalar.{zero as zero64};
 ghost use Rattle.buffers.specs.Zero.{zeroFrom};
@@ -24,6 +25,25 @@ pub fn no_face() -> FaceId
     ensures { λ r. ⌜ r ≡ record { 0 = 4294967295 } ⌝ }
 {
     FaceId(4294967295)
+}
+
+// What work stops at for lack of a slot: windows, events of the queue, entries of a list of cuts, entries of pieces in faces.
+pub enum Lack {
+    Windows,
+    Events,
+    Cuts,
+    Entries,
+}
+
+pub fn lack_number(lack: Lack) -> u32
+    ensures { λ r. ⌜ r ≡ lackNumber lack ⌝ }
+{
+    match lack {
+        Lack::Windows => 12,
+        Lack::Events => 13,
+        Lack::Cuts => 14,
+        Lack::Entries => 17,
+    }
 }
 
 pub fn read_u32(s: &[u32], stride: u32, slot: u32, field: u32) -> u32

@@ -5,13 +5,19 @@ use mathlib.Core.Path.{_≡_, refl, sym, ap, _∙_}
 use native.Mathlib.Omega.{arith}
 use borrow.Author.Tests.{ltb-true, leb-true}
 use lib.Dec.{ltb, leb}
+use lib.Ieee.{Float}
 use Rattle.heap.specs.declared.Event.{Event}
+use Rattle.heap.specs.declared.Item.{Item}
 use Rattle.heap.specs.declared.Pushed.{Pushed}
 use Rattle.heap.specs.declared.Pushed.the-variants.{Full, Queued}
 use Rattle.heap.specs.declared.Popped.{Popped}
 use Rattle.heap.specs.declared.Popped.the-variants.{Empty, First}
-use Rattle.heap.specs.Queue.{Queue, at, put, popped, slots, popping}
+use Rattle.heap.specs.Queue.{Queue, at, put, popped, slots, pushing, popping}
 use Rattle.heap_c.specs.Exports.{pushAnswer, popAnswer}
+
+-- the event that is pushed, made of its words
+pub of-words : (q : Queue) (n : ℕ) (k : Float) {x y : Item} → x ≡ y → {o : Pushed × Queue} → o ≡ pushing q n (record { key = k; item = x }) → o ≡ pushing q n (record { key = k; item = y })
+of-words q n k h e = e ∙ (λ t. pushing q n (record { key = k; item = h t }))
 
 module _ (n : ℕ) {q : Queue} {a : Pushed × Queue} {r : Pushed} (e : (r, q) ≡ a) where
   pub push-full : r ≡ Full → (n, q) ≡ pushAnswer n a

@@ -14,6 +14,7 @@ use Rattle.heap.specs.declared.Pushed.{Pushed}
 use Rattle.heap.specs.declared.Pushed.the-variants.{Full, Queued}
 use Rattle.heap.specs.declared.Popped.{Popped}
 use Rattle.heap.specs.declared.Popped.the-variants.{Empty, First}
+use Rattle.heap.specs.Order.{numberOf, kindOf}
 use Rattle.heap.specs.Queue.{Queue, pushing, popping}
 use Rattle.heap_vectors.specs.Replay.{eventAt, sameEvent, Outcome, afterPush, popDiffers, afterPop, afterRecord, afterRecords}
 
@@ -21,14 +22,19 @@ module _ (a b : Event) {p q : ℕ} (d : p ≡ toBits binary64 (a .key)) (e : q �
   pub other-key : p ≢ q → false ≡ sameEvent a b
   other-key h = rw (ne-eqb (toBits binary64 (a .key)) (toBits binary64 (b .key)) (λ z. h (d ∙ z ∙ sym e))) refl
 
-  pub other-number : p ≡ q → a .number ≢ b .number → false ≡ sameEvent a b
-  other-number h k = rw (eq-eqb (toBits binary64 (a .key)) (toBits binary64 (b .key)) (sym d ∙ h ∙ e), ne-eqb (a .number) (b .number) k) refl
+  module _ (h : p ≡ q) {m n : ℕ} (x : m ≡ numberOf (a .item)) (y : n ≡ numberOf (b .item)) where
+    pub other-number : m ≢ n → false ≡ sameEvent a b
+    other-number k = rw (eq-eqb (toBits binary64 (a .key)) (toBits binary64 (b .key)) (sym d ∙ h ∙ e), ne-eqb (numberOf (a .item)) (numberOf (b .item)) (λ z. k (x ∙ z ∙ sym y))) refl
 
-  pub other-kind : p ≡ q → a .number ≡ b .number → a .kind ≢ b .kind → false ≡ sameEvent a b
-  other-kind h k l = rw (eq-eqb (toBits binary64 (a .key)) (toBits binary64 (b .key)) (sym d ∙ h ∙ e), eq-eqb (a .number) (b .number) k, ne-eqb (a .kind) (b .kind) l) refl
+    module _ (k : m ≡ n) {s t : ℕ} (f : s ≡ kindOf (a .item)) (g : t ≡ kindOf (b .item)) where
+      abbrev number : numberOf (a .item) ≡ numberOf (b .item)
+      number = sym x ∙ k ∙ y
 
-  pub one-event : p ≡ q → a .number ≡ b .number → a .kind ≡ b .kind → true ≡ sameEvent a b
-  one-event h k l = rw (eq-eqb (toBits binary64 (a .key)) (toBits binary64 (b .key)) (sym d ∙ h ∙ e), eq-eqb (a .number) (b .number) k, eq-eqb (a .kind) (b .kind) l) refl
+      pub other-kind : s ≢ t → false ≡ sameEvent a b
+      other-kind l = rw (eq-eqb (toBits binary64 (a .key)) (toBits binary64 (b .key)) (sym d ∙ h ∙ e), eq-eqb (numberOf (a .item)) (numberOf (b .item)) number, ne-eqb (kindOf (a .item)) (kindOf (b .item)) (λ z. l (f ∙ z ∙ sym g))) refl
+
+      pub one-event : s ≡ t → true ≡ sameEvent a b
+      one-event l = rw (eq-eqb (toBits binary64 (a .key)) (toBits binary64 (b .key)) (sym d ∙ h ∙ e), eq-eqb (numberOf (a .item)) (numberOf (b .item)) number, eq-eqb (kindOf (a .item)) (kindOf (b .item)) (sym f ∙ l ∙ g)) refl
 
 module _ (found : Bool) (n : ℕ) {q : Queue} {a : Pushed × Queue} {r : Pushed} (e : (r, q) ≡ a) where
   pub push-full : {d : ℕ} → r ≡ Full → d ≡ cond found 1 0 → (n, (d, q)) ≡ afterPush found n a

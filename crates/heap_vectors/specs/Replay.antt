@@ -11,15 +11,16 @@ use Rattle.heap.specs.declared.Pushed.{Pushed}
 use Rattle.heap.specs.declared.Pushed.the-variants.{Full, Queued}
 use Rattle.heap.specs.declared.Popped.{Popped}
 use Rattle.heap.specs.declared.Popped.the-variants.{Empty, First}
+use Rattle.heap.specs.Order.{numberOf, kindOf, itemOf}
 use Rattle.heap.specs.Queue.{Queue, pushing, popping}
 
 unfoldable pub eventAt : List ℕ → ℕ → Event
-eventAt s k = record { key = floatAt s (4 * k + 1); number = wordAt s (4 * k + 2) % 4294967296; kind = wordAt s (4 * k + 3) % 4294967296 }
+eventAt s k = record { key = floatAt s (4 * k + 1); item = itemOf (wordAt s (4 * k + 2) % 4294967296) (wordAt s (4 * k + 3) % 4294967296) }
 
 -- one event, a NaN equal to a NaN
 abbrev pub sameEvent : Event → Event → Bool
 sameEvent a b =
-    cond (eqb (toBits binary64 (a .key)) (toBits binary64 (b .key))) (cond (eqb (a .number) (b .number)) (eqb (a .kind) (b .kind)) false) false
+    cond (eqb (toBits binary64 (a .key)) (toBits binary64 (b .key))) (cond (eqb (numberOf (a .item)) (numberOf (b .item))) (eqb (kindOf (a .item)) (kindOf (b .item))) false) false
 
 -- how many events there are then, whether the answer differs (1) or not (0), and the buffers
 abbrev pub Outcome : Type 0

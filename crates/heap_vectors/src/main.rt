@@ -3,6 +3,9 @@
 use heap::Event;
 use heap::Popped;
 use heap::Pushed;
+use heap::item_of;
+use heap::kind_of;
+use heap::number_of;
 use heap::pop;
 use heap::push;
 ghost use mathlib.Core.Path.{_≡_};
@@ -33,8 +36,10 @@ fn event(s: &[u8], k: usize) -> Event
 {
     Event {
         key: vectors::float_at(s, 4 * k + 1),
-        number: low(vectors::word(s, 4 * k + 2)),
-        kind: low(vectors::word(s, 4 * k + 3)),
+        item: item_of(
+            low(vectors::word(s, 4 * k + 2)),
+            low(vectors::word(s, 4 * k + 3)),
+        ),
     }
 }
 
@@ -44,10 +49,12 @@ fn same(a: Event, b: Event) -> bool
     if vectors::pattern(a.key) != vectors::pattern(b.key) {
         return false;
     }
-    if a.number != b.number {
+    let x = a.item;
+    let y = b.item;
+    if number_of(x) != number_of(y) {
         return false;
     }
-    if a.kind != b.kind {
+    if kind_of(x) != kind_of(y) {
         return false;
     }
     true

@@ -47,7 +47,7 @@ fn admit(
     keys: &mut [f64],
     events: &mut [u32],
     vertex: &mut [f64],
-    flags: &[u8],
+    vertex_words: &[u32],
     pts: &mut [f64],
     keep: &mut [f64],
     out: &mut [f64],
@@ -62,7 +62,7 @@ fn admit(
     limit: f64,
 ) -> Made
     requires { ⌜ Ready (e .0) (counts .made) 0 (now edges) (now words) (now reals) × Sizes (length (now pts)) (now keep) (now out) (now next) ⌝ }
-    ensures { λ r. ⌜ Bounded (capacityOf (length (now (words .entry))) (length (now (reals .entry)))) r × (w .win .low ≡ lowestOf (w .win .src) (w .win .b0) (w .win .b1) → tiny ≡ tinyOf len → Admits (length (now (pts .entry))) (capacityOf (length (now (words .entry))) (length (now (reals .entry)))) limit (now (flags .entry)) len (a .0) (b .0) (candidateOf (e .0) w) (place (counts .made) (counts .queued) 0 (links (now (edges .entry)) (now (words .entry))) (now (reals .entry)) (queue (now (keys .entry)) (now (events .entry))) (now (vertex .entry))) (endOf r (links (now (edges .exit)) (now (words .exit))) (now (reals .exit)) (queue (now (keys .exit)) (now (events .exit))) (now (vertex .exit)))) ⌝ }
+    ensures { λ r. ⌜ Bounded (capacityOf (length (now (words .entry))) (length (now (reals .entry)))) r × (w .win .low ≡ lowestOf (w .win .src) (w .win .b0) (w .win .b1) → tiny ≡ tinyOf len → Admits (length (now (pts .entry))) (capacityOf (length (now (words .entry))) (length (now (reals .entry)))) limit (now («vertex_words» .entry)) len (a .0) (b .0) (candidateOf (e .0) w) (place (counts .made) (counts .queued) 0 (links (now (edges .entry)) (now (words .entry))) (now (reals .entry)) (queue (now (keys .entry)) (now (events .entry))) (now (vertex .entry))) (endOf r (links (now (edges .exit)) (now (words .exit))) (now (reals .exit)) (queue (now (keys .exit)) (now (events .exit))) (now (vertex .exit)))) ⌝ }
 {
     if pts.len() == 0 {
         return Made::Stopped(14);
@@ -96,7 +96,7 @@ fn admit(
             keys,
             events,
             vertex,
-            flags,
+            vertex_words,
             keep,
             k,
             c,
@@ -120,7 +120,7 @@ pub fn add(
     keys: &mut [f64],
     events: &mut [u32],
     vertex: &mut [f64],
-    flags: &[u8],
+    vertex_words: &[u32],
     pts: &mut [f64],
     keep: &mut [f64],
     out: &mut [f64],
@@ -138,7 +138,7 @@ pub fn add(
     limit: f64,
 ) -> Added
     requires { ⌜ Ready (e .0) (counts .made) 0 (now edges) (now words) (now reals) × Sizes (length (now pts)) (now keep) (now out) (now next) ⌝ }
-    ensures { λ r. ⌜ Adding·Bounded (capacityOf (length (now (words .entry))) (length (now (reals .entry)))) r × Adds (length (now (pts .entry))) (capacityOf (length (now (words .entry))) (length (now (reals .entry)))) limit (now (flags .entry)) len (a .0) (b .0) (candidate (e .0) b0 b1 src (into .0) queued) (place (counts .made) (counts .queued) 0 (links (now (edges .entry)) (now (words .entry))) (now (reals .entry)) (queue (now (keys .entry)) (now (events .entry))) (now (vertex .entry))) (Adding·endOf r (links (now (edges .exit)) (now (words .exit))) (now (reals .exit)) (queue (now (keys .exit)) (now (events .exit))) (now (vertex .exit))) ⌝ }
+    ensures { λ r. ⌜ Adding·Bounded (capacityOf (length (now (words .entry))) (length (now (reals .entry)))) r × Adds (length (now (pts .entry))) (capacityOf (length (now (words .entry))) (length (now (reals .entry)))) limit (now («vertex_words» .entry)) len (a .0) (b .0) (candidate (e .0) b0 b1 src (into .0) queued) (place (counts .made) (counts .queued) 0 (links (now (edges .entry)) (now (words .entry))) (now (reals .entry)) (queue (now (keys .entry)) (now (events .entry))) (now (vertex .entry))) (Adding·endOf r (links (now (edges .exit)) (now (words .exit))) (now (reals .exit)) (queue (now (keys .exit)) (now (events .exit))) (now (vertex .exit))) ⌝ }
 {
     let tiny = 1e-11 * len;
     if b1 - b0 <= tiny {
@@ -164,7 +164,7 @@ pub fn add(
         keys,
         events,
         vertex,
-        flags,
+        vertex_words,
         pts,
         keep,
         out,

@@ -31,7 +31,7 @@ pub extern "C" fn sirmolaat_trim_run(
     args: &[f64],
     ends: &[u32],
     lens: &[f64],
-    flags: &[u8],
+    vertex_words: &[u32],
     edges: &mut [u32],
     words: &mut [u32],
     reals: &mut [f64],
@@ -44,7 +44,7 @@ pub extern "C" fn sirmolaat_trim_run(
     next: &mut [f64],
     told: &mut [u32],
 ) -> u32
-    ensures { λ r. ⌜ Answered limit (now (flags .entry)) (now (ends .entry)) (now (lens .entry)) (now (ops .entry)) (now (args .entry)) (slices (now (edges .entry)) (now (words .entry)) (now (reals .entry)) (now (keys .entry)) (now (events .entry)) (now (vertex .entry))) (cuts (now (pts .entry)) (now (out .entry)) (now (keep .entry)) (now (next .entry))) (slices (now (edges .exit)) (now (words .exit)) (now (reals .exit)) (now (keys .exit)) (now (events .exit)) (now (vertex .exit))) (cuts (now (pts .exit)) (now (out .exit)) (now (keep .exit)) (now (next .exit))) (now (told .entry)) r (now (told .exit)) ⌝ }
+    ensures { λ r. ⌜ Answered limit (now («vertex_words» .entry)) (now (ends .entry)) (now (lens .entry)) (now (ops .entry)) (now (args .entry)) (slices (now (edges .entry)) (now (words .entry)) (now (reals .entry)) (now (keys .entry)) (now (events .entry)) (now (vertex .entry))) (cuts (now (pts .entry)) (now (out .entry)) (now (keep .entry)) (now (next .entry))) (slices (now (edges .exit)) (now (words .exit)) (now (reals .exit)) (now (keys .exit)) (now (events .exit)) (now (vertex .exit))) (cuts (now (pts .exit)) (now (out .exit)) (now (keep .exit)) (now (next .exit))) (now (told .entry)) r (now (told .exit)) ⌝ }
 {
     let ran = trim_list::run(
         limit,
@@ -52,7 +52,7 @@ pub extern "C" fn sirmolaat_trim_run(
         args,
         ends,
         lens,
-        flags,
+        vertex_words,
         edges,
         words,
         reals,

@@ -30,7 +30,7 @@ ghost use Rattle.trim_keep.specs.Keeping.{Bounded, Seats, KeptOne};
 // The first end of an edge of length len, a, is touched if the window reaches it.
 fn touch_low(
     vertex: &mut [f64],
-    flags: &[u8],
+    vertex_words: &[u32],
     keys: &mut [f64],
     events: &mut [u32],
     n: u32,
@@ -39,11 +39,11 @@ fn touch_low(
     a: VertexId,
     win: Win,
 ) -> Pushed
-    ensures { λ r. ⌜ ((cuts windows made : ℕ) → play cuts windows limit (now (flags .entry)) (pushIf (le (win .b0) (near ⊗ len)) (touch (a .0) (evalOf win zero64 zero64))) (stock made n (queue (now (keys .entry)) (now (events .entry))) (now (vertex .entry))) ≡ queueing made (now (vertex .exit)) (r, queue (now (keys .exit)) (now (events .exit)))) ⌝ }
+    ensures { λ r. ⌜ ((cuts windows made : ℕ) → play cuts windows limit (now («vertex_words» .entry)) (pushIf (le (win .b0) (near ⊗ len)) (touch (a .0) (evalOf win zero64 zero64))) (stock made n (queue (now (keys .entry)) (now (events .entry))) (now (vertex .entry))) ≡ queueing made (now (vertex .exit)) (r, queue (now (keys .exit)) (now (events .exit)))) ⌝ }
 {
     if win.b0 <= 1e-9 * len {
         let d = source::eval(win, 0.0, 0.0);
-        return actions::touch(vertex, flags, keys, events, n, limit, a, d);
+        return actions::touch(vertex, vertex_words, keys, events, n, limit, a, d);
     }
     Pushed::Queued(n)
 }
@@ -51,7 +51,7 @@ fn touch_low(
 // The other end, b.
 fn touch_high(
     vertex: &mut [f64],
-    flags: &[u8],
+    vertex_words: &[u32],
     keys: &mut [f64],
     events: &mut [u32],
     n: u32,
@@ -60,11 +60,11 @@ fn touch_high(
     b: VertexId,
     win: Win,
 ) -> Pushed
-    ensures { λ r. ⌜ ((cuts windows made : ℕ) → play cuts windows limit (now (flags .entry)) (pushIf (le (len ⊖ near ⊗ len) (win .b1)) (touch (b .0) (evalOf win len zero64))) (stock made n (queue (now (keys .entry)) (now (events .entry))) (now (vertex .entry))) ≡ queueing made (now (vertex .exit)) (r, queue (now (keys .exit)) (now (events .exit)))) ⌝ }
+    ensures { λ r. ⌜ ((cuts windows made : ℕ) → play cuts windows limit (now («vertex_words» .entry)) (pushIf (le (len ⊖ near ⊗ len) (win .b1)) (touch (b .0) (evalOf win len zero64))) (stock made n (queue (now (keys .entry)) (now (events .entry))) (now (vertex .entry))) ≡ queueing made (now (vertex .exit)) (r, queue (now (keys .exit)) (now (events .exit)))) ⌝ }
 {
     if win.b1 >= len - 1e-9 * len {
         let d = source::eval(win, len, 0.0);
-        return actions::touch(vertex, flags, keys, events, n, limit, b, d);
+        return actions::touch(vertex, vertex_words, keys, events, n, limit, b, d);
     }
     Pushed::Queued(n)
 }
@@ -72,7 +72,7 @@ fn touch_high(
 // Both, one after the other. The part of window x from b0 to b1 is the new window.
 fn touch_ends(
     vertex: &mut [f64],
-    flags: &[u8],
+    vertex_words: &[u32],
     keys: &mut [f64],
     events: &mut [u32],
     n: u32,
@@ -84,15 +84,15 @@ fn touch_ends(
     b0: f64,
     b1: f64,
 ) -> Pushed
-    ensures { λ r. ⌜ ((cuts windows made k j : ℕ) → play cuts windows limit (now (flags .entry)) (touching len (a .0) (b .0) (part (liveOf x k) b0 b1 j)) (stock made n (queue (now (keys .entry)) (now (events .entry))) (now (vertex .entry))) ≡ queueing made (now (vertex .exit)) (r, queue (now (keys .exit)) (now (events .exit)))) ⌝ }
+    ensures { λ r. ⌜ ((cuts windows made k j : ℕ) → play cuts windows limit (now («vertex_words» .entry)) (touching len (a .0) (b .0) (part (liveOf x k) b0 b1 j)) (stock made n (queue (now (keys .entry)) (now (events .entry))) (now (vertex .entry))) ≡ queueing made (now (vertex .exit)) (r, queue (now (keys .exit)) (now (events .exit)))) ⌝ }
 {
     let old = x.win;
     let win = trim_split::trimmed(old, b0, b1);
-    let first = touch_low(vertex, flags, keys, events, n, limit, len, a, win);
+    let first = touch_low(vertex, vertex_words, keys, events, n, limit, len, a, win);
     let Pushed::Queued(m) = first else {
         return Pushed::Full;
     };
-    touch_high(vertex, flags, keys, events, m, limit, len, b, win)
+    touch_high(vertex, vertex_words, keys, events, m, limit, len, b, win)
 }
 
 // The part of window x from b0 to b1 becomes a window of edge e, seated by its start behind a link.
@@ -103,7 +103,7 @@ fn keep_part(
     keys: &mut [f64],
     events: &mut [u32],
     vertex: &mut [f64],
-    flags: &[u8],
+    vertex_words: &[u32],
     counts: Counts,
     e: EdgeId,
     before: u32,
@@ -116,7 +116,7 @@ fn keep_part(
     b: VertexId,
 ) -> Made
     requires { ⌜ Ready (e .0) (counts .made) before (now edges) (now words) (now reals) ⌝ }
-    ensures { λ r. ⌜ Bounded (capacityOf (length (now (words .entry))) (length (now (reals .entry)))) r × ((cuts k : ℕ) → KeptOne cuts (capacityOf (length (now (words .entry))) (length (now (reals .entry)))) limit (now (flags .entry)) (e .0) len (a .0) (b .0) (liveOf x k) (interval b0 b1) (place (counts .made) (counts .queued) before (links (now (edges .entry)) (now (words .entry))) (now (reals .entry)) (queue (now (keys .entry)) (now (events .entry))) (now (vertex .entry))) (endOf r (links (now (edges .exit)) (now (words .exit))) (now (reals .exit)) (queue (now (keys .exit)) (now (events .exit))) (now (vertex .exit)))) ⌝ }
+    ensures { λ r. ⌜ Bounded (capacityOf (length (now (words .entry))) (length (now (reals .entry)))) r × ((cuts k : ℕ) → KeptOne cuts (capacityOf (length (now (words .entry))) (length (now (reals .entry)))) limit (now («vertex_words» .entry)) (e .0) len (a .0) (b .0) (liveOf x k) (interval b0 b1) (place (counts .made) (counts .queued) before (links (now (edges .entry)) (now (words .entry))) (now (reals .entry)) (queue (now (keys .entry)) (now (events .entry))) (now (vertex .entry))) (endOf r (links (now (edges .exit)) (now (words .exit))) (now (reals .exit)) (queue (now (keys .exit)) (now (events .exit))) (now (vertex .exit)))) ⌝ }
 {
     let seat = live_windows::seat_from(edges, words, reals, counts.made, e, before, b0);
     let part = trim_split::make_part(
@@ -137,7 +137,7 @@ fn keep_part(
         Made::Went(c, last) => {
             let touched = touch_ends(
                 vertex,
-                flags,
+                vertex_words,
                 keys,
                 events,
                 c.queued,
@@ -171,7 +171,7 @@ pub fn keep_parts(
     keys: &mut [f64],
     events: &mut [u32],
     vertex: &mut [f64],
-    flags: &[u8],
+    vertex_words: &[u32],
     keep: &[f64],
     k: usize,
     counts: Counts,
@@ -185,7 +185,7 @@ pub fn keep_parts(
     b: VertexId,
 ) -> Made
     requires { ⌜ Ready (e .0) (counts .made) before (now edges) (now words) (now reals) × (k + k ≤ length (now keep)) ⌝ }
-    ensures { λ r. ⌜ Bounded (capacityOf (length (now (words .entry))) (length (now (reals .entry)))) r × ((cuts j : ℕ) → Seats cuts (capacityOf (length (now (words .entry))) (length (now (reals .entry)))) limit (now (flags .entry)) (e .0) len (a .0) (b .0) (liveOf x j) (wideOf tiny (pairs k (now (keep .entry)))) (place (counts .made) (counts .queued) before (links (now (edges .entry)) (now (words .entry))) (now (reals .entry)) (queue (now (keys .entry)) (now (events .entry))) (now (vertex .entry))) (endOf r (links (now (edges .exit)) (now (words .exit))) (now (reals .exit)) (queue (now (keys .exit)) (now (events .exit))) (now (vertex .exit)))) ⌝ }
+    ensures { λ r. ⌜ Bounded (capacityOf (length (now (words .entry))) (length (now (reals .entry)))) r × ((cuts j : ℕ) → Seats cuts (capacityOf (length (now (words .entry))) (length (now (reals .entry)))) limit (now («vertex_words» .entry)) (e .0) len (a .0) (b .0) (liveOf x j) (wideOf tiny (pairs k (now (keep .entry)))) (place (counts .made) (counts .queued) before (links (now (edges .entry)) (now (words .entry))) (now (reals .entry)) (queue (now (keys .entry)) (now (events .entry))) (now (vertex .entry))) (endOf r (links (now (edges .exit)) (now (words .exit))) (now (reals .exit)) (queue (now (keys .exit)) (now (events .exit))) (now (vertex .exit)))) ⌝ }
 {
     let mut now = counts;
     let mut last = before;
@@ -203,7 +203,7 @@ pub fn keep_parts(
                 keys,
                 events,
                 vertex,
-                flags,
+                vertex_words,
                 now,
                 e,
                 last,

@@ -32,19 +32,19 @@ fn touch(
     v: VertexId,
     d: f64,
     limit: f64,
-    flags: &[u8],
+    vertex_words: &[u32],
     keys: &mut [f64],
     events: &mut [u32],
     vertex: &mut [f64],
     made: u32,
     queued: u32,
 ) -> Step
-    ensures { λ r. ⌜ Touches (v .0) d limit (now (flags .entry)) made queued (now (keys .entry)) (now (events .entry)) (now (vertex .entry)) r (now (keys .exit)) (now (events .exit)) (now (vertex .exit)) ⌝ }
+    ensures { λ r. ⌜ Touches (v .0) d limit (now («vertex_words» .entry)) made queued (now (keys .entry)) (now (events .entry)) (now (vertex .entry)) r (now (keys .exit)) (now (events .exit)) (now (vertex .exit)) ⌝ }
 {
     if buffers::slots(vertex.len(), 2) <= v.0 {
         return Step::Stopped(43);
     }
-    let touched = actions::touch(vertex, flags, keys, events, queued, limit, v, d);
+    let touched = actions::touch(vertex, vertex_words, keys, events, queued, limit, v, d);
     match touched {
         Pushed::Full => Step::Stopped(13),
         Pushed::Queued(n) => Step::Went { made, queued: n },
@@ -109,7 +109,7 @@ fn add_candidate(
     limit: f64,
     ends: &[u32],
     lens: &[f64],
-    flags: &[u8],
+    vertex_words: &[u32],
     edges: &mut [u32],
     words: &mut [u32],
     reals: &mut [f64],
@@ -124,7 +124,7 @@ fn add_candidate(
     queued: u32,
 ) -> Step
     requires { ⌜ Ready m made (slices (now edges) (now words) (now reals) (now keys) (now events) (now vertex)) (cuts (now pts) (now out) (now keep) (now next)) ⌝ }
-    ensures { λ r. ⌜ Operated (settingOf (cuts (now (pts .entry)) (now (out .entry)) (now (keep .entry)) (now (next .entry))) (slices (now (edges .entry)) (now (words .entry)) (now (reals .entry)) (now (keys .entry)) (now (events .entry)) (now (vertex .entry))) limit (now (flags .entry)) (now (ends .entry)) (now (lens .entry)) m) (Operations·add (asCandidate c)) made queued (slices (now (edges .entry)) (now (words .entry)) (now (reals .entry)) (now (keys .entry)) (now (events .entry)) (now (vertex .entry))) r (slices (now (edges .exit)) (now (words .exit)) (now (reals .exit)) (now (keys .exit)) (now (events .exit)) (now (vertex .exit))) ⌝ }
+    ensures { λ r. ⌜ Operated (settingOf (cuts (now (pts .entry)) (now (out .entry)) (now (keep .entry)) (now (next .entry))) (slices (now (edges .entry)) (now (words .entry)) (now (reals .entry)) (now (keys .entry)) (now (events .entry)) (now (vertex .entry))) limit (now («vertex_words» .entry)) (now (ends .entry)) (now (lens .entry)) m) (Operations·add (asCandidate c)) made queued (slices (now (edges .entry)) (now (words .entry)) (now (reals .entry)) (now (keys .entry)) (now (events .entry)) (now (vertex .entry))) r (slices (now (edges .exit)) (now (words .exit)) (now (reals .exit)) (now (keys .exit)) (now (events .exit)) (now (vertex .exit))) ⌝ }
 {
     let src = c.src;
     let l = read_f64(lens, 1, c.edge.0, 0);
@@ -141,7 +141,7 @@ fn add_candidate(
         keys,
         events,
         vertex,
-        flags,
+        vertex_words,
         pts,
         keep,
         out,
@@ -174,7 +174,7 @@ fn operate(
     limit: f64,
     ends: &[u32],
     lens: &[f64],
-    flags: &[u8],
+    vertex_words: &[u32],
     edges: &mut [u32],
     words: &mut [u32],
     reals: &mut [f64],
@@ -189,7 +189,7 @@ fn operate(
     queued: u32,
 ) -> Step
     requires { ⌜ Ready m made (slices (now edges) (now words) (now reals) (now keys) (now events) (now vertex)) (cuts (now pts) (now out) (now keep) (now next)) ⌝ }
-    ensures { λ r. ⌜ Operated (settingOf (cuts (now (pts .entry)) (now (out .entry)) (now (keep .entry)) (now (next .entry))) (slices (now (edges .entry)) (now (words .entry)) (now (reals .entry)) (now (keys .entry)) (now (events .entry)) (now (vertex .entry))) limit (now (flags .entry)) (now (ends .entry)) (now (lens .entry)) m) (asOperation op) made queued (slices (now (edges .entry)) (now (words .entry)) (now (reals .entry)) (now (keys .entry)) (now (events .entry)) (now (vertex .entry))) r (slices (now (edges .exit)) (now (words .exit)) (now (reals .exit)) (now (keys .exit)) (now (events .exit)) (now (vertex .exit))) ⌝ }
+    ensures { λ r. ⌜ Operated (settingOf (cuts (now (pts .entry)) (now (out .entry)) (now (keep .entry)) (now (next .entry))) (slices (now (edges .entry)) (now (words .entry)) (now (reals .entry)) (now (keys .entry)) (now (events .entry)) (now (vertex .entry))) limit (now («vertex_words» .entry)) (now (ends .entry)) (now (lens .entry)) m) (asOperation op) made queued (slices (now (edges .entry)) (now (words .entry)) (now (reals .entry)) (now (keys .entry)) (now (events .entry)) (now (vertex .entry))) r (slices (now (edges .exit)) (now (words .exit)) (now (reals .exit)) (now (keys .exit)) (now (events .exit)) (now (vertex .exit))) ⌝ }
 {
     match op {
         Op::Add(c) => add_candidate(
@@ -198,7 +198,7 @@ fn operate(
             limit,
             ends,
             lens,
-            flags,
+            vertex_words,
             edges,
             words,
             reals,
@@ -216,7 +216,17 @@ fn operate(
             let n = trim_run::pop(words, reals, keys, events, made, queued);
             Step::Went { made, queued: n }
         }
-        Op::Touch(v, d) => touch(v, d, limit, flags, keys, events, vertex, made, queued),
+        Op::Touch(v, d) => touch(
+            v,
+            d,
+            limit,
+            vertex_words,
+            keys,
+            events,
+            vertex,
+            made,
+            queued,
+        ),
         Op::Unknown => Step::Stopped(40),
     }
 }
@@ -230,7 +240,7 @@ fn run_all(
     args: &[f64],
     ends: &[u32],
     lens: &[f64],
-    flags: &[u8],
+    vertex_words: &[u32],
     edges: &mut [u32],
     words: &mut [u32],
     reals: &mut [f64],
@@ -243,7 +253,7 @@ fn run_all(
     next: &mut [f64],
 ) -> Ran
     requires { ⌜ Ready m 0 (slices (now edges) (now words) (now reals) (now keys) (now events) (now vertex)) (cuts (now pts) (now out) (now keep) (now next)) × ((e : ℕ) → e < m → headOf (now edges) e ≡ 0) ⌝ }
-    ensures { λ r. ⌜ Runs (settingOf (cuts (now (pts .entry)) (now (out .entry)) (now (keep .entry)) (now (next .entry))) (slices (now (edges .entry)) (now (words .entry)) (now (reals .entry)) (now (keys .entry)) (now (events .entry)) (now (vertex .entry))) limit (now (flags .entry)) (now (ends .entry)) (now (lens .entry)) m) (now (ops .entry)) (now (args .entry)) n (placeIn 0 0 (slices (now (edges .entry)) (now (words .entry)) (now (reals .entry)) (now (keys .entry)) (now (events .entry)) (now (vertex .entry)))) r (slices (now (edges .exit)) (now (words .exit)) (now (reals .exit)) (now (keys .exit)) (now (events .exit)) (now (vertex .exit))) ⌝ }
+    ensures { λ r. ⌜ Runs (settingOf (cuts (now (pts .entry)) (now (out .entry)) (now (keep .entry)) (now (next .entry))) (slices (now (edges .entry)) (now (words .entry)) (now (reals .entry)) (now (keys .entry)) (now (events .entry)) (now (vertex .entry))) limit (now («vertex_words» .entry)) (now (ends .entry)) (now (lens .entry)) m) (now (ops .entry)) (now (args .entry)) n (placeIn 0 0 (slices (now (edges .entry)) (now (words .entry)) (now (reals .entry)) (now (keys .entry)) (now (events .entry)) (now (vertex .entry)))) r (slices (now (edges .exit)) (now (words .exit)) (now (reals .exit)) (now (keys .exit)) (now (events .exit)) (now (vertex .exit))) ⌝ }
 {
     let mut made = 0;
     let mut queued = 0;
@@ -256,7 +266,7 @@ fn run_all(
             limit,
             ends,
             lens,
-            flags,
+            vertex_words,
             edges,
             words,
             reals,
@@ -292,7 +302,7 @@ fn run_parts(
     args: &[f64],
     ends: &[u32],
     lens: &[f64],
-    flags: &[u8],
+    vertex_words: &[u32],
     edges: &mut [u32],
     words: &mut [u32],
     reals: &mut [f64],
@@ -305,7 +315,7 @@ fn run_parts(
     next: &mut [f64],
 ) -> Ran
     requires { ⌜ (m ≡ edgeCount (now ends) (now lens) (now edges)) × ((x ≡ cutCount (cuts (now pts) (now out) (now keep) (now next))) × ((n ≡ operationCount (now ops) (now args)) × ((e : ℕ) → headOf (now edges) e ≡ 0))) ⌝ }
-    ensures { λ r. ⌜ Runs (lentSetting (cuts (now (pts .entry)) (now (out .entry)) (now (keep .entry)) (now (next .entry))) (slices (now (edges .entry)) (now (words .entry)) (now (reals .entry)) (now (keys .entry)) (now (events .entry)) (now (vertex .entry))) limit (now (flags .entry)) (now (ends .entry)) (now (lens .entry))) (now (ops .entry)) (now (args .entry)) (operationCount (now (ops .entry)) (now (args .entry))) (placeIn 0 0 (slices (now (edges .entry)) (now (words .entry)) (now (reals .entry)) (now (keys .entry)) (now (events .entry)) (now (vertex .entry)))) r (slices (now (edges .exit)) (now (words .exit)) (now (reals .exit)) (now (keys .exit)) (now (events .exit)) (now (vertex .exit))) ⌝ }
+    ensures { λ r. ⌜ Runs (lentSetting (cuts (now (pts .entry)) (now (out .entry)) (now (keep .entry)) (now (next .entry))) (slices (now (edges .entry)) (now (words .entry)) (now (reals .entry)) (now (keys .entry)) (now (events .entry)) (now (vertex .entry))) limit (now («vertex_words» .entry)) (now (ends .entry)) (now (lens .entry))) (now (ops .entry)) (now (args .entry)) (operationCount (now (ops .entry)) (now (args .entry))) (placeIn 0 0 (slices (now (edges .entry)) (now (words .entry)) (now (reals .entry)) (now (keys .entry)) (now (events .entry)) (now (vertex .entry)))) r (slices (now (edges .exit)) (now (words .exit)) (now (reals .exit)) (now (keys .exit)) (now (events .exit)) (now (vertex .exit))) ⌝ }
 {
     let single = x as usize;
     let double = 2 * single;
@@ -317,7 +327,7 @@ fn run_parts(
         args,
         ends,
         lens,
-        flags,
+        vertex_words,
         edges,
         words,
         reals,
@@ -339,7 +349,7 @@ pub fn run(
     args: &[f64],
     ends: &[u32],
     lens: &[f64],
-    flags: &[u8],
+    vertex_words: &[u32],
     edges: &mut [u32],
     words: &mut [u32],
     reals: &mut [f64],
@@ -351,7 +361,7 @@ pub fn run(
     keep: &mut [f64],
     next: &mut [f64],
 ) -> Ran
-    ensures { λ r. ⌜ RunWhole limit (now (flags .entry)) (now (ends .entry)) (now (lens .entry)) (now (ops .entry)) (now (args .entry)) (slices (now (edges .entry)) (now (words .entry)) (now (reals .entry)) (now (keys .entry)) (now (events .entry)) (now (vertex .entry))) (cuts (now (pts .entry)) (now (out .entry)) (now (keep .entry)) (now (next .entry))) r (slices (now (edges .exit)) (now (words .exit)) (now (reals .exit)) (now (keys .exit)) (now (events .exit)) (now (vertex .exit))) (cuts (now (pts .exit)) (now (out .exit)) (now (keep .exit)) (now (next .exit))) ⌝ }
+    ensures { λ r. ⌜ RunWhole limit (now («vertex_words» .entry)) (now (ends .entry)) (now (lens .entry)) (now (ops .entry)) (now (args .entry)) (slices (now (edges .entry)) (now (words .entry)) (now (reals .entry)) (now (keys .entry)) (now (events .entry)) (now (vertex .entry))) (cuts (now (pts .entry)) (now (out .entry)) (now (keep .entry)) (now (next .entry))) r (slices (now (edges .exit)) (now (words .exit)) (now (reals .exit)) (now (keys .exit)) (now (events .exit)) (now (vertex .exit))) (cuts (now (pts .exit)) (now (out .exit)) (now (keep .exit)) (now (next .exit))) ⌝ }
 {
     let m = edge_count(ends, lens, edges);
     let x = cut_count(pts, out, keep, next);
@@ -368,7 +378,7 @@ pub fn run(
         args,
         ends,
         lens,
-        flags,
+        vertex_words,
         edges,
         words,
         reals,

@@ -11,6 +11,8 @@ use lib.Ieee.Scale.{finite}
 use Rattle.float64.specs.Scalar.{zero}
 use Rattle.float_laws.proofs.Order.{finite-between, zero-finite}
 use Rattle.heap.specs.declared.Event.{Event}
+use Rattle.heap.specs.declared.Item.{Item}
+use Rattle.heap.specs.declared.Item.the-variants.{Window as Item·Window, Vertex as Item·Vertex}
 use Rattle.heap.specs.declared.Popped.{Popped}
 use Rattle.heap.specs.declared.Popped.the-variants.{Empty, First}
 use Rattle.heap.specs.Queue.{Queue, popping}
@@ -28,7 +30,7 @@ use Rattle.trim_state.proofs.Follows.{follows-unqueue, follows-demand3}
 use Rattle.trim_state.proofs.Made.{Made, act-made, After, finish-after, add-after}
 use Rattle.live_windows.specs.Live.{unqueuedIn}
 use Rattle.trim_run.specs.Operations.{Operation, add, pop, touch, unknown, candidateOf, candidates, Doubles, DoublesOf}
-use Rattle.trim_run.specs.Run.{taken, popped, hasLength, isOnEdge, tryAdd, operate}
+use Rattle.trim_run.specs.Run.{takenOf, taken, popped, hasLength, isOnEdge, tryAdd, operate}
 use Rattle.trim_run.specs.Demand3.{Demand3}
 
 -- a candidate that is not refused
@@ -52,9 +54,14 @@ unfolding unqueuedIn
 unqueued-in n [] = refl
 unqueued-in n (u ∷ us) = by-cases (λ (b : Bool). unqueued (cond b (unqueued u) u) ∷ map unqueued (unqueuedIn n us) ≡ unqueued u ∷ map unqueued us) (eqb (u .num) n) (λ y. ap (λ (l : List Window). unqueued u ∷ l) (unqueued-in n us)) (λ z. ap (λ (l : List Window). unqueued u ∷ l) (unqueued-in n us))
 
+taken-of : (i : Item) (us : List Window) → map unqueued (takenOf i us) ≡ map unqueued us
+unfolding takenOf
+taken-of (Item·Window w) us = unqueued-in (w .0) us
+taken-of (Item·Vertex v) us = refl
+
 taken-same : (x : Event) (live : ℕ → List Window) (e : ℕ) → map unqueued (taken x live e) ≡ map unqueued (live e)
 unfolding taken
-taken-same x live e = by-cases (λ (b : Bool). map unqueued (cond b (unqueuedIn (x .number) (live e)) (live e)) ≡ map unqueued (live e)) (eqb (x .kind) 0) (λ y. unqueued-in (x .number) (live e)) (λ z. refl)
+taken-same x live e = taken-of (x .item) (live e)
 
 module _ (cuts windows : ℕ) (limit : Float) (flags : List ℕ) (mesh : Mesh) (edges vertices : ℕ) (cs : List Candidate) (s : State) (F : Follows limit (mesh .len) cs (s .stock .made) (s .live)) where
   -- the state follows the model with more candidates

@@ -12,7 +12,11 @@ use lib.ListN.{getD}
 use lib.Ieee.{Float}
 use Rattle.windows.specs.Windows.{hasFlag, windowAt}
 use Rattle.chains.specs.Chains.{links, AllBelong}
+use Rattle.buffers.specs.declared.VertexId.{VertexId}
+use Rattle.buffers.specs.declared.WindowId.{WindowId}
 use Rattle.heap.specs.declared.Event.{Event}
+use Rattle.heap.specs.declared.Item.{Item}
+use Rattle.heap.specs.declared.Item.the-variants.{Window as Item·Window, Vertex as Item·Vertex}
 use Rattle.heap.specs.declared.Popped.{Popped}
 use Rattle.heap.specs.declared.Popped.the-variants.{Empty, First}
 use Rattle.heap.specs.Queue.{Queue, queue, at, slots, popping}
@@ -24,7 +28,7 @@ use Rattle.trim_model.proofs.Lists.{all-map}
 use Rattle.trim_model.specs.Windows.{Window, unqueued}
 use Rattle.trim_state.specs.State.{State}
 use Rattle.live_windows.specs.Live.{nums, Alive, Stands, Holds, unqueuedIn, Unqueues}
-use Rattle.trim_run.specs.Run.{taken, popped}
+use Rattle.trim_run.specs.Run.{takenOf, taken, popped}
 use Rattle.trim_run.specs.Represents.{Represents}
 
 -- ---- windows that a pop of the event of window i leaves as they are
@@ -66,30 +70,29 @@ module _ (made : ℕ) (words : List ℕ) (reals : List Float) (x : Event) where
   abbrev pub Clears : List ℕ → Type 0
   Clears words′ = (m : ℕ) (edges : List ℕ) (live : ℕ → List Window) → Holds made m (links edges words) reals live → Holds made m (links edges words′) reals (taken x live)
 
-  same-taken : (live : ℕ → List Window) (e : ℕ) (b : Bool) → All (Kept (x .number)) (live e) → cond b (unqueuedIn (x .number) (live e)) (live e) ≡ live e
-  same-taken live e true a = kept (x .number) (live e) a
-  same-taken live e false a = refl
+  module _ (w : WindowId) (isWindow : x .item ≡ Item·Window w) where
+    taken-window : (live : ℕ → List Window) (e : ℕ) → taken x live e ≡ unqueuedIn (w .0) (live e)
+    unfolding taken takenOf
+    taken-window live e = ap (λ (i : Item). takenOf i (live e)) isWindow
 
-  clear-kept : ((m : ℕ) (edges : List ℕ) (live : ℕ → List Window) → Holds made m (links edges words) reals live → (e : ℕ) → e < m → All (Kept (x .number)) (live e)) → Clears words
-  unfolding taken
-  clear-kept k m edges live H e l = subst (λ (us : List Window). Stands made (links edges words) reals e us) (sym (same-taken live e (eqb (x .kind) 0) (k m edges live H e l))) (H e l)
+    clear-kept : ((m : ℕ) (edges : List ℕ) (live : ℕ → List Window) → Holds made m (links edges words) reals live → (e : ℕ) → e < m → All (Kept (w .0)) (live e)) → Clears words
+    clear-kept k m edges live H e l = subst (λ (us : List Window). Stands made (links edges words) reals e us) (sym (taken-window live e ∙ kept (w .0) (live e) (k m edges live H e l))) (H e l)
 
-  pub clear-vertex : x .kind ≢ 0 → Clears words
-  unfolding taken
-  clear-vertex h m edges live H e l = rw (ne-eqb (x .kind) 0 h) (H e l)
+    pub clear-far : made ≤ w .0 → Clears words
+    clear-far h = clear-kept (λ m edges live H e l. far-kept (w .0) made words e (live e) h (H e l .chain .belong))
 
-  pub clear-far : made ≤ x .number → Clears words
-  clear-far h = clear-kept (λ m edges live H e l. far-kept (x .number) made words e (live e) h (H e l .chain .belong))
+    pub clear-dead : hasFlag (getD words (4 * w .0 + 2) 0) 2 ≡ false → Clears words
+    clear-dead h = clear-kept (λ m edges live H e l. all-map {P = Alive words reals} {Q = Kept (w .0)} (dead-kept words reals (w .0) h) (live e) (H e l .windows))
 
-  pub clear-dead : hasFlag (getD words (4 * x .number + 2) 0) 2 ≡ false → Clears words
-  clear-dead h = clear-kept (λ m edges live H e l. all-map {P = Alive words reals} {Q = Kept (x .number)} (dead-kept words reals (x .number) h) (live e) (H e l .windows))
+    pub clear-idle : hasFlag (getD words (4 * w .0 + 2) 0) 4 ≡ false → Clears words
+    clear-idle h = clear-kept (λ m edges live H e l. all-map {P = Alive words reals} {Q = Kept (w .0)} (idle-kept words reals (w .0) h) (live e) (H e l .windows))
 
-  pub clear-idle : hasFlag (getD words (4 * x .number + 2) 0) 4 ≡ false → Clears words
-  clear-idle h = clear-kept (λ m edges live H e l. all-map {P = Alive words reals} {Q = Kept (x .number)} (idle-kept words reals (x .number) h) (live e) (H e l .windows))
+    pub clear-done : (words′ : List ℕ) → Unqueues words words′ (w .0) → Clears words′
+    clear-done words′ u m edges live H e l = subst (λ (us : List Window). Stands made (links edges words′) reals e us) (sym (taken-window live e)) (u .holds made m edges reals live H .0 e l)
 
-  pub clear-done : x .kind ≡ 0 → (words′ : List ℕ) → Unqueues words words′ (x .number) → Clears words′
-  unfolding taken
-  clear-done h words′ u m edges live H e l = rw (eq-eqb (x .kind) 0 h) (u .holds made m edges reals live H .0 e l)
+  pub clear-vertex : (v : VertexId) → x .item ≡ Item·Vertex v → Clears words
+  unfolding taken takenOf
+  clear-vertex v h m edges live H e l = subst (λ (i : Item). Stands made (links edges words) reals e (takenOf i (live e))) (sym h) (H e l)
 
 -- ---- the whole pop
 IsEmpty : Popped → Type 0

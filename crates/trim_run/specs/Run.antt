@@ -2,11 +2,13 @@
 use Prim.Native.Nat.{ℕ, suc}
 use mathlib.Core.Bool.{Bool, cond, _&&_}
 use mathlib.Core.List.{List, [], _∷_, _++_}
-use lib.Dec.{eqb, ltb}
+use lib.Dec.{ltb}
 use lib.Ieee.{Float, lt, le}
 use lib.Ieee.Scale.{finite}
 use Rattle.float64.specs.Scalar.{zero}
 use Rattle.heap.specs.declared.Event.{Event}
+use Rattle.heap.specs.declared.Item.{Item}
+use Rattle.heap.specs.declared.Item.the-variants.{Window as Item·Window, Vertex as Item·Vertex}
 use Rattle.heap.specs.declared.Popped.{Popped}
 use Rattle.heap.specs.declared.Popped.the-variants.{Empty, First}
 use Rattle.heap.specs.Queue.{Queue, popping}
@@ -19,9 +21,14 @@ use Rattle.live_windows.specs.Live.{unqueuedIn}
 use Rattle.trim_run.specs.Operations.{Operation, add, pop, touch, unknown}
 
 -- ---- a pop: the first event is taken out, and a live window that it names is no longer queued
-unfoldable pub taken : Event → (ℕ → List Window) → ℕ → List Window
+unfoldable pub takenOf : Item → List Window → List Window
 unfolding unqueuedIn
-taken x live e = cond (eqb (x .kind) 0) (unqueuedIn (x .number) (live e)) (live e)
+takenOf (Item·Window w) live = unqueuedIn (w .0) live
+takenOf (Item·Vertex v) live = live
+
+unfoldable pub taken : Event → (ℕ → List Window) → ℕ → List Window
+unfolding takenOf
+taken x live e = takenOf (x .item) (live e)
 
 unfoldable pub popped : State → Popped × Queue → State
 unfolding taken

@@ -2,10 +2,10 @@
 use buffers::EdgeId;
 use buffers::FaceId;
 use buffers::VertexId;
-use buffers::WindowId;
 use buffers::read_f64;
 use buffers::read_u32;
 use heap::Event;
+use heap::Item;
 use heap::Popped;
 use source::Src;
 ghost use mathlib.Core.Path.{_≡_};
@@ -157,19 +157,22 @@ fn clear_popped(words: &mut [u32], reals: &[f64], made: u32, x: Event)
     requires { ⌜ made ≤ capacityOf (length (now words)) (length (now reals)) ⌝ }
     ensures { λ r. ⌜ (drop (4 * made) (now (words .exit)) ≡ drop (4 * made) (now (words .entry))) × ((m : ℕ) (edges : List ℕ) (live : ℕ → List Window) → Holds made m (links edges (now (words .entry))) (now (reals .entry)) live → Holds made m (links edges (now (words .exit))) (now (reals .entry)) (taken x live)) ⌝ }
 {
-    if x.kind == heap::WINDOW {
-        if x.number < made {
-            let flags = read_u32(words, 4, x.number, 2);
-            if windows::has_flag(flags, 2) {
-                if windows::has_flag(flags, 4) {
-                    live_windows::unqueue(words, reals, WindowId(x.number));
+    let item = x.item;
+    match item {
+        Item::Window(w) => {
+            if w.0 < made {
+                let flags = read_u32(words, 4, w.0, 2);
+                if windows::has_flag(flags, 2) {
+                    if windows::has_flag(flags, 4) {
+                        live_windows::unqueue(words, reals, w);
+                        return;
+                    }
                     return;
                 }
                 return;
             }
-            return;
         }
-        return;
+        Item::Vertex(_) => {}
     }
 }
 

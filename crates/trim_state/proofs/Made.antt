@@ -1,5 +1,5 @@
 -- How many windows an addition makes: as many as its actions say, and so as many as the reference model counts; and an addition keeps the live lists following the model. Assumes nothing.
-use Prim.Native.Nat.{ℕ, suc, _+_, pred}
+use Prim.Native.Nat.{ℕ, suc, _+_, pred, _*_}
 use mathlib.Core.Bool.{Bool, not, cond, _&&_}
 use mathlib.Core.List.{List, [], _∷_, _++_}
 use mathlib.Core.Path.{_≡_, refl, sym, ap, _∙_, subst}
@@ -14,6 +14,7 @@ use Rattle.better.specs.Points.{ptsOf, walkOf}
 use Rattle.better.specs.Stretches.{Interval, betterOf}
 use Rattle.heap.specs.declared.Pushed.{Pushed}
 use Rattle.heap.specs.declared.Pushed.the-variants.{Full, Queued}
+use Rattle.heap.specs.declared.Item.the-variants.{Vertex}
 use Rattle.heap.specs.Queue.{Queue, pushing}
 use Rattle.actions.specs.Actions.{Action, list, make, push, touch, Stock, stock, Outcome, stopped, went, distanceOf, withDistance, queueing, andThen, act, play}
 use Rattle.trim_model.specs.Intervals.{width, tinyOf, pushIf, next, pieces, wideOf}
@@ -65,10 +66,10 @@ module _ (cuts windows : ℕ) (limit : Float) (flags : List ℕ) where
       none o h = subst (λ (n : ℕ). Made n o) (omega arith) h
   act-made (touch v d) s =
       let vertex = withDistance (s .vertex) v d in
-      let q = queueing (s .made) vertex (pushing (s .queue) (s .queued) (record { key = d; number = v; kind = 1 })) in
+      let q = queueing (s .made) vertex (pushing (s .queue) (s .queued) (record { key = d; item = Vertex (record { 0 = v }) })) in
       let r = went (stock (s .made) (s .queued) (s .queue) vertex) in
-      by-cases (λ (b : Bool). Made (s .made + 0) (cond b (cond (eqb (getD flags v 0) 1 && le d limit) q r) (went s))) (lt d (distanceOf (s .vertex) v))
-      (λ y. by-cases (λ (b : Bool). Made (s .made + 0) (cond b q r)) (eqb (getD flags v 0) 1 && le d limit) (λ z. subst (λ (n : ℕ). Made n q) (omega arith) (queueing-made (s .made) vertex (pushing (s .queue) (s .queued) (record { key = d; number = v; kind = 1 })))) (λ z. omega arith))
+      by-cases (λ (b : Bool). Made (s .made + 0) (cond b (cond (eqb (getD flags (3 * v + 2) 0) 1 && le d limit) q r) (went s))) (lt d (distanceOf (s .vertex) v))
+      (λ y. by-cases (λ (b : Bool). Made (s .made + 0) (cond b q r)) (eqb (getD flags (3 * v + 2) 0) 1 && le d limit) (λ z. subst (λ (n : ℕ). Made n q) (omega arith) (queueing-made (s .made) vertex (pushing (s .queue) (s .queued) (record { key = d; item = Vertex (record { 0 = v }) })))) (λ z. omega arith))
       (λ n. omega arith)
 
   play-made : (xs : List Action) (s : Stock) → Made (s .made + makes xs) (play cuts windows limit flags xs s)

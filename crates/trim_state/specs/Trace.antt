@@ -11,6 +11,7 @@ use Rattle.source.specs.Distance.{lowestOf, evalOf}
 use Rattle.better.specs.Points.{ptsOf, walkOf}
 use Rattle.better.specs.Stretches.{Interval, betterOf}
 use Rattle.heap.specs.declared.Event.{Event}
+use Rattle.heap.specs.declared.Item.the-variants.{Window as Item·Window}
 use Rattle.actions.specs.Actions.{Action, list, make, push, touch}
 use Rattle.trim_model.specs.Intervals.{width, tinyOf, pushIf, next, pieces, wideOf}
 use Rattle.trim_model.specs.Windows.{Window, part}
@@ -18,7 +19,7 @@ use Rattle.trim_model.specs.Add.{Walk, run, sharedLo, sharedHi, start, visit, v
 
 -- `Event(lowest, id, false)`
 abbrev pub windowEvent : Float → ℕ → Event
-windowEvent key n = record { key = key; number = n; kind = 0 }
+windowEvent key n = record { key = key; item = Item·Window (record { 0 = n }) }
 
 -- a part of u is made as number n, and queued if u is
 abbrev pub making : Window → ℕ → Interval → List Action

@@ -121,10 +121,11 @@ fn visit_first(s: &[u8], w: Walk, keys: &mut [f64], events: &mut [u32], n: u32) 
             events: 0,
         },
         Popped::First(x, m) => {
+            let item = x.item;
             let keyed = visit_double(s, w, x.key);
-            let numbered = visit(s, keyed, x.number);
+            let numbered = visit(s, keyed, heap::number_of(item));
             Left {
-                walk: visit(s, numbered, x.kind),
+                walk: visit(s, numbered, heap::kind_of(item)),
                 events: m,
             }
         }
@@ -182,6 +183,19 @@ fn load_edges(s: &[u8], k: usize, flags: &mut [u8; 8], ends: &mut [u32; 16], len
     read_bytes(s, k + 10, flags);
     read_numbers(s, at.ends, ends);
     read_doubles(s, at.lens, lens);
+}
+
+fn wide(x: u8) -> u32 {
+    x as u32
+}
+
+// The third of each vertex's three words is its flag.
+fn flag_words(flags: &[u8; 8], vertex_words: &mut [u32; 24]) {
+    let mut v: usize = 0;
+    while v < 8 {
+        vertex_words[3 * v + 2] = wide(flags[v]);
+        v += 1;
+    }
 }
 
 fn load_steps(s: &[u8], k: usize, ops: &mut [u32; 12288], args: &mut [f64; 15360])
@@ -325,7 +339,7 @@ fn holds(
     args: &[f64],
     ends: &[u32],
     lens: &[f64],
-    flags: &[u8],
+    vertex_words: &[u32],
     edges: &mut [u32],
     words: &mut [u32],
     reals: &mut [f64],
@@ -343,7 +357,7 @@ fn holds(
         args,
         ends,
         lens,
-        flags,
+        vertex_words,
         edges,
         words,
         reals,
@@ -390,7 +404,7 @@ fn holds_in(
     args: &[f64],
     ends: &[u32],
     lens: &[f64],
-    flags: &[u8],
+    vertex_words: &[u32],
     edges: &mut [u32],
     words: &mut [u32],
     reals: &mut [f64],
@@ -414,7 +428,7 @@ fn holds_in(
         args,
         ends,
         lens,
-        flags,
+        vertex_words,
         edges,
         &mut words[..to_words],
         reals,
@@ -436,7 +450,7 @@ fn holds_in_arrays(
     args: &[f64; 15360],
     ends: &[u32; 16],
     lens: &[f64; 8],
-    flags: &[u8; 8],
+    vertex_words: &[u32; 24],
 ) -> bool
     requires { ⌜ k < 400_000 ⌝ }
 {
@@ -461,7 +475,7 @@ fn holds_in_arrays(
         args,
         ends,
         lens,
-        flags,
+        vertex_words,
         &mut edges,
         &mut words,
         &mut reals,
@@ -484,9 +498,11 @@ fn replays(s: &[u8], k: usize) -> bool
     let mut ends = [0u32; 16];
     let mut lens = [0.0f64; 8];
     let mut flags = [0u8; 8];
+    let mut vertex_words = [0u32; 24];
     load_edges(s, k, &mut flags, &mut ends, &mut lens);
+    flag_words(&flags, &mut vertex_words);
     load_steps(s, k, &mut ops, &mut args);
-    holds_in_arrays(s, k, &ops, &args, &ends, &lens, &flags)
+    holds_in_arrays(s, k, &ops, &args, &ends, &lens, &vertex_words)
 }
 
 fn failed(right: bool) -> u64

@@ -4,8 +4,8 @@ use borrow.Author.Needs.{needs}
 use Rattle.actions.proofs.touch.Statement.{statement}
 use Rattle.actions.proofs.touch.Tie as tie
 
-read-f64-requires : tie.Need-read-f64-requires
-read-f64-requires c κs = search needs
+distance-requires : tie.Need-distance-requires
+distance-requires c κs = search needs
 
 write-f64-requires : tie.Need-write-f64-requires
 write-f64-requires c κs = search needs
@@ -31,7 +31,7 @@ same-length-3 c = search needs
 returns : tie.Need-returns
 returns c = λ cuts windows made.
     let a = c .before .before .before .before .before .before .before .before .before .before .before .before .before .before .before .before .before .before .before .before .before .before .args in
-    touch-queued cuts windows (a .limit) (a .flags .now) made (a .n) (queue (a .keys .now) (a .words .now)) (a .vertex .now) (a .v .0) (a .d) (c .before .before .before .before .before .before .before .before .before .before .before .before .before .before .before .before .read-f64 .result) (c .before .before .before .before .before .before .before .before .before .before .before .before .before .before .before .before .read-f64 .ensures) (c .before .before .before .before .before .before .before .before .before .before .before .before .before .before .before .if1 .taken) _ (c .before .before .before .before .before .before .before .before .before .before .before .before .before .write-f64 .ensures) (c .before .before .before .before .before .before .before .before .before .before .flagged .result) (c .before .before .before .before .before .before .before .before .before .before .flagged .ensures) (c .before .before .before .before .before .before .before .before .before .if2 .taken) (c .before .before .before .before .before .before .before .before .if3 .taken) (c .before .before .before .before .before .vertex-event .result) (c .before .before .before .before .before .vertex-event .ensures) _ (c .before .before .before .before .push .ensures)
+    touch-queued cuts windows (a .limit) (a .vertex-words .now) made (a .n) (queue (a .keys .now) (a .words .now)) (a .vertex .now) (a .v .0) (a .d) (c .before .before .before .before .before .before .before .before .before .before .before .before .before .before .before .before .distance .result) (c .before .before .before .before .before .before .before .before .before .before .before .before .before .before .before .before .distance .ensures) (c .before .before .before .before .before .before .before .before .before .before .before .before .before .before .before .if1 .taken) _ (c .before .before .before .before .before .before .before .before .before .before .before .before .before .write-f64 .ensures) (c .before .before .before .before .before .before .before .before .before .before .flagged .result) (c .before .before .before .before .before .before .before .before .before .before .flagged .ensures) (c .before .before .before .before .before .before .before .before .before .if2 .taken) (c .before .before .before .before .before .before .before .before .if3 .taken) (c .before .before .before .before .before .vertex-event .result) (c .before .before .before .before .before .vertex-event .ensures) _ (c .before .before .before .before .push .ensures .0)
 
 same-length-4 : tie.Need-same-length-4
 same-length-4 c = search needs
@@ -39,7 +39,7 @@ same-length-4 c = search needs
 returns-2 : tie.Need-returns-2
 returns-2 c = λ cuts windows made.
     let a = c .before .before .before .before .before .before .before .before .before .before .before .before .before .before .args in
-    touch-beyond cuts windows (a .limit) (a .flags .now) made (a .n) (queue (a .keys .now) (a .words .now)) (a .vertex .now) (a .v .0) (a .d) (c .before .before .before .before .before .before .before .before .read-f64 .result) (c .before .before .before .before .before .before .before .before .read-f64 .ensures) (c .before .before .before .before .before .before .before .if1 .taken) _ (c .before .before .before .before .before .write-f64 .ensures) (c .before .before .flagged .result) (c .before .before .flagged .ensures) (c .before .if2 .taken) (c .if3 .left)
+    touch-beyond cuts windows (a .limit) (a .vertex-words .now) made (a .n) (queue (a .keys .now) (a .words .now)) (a .vertex .now) (a .v .0) (a .d) (c .before .before .before .before .before .before .before .before .distance .result) (c .before .before .before .before .before .before .before .before .distance .ensures) (c .before .before .before .before .before .before .before .if1 .taken) _ (c .before .before .before .before .before .write-f64 .ensures) (c .before .before .flagged .result) (c .before .before .flagged .ensures) (c .before .if2 .taken) (c .if3 .left)
 
 same-length-5 : tie.Need-same-length-5
 same-length-5 c = search needs
@@ -47,7 +47,7 @@ same-length-5 c = search needs
 returns-3 : tie.Need-returns-3
 returns-3 c = λ cuts windows made.
     let a = c .before .before .before .before .before .before .before .before .before .before .before .before .before .args in
-    touch-unflagged cuts windows (a .limit) (a .flags .now) made (a .n) (queue (a .keys .now) (a .words .now)) (a .vertex .now) (a .v .0) (a .d) (c .before .before .before .before .before .before .before .read-f64 .result) (c .before .before .before .before .before .before .before .read-f64 .ensures) (c .before .before .before .before .before .before .if1 .taken) _ (c .before .before .before .before .write-f64 .ensures) (c .before .flagged .result) (c .before .flagged .ensures) (c .if2 .left)
+    touch-unflagged cuts windows (a .limit) (a .vertex-words .now) made (a .n) (queue (a .keys .now) (a .words .now)) (a .vertex .now) (a .v .0) (a .d) (c .before .before .before .before .before .before .before .distance .result) (c .before .before .before .before .before .before .before .distance .ensures) (c .before .before .before .before .before .before .if1 .taken) _ (c .before .before .before .before .write-f64 .ensures) (c .before .flagged .result) (c .before .flagged .ensures) (c .if2 .left)
 
 same-length-6 : tie.Need-same-length-6
 same-length-6 c = search needs
@@ -55,13 +55,13 @@ same-length-6 c = search needs
 returns-4 : tie.Need-returns-4
 returns-4 c = λ cuts windows made.
     let a = c .before .before .before .before .before .before .before .args in
-    touch-longer cuts windows (a .limit) (a .flags .now) made (a .n) (queue (a .keys .now) (a .words .now)) (a .vertex .now) (a .v .0) (a .d) (c .before .read-f64 .result) (c .before .read-f64 .ensures) (c .if1 .left)
+    touch-longer cuts windows (a .limit) (a .vertex-words .now) made (a .n) (queue (a .keys .now) (a .words .now)) (a .vertex .now) (a .v .0) (a .d) (c .before .distance .result) (c .before .distance .ensures) (c .if1 .left)
 
 pub touch-spec : {M : Type 1} → statement M
 touch-spec =
     tie.close
     (tie.spec
-    read-f64-requires
+    distance-requires
     write-f64-requires
     flagged-requires
     vertex-event-requires

@@ -1,5 +1,6 @@
 use Prim.Native.Nat.{_%_}
 use mathlib.Core.Path.{ap, _∙_}
+use Rattle.heap.specs.Order.{itemOf}
 use Rattle.heap_vectors.specs.Replay.{eventAt}
 use borrow.Author.Needs.{needs}
 use Rattle.heap_vectors.proofs.event.Statement.{statement}
@@ -38,16 +39,18 @@ word-requires-2 c κs = search needs
 low-requires-2 : tie.Need-low-requires-2
 low-requires-2 c κs = search needs
 
+item-of-requires : tie.Need-item-of-requires
+item-of-requires c κs = search needs
+
 returns : tie.Need-returns
 unfolding eventAt
 returns c =
-    let kind = c .before in
+    let kind = c .before .before in
     let number = kind .before in
     let key = number .before .before in
     λ t. record {
       key = key .float-at .ensures t;
-      number = (number .low .ensures ∙ ap (λ z. z % 4294967296) (number .before .word .ensures)) t;
-      kind = (c .low2 .ensures ∙ ap (λ z. z % 4294967296) (kind .word2 .ensures)) t;
+      item = (c .item-of .ensures ∙ (λ i. itemOf ((number .low .ensures ∙ ap (λ z. z % 4294967296) (number .before .word .ensures)) i) ((c .before .low2 .ensures ∙ ap (λ z. z % 4294967296) (kind .word2 .ensures)) i))) t;
     }
 
 pub event-spec : {M : Type 1} → statement M
@@ -65,4 +68,5 @@ event-spec =
     add-word-2
     word-requires-2
     low-requires-2
+    item-of-requires
     returns)

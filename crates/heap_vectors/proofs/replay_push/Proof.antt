@@ -29,7 +29,7 @@ returns c =
     let told = c .before in
     let pushed = told .before .before .before .before .before .before in
     let a = pushed .before .before .before .before .before .args in
-    push-full (a .found) (a .n) (pushed .push .ensures) (told .enum-told .given .1) (c .one-if .ensures)
+    push-full (a .found) (a .n) (pushed .push .ensures .0) (told .enum-told .given .1) (c .one-if .ensures)
 
 same-length-3 : tie.Need-same-length-3
 same-length-3 c = search needs
@@ -42,7 +42,7 @@ returns-2 c =
     let told = c .before .before in
     let pushed = told .before .before .before .before .before .before in
     let a = pushed .before .before .before .before .before .args in
-    push-queued (a .found) (a .n) (pushed .push .ensures) (told .m .given .1) (c .one-if2 .ensures)
+    push-queued (a .found) (a .n) (pushed .push .ensures .0) (told .m .given .1) (c .one-if2 .ensures)
 
 pub replay-push-spec : {M : Type 1} → statement M
 replay-push-spec =

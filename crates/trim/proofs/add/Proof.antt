@@ -12,7 +12,7 @@ use Rattle.trim.proofs.add.Tie as tie
 returns : tie.Need-returns
 returns c =
     let a = c .before .before .before .before .before .before .before .before .before .before .before .before .args in
-    (c .before .before .before .before .before .before .before .before .before .before .before .before .pre .0 .fits, add-narrow (length (a .pts .now)) (windowsOf (slices (a .edges .now) (a .words .now) (a .reals .now) (a .keys .now) (a .events .now))) (a .limit) (a .flags .now) (a .len) (a .a .0) (a .b .0) (candidate (a .e .0) (a .b0) (a .b1) (a .src) (a .into .0) (a .queued)) (placeOf (slices (a .edges .now) (a .words .now) (a .reals .now) (a .keys .now) (a .events .now)) (a .counts .made) (a .counts .queued) 0 (a .vertex .now)) (c .if1 .taken))
+    (c .before .before .before .before .before .before .before .before .before .before .before .before .pre .0 .fits, add-narrow (length (a .pts .now)) (windowsOf (slices (a .edges .now) (a .words .now) (a .reals .now) (a .keys .now) (a .events .now))) (a .limit) (a .vertex-words .now) (a .len) (a .a .0) (a .b .0) (candidate (a .e .0) (a .b0) (a .b1) (a .src) (a .into .0) (a .queued)) (placeOf (slices (a .edges .now) (a .words .now) (a .reals .now) (a .keys .now) (a .events .now)) (a .counts .made) (a .counts .queued) 0 (a .vertex .now)) (c .if1 .taken))
 
 lowest-requires : tie.Need-lowest-requires
 lowest-requires c κs = search needs
@@ -20,7 +20,7 @@ lowest-requires c κs = search needs
 returns-2 : tie.Need-returns-2
 returns-2 c =
     let a = c .before .before .before .before .before .before .before .before .before .before .before .before .before .before .args in
-    (c .before .before .before .before .before .before .before .before .before .before .before .before .before .before .pre .0 .fits, add-far (length (a .pts .now)) (windowsOf (slices (a .edges .now) (a .words .now) (a .reals .now) (a .keys .now) (a .events .now))) (a .limit) (a .flags .now) (a .len) (a .a .0) (a .b .0) (candidate (a .e .0) (a .b0) (a .b1) (a .src) (a .into .0) (a .queued)) (placeOf (slices (a .edges .now) (a .words .now) (a .reals .now) (a .keys .now) (a .events .now)) (a .counts .made) (a .counts .queued) 0 (a .vertex .now)) (c .before .lowest .result) (c .before .lowest .ensures) (c .before .before .if1 .left) (c .if2 .taken))
+    (c .before .before .before .before .before .before .before .before .before .before .before .before .before .before .pre .0 .fits, add-far (length (a .pts .now)) (windowsOf (slices (a .edges .now) (a .words .now) (a .reals .now) (a .keys .now) (a .events .now))) (a .limit) (a .vertex-words .now) (a .len) (a .a .0) (a .b .0) (candidate (a .e .0) (a .b0) (a .b1) (a .src) (a .into .0) (a .queued)) (placeOf (slices (a .edges .now) (a .words .now) (a .reals .now) (a .keys .now) (a .events .now)) (a .counts .made) (a .counts .queued) 0 (a .vertex .now)) (c .before .lowest .result) (c .before .lowest .ensures) (c .before .before .if1 .left) (c .if2 .taken))
 
 admit-requires : tie.Need-admit-requires
 admit-requires c κs = search needs
@@ -64,7 +64,7 @@ same-length-10 c = search needs
 returns-3 : tie.Need-returns-3
 returns-3 c =
     let a = c .before .before .before .before .before .before .before .before .before .before .before .before .before .before .before .before .before .before .before .before .before .before .before .before .before .before .before .before .before .before .before .before .before .before .before .before .before .before .before .before .before .before .before .before .before .before .before .before .args in
-    (tt, add-admitted (length (a .pts .now)) (windowsOf (slices (a .edges .now) (a .words .now) (a .reals .now) (a .keys .now) (a .events .now))) (a .limit) (a .flags .now) (a .len) (a .a .0) (a .b .0) (candidate (a .e .0) (a .b0) (a .b1) (a .src) (a .into .0) (a .queued)) (placeOf (slices (a .edges .now) (a .words .now) (a .reals .now) (a .keys .now) (a .events .now)) (a .counts .made) (a .counts .queued) 0 (a .vertex .now)) (c .before .before .before .before .before .before .before .before .before .before .before .before .before .before .before .before .before .before .before .before .before .before .before .before .before .before .before .before .before .before .before .before .before .before .before .lowest .result) (c .before .before .before .before .before .before .before .before .before .before .before .before .before .before .before .before .before .before .before .before .before .before .before .before .before .before .before .before .before .before .before .before .before .before .before .lowest .ensures) (c .before .before .before .before .before .before .before .before .before .before .before .before .before .before .before .before .before .before .before .before .before .before .before .before .before .before .before .before .before .before .before .before .before .before .before .before .if1 .left) (c .before .before .before .before .before .before .before .before .before .before .before .before .before .before .before .before .before .before .before .before .before .before .before .before .before .before .before .before .before .before .before .before .before .before .if2 .left) (stopped (c .before .admitted .given .0 .0)) ((rw (c .before .admitted .given .1) at (c .before .before .before .before .before .before .before .before .before .before .before .before .before .before .before .before .before .before .before .before .before .before .before .admit .ensures .1)) (c .before .before .before .before .before .before .before .before .before .before .before .before .before .before .before .before .before .before .before .before .before .before .before .before .before .before .before .before .before .before .before .before .before .before .before .lowest .ensures) refl))
+    (tt, add-admitted (length (a .pts .now)) (windowsOf (slices (a .edges .now) (a .words .now) (a .reals .now) (a .keys .now) (a .events .now))) (a .limit) (a .vertex-words .now) (a .len) (a .a .0) (a .b .0) (candidate (a .e .0) (a .b0) (a .b1) (a .src) (a .into .0) (a .queued)) (placeOf (slices (a .edges .now) (a .words .now) (a .reals .now) (a .keys .now) (a .events .now)) (a .counts .made) (a .counts .queued) 0 (a .vertex .now)) (c .before .before .before .before .before .before .before .before .before .before .before .before .before .before .before .before .before .before .before .before .before .before .before .before .before .before .before .before .before .before .before .before .before .before .before .lowest .result) (c .before .before .before .before .before .before .before .before .before .before .before .before .before .before .before .before .before .before .before .before .before .before .before .before .before .before .before .before .before .before .before .before .before .before .before .lowest .ensures) (c .before .before .before .before .before .before .before .before .before .before .before .before .before .before .before .before .before .before .before .before .before .before .before .before .before .before .before .before .before .before .before .before .before .before .before .before .if1 .left) (c .before .before .before .before .before .before .before .before .before .before .before .before .before .before .before .before .before .before .before .before .before .before .before .before .before .before .before .before .before .before .before .before .before .before .if2 .left) (stopped (c .before .admitted .given .0 .0)) ((rw (c .before .admitted .given .1) at (c .before .before .before .before .before .before .before .before .before .before .before .before .before .before .before .before .before .before .before .before .before .before .before .admit .ensures .1)) (c .before .before .before .before .before .before .before .before .before .before .before .before .before .before .before .before .before .before .before .before .before .before .before .before .before .before .before .before .before .before .before .before .before .before .before .lowest .ensures) refl))
 
 same-length-11 : tie.Need-same-length-11
 same-length-11 c = search needs
@@ -99,7 +99,7 @@ same-length-20 c = search needs
 returns-4 : tie.Need-returns-4
 returns-4 c =
     let a = c .before .before .before .before .before .before .before .before .before .before .before .before .before .before .before .before .before .before .before .before .before .before .before .before .before .before .before .before .before .before .before .before .before .before .before .before .before .before .before .before .before .before .before .before .before .before .before .before .args in
-    ((rw (c .before .admitted2 .given .1) at (c .before .before .before .before .before .before .before .before .before .before .before .before .before .before .before .before .before .before .before .before .before .before .before .admit .ensures .0)) .0, add-went (length (a .pts .now)) (windowsOf (slices (a .edges .now) (a .words .now) (a .reals .now) (a .keys .now) (a .events .now))) (a .limit) (a .flags .now) (a .len) (a .a .0) (a .b .0) (candidate (a .e .0) (a .b0) (a .b1) (a .src) (a .into .0) (a .queued)) (placeOf (slices (a .edges .now) (a .words .now) (a .reals .now) (a .keys .now) (a .events .now)) (a .counts .made) (a .counts .queued) 0 (a .vertex .now)) (c .before .admitted2 .given .0 .0 .made) (c .before .admitted2 .given .0 .0 .queued) (c .before .admitted2 .given .0 .1 .0) (slices (c .before .before .before .before .before .before .before .before .before .before .before .before .before .before .before .before .before .before .before .before .before .before .before .admit .last .0) (c .before .before .before .before .before .before .before .before .before .before .before .before .before .before .before .before .before .before .before .before .before .before .before .admit .last .1 .0) (c .before .before .before .before .before .before .before .before .before .before .before .before .before .before .before .before .before .before .before .before .before .before .before .admit .last .1 .1 .0) (c .before .before .before .before .before .before .before .before .before .before .before .before .before .before .before .before .before .before .before .before .before .before .before .admit .last .1 .1 .1 .0) (c .before .before .before .before .before .before .before .before .before .before .before .before .before .before .before .before .before .before .before .before .before .before .before .admit .last .1 .1 .1 .1 .0)) (c .before .before .before .before .before .before .before .before .before .before .before .before .before .before .before .before .before .before .before .before .before .before .before .admit .last .1 .1 .1 .1 .1 .0) (add-admitted (length (a .pts .now)) (windowsOf (slices (a .edges .now) (a .words .now) (a .reals .now) (a .keys .now) (a .events .now))) (a .limit) (a .flags .now) (a .len) (a .a .0) (a .b .0) (candidate (a .e .0) (a .b0) (a .b1) (a .src) (a .into .0) (a .queued)) (placeOf (slices (a .edges .now) (a .words .now) (a .reals .now) (a .keys .now) (a .events .now)) (a .counts .made) (a .counts .queued) 0 (a .vertex .now)) (c .before .before .before .before .before .before .before .before .before .before .before .before .before .before .before .before .before .before .before .before .before .before .before .before .before .before .before .before .before .before .before .before .before .before .before .lowest .result) (c .before .before .before .before .before .before .before .before .before .before .before .before .before .before .before .before .before .before .before .before .before .before .before .before .before .before .before .before .before .before .before .before .before .before .before .lowest .ensures) (c .before .before .before .before .before .before .before .before .before .before .before .before .before .before .before .before .before .before .before .before .before .before .before .before .before .before .before .before .before .before .before .before .before .before .before .before .if1 .left) (c .before .before .before .before .before .before .before .before .before .before .before .before .before .before .before .before .before .before .before .before .before .before .before .before .before .before .before .before .before .before .before .before .before .before .if2 .left) (at (placeOf (slices (c .before .before .before .before .before .before .before .before .before .before .before .before .before .before .before .before .before .before .before .before .before .before .before .admit .last .0) (c .before .before .before .before .before .before .before .before .before .before .before .before .before .before .before .before .before .before .before .before .before .before .before .admit .last .1 .0) (c .before .before .before .before .before .before .before .before .before .before .before .before .before .before .before .before .before .before .before .before .before .before .before .admit .last .1 .1 .0) (c .before .before .before .before .before .before .before .before .before .before .before .before .before .before .before .before .before .before .before .before .before .before .before .admit .last .1 .1 .1 .0) (c .before .before .before .before .before .before .before .before .before .before .before .before .before .before .before .before .before .before .before .before .before .before .before .admit .last .1 .1 .1 .1 .0)) (c .before .admitted2 .given .0 .0 .made) (c .before .admitted2 .given .0 .0 .queued) (c .before .admitted2 .given .0 .1 .0) (c .before .before .before .before .before .before .before .before .before .before .before .before .before .before .before .before .before .before .before .before .before .before .before .admit .last .1 .1 .1 .1 .1 .0))) ((rw (c .before .admitted2 .given .1) at (c .before .before .before .before .before .before .before .before .before .before .before .before .before .before .before .before .before .before .before .before .before .before .before .admit .ensures .1)) (c .before .before .before .before .before .before .before .before .before .before .before .before .before .before .before .before .before .before .before .before .before .before .before .before .before .before .before .before .before .before .before .before .before .before .before .lowest .ensures) refl)))
+    ((rw (c .before .admitted2 .given .1) at (c .before .before .before .before .before .before .before .before .before .before .before .before .before .before .before .before .before .before .before .before .before .before .before .admit .ensures .0)) .0, add-went (length (a .pts .now)) (windowsOf (slices (a .edges .now) (a .words .now) (a .reals .now) (a .keys .now) (a .events .now))) (a .limit) (a .vertex-words .now) (a .len) (a .a .0) (a .b .0) (candidate (a .e .0) (a .b0) (a .b1) (a .src) (a .into .0) (a .queued)) (placeOf (slices (a .edges .now) (a .words .now) (a .reals .now) (a .keys .now) (a .events .now)) (a .counts .made) (a .counts .queued) 0 (a .vertex .now)) (c .before .admitted2 .given .0 .0 .made) (c .before .admitted2 .given .0 .0 .queued) (c .before .admitted2 .given .0 .1 .0) (slices (c .before .before .before .before .before .before .before .before .before .before .before .before .before .before .before .before .before .before .before .before .before .before .before .admit .last .0) (c .before .before .before .before .before .before .before .before .before .before .before .before .before .before .before .before .before .before .before .before .before .before .before .admit .last .1 .0) (c .before .before .before .before .before .before .before .before .before .before .before .before .before .before .before .before .before .before .before .before .before .before .before .admit .last .1 .1 .0) (c .before .before .before .before .before .before .before .before .before .before .before .before .before .before .before .before .before .before .before .before .before .before .before .admit .last .1 .1 .1 .0) (c .before .before .before .before .before .before .before .before .before .before .before .before .before .before .before .before .before .before .before .before .before .before .before .admit .last .1 .1 .1 .1 .0)) (c .before .before .before .before .before .before .before .before .before .before .before .before .before .before .before .before .before .before .before .before .before .before .before .admit .last .1 .1 .1 .1 .1 .0) (add-admitted (length (a .pts .now)) (windowsOf (slices (a .edges .now) (a .words .now) (a .reals .now) (a .keys .now) (a .events .now))) (a .limit) (a .vertex-words .now) (a .len) (a .a .0) (a .b .0) (candidate (a .e .0) (a .b0) (a .b1) (a .src) (a .into .0) (a .queued)) (placeOf (slices (a .edges .now) (a .words .now) (a .reals .now) (a .keys .now) (a .events .now)) (a .counts .made) (a .counts .queued) 0 (a .vertex .now)) (c .before .before .before .before .before .before .before .before .before .before .before .before .before .before .before .before .before .before .before .before .before .before .before .before .before .before .before .before .before .before .before .before .before .before .before .lowest .result) (c .before .before .before .before .before .before .before .before .before .before .before .before .before .before .before .before .before .before .before .before .before .before .before .before .before .before .before .before .before .before .before .before .before .before .before .lowest .ensures) (c .before .before .before .before .before .before .before .before .before .before .before .before .before .before .before .before .before .before .before .before .before .before .before .before .before .before .before .before .before .before .before .before .before .before .before .before .if1 .left) (c .before .before .before .before .before .before .before .before .before .before .before .before .before .before .before .before .before .before .before .before .before .before .before .before .before .before .before .before .before .before .before .before .before .before .if2 .left) (at (placeOf (slices (c .before .before .before .before .before .before .before .before .before .before .before .before .before .before .before .before .before .before .before .before .before .before .before .admit .last .0) (c .before .before .before .before .before .before .before .before .before .before .before .before .before .before .before .before .before .before .before .before .before .before .before .admit .last .1 .0) (c .before .before .before .before .before .before .before .before .before .before .before .before .before .before .before .before .before .before .before .before .before .before .before .admit .last .1 .1 .0) (c .before .before .before .before .before .before .before .before .before .before .before .before .before .before .before .before .before .before .before .before .before .before .before .admit .last .1 .1 .1 .0) (c .before .before .before .before .before .before .before .before .before .before .before .before .before .before .before .before .before .before .before .before .before .before .before .admit .last .1 .1 .1 .1 .0)) (c .before .admitted2 .given .0 .0 .made) (c .before .admitted2 .given .0 .0 .queued) (c .before .admitted2 .given .0 .1 .0) (c .before .before .before .before .before .before .before .before .before .before .before .before .before .before .before .before .before .before .before .before .before .before .before .admit .last .1 .1 .1 .1 .1 .0))) ((rw (c .before .admitted2 .given .1) at (c .before .before .before .before .before .before .before .before .before .before .before .before .before .before .before .before .before .before .before .before .before .before .before .admit .ensures .1)) (c .before .before .before .before .before .before .before .before .before .before .before .before .before .before .before .before .before .before .before .before .before .before .before .before .before .before .before .before .before .before .before .before .before .before .before .lowest .ensures) refl)))
 
 pub add-spec : {M : Type 1} → statement M
 add-spec =

@@ -62,7 +62,7 @@ same-length-10 c = search needs
 returns : tie.Need-returns
 returns c =
     let a = c .before .before .before .before .before .before .before .before .before .before .before .before .before .before .before .before .before .before .before .before .before .before .before .before .before .before .before .before .before .before .before .before .before .before .before .before .before .before .before .before .before .before .before .before .before .before .before .args in
-    of-op (settingOf (cuts (a .pts .now) (a .out .now) (a .keep .now) (a .next .now)) (slices (a .edges .now) (a .words .now) (a .reals .now) (a .keys .now) (a .events .now) (a .vertex .now)) (a .limit) (a .flags .now) (a .ends .now) (a .lens .now) (a .m)) (a .made) (a .queued) (a .op) (Add (c .before .before .before .before .before .before .before .before .before .before .before .before .before .before .before .before .before .before .before .before .before .before .before .before .before .before .before .before .before .before .before .before .op .given .0 .0)) (c .before .before .before .before .before .before .before .before .before .before .before .before .before .before .before .before .before .before .before .before .before .before .before .before .before .before .before .before .before .before .before .before .op .given .1) (slices (a .edges .now) (a .words .now) (a .reals .now) (a .keys .now) (a .events .now) (a .vertex .now)) (c .before .before .before .before .before .before .before .before .before .before .before .before .before .before .before .before .before .before .before .before .add-candidate .result) (slices (c .before .before .before .before .before .before .before .before .before .before .before .before .before .before .before .before .before .before .before .before .add-candidate .last .1 .1 .1 .1 .1 .1 .0) (c .before .before .before .before .before .before .before .before .before .before .before .before .before .before .before .before .before .before .before .before .add-candidate .last .1 .1 .1 .1 .1 .1 .1 .0) (c .before .before .before .before .before .before .before .before .before .before .before .before .before .before .before .before .before .before .before .before .add-candidate .last .1 .1 .1 .1 .1 .1 .1 .1 .0) (c .before .before .before .before .before .before .before .before .before .before .before .before .before .before .before .before .before .before .before .before .add-candidate .last .1 .1 .1 .1 .1 .1 .1 .1 .1 .0) (c .before .before .before .before .before .before .before .before .before .before .before .before .before .before .before .before .before .before .before .before .add-candidate .last .1 .1 .1 .1 .1 .1 .1 .1 .1 .1 .0) (c .before .before .before .before .before .before .before .before .before .before .before .before .before .before .before .before .before .before .before .before .add-candidate .last .1 .1 .1 .1 .1 .1 .1 .1 .1 .1 .1 .0)) (c .before .before .before .before .before .before .before .before .before .before .before .before .before .before .before .before .before .before .before .before .add-candidate .ensures)
+    of-op (settingOf (cuts (a .pts .now) (a .out .now) (a .keep .now) (a .next .now)) (slices (a .edges .now) (a .words .now) (a .reals .now) (a .keys .now) (a .events .now) (a .vertex .now)) (a .limit) (a .vertex-words .now) (a .ends .now) (a .lens .now) (a .m)) (a .made) (a .queued) (a .op) (Add (c .before .before .before .before .before .before .before .before .before .before .before .before .before .before .before .before .before .before .before .before .before .before .before .before .before .before .before .before .before .before .before .before .op .given .0 .0)) (c .before .before .before .before .before .before .before .before .before .before .before .before .before .before .before .before .before .before .before .before .before .before .before .before .before .before .before .before .before .before .before .before .op .given .1) (slices (a .edges .now) (a .words .now) (a .reals .now) (a .keys .now) (a .events .now) (a .vertex .now)) (c .before .before .before .before .before .before .before .before .before .before .before .before .before .before .before .before .before .before .before .before .add-candidate .result) (slices (c .before .before .before .before .before .before .before .before .before .before .before .before .before .before .before .before .before .before .before .before .add-candidate .last .1 .1 .1 .1 .1 .1 .0) (c .before .before .before .before .before .before .before .before .before .before .before .before .before .before .before .before .before .before .before .before .add-candidate .last .1 .1 .1 .1 .1 .1 .1 .0) (c .before .before .before .before .before .before .before .before .before .before .before .before .before .before .before .before .before .before .before .before .add-candidate .last .1 .1 .1 .1 .1 .1 .1 .1 .0) (c .before .before .before .before .before .before .before .before .before .before .before .before .before .before .before .before .before .before .before .before .add-candidate .last .1 .1 .1 .1 .1 .1 .1 .1 .1 .0) (c .before .before .before .before .before .before .before .before .before .before .before .before .before .before .before .before .before .before .before .before .add-candidate .last .1 .1 .1 .1 .1 .1 .1 .1 .1 .1 .0) (c .before .before .before .before .before .before .before .before .before .before .before .before .before .before .before .before .before .before .before .before .add-candidate .last .1 .1 .1 .1 .1 .1 .1 .1 .1 .1 .1 .0)) (c .before .before .before .before .before .before .before .before .before .before .before .before .before .before .before .before .before .before .before .before .add-candidate .ensures)
 
 same-length-11 : tie.Need-same-length-11
 same-length-11 c = search needs
@@ -79,7 +79,7 @@ same-length-14 c = search needs
 returns-2 : tie.Need-returns-2
 returns-2 c =
     let a = c .before .before .before .before .before .before .before .before .before .before .before .before .before .before .before .before .before .before .before .before .before .before .before .before .before .before .args in
-    of-op (settingOf (cuts (a .pts .now) (a .out .now) (a .keep .now) (a .next .now)) (slices (a .edges .now) (a .words .now) (a .reals .now) (a .keys .now) (a .events .now) (a .vertex .now)) (a .limit) (a .flags .now) (a .ends .now) (a .lens .now) (a .m)) (a .made) (a .queued) (a .op) Pop (c .before .before .before .before .before .before .before .before .before .before .before .enum-told .given .1) (slices (a .edges .now) (a .words .now) (a .reals .now) (a .keys .now) (a .events .now) (a .vertex .now)) (Went (a .made) (c .before .before .before .before .before .before .pop .result)) (slices (a .edges .now) (c .before .before .before .before .before .before .pop .last .0) (a .reals .now) (c .before .before .before .before .before .before .pop .last .1 .1 .0) (c .before .before .before .before .before .before .pop .last .1 .1 .1 .0) (a .vertex .now)) (op-pop (settingOf (cuts (a .pts .now) (a .out .now) (a .keep .now) (a .next .now)) (slices (a .edges .now) (a .words .now) (a .reals .now) (a .keys .now) (a .events .now) (a .vertex .now)) (a .limit) (a .flags .now) (a .ends .now) (a .lens .now) (a .m)) (a .made) (a .queued) (c .before .before .before .before .before .before .before .before .before .before .before .before .before .before .before .before .before .before .before .before .before .before .before .before .before .before .pre .fits) (a .edges .now) (a .words .now) (a .reals .now) (a .keys .now) (a .events .now) (a .vertex .now) (c .before .before .before .before .before .before .pop .last .0) (c .before .before .before .before .before .before .pop .last .1 .1 .0) (c .before .before .before .before .before .before .pop .last .1 .1 .1 .0) (c .before .before .before .before .before .before .pop .result) (c .before .before .before .before .before .before .pop .ensures))
+    of-op (settingOf (cuts (a .pts .now) (a .out .now) (a .keep .now) (a .next .now)) (slices (a .edges .now) (a .words .now) (a .reals .now) (a .keys .now) (a .events .now) (a .vertex .now)) (a .limit) (a .vertex-words .now) (a .ends .now) (a .lens .now) (a .m)) (a .made) (a .queued) (a .op) Pop (c .before .before .before .before .before .before .before .before .before .before .before .enum-told .given .1) (slices (a .edges .now) (a .words .now) (a .reals .now) (a .keys .now) (a .events .now) (a .vertex .now)) (Went (a .made) (c .before .before .before .before .before .before .pop .result)) (slices (a .edges .now) (c .before .before .before .before .before .before .pop .last .0) (a .reals .now) (c .before .before .before .before .before .before .pop .last .1 .1 .0) (c .before .before .before .before .before .before .pop .last .1 .1 .1 .0) (a .vertex .now)) (op-pop (settingOf (cuts (a .pts .now) (a .out .now) (a .keep .now) (a .next .now)) (slices (a .edges .now) (a .words .now) (a .reals .now) (a .keys .now) (a .events .now) (a .vertex .now)) (a .limit) (a .vertex-words .now) (a .ends .now) (a .lens .now) (a .m)) (a .made) (a .queued) (c .before .before .before .before .before .before .before .before .before .before .before .before .before .before .before .before .before .before .before .before .before .before .before .before .before .before .pre .fits) (a .edges .now) (a .words .now) (a .reals .now) (a .keys .now) (a .events .now) (a .vertex .now) (c .before .before .before .before .before .before .pop .last .0) (c .before .before .before .before .before .before .pop .last .1 .1 .0) (c .before .before .before .before .before .before .pop .last .1 .1 .1 .0) (c .before .before .before .before .before .before .pop .result) (c .before .before .before .before .before .before .pop .ensures))
 
 same-length-15 : tie.Need-same-length-15
 same-length-15 c = search needs
@@ -93,12 +93,12 @@ same-length-17 c = search needs
 returns-3 : tie.Need-returns-3
 returns-3 c =
     let a = c .before .before .before .before .before .before .before .before .before .before .before .before .before .before .before .before .before .before .before .before .before .before .before .before .before .before .args in
-    of-op (settingOf (cuts (a .pts .now) (a .out .now) (a .keep .now) (a .next .now)) (slices (a .edges .now) (a .words .now) (a .reals .now) (a .keys .now) (a .events .now) (a .vertex .now)) (a .limit) (a .flags .now) (a .ends .now) (a .lens .now) (a .m)) (a .made) (a .queued) (a .op) (Touch (c .before .before .before .before .before .before .before .before .before .before .before .op2 .given .0 .0) (c .before .before .before .before .before .before .before .before .before .before .before .op2 .given .0 .1 .0)) (c .before .before .before .before .before .before .before .before .before .before .before .op2 .given .1) (slices (a .edges .now) (a .words .now) (a .reals .now) (a .keys .now) (a .events .now) (a .vertex .now)) (c .before .before .before .before .before .before .touch .result) (slices (a .edges .now) (a .words .now) (a .reals .now) (c .before .before .before .before .before .before .touch .last .1 .1 .1 .1 .0) (c .before .before .before .before .before .before .touch .last .1 .1 .1 .1 .1 .0) (c .before .before .before .before .before .before .touch .last .1 .1 .1 .1 .1 .1 .0)) (op-touch (settingOf (cuts (a .pts .now) (a .out .now) (a .keep .now) (a .next .now)) (slices (a .edges .now) (a .words .now) (a .reals .now) (a .keys .now) (a .events .now) (a .vertex .now)) (a .limit) (a .flags .now) (a .ends .now) (a .lens .now) (a .m)) (a .made) (a .queued) (c .before .before .before .before .before .before .before .before .before .before .before .before .before .before .before .before .before .before .before .before .before .before .before .before .before .before .pre .fits) (a .edges .now) (a .words .now) (a .reals .now) (a .keys .now) (a .events .now) (a .vertex .now) (c .before .before .before .before .before .before .before .before .before .before .before .op2 .given .0 .0 .0) (c .before .before .before .before .before .before .before .before .before .before .before .op2 .given .0 .1 .0) refl (c .before .before .before .before .before .before .touch .result) (c .before .before .before .before .before .before .touch .last .1 .1 .1 .1 .0) (c .before .before .before .before .before .before .touch .last .1 .1 .1 .1 .1 .0) (c .before .before .before .before .before .before .touch .last .1 .1 .1 .1 .1 .1 .0) (c .before .before .before .before .before .before .touch .ensures))
+    of-op (settingOf (cuts (a .pts .now) (a .out .now) (a .keep .now) (a .next .now)) (slices (a .edges .now) (a .words .now) (a .reals .now) (a .keys .now) (a .events .now) (a .vertex .now)) (a .limit) (a .vertex-words .now) (a .ends .now) (a .lens .now) (a .m)) (a .made) (a .queued) (a .op) (Touch (c .before .before .before .before .before .before .before .before .before .before .before .op2 .given .0 .0) (c .before .before .before .before .before .before .before .before .before .before .before .op2 .given .0 .1 .0)) (c .before .before .before .before .before .before .before .before .before .before .before .op2 .given .1) (slices (a .edges .now) (a .words .now) (a .reals .now) (a .keys .now) (a .events .now) (a .vertex .now)) (c .before .before .before .before .before .before .touch .result) (slices (a .edges .now) (a .words .now) (a .reals .now) (c .before .before .before .before .before .before .touch .last .1 .1 .1 .1 .0) (c .before .before .before .before .before .before .touch .last .1 .1 .1 .1 .1 .0) (c .before .before .before .before .before .before .touch .last .1 .1 .1 .1 .1 .1 .0)) (op-touch (settingOf (cuts (a .pts .now) (a .out .now) (a .keep .now) (a .next .now)) (slices (a .edges .now) (a .words .now) (a .reals .now) (a .keys .now) (a .events .now) (a .vertex .now)) (a .limit) (a .vertex-words .now) (a .ends .now) (a .lens .now) (a .m)) (a .made) (a .queued) (c .before .before .before .before .before .before .before .before .before .before .before .before .before .before .before .before .before .before .before .before .before .before .before .before .before .before .pre .fits) (a .edges .now) (a .words .now) (a .reals .now) (a .keys .now) (a .events .now) (a .vertex .now) (c .before .before .before .before .before .before .before .before .before .before .before .op2 .given .0 .0 .0) (c .before .before .before .before .before .before .before .before .before .before .before .op2 .given .0 .1 .0) refl (c .before .before .before .before .before .before .touch .result) (c .before .before .before .before .before .before .touch .last .1 .1 .1 .1 .0) (c .before .before .before .before .before .before .touch .last .1 .1 .1 .1 .1 .0) (c .before .before .before .before .before .before .touch .last .1 .1 .1 .1 .1 .1 .0) (c .before .before .before .before .before .before .touch .ensures))
 
 returns-4 : tie.Need-returns-4
 returns-4 c =
     let a = c .before .before .before .before .before .before .before .before .before .before .before .before .before .before .before .args in
-    of-op (settingOf (cuts (a .pts .now) (a .out .now) (a .keep .now) (a .next .now)) (slices (a .edges .now) (a .words .now) (a .reals .now) (a .keys .now) (a .events .now) (a .vertex .now)) (a .limit) (a .flags .now) (a .ends .now) (a .lens .now) (a .m)) (a .made) (a .queued) (a .op) Unknown (c .enum-told2 .given .1) (slices (a .edges .now) (a .words .now) (a .reals .now) (a .keys .now) (a .events .now) (a .vertex .now)) (Stopped 40) (slices (a .edges .now) (a .words .now) (a .reals .now) (a .keys .now) (a .events .now) (a .vertex .now)) (op-unknown (settingOf (cuts (a .pts .now) (a .out .now) (a .keep .now) (a .next .now)) (slices (a .edges .now) (a .words .now) (a .reals .now) (a .keys .now) (a .events .now) (a .vertex .now)) (a .limit) (a .flags .now) (a .ends .now) (a .lens .now) (a .m)) (a .made) (a .queued) (slices (a .edges .now) (a .words .now) (a .reals .now) (a .keys .now) (a .events .now) (a .vertex .now)))
+    of-op (settingOf (cuts (a .pts .now) (a .out .now) (a .keep .now) (a .next .now)) (slices (a .edges .now) (a .words .now) (a .reals .now) (a .keys .now) (a .events .now) (a .vertex .now)) (a .limit) (a .vertex-words .now) (a .ends .now) (a .lens .now) (a .m)) (a .made) (a .queued) (a .op) Unknown (c .enum-told2 .given .1) (slices (a .edges .now) (a .words .now) (a .reals .now) (a .keys .now) (a .events .now) (a .vertex .now)) (Stopped 40) (slices (a .edges .now) (a .words .now) (a .reals .now) (a .keys .now) (a .events .now) (a .vertex .now)) (op-unknown (settingOf (cuts (a .pts .now) (a .out .now) (a .keep .now) (a .next .now)) (slices (a .edges .now) (a .words .now) (a .reals .now) (a .keys .now) (a .events .now) (a .vertex .now)) (a .limit) (a .vertex-words .now) (a .ends .now) (a .lens .now) (a .m)) (a .made) (a .queued) (slices (a .edges .now) (a .words .now) (a .reals .now) (a .keys .now) (a .events .now) (a .vertex .now)))
 
 pub operate-spec : {M : Type 1} → statement M
 operate-spec =

@@ -63,7 +63,7 @@ same-length-7 c = search needs
 returns-2 : tie.Need-returns-2
 returns-2 c =
     let a = c .before .before .before .before .before .before .before .before .before .before .before .before .before .before .before .before .before .before .before .before .before .before .before .before .before .before .before .before .before .before .before .before .args in
-    (tt, λ cuts limit flags vertex k. part-full cuts (capacityOf (length (a .words .now)) (length (a .reals .now))) limit flags (a .e) (a .x) k (a .b0) (a .b1) (a .counts .made) (a .counts .queued) (a .before) (links (a .edges .now) (a .words .now)) (a .reals .now) (queue (a .keys .now) (a .events .now)) vertex (omega (arith, c .before .before .before .before .before .before .before .before .before .before .before .before .before .before .before .before .before .before .before .before .before .before .before .capacity .ensures, c .before .before .before .before .before .before .before .before .before .before .before .before .before .before .before .before .before .before .before .before .before .before .if1 .left)) (lowestOf (a .x .win .src) (a .b0) (a .b1)) refl (links (c .before .before .before .before .before .before .before .before .before .before .before .before .before .before .before .before .before .make-window .last .0) (c .before .before .before .before .before .before .before .before .before .before .before .before .before .before .before .before .before .make-window .last .1 .0)) (c .before .before .before .before .before .before .before .before .before .before .before .before .before .before .before .before .before .make-window .last .1 .1 .0) (rw (c .before .before .before .before .before .before .before .before .before .before .before .before .before .before .before .before .before .before .before .before .before .trimmed .ensures) at (c .before .before .before .before .before .before .before .before .before .before .before .before .before .before .before .before .before .make-window .ensures)) (c .before .before .before .before .before .before .before .before .before .before .if2 .taken) (c .before .before .before .before .before .before .before .before .before .window-event .result) (rw (c .before .before .before .before .before .before .before .before .before .before .before .before .before .before .before .before .before .before .before .before .before .trimmed .ensures) at (c .before .before .before .before .before .before .before .before .before .window-event .ensures)) (queue (c .before .before .before .before .before .before .push .last .0) (c .before .before .before .before .before .before .push .last .1 .0)) (rw (c .enum-told .given .1) at (c .before .before .before .before .before .before .push .ensures)))
+    (tt, λ cuts limit flags vertex k. part-full cuts (capacityOf (length (a .words .now)) (length (a .reals .now))) limit flags (a .e) (a .x) k (a .b0) (a .b1) (a .counts .made) (a .counts .queued) (a .before) (links (a .edges .now) (a .words .now)) (a .reals .now) (queue (a .keys .now) (a .events .now)) vertex (omega (arith, c .before .before .before .before .before .before .before .before .before .before .before .before .before .before .before .before .before .before .before .before .before .before .before .capacity .ensures, c .before .before .before .before .before .before .before .before .before .before .before .before .before .before .before .before .before .before .before .before .before .before .if1 .left)) (lowestOf (a .x .win .src) (a .b0) (a .b1)) refl (links (c .before .before .before .before .before .before .before .before .before .before .before .before .before .before .before .before .before .make-window .last .0) (c .before .before .before .before .before .before .before .before .before .before .before .before .before .before .before .before .before .make-window .last .1 .0)) (c .before .before .before .before .before .before .before .before .before .before .before .before .before .before .before .before .before .make-window .last .1 .1 .0) (rw (c .before .before .before .before .before .before .before .before .before .before .before .before .before .before .before .before .before .before .before .before .before .trimmed .ensures) at (c .before .before .before .before .before .before .before .before .before .before .before .before .before .before .before .before .before .make-window .ensures)) (c .before .before .before .before .before .before .before .before .before .before .if2 .taken) (c .before .before .before .before .before .before .before .before .before .window-event .result) (rw (c .before .before .before .before .before .before .before .before .before .before .before .before .before .before .before .before .before .before .before .before .before .trimmed .ensures) at (c .before .before .before .before .before .before .before .before .before .window-event .ensures)) (queue (c .before .before .before .before .before .before .push .last .0) (c .before .before .before .before .before .before .push .last .1 .0)) (rw (c .enum-told .given .1) at (c .before .before .before .before .before .before .push .ensures .0)))
 
 add-t37 : tie.Need-add-t37
 add-t37 c = search needs
@@ -89,7 +89,7 @@ same-length-12 c = search needs
 returns-3 : tie.Need-returns-3
 returns-3 c =
     let a = c .before .before .before .before .before .before .before .before .before .before .before .before .before .before .before .before .before .before .before .before .before .before .before .before .before .before .before .before .before .before .before .before .before .args in
-    (add-one (a .counts .made), λ cuts limit flags vertex k. part-queued cuts (capacityOf (length (a .words .now)) (length (a .reals .now))) limit flags (a .e) (a .x) k (a .b0) (a .b1) (a .counts .made) (a .counts .queued) (a .before) (links (a .edges .now) (a .words .now)) (a .reals .now) (queue (a .keys .now) (a .events .now)) vertex (omega (arith, c .before .before .before .before .before .before .before .before .before .before .before .before .before .before .before .before .before .before .before .before .before .before .before .before .capacity .ensures, c .before .before .before .before .before .before .before .before .before .before .before .before .before .before .before .before .before .before .before .before .before .before .before .if1 .left)) (lowestOf (a .x .win .src) (a .b0) (a .b1)) refl (links (c .before .before .before .before .before .before .before .before .before .before .before .before .before .before .before .before .before .before .make-window .last .0) (c .before .before .before .before .before .before .before .before .before .before .before .before .before .before .before .before .before .before .make-window .last .1 .0)) (c .before .before .before .before .before .before .before .before .before .before .before .before .before .before .before .before .before .before .make-window .last .1 .1 .0) (rw (c .before .before .before .before .before .before .before .before .before .before .before .before .before .before .before .before .before .before .before .before .before .before .trimmed .ensures) at (c .before .before .before .before .before .before .before .before .before .before .before .before .before .before .before .before .before .before .make-window .ensures)) (c .before .before .before .before .before .before .before .before .before .before .before .if2 .taken) (c .before .before .before .before .before .before .before .before .before .before .window-event .result) (rw (c .before .before .before .before .before .before .before .before .before .before .before .before .before .before .before .before .before .before .before .before .before .before .trimmed .ensures) at (c .before .before .before .before .before .before .before .before .before .before .window-event .ensures)) (queue (c .before .before .before .before .before .before .before .push .last .0) (c .before .before .before .before .before .before .before .push .last .1 .0)) (a .counts .made + 1) (add-one (a .counts .made)) (c .before .pushed .given .0 .0) (rw (c .before .pushed .given .1) at (c .before .before .before .before .before .before .before .push .ensures)))
+    (add-one (a .counts .made), λ cuts limit flags vertex k. part-queued cuts (capacityOf (length (a .words .now)) (length (a .reals .now))) limit flags (a .e) (a .x) k (a .b0) (a .b1) (a .counts .made) (a .counts .queued) (a .before) (links (a .edges .now) (a .words .now)) (a .reals .now) (queue (a .keys .now) (a .events .now)) vertex (omega (arith, c .before .before .before .before .before .before .before .before .before .before .before .before .before .before .before .before .before .before .before .before .before .before .before .before .capacity .ensures, c .before .before .before .before .before .before .before .before .before .before .before .before .before .before .before .before .before .before .before .before .before .before .before .if1 .left)) (lowestOf (a .x .win .src) (a .b0) (a .b1)) refl (links (c .before .before .before .before .before .before .before .before .before .before .before .before .before .before .before .before .before .before .make-window .last .0) (c .before .before .before .before .before .before .before .before .before .before .before .before .before .before .before .before .before .before .make-window .last .1 .0)) (c .before .before .before .before .before .before .before .before .before .before .before .before .before .before .before .before .before .before .make-window .last .1 .1 .0) (rw (c .before .before .before .before .before .before .before .before .before .before .before .before .before .before .before .before .before .before .before .before .before .before .trimmed .ensures) at (c .before .before .before .before .before .before .before .before .before .before .before .before .before .before .before .before .before .before .make-window .ensures)) (c .before .before .before .before .before .before .before .before .before .before .before .if2 .taken) (c .before .before .before .before .before .before .before .before .before .before .window-event .result) (rw (c .before .before .before .before .before .before .before .before .before .before .before .before .before .before .before .before .before .before .before .before .before .before .trimmed .ensures) at (c .before .before .before .before .before .before .before .before .before .before .window-event .ensures)) (queue (c .before .before .before .before .before .before .before .push .last .0) (c .before .before .before .before .before .before .before .push .last .1 .0)) (a .counts .made + 1) (add-one (a .counts .made)) (c .before .pushed .given .0 .0) (rw (c .before .pushed .given .1) at (c .before .before .before .before .before .before .before .push .ensures .0)))
 
 add-t19 : tie.Need-add-t19
 add-t19 c = search needs
