@@ -5,37 +5,20 @@ use mathlib.Core.List.{List}
 use native.Mathlib.Omega.{arith}
 use borrow.Author.Tests.{lt-ltb}
 use lib.ListN.{length, getD}
-use Rattle.buffers.specs.Slots.{slotsOf}
-use Rattle.job_checks.specs.declared.BufferCounts.{BufferCounts}
-use Rattle.job_checks.specs.Job.{Job, vertexCount}
-use Rattle.job_checks.specs.Sound.{Sound}
+use Rattle.job_checks.specs.Refusals.{maxVertices}
+use Rattle.job_checks.specs.Sound.{ValidTriangles}
 use Rattle.topology.specs.Edges.{noEdge, edges, triEdge, edgeFaces, face}
 use Rattle.edge_table.specs.Words.{lastIn, headWord, edgeRow, edgeWord, triangleWord}
-use Rattle.edge_table.specs.Table.{Mesh, LongEnough, headWords, edgeWords, triangleWords}
+use Rattle.edge_table.specs.Table.{Mesh, headWords, edgeWords, triangleWords}
 use Rattle.edge_table.proofs.Holding.{words-at}
 use Rattle.edge_table.proofs.Turns.{edge-live, edge-none}
 
-pub mesh-of : (j : Job) (b : BufferCounts) → Sound j b → Mesh (j .triangles) (vertexCount j)
-mesh-of j b s =
-    record {
-      whole = s .whole .whole-triangles;
-      few-triangles = s .whole .few-triangles;
-      few-vertices = s .whole .few-vertices;
-      there = s .mesh .vertex-there;
-    }
+pub mesh-of : (triangles : List ℕ) (n : ℕ) → ValidTriangles triangles n → n ≤ maxVertices → Mesh triangles n
+mesh-of triangles n s l = record { whole = s .whole; few-triangles = s .few; few-vertices = l; there = s .there }
 
 -- numbers below v are below the most that there can be
 pub mesh-most : (triangles : List ℕ) (v : ℕ) → Mesh triangles v → Mesh triangles 65535
 mesh-most triangles v m = record { whole = m .whole; few-triangles = m .few-triangles; few-vertices = omega arith; there = λ i l. omega (arith, m .there i l, m .few-vertices) }
-
--- and its buffers are long enough, where their slots were counted
-pub long-of : (j : Job) (b : BufferCounts) → Sound j b → (head edge triangle : ℕ) → b .«vertex_faces» ≤ slotsOf head 1 → b .edges ≤ slotsOf edge 6 → b .triangles ≤ slotsOf triangle 6 → LongEnough (j .triangles) head edge triangle
-long-of j b s head edge triangle lh le lt =
-    record {
-      heads-fit = omega (arith, s .buffers .vertex-faces-fit, s .whole .whole-triangles);
-      edges-fit = omega (arith, s .buffers .edges-fit, s .whole .whole-triangles);
-      triangles-fit = omega (arith, s .buffers .triangles-fit, s .whole .whole-triangles);
-    }
 
 module _ (triangles : List ℕ) (n : ℕ) where
   -- the fields of an edge

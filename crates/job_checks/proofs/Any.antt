@@ -1,13 +1,13 @@
 -- Laws of `anyBelow`, `anyOf` and `firstOf`: what they mean, and how a loop or a row of tests finds them. Assumes nothing.
 use Prim.Native.Nat.{ℕ, zero, suc, _+_, _<_, _≤_}
-use mathlib.Core.Path.{_≡_, refl, sym, ap, subst, _∙_}
-use mathlib.Core.Bool.{Bool, true, false, _||_, or-true}
+use mathlib.Core.Path.{_≡_, refl, sym, subst, _∙_}
+use mathlib.Core.Bool.{Bool, true, false, cond, _||_, or-true}
 use mathlib.Core.List.{List, [], _∷_, _++_}
 use mathlib.Core.Logic.{⊎-elim}
 use native.Mathlib.Nat.{le-of-suc-le-suc, not-suc-le-zero, eq-or-lt-of-le, le-antisymm}
 use native.Mathlib.Numerals.{add-one}
 use native.Mathlib.Omega.{arith}
-use lib.ListN.{length, getD}
+use lib.ListN.{getD}
 use Rattle.job_checks.specs.Any.{anyBelow, anyOf, firstOf}
 
 -- a disjunction is false where both sides are
@@ -51,11 +51,6 @@ module _ (p : ℕ → Bool) where
   none-below zero e i l = absurd (not-suc-le-zero l)
   none-below (suc n) e i l = ⊎-elim (λ q. subst (λ (k : ℕ). p k ≡ false) (sym q) (or-right-none (anyBelow p n) (p n) e)) (λ l′. none-below n (or-left-none (anyBelow p n) (p n) e) i l′) (eq-or-lt-of-le (le-of-suc-le-suc l))
 
-first-false : (b : Bool) (bs : List Bool) (n : ℕ) → 0 < n → firstOf n (b ∷ bs) ≡ 0 → b ≡ false
-unfolding firstOf
-first-false false bs n l e = refl
-first-false true bs n l e = absurd (omega arith)
-
 -- A row of tests, the first of them first.
 module _ (b : Bool) (bs : List Bool) where
   pub one-holds : b ≡ true → anyOf (b ∷ bs) ≡ true
@@ -74,53 +69,74 @@ module _ (b : Bool) (bs : List Bool) where
   unfolding anyOf
   tail-none e = or-right-none b (anyOf bs) e
 
-  pub first-holds : (n : ℕ) → b ≡ true → firstOf n (b ∷ bs) ≡ n
-  unfolding firstOf
-  first-holds n e = rw e
-
-  pub first-after : (n r : ℕ) → b ≡ false → firstOf (suc n) bs ≡ r → firstOf n (b ∷ bs) ≡ r
-  unfolding firstOf
-  first-after n r e f = rw (e, f)
-
-  -- None of the tests holds, where they are counted from one or more.
-  pub passed-here : (n : ℕ) → firstOf (suc n) (b ∷ bs) ≡ 0 → b ≡ false
-  passed-here n e = first-false b bs (suc n) (omega arith) e
-
-  pub passed-on : (n : ℕ) → firstOf (suc n) (b ∷ bs) ≡ 0 → firstOf (suc (suc n)) bs ≡ 0
-  unfolding firstOf
-  passed-on n e = rw (passed-here n e) at e
-
 pub none-of : anyOf [] ≡ false
 unfolding anyOf
 none-of = refl
 
-pub first-none : (n : ℕ) → firstOf n [] ≡ 0
+-- The same of tests with numbers.
+module _ (n : ℕ) (b : Bool) (ts : List (ℕ × Bool)) where
+  pub first-holds : b ≡ true → firstOf ((n, b) ∷ ts) ≡ n
+  unfolding firstOf
+  first-holds e = rw e
+
+  pub first-after : (r : ℕ) → b ≡ false → firstOf ts ≡ r → firstOf ((n, b) ∷ ts) ≡ r
+  unfolding firstOf
+  first-after r e f = rw (e, f)
+
+  -- None of the tests holds, where the first one's number is not 0.
+  pub passed-here : 0 < n → firstOf ((n, b) ∷ ts) ≡ 0 → b ≡ false
+  unfolding firstOf
+  passed-here l e = go b e where
+    go : (b : Bool) → cond b n (firstOf ts) ≡ 0 → b ≡ false
+    go false e = refl
+    go true e = absurd (omega arith)
+
+  pub passed-on : 0 < n → firstOf ((n, b) ∷ ts) ≡ 0 → firstOf ts ≡ 0
+  unfolding firstOf
+  passed-on l e = rw (passed-here l e) at e
+
+pub first-none : firstOf [] ≡ 0
 unfolding firstOf
-first-none n = refl
+first-none = refl
 
--- A row of tests and another: the first one's answer where it has one, else the second's, counted on.
-module _ (cs : List Bool) where
-  pub first-within : (bs : List Bool) (n : ℕ) → 0 < firstOf n bs → firstOf n (bs ++ cs) ≡ firstOf n bs
+-- no number is 0
+abbrev pub Numbered : List (ℕ × Bool) → Type 0
+Numbered [] = Unit {0}
+Numbered (t ∷ ts) = (0 < t .0) × Numbered ts
+
+-- Tests and more tests: the answer of the first ones where they have one, else that of the others.
+module _ (us : List (ℕ × Bool)) where
+  pub first-within : (ts : List (ℕ × Bool)) → 0 < firstOf ts → firstOf (ts ++ us) ≡ firstOf ts
   unfolding firstOf
-  first-within [] n l = absurd (not-suc-le-zero l)
-  first-within (true ∷ bs) n l = refl
-  first-within (false ∷ bs) n l = first-within bs (suc n) l
+  first-within [] l = absurd (not-suc-le-zero l)
+  first-within (t ∷ ts) l = go (t .1) l (first-within ts) where
+    go : (b : Bool) → 0 < cond b (t .0) (firstOf ts) → (0 < firstOf ts → firstOf (ts ++ us) ≡ firstOf ts) → cond b (t .0) (firstOf (ts ++ us)) ≡ cond b (t .0) (firstOf ts)
+    go true l rest = refl
+    go false l rest = rest l
 
-  pub first-past : (bs : List Bool) (n : ℕ) → firstOf (suc n) bs ≡ 0 → firstOf (suc n) (bs ++ cs) ≡ firstOf (suc n + length bs) cs
+  pub first-past : (ts : List (ℕ × Bool)) → Numbered ts → firstOf ts ≡ 0 → firstOf (ts ++ us) ≡ firstOf us
   unfolding firstOf
-  first-past [] n e = ap (λ (k : ℕ). firstOf k cs) (omega arith)
-  first-past (true ∷ bs) n e = absurd (omega arith)
-  first-past (false ∷ bs) n e = first-past bs (suc n) e ∙ ap (λ (k : ℕ). firstOf k cs) (omega arith)
+  first-past [] n e = refl
+  first-past (t ∷ ts) n e = first-after (t .0) (t .1) (ts ++ us) (firstOf us) (passed-here (t .0) (t .1) ts (n .0) e) (first-past ts (n .1) (passed-on (t .0) (t .1) ts (n .0) e))
 
-  pub past-none : (bs : List Bool) (n : ℕ) → firstOf n (bs ++ cs) ≡ 0 → firstOf n bs ≡ 0
+  pub both-passed : (ts : List (ℕ × Bool)) → Numbered ts → firstOf (ts ++ us) ≡ 0 → (firstOf ts ≡ 0) × (firstOf us ≡ 0)
   unfolding firstOf
-  past-none [] n e = refl
-  past-none (true ∷ bs) n e = e
-  past-none (false ∷ bs) n e = past-none bs (suc n) e
+  both-passed [] n e = (refl, e)
+  both-passed (t ∷ ts) n e =
+      let r = both-passed ts (n .1) (passed-on (t .0) (t .1) (ts ++ us) (n .0) e) in
+      (first-after (t .0) (t .1) ts 0 (passed-here (t .0) (t .1) (ts ++ us) (n .0) e) (r .0), r .1)
 
--- What `firstOf` means: where test k is the first that holds, it answers n + k.
-pub first-is : (bs : List Bool) (n k : ℕ) → getD bs k false ≡ true → ((i : ℕ) → i < k → getD bs i false ≡ false) → firstOf n bs ≡ n + k
+-- The same where k tells the number m of the first ones' answer.
+module _ (ts us : List (ℕ × Bool)) (m k : ℕ) (is : m ≡ firstOf ts) (told : k ≡ m) where
+  pub group-holds : 0 < k → firstOf (ts ++ us) ≡ m
+  group-holds l = first-within us ts (rw (← is, ← told) l) ∙ sym is
+
+  pub group-passed : Numbered ts → (r : ℕ) → k ≤ 0 → firstOf us ≡ r → firstOf (ts ++ us) ≡ r
+  group-passed n r l e = first-past us ts n (sym is ∙ (sym told ∙ omega arith)) ∙ e
+
+-- What `firstOf` means: where test k is the first that holds, it answers that test's number.
+pub first-is : (ts : List (ℕ × Bool)) (k : ℕ) → getD ts k (0, false) .1 ≡ true → ((i : ℕ) → i < k → getD ts i (0, false) .1 ≡ false) → firstOf ts ≡ getD ts k (0, false) .0
 unfolding firstOf
-first-is [] n k h before = absurd (let z : _≡_ {A = ℕ} 0 1 = cc in omega arith)
-first-is (b ∷ bs) n zero h before = rw h (omega arith)
-first-is (b ∷ bs) n (suc k) h before = rw (before zero (omega arith)) (first-is bs (suc n) k h (λ i l. before (suc i) (omega arith)) ∙ omega arith)
+first-is [] k h before = absurd (let z : _≡_ {A = ℕ} 0 1 = cc in omega arith)
+first-is (t ∷ ts) zero h before = rw h
+first-is (t ∷ ts) (suc k) h before = rw (before zero (omega arith)) (first-is ts k h (λ i l. before (suc i) (omega arith)))

@@ -1,16 +1,18 @@
--- What the checks found, as facts on numbers: a job that passed is sound, so later layers need no test of their own. Assumes nothing.
-use Prim.Native.Nat.{ℕ, _%_, _<_, _≤_}
-use mathlib.Core.Path.{_≡_, sym, _∙_}
+-- What the checks found, as facts on numbers, each law from the checks that it needs: later layers need no test of their own. Assumes nothing.
+use Prim.Native.Nat.{ℕ, _*_, _/_, _%_, _<_, _≤_}
+use mathlib.Core.Path.{_≡_}
 use mathlib.Core.Bool.{false}
 use mathlib.Core.List.{List}
 use native.Mathlib.Omega.{arith}
 use borrow.Author.Tests.{ltb-false, eqb-true, eqb-false, not-false}
 use lib.ListN.{length, getD}
+use lib.Ieee.{Float}
 use Rattle.job_checks.specs.declared.BufferCounts.{BufferCounts}
 use Rattle.job_checks.specs.Job.{Job}
-use Rattle.job_checks.specs.Refusals.{wrongCounts, malformed, repeated, tooShort, meshTests, pieceTests, refusalOf}
-use Rattle.job_checks.specs.Sound.{WholeRecords, Distinct, LongEnough, Sound}
-use Rattle.job_checks.proofs.Any.{none-below, head-none, tail-none, passed-here, passed-on, first-past, past-none}
+use Rattle.job_checks.specs.Any.{firstOf}
+use Rattle.job_checks.specs.Refusals.{maxTriangles, wrongCounts, malformed, repeated, degenerateTriangle, tooShort, meshTests, pieceTests, refusals, refusalOf}
+use Rattle.job_checks.specs.Sound.{WholeRecords, Distinct, ValidTriangles, VerticesInRange, RegularTriangles, SoundPieces, LongEnough, Sound}
+use Rattle.job_checks.proofs.Any.{none-below, head-none, tail-none, first-after, first-none, passed-here, passed-on, Numbered}
 use Rattle.job_checks.proofs.Tests.{at-most-one, present}
 
 whole-records : (vertices triangles flags kinds faces coords : ℕ) → wrongCounts vertices triangles flags kinds faces coords ≡ false → WholeRecords vertices triangles flags kinds faces coords
@@ -77,37 +79,63 @@ long-enough vertices triangles pieces b e1 =
       other-scratch-fits = ltb-false _ _ (head-none _ _ e7);
     }
 
--- A job that passed.
+-- From the checks of one thing each.
+module _ (v : List Float) (triangles : List ℕ) where
+  module _ (p2 : firstOf (meshTests v triangles) ≡ 0) where
+    pub valid-triangles : length triangles ≡ 3 * (length triangles / 3) → length triangles / 3 ≤ maxTriangles → ValidTriangles triangles (length v / 3)
+    unfolding meshTests
+    valid-triangles w f =
+        record {
+          whole = w;
+          few = f;
+          there = λ i l. present _ _ _ (none-below _ _ (passed-here _ _ _ (omega arith) p2) i l);
+          distinct = λ t l. distinct-of _ _ _ (none-below _ _ (passed-here _ _ _ (omega arith) (passed-on _ _ _ (omega arith) p2)) t l);
+        }
+
+    pub vertices-in-range : VerticesInRange v
+    unfolding meshTests
+    vertices-in-range = record { in-range = none-below _ _ (passed-here _ _ _ (omega arith) (passed-on _ _ _ (omega arith) (passed-on _ _ _ (omega arith) p2))) }
+
+  pub regular-triangles : degenerateTriangle v triangles ≡ false → RegularTriangles v triangles
+  regular-triangles e = record { regular = none-below _ _ e }
+
+pub sound-pieces : (triangles : ℕ) (kinds faces : List ℕ) (coords : List Float) → firstOf (pieceTests triangles kinds faces coords) ≡ 0 → SoundPieces triangles kinds faces coords
+unfolding pieceTests
+sound-pieces triangles kinds faces coords p6 =
+    record {
+      face-there = λ i l. present _ _ _ (none-below _ _ (passed-here _ _ _ (omega arith) p6) i l);
+      piece-in-range = none-below _ _ (passed-here _ _ _ (omega arith) (passed-on _ _ _ (omega arith) p6));
+    }
+
+-- A job that passed all nine.
 module _ (j : Job) (b : BufferCounts) where
+  pub refusals-numbered : Numbered (refusals j b)
+  unfolding refusals
+  refusals-numbered = (omega arith, (omega arith, (omega arith, (omega arith, (omega arith, (omega arith, (omega arith, (omega arith, (omega arith, tt)))))))))
+
   pub sound : refusalOf j b ≡ 0 → Sound j b
-  unfolding refusalOf meshTests pieceTests
+  unfolding refusals meshTests pieceTests
   sound p1 =
-      let rest = passed-on _ _ _ p1 in
-      let p2 = past-none _ (meshTests (j .vertices) (j .triangles)) _ rest in
-      let p3 = passed-on _ _ _ p2 in
-      let p4 = passed-on _ _ _ p3 in
-      let p5 = passed-on _ _ _ p4 in
-      let p6 = sym (first-past _ (meshTests (j .vertices) (j .triangles)) _ p2) ∙ rest in
-      let p7 = passed-on _ _ _ p6 in
-      let p8 = passed-on _ _ _ p7 in
-      let p9 = passed-on _ _ _ p8 in
-      let m = passed-here _ _ _ p1 in
+      let p2 = passed-on _ _ _ (omega arith) p1 in
+      let p3 = passed-on _ _ _ (omega arith) p2 in
+      let p4 = passed-on _ _ _ (omega arith) p3 in
+      let p5 = passed-on _ _ _ (omega arith) p4 in
+      let p6 = passed-on _ _ _ (omega arith) p5 in
+      let p7 = passed-on _ _ _ (omega arith) p6 in
+      let p8 = passed-on _ _ _ (omega arith) p7 in
+      let p9 = passed-on _ _ _ (omega arith) p8 in
+      let m = passed-here _ _ _ (omega arith) p1 in
+      let w = well-formed _ _ _ _ _ _ m in
+      let mesh : firstOf (meshTests (j .vertices) (j .triangles)) ≡ 0 = first-after _ _ _ _ (passed-here _ _ _ (omega arith) p2) (first-after _ _ _ _ (passed-here _ _ _ (omega arith) p3) (first-after _ _ _ _ (passed-here _ _ _ (omega arith) p4) first-none)) in
       record {
-        whole = well-formed _ _ _ _ _ _ m;
+        whole = w;
         flag = flags-low _ _ _ _ _ _ m;
         kind = kinds-low _ _ _ _ _ _ m;
-        mesh =
-            record {
-              vertex-there = λ i l. present _ _ _ (none-below _ _ (passed-here _ _ _ p2) i l);
-              distinct = λ t l. distinct-of _ _ _ (none-below _ _ (passed-here _ _ _ p3) t l);
-              vertex-in-range = none-below _ _ (passed-here _ _ _ p4);
-              regular = none-below _ _ (passed-here _ _ _ p5);
-            };
+        triangles = valid-triangles (j .vertices) (j .triangles) mesh (w .whole-triangles) (w .few-triangles);
+        vertices = vertices-in-range (j .vertices) (j .triangles) mesh;
+        regular = regular-triangles (j .vertices) (j .triangles) (passed-here _ _ _ (omega arith) p5);
         pieces =
-            record {
-              face-there = λ i l. present _ _ _ (none-below _ _ (passed-here _ _ _ p6) i l);
-              piece-in-range = none-below _ _ (passed-here _ _ _ p7);
-            };
-        limit-in-range = passed-here _ _ _ p8;
-        buffers = long-enough _ _ _ _ (passed-here _ _ _ p9);
+            sound-pieces _ _ _ _ (first-after _ _ _ _ (passed-here _ _ _ (omega arith) p6) (first-after _ _ _ _ (passed-here _ _ _ (omega arith) p7) first-none));
+        limit-in-range = passed-here _ _ _ (omega arith) p8;
+        buffers = long-enough _ _ _ _ (passed-here _ _ _ (omega arith) p9);
       }

@@ -1,9 +1,11 @@
 -- The tests that the loops make, from what the code compares. Assumes nothing.
-use Prim.Native.Nat.{ℕ, _<_, _≤_}
+use Prim.Native.Nat.{ℕ, _*_, _/_, _<_, _≤_}
 use mathlib.Core.Path.{_≡_}
 use mathlib.Core.Bool.{true, false}
 use mathlib.Core.List.{List}
+use native.Mathlib.Omega.{arith}
 use borrow.Author.Tests.{lt-ltb, le-ltb, le-leb, lt-leb, leb-false, ltb-false}
+use lib.Dec.{ltb}
 use lib.ListN.{getD}
 use Rattle.job_checks.specs.Refusals.{aboveOne, missing}
 
@@ -32,3 +34,11 @@ module _ (count : ℕ) (numbers : List ℕ) (i : ℕ) where
   pub present : missing count numbers i ≡ false → getD numbers i 0 < count
   unfolding missing
   present e = leb-false count (getD numbers i 0) e
+
+-- three times a number against its third
+module _ (n count : ℕ) where
+  pub third-short : n / 3 < count → ltb n (3 * count) ≡ true
+  third-short h = lt-ltb n (3 * count) (omega arith)
+
+  pub third-not-short : count ≤ n / 3 → ltb n (3 * count) ≡ false
+  third-not-short h = le-ltb n (3 * count) (omega arith)

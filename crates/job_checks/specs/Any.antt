@@ -1,6 +1,6 @@
 -- A test over a run of numbers or a list of tests. Definitions only.
 use Prim.Native.Nat.{ℕ, zero, suc}
-use mathlib.Core.Bool.{Bool, true, false, _||_}
+use mathlib.Core.Bool.{Bool, false, cond, _||_}
 use mathlib.Core.List.{List, [], _∷_}
 
 -- whether p holds of a number below n
@@ -13,8 +13,7 @@ unfoldable pub anyOf : List Bool → Bool
 anyOf [] = false
 anyOf (b ∷ bs) = b || anyOf bs
 
--- the number of the first test that holds, counted from n, or 0 where none does
-unfoldable pub firstOf : ℕ → List Bool → ℕ
-firstOf n [] = 0
-firstOf n (true ∷ bs) = n
-firstOf n (false ∷ bs) = firstOf (suc n) bs
+-- of tests, each with its number, the number of the first that holds, or 0 where none does
+unfoldable pub firstOf : List (ℕ × Bool) → ℕ
+firstOf [] = 0
+firstOf (t ∷ ts) = cond (t .1) (t .0) (firstOf ts)

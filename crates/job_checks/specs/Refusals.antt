@@ -2,7 +2,7 @@
 -- A comparison with a NaN is false, so each bound on a float is written as what must hold.
 use Prim.Native.Nat.{ℕ, _+_, _*_, _/_, _%_}
 use mathlib.Core.Bool.{Bool, not, _&&_, _||_}
-use mathlib.Core.List.{List, [], _∷_, _++_}
+use mathlib.Core.List.{List, [], _∷_}
 use lib.Dec.{ltb, leb, eqb}
 use lib.ListN.{length, getD}
 use lib.Ieee.{Float, nan, binary64, ofBits, le, neg}
@@ -13,7 +13,7 @@ use Rattle.job_checks.specs.declared.Checked.{Checked}
 use Rattle.job_checks.specs.declared.Checked.the-variants.{Passed, Malformed, MissingVertex, RepeatedVertex, VertexOutOfRange, DegenerateTriangle, MissingFace, PieceOutOfRange, LimitOutOfRange, ShortBuffer}
 use Rattle.job_checks.specs.Any.{anyBelow, anyOf, firstOf}
 use Rattle.job_checks.specs.Edge.{vertexAt, lower, higher, lenOf, altitudeOf}
-use Rattle.job_checks.specs.Job.{Job, vertexCount, triangleCount}
+use Rattle.job_checks.specs.Job.{Job, vertexCount, triangleCount, pieceCount}
 
 -- each answer's number in document 01; 0 is no refusal
 abbrev pub refusalNumber : Checked → ℕ
@@ -151,18 +151,27 @@ tooShort vertices triangles pieces b = anyOf (
     ltb (b .scratch) (b .windows) ∷
     ltb (b .«other_scratch») (b .windows) ∷ [])
 
--- 2 to 5: what is tried of the mesh alone
-unfoldable pub meshTests : List Float → List ℕ → List Bool
-meshTests v t = missingVertex v t ∷ repeatedVertex t ∷ vertexOutOfRange v ∷ degenerateTriangle v t ∷ []
+-- 2 to 4: the numbers and coordinates of the mesh
+unfoldable pub meshTests : List Float → List ℕ → List (ℕ × Bool)
+meshTests v t = (2, missingVertex v t) ∷ (3, repeatedVertex t) ∷ (4, vertexOutOfRange v) ∷ []
 
--- 6 to 9: what is tried of the pieces, the limit and the buffers, at so many vertices and triangles
-unfoldable pub pieceTests : ℕ → ℕ → List ℕ → List ℕ → List Float → Float → BufferCounts → List Bool
-pieceTests vertices triangles kinds faces coords limit b =
-    missingFace triangles faces ∷ pieceOutOfRange kinds coords ∷ limitOutside limit ∷ tooShort vertices triangles (length kinds) b ∷ []
+-- 6 and 7: those of the pieces, at so many triangles
+unfoldable pub pieceTests : ℕ → List ℕ → List ℕ → List Float → List (ℕ × Bool)
+pieceTests triangles kinds faces coords = (6, missingFace triangles faces) ∷ (7, pieceOutOfRange kinds coords) ∷ []
+
+-- every refusal of a job by its number, in the order in which they are tried
+unfoldable pub refusals : Job → BufferCounts → List (ℕ × Bool)
+refusals j b =
+    (1, malformed (length (j .vertices)) (length (j .triangles)) (j .flags) (j .kinds) (length (j .faces)) (length (j .coords))) ∷
+    (2, missingVertex (j .vertices) (j .triangles)) ∷
+    (3, repeatedVertex (j .triangles)) ∷
+    (4, vertexOutOfRange (j .vertices)) ∷
+    (5, degenerateTriangle (j .vertices) (j .triangles)) ∷
+    (6, missingFace (triangleCount j) (j .faces)) ∷
+    (7, pieceOutOfRange (j .kinds) (j .coords)) ∷
+    (8, limitOutside (j .limit)) ∷
+    (9, tooShort (vertexCount j) (triangleCount j) (pieceCount j) b) ∷ []
 
 -- the first of 1 to 9 that holds, or 0
-unfoldable pub refusalOf : Job → BufferCounts → ℕ
-refusalOf j b = firstOf 1 (
-    malformed (length (j .vertices)) (length (j .triangles)) (j .flags) (j .kinds) (length (j .faces)) (length (j .coords)) ∷
-    (meshTests (j .vertices) (j .triangles) ++
-    pieceTests (vertexCount j) (triangleCount j) (j .kinds) (j .faces) (j .coords) (j .limit) b))
+abbrev pub refusalOf : Job → BufferCounts → ℕ
+refusalOf j b = firstOf (refusals j b)

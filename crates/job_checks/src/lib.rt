@@ -1,10 +1,10 @@
 // What is checked of a job before any work: document 01's refusals 1 to 9, each over the whole job before the next.
-// The checks only read. The step budget is any u32, so there is nothing to check of it.
-
+// The checks only read, and each is also a function of its own: 1, 2 to 4, 5, 6 and 7, 8, 9. They take any bits, so a vertex or a kind that is not there reads
+// as NaN or 0. The step budget is any u32, so there is nothing to check of it.
+use buffers::read_f64;
 ghost use mathlib.Core.Path.{_≡_};
-ghost use mathlib.Core.Bool.{false};
-ghost use Prim.Native.Nat.{_*_, _/_, _<_, _≤_};
-ghost use lib.ListN.{length};
+ghost use Prim.Native.Nat.{_/_, _<_};
+ghost use lib.ListN.{length, getD};
 ghost use Rattle.vec3.specs.declared.Vec3.{Vec3};
 ghost use Rattle.vec3.specs.Vec.{subOf, normOf};
 ghost use Rattle.job_checks.specs.Any.{anyBelow, firstOf};
@@ -24,8 +24,9 @@ ghost use Rattle.job_checks.specs.Refusals.{
   degenerate,
   degenerateEdge,
   degenerateIn,
-  degenerateAt,
+  degenerateTriangle,
   usedOutOfRange,
+  pieceOutOfRange,
   limitOutside,
   tooShort,
   meshTests,
@@ -168,14 +169,12 @@ fn degenerate(o: Vec3, d: Vec3, len: f64, third: Vec3) -> bool
 }
 
 fn vertex(v: &[f64], k: u32) -> Vec3
-    requires { ⌜ k < length (now v) / 3 ⌝ }
     ensures { λ r. ⌜ r ≡ vertexAt (now (v .entry)) k ⌝ }
 {
-    let i = 3 * (k as usize);
     Vec3 {
-        x: v[i],
-        y: v[i + 1],
-        z: v[i + 2],
+        x: read_f64(v, 3, k, 0),
+        y: read_f64(v, 3, k, 1),
+        z: read_f64(v, 3, k, 2),
     }
 }
 
@@ -199,7 +198,6 @@ pub fn higher_of(a: u32, b: u32) -> u32
 
 // The edge of a and b starts at its lower-numbered vertex.
 fn edge_vector(v: &[f64], a: u32, b: u32) -> Vec3
-    requires { ⌜ (a < length (now v) / 3) × (b < length (now v) / 3) ⌝ }
     ensures { λ r. ⌜ r ≡ subOf (vertexAt (now (v .entry)) (higher a b)) (vertexAt (now (v .entry)) (lower a b)) ⌝ }
 {
     let start = lower_of(a, b);
@@ -209,7 +207,7 @@ fn edge_vector(v: &[f64], a: u32, b: u32) -> Vec3
 
 // `d` is the vector of the edge of a and b, `len` its length.
 fn degenerate_edge(v: &[f64], a: u32, b: u32, third: u32, d: Vec3, len: f64) -> bool
-    requires { ⌜ (a < length (now v) / 3) × ((b < length (now v) / 3) × ((third < length (now v) / 3) × ((d ≡ subOf (vertexAt (now v) (higher a b)) (vertexAt (now v) (lower a b))) × (len ≡ normOf d)))) ⌝ }
+    requires { ⌜ (d ≡ subOf (vertexAt (now v) (higher a b)) (vertexAt (now v) (lower a b))) × (len ≡ normOf d) ⌝ }
     ensures { λ r. ⌜ r ≡ degenerateEdge (now (v .entry)) a b third ⌝ }
 {
     let o = lower_of(a, b);
@@ -218,7 +216,6 @@ fn degenerate_edge(v: &[f64], a: u32, b: u32, third: u32, d: Vec3, len: f64) -> 
 
 // The three lengths come first, so that their roots are taken side by side.
 fn degenerate_triangle(v: &[f64], a: u32, b: u32, c: u32) -> bool
-    requires { ⌜ (a < length (now v) / 3) × ((b < length (now v) / 3) × (c < length (now v) / 3)) ⌝ }
     ensures { λ r. ⌜ r ≡ degenerateIn (now (v .entry)) a b c ⌝ }
 {
     let ab = edge_vector(v, a, b);
@@ -237,10 +234,9 @@ fn degenerate_triangle(v: &[f64], a: u32, b: u32, c: u32) -> bool
     false
 }
 
-// Whether a triangle has an edge too short or an altitude too small.
-fn any_degenerate(v: &[f64], triangles: &[u32]) -> bool
-    requires { ⌜ anyBelow (missing (length (now v) / 3) (now triangles)) (length (now triangles)) ≡ false ⌝ }
-    ensures { λ r. ⌜ r ≡ anyBelow (degenerateAt (now (v .entry)) (now (triangles .entry))) (length (now (triangles .entry)) / 3) ⌝ }
+// Refusal 5: whether a triangle has an edge too short or an altitude too small.
+pub fn any_degenerate(v: &[f64], triangles: &[u32]) -> bool
+    ensures { λ r. ⌜ r ≡ degenerateTriangle (now (v .entry)) (now (triangles .entry)) ⌝ }
 {
     let mut t = 0;
     while t < triangles.len() / 3 {
@@ -255,16 +251,22 @@ fn any_degenerate(v: &[f64], triangles: &[u32]) -> bool
     false
 }
 
+fn kind_at(kinds: &[u8], i: usize) -> u8
+    ensures { λ r. ⌜ r ≡ getD (now (kinds .entry)) i 0 ⌝ }
+{
+    if i < kinds.len() { kinds[i] } else { 0 }
+}
+
 // Whether coordinate i is out of range and its piece uses it: a point has only the first three of six.
 fn used_out_of_range(kinds: &[u8], coords: &[f64], i: usize) -> bool
-    requires { ⌜ (i < length (now coords)) × (i / 6 < length (now kinds)) ⌝ }
+    requires { ⌜ i < length (now coords) ⌝ }
     ensures { λ r. ⌜ r ≡ usedOutOfRange (now (kinds .entry)) (now (coords .entry)) i ⌝ }
 {
     if out_of_range(coords[i]) {
         if i % 6 < 3 {
             return true;
         }
-        if kinds[i / 6] != 0 {
+        if kind_at(kinds, i / 6) != 0 {
             return true;
         }
         return false;
@@ -273,8 +275,7 @@ fn used_out_of_range(kinds: &[u8], coords: &[f64], i: usize) -> bool
 }
 
 fn any_piece_out_of_range(kinds: &[u8], coords: &[f64]) -> bool
-    requires { ⌜ length (now coords) ≤ 6 * length (now kinds) ⌝ }
-    ensures { λ r. ⌜ r ≡ anyBelow (usedOutOfRange (now (kinds .entry)) (now (coords .entry))) (length (now (coords .entry))) ⌝ }
+    ensures { λ r. ⌜ r ≡ pieceOutOfRange (now (kinds .entry)) (now (coords .entry)) ⌝ }
 {
     let mut i = 0;
     while i < coords.len() {
@@ -286,7 +287,8 @@ fn any_piece_out_of_range(kinds: &[u8], coords: &[f64]) -> bool
     false
 }
 
-fn limit_out_of_range(limit: f64) -> bool
+// Refusal 8.
+pub fn limit_out_of_range(limit: f64) -> bool
     ensures { λ r. ⌜ r ≡ limitOutside limit ⌝ }
 {
     if 0.0 <= limit {
@@ -298,15 +300,15 @@ fn limit_out_of_range(limit: f64) -> bool
     true
 }
 
-// Whether a buffer of a fixed size is too short for so many vertices, triangles and pieces.
-fn short_buffer(vertices: usize, triangles: usize, pieces: usize, buffers: BufferCounts) -> bool
-    requires { ⌜ triangles ≤ 131_070 ⌝ }
+// Refusal 9: whether a buffer of a fixed size is too short for so many vertices, triangles and pieces.
+pub fn short_buffer(vertices: usize, triangles: usize, pieces: usize, buffers: BufferCounts) -> bool
     ensures { λ r. ⌜ r ≡ tooShort vertices triangles pieces buffers ⌝ }
 {
-    if (buffers.edges as usize) < 3 * triangles {
+    // a third of the slots is compared, since three times any number can be too large
+    if (buffers.edges as usize) / 3 < triangles {
         return true;
     }
-    if (buffers.vertex_faces as usize) < 3 * triangles {
+    if (buffers.vertex_faces as usize) / 3 < triangles {
         return true;
     }
     if (buffers.vertices as usize) < vertices {
@@ -383,7 +385,7 @@ pub fn refusal_number(checked: Checked) -> u32
 }
 
 // Refusal 1.
-fn is_malformed(
+pub fn is_malformed(
     vertices: usize,
     triangles: usize,
     flags: &[u8],
@@ -405,9 +407,9 @@ fn is_malformed(
     false
 }
 
-// The first of the refusals 2 to 5 that holds, if any.
+// The first of the refusals 2 to 4 that holds, if any.
 pub fn check_mesh(vertices: &[f64], triangles: &[u32]) -> Checked
-    ensures { λ r. ⌜ refusalNumber r ≡ firstOf 2 (meshTests (now (vertices .entry)) (now (triangles .entry))) ⌝ }
+    ensures { λ r. ⌜ refusalNumber r ≡ firstOf (meshTests (now (vertices .entry)) (now (triangles .entry))) ⌝ }
 {
     if any_missing(triangles, vertices.len() / 3) {
         return Checked::MissingVertex;
@@ -418,37 +420,18 @@ pub fn check_mesh(vertices: &[f64], triangles: &[u32]) -> Checked
     if any_out_of_range(vertices) {
         return Checked::VertexOutOfRange;
     }
-    if any_degenerate(vertices, triangles) {
-        return Checked::DegenerateTriangle;
-    }
     Checked::Passed
 }
 
-// The first of the refusals 6 to 9 that holds, if any, of a job with so many vertices and triangles.
-fn check_pieces(
-    vertices: usize,
-    triangles: usize,
-    kinds: &[u8],
-    faces: &[u32],
-    coords: &[f64],
-    limit: f64,
-    buffers: BufferCounts,
-) -> Checked
-    requires { ⌜ (triangles ≤ 131_070) × (length (now coords) ≤ 6 * length (now kinds)) ⌝ }
-    ensures { λ r. ⌜ refusalNumber r ≡ firstOf 6
-        (pieceTests vertices triangles (now (kinds .entry)) (now (faces .entry)) (now (coords .entry)) limit buffers) ⌝ }
+// The first of the refusals 6 and 7 that holds, if any, of a job with so many triangles.
+pub fn check_pieces(triangles: usize, kinds: &[u8], faces: &[u32], coords: &[f64]) -> Checked
+    ensures { λ r. ⌜ refusalNumber r ≡ firstOf (pieceTests triangles (now (kinds .entry)) (now (faces .entry)) (now (coords .entry))) ⌝ }
 {
     if any_missing(faces, triangles) {
         return Checked::MissingFace;
     }
     if any_piece_out_of_range(kinds, coords) {
         return Checked::PieceOutOfRange;
-    }
-    if limit_out_of_range(limit) {
-        return Checked::LimitOutOfRange;
-    }
-    if short_buffer(vertices, triangles, kinds.len(), buffers) {
-        return Checked::ShortBuffer;
     }
     Checked::Passed
 }
@@ -477,5 +460,18 @@ pub fn check(
     if refusal_number(mesh) > 0 {
         return mesh;
     }
-    check_pieces(v / 3, t / 3, kinds, faces, coords, limit, buffers)
+    if any_degenerate(vertices, triangles) {
+        return Checked::DegenerateTriangle;
+    }
+    let pieces = check_pieces(t / 3, kinds, faces, coords);
+    if refusal_number(pieces) > 0 {
+        return pieces;
+    }
+    if limit_out_of_range(limit) {
+        return Checked::LimitOutOfRange;
+    }
+    if short_buffer(v / 3, t / 3, kinds.len(), buffers) {
+        return Checked::ShortBuffer;
+    }
+    Checked::Passed
 }

@@ -1,16 +1,19 @@
 -- The job's answer: refused by the checks, by the table, or with a topology; and what a job that passed hands on. Assumes nothing.
 use Prim.Native.Nat.{ℕ, zero, suc, _*_, _/_, _<_, _≤_}
 use mathlib.Core.Path.{_≡_, refl, sym, ap, _∙_}
-use mathlib.Core.Bool.{Bool, true, false, cond}
+use mathlib.Core.Bool.{true, false}
+use mathlib.Core.List.{[], _∷_}
 use native.Mathlib.Nat.{not-suc-le-zero}
 use native.Mathlib.Omega.{arith}
 use lib.ListN.{length}
 use Rattle.job_checks.specs.declared.BufferCounts.{BufferCounts}
 use Rattle.job_checks.specs.declared.Checked.{Checked}
+use Rattle.job_checks.specs.Any.{firstOf}
 use Rattle.job_checks.specs.Job.{Job}
-use Rattle.job_checks.specs.Refusals.{refusalNumber, refusalOf}
+use Rattle.job_checks.specs.Refusals.{refusalNumber, refusals, refusalOf}
 use Rattle.job_checks.specs.Sound.{Sound}
-use Rattle.job_checks.proofs.Sound.{sound}
+use Rattle.job_checks.proofs.Any.{first-holds, first-after, first-none, first-within, first-past}
+use Rattle.job_checks.proofs.Sound.{refusals-numbered, sound}
 use Rattle.topology.specs.Edges.{edges, sharedByThree}
 use Rattle.edge_table.specs.declared.Table.{Table}
 use Rattle.edge_table.specs.declared.Table.the-variants.{Edges as Table·Edges, ThirdFace as Table·ThirdFace}
@@ -18,13 +21,8 @@ use Rattle.edge_table.proofs.Reading.{mesh-of}
 use Rattle.mesh.specs.declared.OtherCounts.{OtherCounts}
 use Rattle.mesh.specs.declared.Meshed.the-variants.{Edges, Refused, ThirdFace}
 use Rattle.mesh.specs.Topology.{MeshBuffers, Fits, topologyOf, Made}
-use Rattle.mesh.specs.Answer.{countsIn, orElse, meshRefusal, afterwards, Answered}
+use Rattle.mesh.specs.Answer.{countsIn, meshRefusals, meshRefusal, afterwards, Answered}
 use Rattle.mesh.proofs.Making.{is-third, has-edges}
-
-or-first : (k x : ℕ) → 0 < k → orElse k x ≡ k
-unfolding orElse
-or-first zero x l = absurd (not-suc-le-zero l)
-or-first (suc k) x l = refl
 
 stays : (k : ℕ) (m t : MeshBuffers) → 0 < k → m ≡ afterwards k m t
 unfolding afterwards
@@ -38,43 +36,48 @@ changes k m t e = rw e
 module _ (j : Job) (others : OtherCounts) (before : MeshBuffers) where
   -- refused by the checks, with nothing changed
   pub answer-refused : (c : Checked) (n : ℕ) → refusalNumber c ≡ refusalOf j (countsIn before others) → n ≡ refusalNumber c → 0 < n → Answered j others (Refused c) before before
-  unfolding meshRefusal
+  unfolding meshRefusals
   answer-refused c n e f l =
       let k : 0 < refusalOf j (countsIn before others) = omega (arith, ap (λ (x : ℕ). x) (f ∙ e)) in
+      let same = first-within ((10, sharedByThree (j .triangles)) ∷ []) (refusals j (countsIn before others)) k in
       record {
-        number = e ∙ sym (or-first (refusalOf j (countsIn before others)) _ k);
-        edge-count = λ z. absurd (omega (arith, sym (or-first (refusalOf j (countsIn before others)) _ k) ∙ z));
+        number = e ∙ sym same;
+        edge-count = λ z. absurd (omega (arith, sym same ∙ z));
         buffers = stays (refusalOf j (countsIn before others)) before _ k;
       }
 
   -- passed
   module _ (passed : refusalOf j (countsIn before others) ≡ 0) where
     -- the refusal is that of the table
-    then : (b : Bool) → sharedByThree (j .triangles) ≡ b → meshRefusal j (countsIn before others) ≡ orElse 0 (cond b 10 0)
-    unfolding meshRefusal
-    then b e = rw (passed, e)
+    then : meshRefusal j (countsIn before others) ≡ firstOf ((10, sharedByThree (j .triangles)) ∷ [])
+    unfolding meshRefusals
+    then = first-past ((10, sharedByThree (j .triangles)) ∷ []) (refusals j (countsIn before others)) (refusals-numbered j (countsIn before others)) passed
+
+    then-none : sharedByThree (j .triangles) ≡ false → meshRefusal j (countsIn before others) ≡ 0
+    then-none e = then ∙ first-after _ _ _ _ e first-none
+
+    then-third : sharedByThree (j .triangles) ≡ true → meshRefusal j (countsIn before others) ≡ 10
+    then-third e = then ∙ first-holds _ _ _ e
 
     module _ (after : MeshBuffers) (t : Table) (made : Made (j .vertices) (j .triangles) t before after) where
       same : after ≡ afterwards (refusalOf j (countsIn before others)) before (topologyOf (j .vertices) (j .triangles) before)
       same = made .buffers ∙ changes (refusalOf j (countsIn before others)) before (topologyOf (j .vertices) (j .triangles) before) passed
 
       pub answer-edges : (n : ℕ) → t ≡ Table·Edges n → Answered j others (Edges n) before after
-      unfolding orElse
       answer-edges n e =
           let k = has-edges (j .triangles) t (made .answer) n e in
           record {
-            number = sym (then false (k .0));
+            number = sym (then-none (k .0));
             edge-count = λ z. ap Edges (k .1);
             buffers = same;
           }
 
       pub answer-third : t ≡ Table·ThirdFace → Answered j others ThirdFace before after
-      unfolding orElse
       answer-third e =
           let k = is-third (j .triangles) t (made .answer) e in
           record {
-            number = sym (then true k);
-            edge-count = λ z. absurd (omega (arith, sym (then true k) ∙ z));
+            number = sym (then-third k);
+            edge-count = λ z. absurd (omega (arith, sym (then-third k) ∙ z));
             buffers = same;
           }
 
@@ -83,7 +86,7 @@ module _ (j : Job) (others : OtherCounts) (before : MeshBuffers) where
     fits =
         let s : Sound j (countsIn before others) = sound j (countsIn before others) passed in
         record {
-          mesh = mesh-of j (countsIn before others) s;
+          mesh = mesh-of (j .triangles) (length (j .vertices) / 3) (s .triangles) (s .whole .few-vertices);
           vertices-fit = omega (arith, s .buffers .vertices-fit);
           edges-fit = omega (arith, s .buffers .edges-fit, s .whole .whole-triangles);
           edge-reals-fit = omega (arith, s .buffers .edges-fit, s .whole .whole-triangles);

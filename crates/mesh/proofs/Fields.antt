@@ -1,14 +1,16 @@
 -- The buffers of a mesh that was answered hold its topology: every field, read, is the definition's value. Assumes nothing.
-use Prim.Native.Nat.{ℕ, zero, suc, _+_, _*_, _/_, _%_, _<_, _≤_}
+use Prim.Native.Nat.{ℕ, _+_, _*_, _/_, _%_, _<_, _≤_}
 use mathlib.Core.Path.{_≡_, refl, sym, ap, subst, _∙_}
-use mathlib.Core.Bool.{Bool, true, false, cond}
-use mathlib.Core.List.{List}
+use mathlib.Core.Bool.{false}
+use mathlib.Core.List.{List, [], _∷_}
 use native.Mathlib.Omega.{arith}
 use lib.ListN.{length, getD, replicate, length-replicate, List·getD-append}
 use lib.Ieee.{Float}
 use Rattle.float64.specs.Scalar.{zero as positiveZero}
 use Rattle.job_checks.specs.Job.{Job}
-use Rattle.job_checks.specs.Refusals.{refusalOf}
+use Rattle.job_checks.specs.Refusals.{refusals, refusalOf}
+use Rattle.job_checks.proofs.Any.{passed-here, both-passed}
+use Rattle.job_checks.proofs.Sound.{refusals-numbered}
 use Rattle.topology.specs.Edges.{edges, triEdge, sharedByThree, vertexFaces}
 use Rattle.topology.specs.Frames.{yhat}
 use Rattle.topology.specs.Rows.{rows}
@@ -25,7 +27,7 @@ use Rattle.mesh.specs.declared.OtherCounts.{OtherCounts}
 use Rattle.mesh.specs.declared.Meshed.{Meshed}
 use Rattle.mesh.specs.declared.Meshed.the-variants.{Edges}
 use Rattle.mesh.specs.Topology.{MeshBuffers, Fits, filled, topologyOf}
-use Rattle.mesh.specs.Answer.{numberOf, countsIn, orElse, meshRefusal, afterwards, Answered}
+use Rattle.mesh.specs.Answer.{numberOf, countsIn, meshRefusals, meshRefusal, afterwards, Answered}
 use Rattle.mesh.specs.Held.{Held}
 use Rattle.mesh.proofs.Answering.{fits}
 
@@ -100,13 +102,6 @@ module _ (v : List Float) (triangles : List ℕ) (m : MeshBuffers) where
           faces-round = faces-round-held v triangles (length (m .round));
         }
 
--- no refusal of either kind
-none-of-both : (k : ℕ) (b : Bool) → 0 ≡ orElse k (cond b 10 0) → (k ≡ 0) × (b ≡ false)
-unfolding orElse
-none-of-both zero true e = absurd (omega (arith, e))
-none-of-both zero false e = (refl, refl)
-none-of-both (suc k) b e = absurd (omega (arith, e))
-
 after-none : (v : List Float) (triangles : List ℕ) (m after : MeshBuffers) (k : ℕ) → k ≡ 0 → sharedByThree triangles ≡ false → after ≡ afterwards k m (topologyOf v triangles m) → after ≡ filled v triangles m
 unfolding afterwards topologyOf
 after-none v triangles m after k z s e = e ∙ rw (z, s) refl
@@ -120,8 +115,10 @@ module _ (j : Job) (others : OtherCounts) (r : Meshed) (before after : MeshBuffe
   unrefused = ap numberOf (sym e) ∙ answered .number
 
   both : (refusalOf j (countsIn before others) ≡ 0) × (sharedByThree (j .triangles) ≡ false)
-  unfolding meshRefusal
-  both = none-of-both (refusalOf j (countsIn before others)) (sharedByThree (j .triangles)) unrefused
+  unfolding meshRefusals
+  both =
+      let p = both-passed ((10, sharedByThree (j .triangles)) ∷ []) (refusals j (countsIn before others)) (refusals-numbered j (countsIn before others)) (sym unrefused) in
+      (p .0, passed-here 10 (sharedByThree (j .triangles)) [] (omega arith) (p .1))
 
   pub counted-edges : n ≡ length (edges (j .triangles))
   counted-edges = same-number e (answered .edge-count (sym unrefused))

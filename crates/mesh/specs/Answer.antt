@@ -1,12 +1,14 @@
 -- A job's mesh: document 01's refusals 1 to 10, or its topology. Definitions only.
 use Prim.Native.Nat.{ℕ, zero, suc, min}
 use mathlib.Core.Path.{_≡_}
-use mathlib.Core.Bool.{cond}
+use mathlib.Core.Bool.{Bool}
+use mathlib.Core.List.{List, [], _∷_, _++_}
 use lib.ListN.{length}
 use Rattle.buffers.specs.Slots.{slotsOf}
 use Rattle.job_checks.specs.declared.BufferCounts.{BufferCounts}
+use Rattle.job_checks.specs.Any.{firstOf}
 use Rattle.job_checks.specs.Job.{Job}
-use Rattle.job_checks.specs.Refusals.{refusalNumber, refusalOf}
+use Rattle.job_checks.specs.Refusals.{refusalNumber, refusals, refusalOf}
 use Rattle.topology.specs.Edges.{edges, sharedByThree}
 use Rattle.mesh.specs.declared.OtherCounts.{OtherCounts}
 use Rattle.mesh.specs.declared.Meshed.{Meshed}
@@ -37,14 +39,13 @@ abbrev pub countsIn : MeshBuffers → OtherCounts → BufferCounts
 countsIn m others =
     countsOf (length (m .vertex-words)) (length (m .edge-words)) (length (m .edge-reals)) (length (m .round)) (length (m .triangle-words)) (length (m .triangle-reals)) others
 
--- a refusal, or else another
-unfoldable pub orElse : ℕ → ℕ → ℕ
-orElse zero n = n
-orElse (suc k) n = suc k
+-- every refusal of a mesh by its number, in the order in which they are tried: 10, that an edge lies in more than two triangles, comes last
+unfoldable pub meshRefusals : Job → BufferCounts → List (ℕ × Bool)
+meshRefusals j b = refusals j b ++ ((10, sharedByThree (j .triangles)) ∷ [])
 
 -- the first of 1 to 10 that holds, or 0
-unfoldable pub meshRefusal : Job → BufferCounts → ℕ
-meshRefusal j b = orElse (refusalOf j b) (cond (sharedByThree (j .triangles)) 10 0)
+abbrev pub meshRefusal : Job → BufferCounts → ℕ
+meshRefusal j b = firstOf (meshRefusals j b)
 
 -- 1 to 9 change no buffer
 unfoldable pub afterwards : ℕ → MeshBuffers → MeshBuffers → MeshBuffers

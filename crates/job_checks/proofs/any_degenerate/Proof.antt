@@ -1,14 +1,11 @@
--- `job_checks::any_degenerate` meets its contract. The loop's invariant: none was found so far. That every triangle names vertices that are there is what the contract asks. Assumes nothing.
+-- `job_checks::any_degenerate` meets its contract. The loop's invariant: none was found so far. Assumes nothing.
 use mathlib.Core.Path.{_≡_, sym, _∙_}
 use mathlib.Core.Bool.{false}
-use Prim.Native.Nat.{_≤_, _-_}
+use Prim.Native.Nat.{_≤_, _-_, _/_}
 use lib.ListN.{length}
 use Rattle.job_checks.specs.Any.{anyBelow}
 use Rattle.job_checks.proofs.Any.{none-yet, none-more, found, none-at-all}
 use Rattle.job_checks.specs.Refusals.{degenerateAt}
-use Prim.Native.Nat.{_/_, _+_, _*_}
-use Rattle.job_checks.proofs.Any.{none-below}
-use Rattle.job_checks.proofs.Tests.{present}
 use borrow.Author.Needs.{needs}
 use Rattle.job_checks.proofs.any_degenerate.Statement.{statement}
 use Rattle.job_checks.proofs.any_degenerate.Tie as tie
@@ -56,7 +53,7 @@ shared-slice-read-c : tie.Need-shared-slice-read-c Inv-loop μ-loop
 shared-slice-read-c c = search needs
 
 degenerate-triangle-requires : tie.Need-degenerate-triangle-requires Inv-loop μ-loop
-degenerate-triangle-requires c κs = let t = c .before .before .before .before .loop .t in (present _ _ _ (none-below _ _ (c .before .before .before .before .before .before .before .pre) (3 * t) (search needs)), (present _ _ _ (none-below _ _ (c .before .before .before .before .before .before .before .pre) (3 * t + 1) (search needs)), present _ _ _ (none-below _ _ (c .before .before .before .before .before .before .before .pre) (3 * t + 2) (search needs))))
+degenerate-triangle-requires c κs = search needs
 
 returns : tie.Need-returns Inv-loop μ-loop
 returns c = sym (found _ _ _ (c .before .before .before .before .before .loop-test .taken) (sym (c .before .degenerate-triangle .ensures) ∙ c .if1 .taken))

@@ -1,15 +1,8 @@
--- `job_checks::check` meets its contract. Assumes nothing.
-use Prim.Native.Nat.{ℕ, _+_, _<_, _≤_}
-use mathlib.Core.Path.{_≡_, sym, _∙_}
-use mathlib.Core.Bool.{Bool, false}
-use mathlib.Core.List.{List, _∷_, _++_}
+-- `job_checks::check` meets its contract: each way out is the first of the tests that holds. Assumes nothing.
+use mathlib.Core.Path.{sym, _∙_}
 use native.Mathlib.Omega.{arith}
-use lib.ListN.{length}
-use native.Mathlib.Nat.{le-of-eq}
-use Rattle.job_checks.specs.Any.{firstOf}
-use Rattle.job_checks.specs.Refusals.{meshTests, refusalOf}
-use Rattle.job_checks.proofs.Any.{first-holds, first-after, first-within, first-past}
-use Rattle.job_checks.proofs.Sound.{well-formed}
+use Rattle.job_checks.specs.Refusals.{meshTests, pieceTests, refusals}
+use Rattle.job_checks.proofs.Any.{first-holds, first-after, first-none, group-holds, group-passed}
 use borrow.Author.Needs.{needs}
 use Rattle.job_checks.proofs.check.Statement.{statement}
 use Rattle.job_checks.proofs.check.Tie as tie
@@ -18,7 +11,7 @@ is-malformed-requires : tie.Need-is-malformed-requires
 is-malformed-requires c κs = search needs
 
 returns : tie.Need-returns
-unfolding refusalOf
+unfolding refusals meshTests pieceTests
 returns c = sym (first-holds _ _ _ (sym (c .before .is-malformed .ensures) ∙ c .if1 .taken))
 
 check-mesh-requires : tie.Need-check-mesh-requires
@@ -27,26 +20,77 @@ check-mesh-requires c κs = search needs
 refusal-number-requires : tie.Need-refusal-number-requires
 refusal-number-requires c κs = search needs
 
--- one test, then a row of tests, then another row, each counted on from the one before
-module _ {b : Bool} (bs cs : List Bool) {m r : ℕ} (e : b ≡ false) (f : m ≡ firstOf 2 bs) (g : r ≡ m) where
-  within : 0 < r → m ≡ firstOf 1 (b ∷ (bs ++ cs))
-  within l = sym (first-after _ _ _ _ e (first-within cs bs 2 (rw (← f, ← g) l) ∙ sym f))
-
-  past : (p : ℕ) → r ≤ 0 → p ≡ firstOf (2 + length bs) cs → p ≡ firstOf 1 (b ∷ (bs ++ cs))
-  past p l h = sym (first-after _ _ _ _ e (first-past cs bs 1 (sym f ∙ (sym g ∙ omega arith)) ∙ sym h))
-
 returns-2 : tie.Need-returns-2
-unfolding refusalOf
-returns-2 c = within _ _ (sym (c .before .before .before .before .is-malformed .ensures) ∙ c .before .before .before .if1 .left) (c .before .before .check-mesh .ensures) (c .before .refusal-number .ensures) (c .if2 .taken)
+unfolding refusals meshTests pieceTests
+returns-2 c =
+    sym
+    (first-after _ _ _ _ (sym (c .before .before .before .before .is-malformed .ensures) ∙ c .before .before .before .if1 .left)
+    (group-holds _ _ _ _ (c .before .before .check-mesh .ensures) (c .before .refusal-number .ensures) (c .if2 .taken)))
 
-check-pieces-requires : tie.Need-check-pieces-requires
-check-pieces-requires c κs =
-    let w = well-formed _ _ _ _ _ _ (sym (c .before .before .before .before .is-malformed .ensures) ∙ c .before .before .before .if1 .left) in
-    (w .few-triangles, le-of-eq (w .six-each))
+any-degenerate-requires : tie.Need-any-degenerate-requires
+any-degenerate-requires c κs = search needs
 
 returns-3 : tie.Need-returns-3
-unfolding refusalOf meshTests
-returns-3 c = past _ _ (sym (c .before .before .before .before .before .is-malformed .ensures) ∙ c .before .before .before .before .if1 .left) (c .before .before .before .check-mesh .ensures) (c .before .before .refusal-number .ensures) _ (c .before .if2 .left) (c .check-pieces .ensures)
+unfolding refusals meshTests pieceTests
+returns-3 c =
+    sym
+    (first-after _ _ _ _ (sym (c .before .before .before .before .before .before .is-malformed .ensures) ∙ c .before .before .before .before .before .if1 .left)
+    (group-passed _ _ _ _ (c .before .before .before .before .check-mesh .ensures) (c .before .before .before .refusal-number .ensures) (omega arith, (omega arith, (omega arith, tt))) _ (c .before .before .if2 .left)
+    (first-holds _ _ _ (sym (c .before .any-degenerate .ensures) ∙ c .if3 .taken))))
+
+check-pieces-requires : tie.Need-check-pieces-requires
+check-pieces-requires c κs = search needs
+
+refusal-number-requires-2 : tie.Need-refusal-number-requires-2
+refusal-number-requires-2 c κs = search needs
+
+returns-4 : tie.Need-returns-4
+unfolding refusals meshTests pieceTests
+returns-4 c =
+    sym
+    (first-after _ _ _ _ (sym (c .before .before .before .before .before .before .before .before .before .is-malformed .ensures) ∙ c .before .before .before .before .before .before .before .before .if1 .left)
+    (group-passed _ _ _ _ (c .before .before .before .before .before .before .before .check-mesh .ensures) (c .before .before .before .before .before .before .refusal-number .ensures) (omega arith, (omega arith, (omega arith, tt))) _ (c .before .before .before .before .before .if2 .left)
+    (first-after _ _ _ _ (sym (c .before .before .before .before .any-degenerate .ensures) ∙ c .before .before .before .if3 .left)
+    (group-holds _ _ _ _ (c .before .before .check-pieces .ensures) (c .before .refusal-number2 .ensures) (c .if4 .taken)))))
+
+limit-out-of-range-requires : tie.Need-limit-out-of-range-requires
+limit-out-of-range-requires c κs = search needs
+
+returns-5 : tie.Need-returns-5
+unfolding refusals meshTests pieceTests
+returns-5 c =
+    sym
+    (first-after _ _ _ _ (sym (c .before .before .before .before .before .before .before .before .before .before .before .is-malformed .ensures) ∙ c .before .before .before .before .before .before .before .before .before .before .if1 .left)
+    (group-passed _ _ _ _ (c .before .before .before .before .before .before .before .before .before .check-mesh .ensures) (c .before .before .before .before .before .before .before .before .refusal-number .ensures) (omega arith, (omega arith, (omega arith, tt))) _ (c .before .before .before .before .before .before .before .if2 .left)
+    (first-after _ _ _ _ (sym (c .before .before .before .before .before .before .any-degenerate .ensures) ∙ c .before .before .before .before .before .if3 .left)
+    (group-passed _ _ _ _ (c .before .before .before .before .check-pieces .ensures) (c .before .before .before .refusal-number2 .ensures) (omega arith, (omega arith, tt)) _ (c .before .before .if4 .left)
+    (first-holds _ _ _ (sym (c .before .limit-out-of-range .ensures) ∙ c .if5 .taken))))))
+
+short-buffer-requires : tie.Need-short-buffer-requires
+short-buffer-requires c κs = search needs
+
+returns-6 : tie.Need-returns-6
+unfolding refusals meshTests pieceTests
+returns-6 c =
+    sym
+    (first-after _ _ _ _ (sym (c .before .before .before .before .before .before .before .before .before .before .before .before .before .is-malformed .ensures) ∙ c .before .before .before .before .before .before .before .before .before .before .before .before .if1 .left)
+    (group-passed _ _ _ _ (c .before .before .before .before .before .before .before .before .before .before .before .check-mesh .ensures) (c .before .before .before .before .before .before .before .before .before .before .refusal-number .ensures) (omega arith, (omega arith, (omega arith, tt))) _ (c .before .before .before .before .before .before .before .before .before .if2 .left)
+    (first-after _ _ _ _ (sym (c .before .before .before .before .before .before .before .before .any-degenerate .ensures) ∙ c .before .before .before .before .before .before .before .if3 .left)
+    (group-passed _ _ _ _ (c .before .before .before .before .before .before .check-pieces .ensures) (c .before .before .before .before .before .refusal-number2 .ensures) (omega arith, (omega arith, tt)) _ (c .before .before .before .before .if4 .left)
+    (first-after _ _ _ _ (sym (c .before .before .before .limit-out-of-range .ensures) ∙ c .before .before .if5 .left)
+    (first-holds _ _ _ (sym (c .before .short-buffer .ensures) ∙ c .if6 .taken)))))))
+
+returns-7 : tie.Need-returns-7
+unfolding refusals meshTests pieceTests
+returns-7 c =
+    sym
+    (first-after _ _ _ _ (sym (c .before .before .before .before .before .before .before .before .before .before .before .before .before .is-malformed .ensures) ∙ c .before .before .before .before .before .before .before .before .before .before .before .before .if1 .left)
+    (group-passed _ _ _ _ (c .before .before .before .before .before .before .before .before .before .before .before .check-mesh .ensures) (c .before .before .before .before .before .before .before .before .before .before .refusal-number .ensures) (omega arith, (omega arith, (omega arith, tt))) _ (c .before .before .before .before .before .before .before .before .before .if2 .left)
+    (first-after _ _ _ _ (sym (c .before .before .before .before .before .before .before .before .any-degenerate .ensures) ∙ c .before .before .before .before .before .before .before .if3 .left)
+    (group-passed _ _ _ _ (c .before .before .before .before .before .before .check-pieces .ensures) (c .before .before .before .before .before .refusal-number2 .ensures) (omega arith, (omega arith, tt)) _ (c .before .before .before .before .if4 .left)
+    (first-after _ _ _ _ (sym (c .before .before .before .limit-out-of-range .ensures) ∙ c .before .before .if5 .left)
+    (first-after _ _ _ _ (sym (c .before .short-buffer .ensures) ∙ c .if6 .left)
+    first-none))))))
 
 pub check-spec : {M : Type 1} → statement M
 check-spec =
@@ -57,5 +101,13 @@ check-spec =
     check-mesh-requires
     refusal-number-requires
     returns-2
+    any-degenerate-requires
+    returns-3
     check-pieces-requires
-    returns-3)
+    refusal-number-requires-2
+    returns-4
+    limit-out-of-range-requires
+    returns-5
+    short-buffer-requires
+    returns-6
+    returns-7)

@@ -27,16 +27,9 @@ returns-3 : tie.Need-returns-3
 unfolding meshTests
 returns-3 c = sym (first-after _ _ _ _ (sym (c .before .before .before .before .before .any-missing .ensures) ∙ c .before .before .before .before .if1 .left) (first-after _ _ _ _ (sym (c .before .before .before .any-repeated .ensures) ∙ c .before .before .if2 .left) (first-holds _ _ _ (sym (c .before .any-out-of-range .ensures) ∙ c .if3 .taken))))
 
-any-degenerate-requires : tie.Need-any-degenerate-requires
-any-degenerate-requires c κs = sym (c .before .before .before .before .before .any-missing .ensures) ∙ c .before .before .before .before .if1 .left
-
 returns-4 : tie.Need-returns-4
 unfolding meshTests
-returns-4 c = sym (first-after _ _ _ _ (sym (c .before .before .before .before .before .before .before .any-missing .ensures) ∙ c .before .before .before .before .before .before .if1 .left) (first-after _ _ _ _ (sym (c .before .before .before .before .before .any-repeated .ensures) ∙ c .before .before .before .before .if2 .left) (first-after _ _ _ _ (sym (c .before .before .before .any-out-of-range .ensures) ∙ c .before .before .if3 .left) (first-holds _ _ _ (sym (c .before .any-degenerate .ensures) ∙ c .if4 .taken)))))
-
-returns-5 : tie.Need-returns-5
-unfolding meshTests
-returns-5 c = sym (first-after _ _ _ _ (sym (c .before .before .before .before .before .before .before .any-missing .ensures) ∙ c .before .before .before .before .before .before .if1 .left) (first-after _ _ _ _ (sym (c .before .before .before .before .before .any-repeated .ensures) ∙ c .before .before .before .before .if2 .left) (first-after _ _ _ _ (sym (c .before .before .before .any-out-of-range .ensures) ∙ c .before .before .if3 .left) (first-after _ _ _ _ (sym (c .before .any-degenerate .ensures) ∙ c .if4 .left) (first-none _)))))
+returns-4 c = sym (first-after _ _ _ _ (sym (c .before .before .before .before .before .any-missing .ensures) ∙ c .before .before .before .before .if1 .left) (first-after _ _ _ _ (sym (c .before .before .before .any-repeated .ensures) ∙ c .before .before .if2 .left) (first-after _ _ _ _ (sym (c .before .any-out-of-range .ensures) ∙ c .if3 .left) first-none)))
 
 pub check-mesh-spec : {M : Type 1} → statement M
 check-mesh-spec =
@@ -48,6 +41,4 @@ check-mesh-spec =
     returns-2
     any-out-of-range-requires
     returns-3
-    any-degenerate-requires
-    returns-4
-    returns-5)
+    returns-4)

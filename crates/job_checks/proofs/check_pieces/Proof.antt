@@ -20,23 +20,9 @@ returns-2 : tie.Need-returns-2
 unfolding pieceTests
 returns-2 c = sym (first-after _ _ _ _ (sym (c .before .before .before .any-missing .ensures) ∙ c .before .before .if1 .left) (first-holds _ _ _ (sym (c .before .any-piece-out-of-range .ensures) ∙ c .if2 .taken)))
 
-limit-out-of-range-requires : tie.Need-limit-out-of-range-requires
-limit-out-of-range-requires c κs = search needs
-
 returns-3 : tie.Need-returns-3
 unfolding pieceTests
-returns-3 c = sym (first-after _ _ _ _ (sym (c .before .before .before .before .before .any-missing .ensures) ∙ c .before .before .before .before .if1 .left) (first-after _ _ _ _ (sym (c .before .before .before .any-piece-out-of-range .ensures) ∙ c .before .before .if2 .left) (first-holds _ _ _ (sym (c .before .limit-out-of-range .ensures) ∙ c .if3 .taken))))
-
-short-buffer-requires : tie.Need-short-buffer-requires
-short-buffer-requires c κs = search needs
-
-returns-4 : tie.Need-returns-4
-unfolding pieceTests
-returns-4 c = sym (first-after _ _ _ _ (sym (c .before .before .before .before .before .before .before .any-missing .ensures) ∙ c .before .before .before .before .before .before .if1 .left) (first-after _ _ _ _ (sym (c .before .before .before .before .before .any-piece-out-of-range .ensures) ∙ c .before .before .before .before .if2 .left) (first-after _ _ _ _ (sym (c .before .before .before .limit-out-of-range .ensures) ∙ c .before .before .if3 .left) (first-holds _ _ _ (sym (c .before .short-buffer .ensures) ∙ c .if4 .taken)))))
-
-returns-5 : tie.Need-returns-5
-unfolding pieceTests
-returns-5 c = sym (first-after _ _ _ _ (sym (c .before .before .before .before .before .before .before .any-missing .ensures) ∙ c .before .before .before .before .before .before .if1 .left) (first-after _ _ _ _ (sym (c .before .before .before .before .before .any-piece-out-of-range .ensures) ∙ c .before .before .before .before .if2 .left) (first-after _ _ _ _ (sym (c .before .before .before .limit-out-of-range .ensures) ∙ c .before .before .if3 .left) (first-after _ _ _ _ (sym (c .before .short-buffer .ensures) ∙ c .if4 .left) (first-none _)))))
+returns-3 c = sym (first-after _ _ _ _ (sym (c .before .before .before .any-missing .ensures) ∙ c .before .before .if1 .left) (first-after _ _ _ _ (sym (c .before .any-piece-out-of-range .ensures) ∙ c .if2 .left) first-none))
 
 pub check-pieces-spec : {M : Type 1} → statement M
 check-pieces-spec =
@@ -46,8 +32,4 @@ check-pieces-spec =
     returns
     any-piece-out-of-range-requires
     returns-2
-    limit-out-of-range-requires
-    returns-3
-    short-buffer-requires
-    returns-4
-    returns-5)
+    returns-3)

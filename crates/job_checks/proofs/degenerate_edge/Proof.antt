@@ -3,7 +3,6 @@ use mathlib.Core.Path.{_≡_, sym, ap, _∙_}
 use Rattle.vec3.specs.Vec.{subOf}
 use Rattle.job_checks.specs.Edge.{vertexAt, lower, higher}
 use Rattle.job_checks.specs.Refusals.{degenerate, degenerateEdge}
-use Rattle.job_checks.proofs.Edge.{ends-below}
 use borrow.Author.Needs.{needs}
 use Rattle.job_checks.proofs.degenerate_edge.Statement.{statement}
 use Rattle.job_checks.proofs.degenerate_edge.Tie as tie
@@ -12,7 +11,7 @@ lower-of-requires : tie.Need-lower-of-requires
 lower-of-requires c κs = search needs
 
 vertex-requires : tie.Need-vertex-requires
-vertex-requires c κs = rw (c .lower-of .ensures) (ends-below _ _ _ (c .before .before .pre .0) (c .before .before .pre .1 .0) .0)
+vertex-requires c κs = search needs
 
 vertex-requires-2 : tie.Need-vertex-requires-2
 vertex-requires-2 c κs = search needs
@@ -24,7 +23,7 @@ returns : tie.Need-returns
 unfolding degenerateEdge
 returns c =
     let o : _ ≡ vertexAt (c .before .before .before .before .before .args .v .now) (lower (c .before .before .before .before .before .args .a) (c .before .before .before .before .before .args .b)) = c .before .before .vertex .ensures ∙ ap (vertexAt (c .before .before .before .before .before .args .v .now)) (c .before .before .before .lower-of .ensures) in
-    c .degenerate .ensures (vertexAt (c .before .before .before .before .before .args .v .now) (higher (c .before .before .before .before .before .args .a) (c .before .before .before .before .before .args .b))) (c .before .before .before .before .before .pre .1 .1 .1 .0 ∙ ap (subOf (vertexAt (c .before .before .before .before .before .args .v .now) (higher (c .before .before .before .before .before .args .a) (c .before .before .before .before .before .args .b)))) (sym o)) (c .before .before .before .before .before .pre .1 .1 .1 .1)
+    c .degenerate .ensures (vertexAt (c .before .before .before .before .before .args .v .now) (higher (c .before .before .before .before .before .args .a) (c .before .before .before .before .before .args .b))) (c .before .before .before .before .before .pre .0 ∙ ap (subOf (vertexAt (c .before .before .before .before .before .args .v .now) (higher (c .before .before .before .before .before .args .a) (c .before .before .before .before .before .args .b)))) (sym o)) (c .before .before .before .before .before .pre .1)
     ∙ (λ i. degenerate (o i) (vertexAt (c .before .before .before .before .before .args .v .now) (higher (c .before .before .before .before .before .args .a) (c .before .before .before .before .before .args .b))) (c .before .vertex2 .ensures i))
 
 pub degenerate-edge-spec : {M : Type 1} → statement M

@@ -1,5 +1,4 @@
 -- `job_checks::edge_vector` meets its contract. Assumes nothing.
-use Rattle.job_checks.proofs.Edge.{ends-below}
 use borrow.Author.Needs.{needs}
 use Rattle.job_checks.proofs.edge_vector.Statement.{statement}
 use Rattle.job_checks.proofs.edge_vector.Tie as tie
@@ -11,10 +10,10 @@ higher-of-requires : tie.Need-higher-of-requires
 higher-of-requires c κs = search needs
 
 vertex-requires : tie.Need-vertex-requires
-vertex-requires c κs = rw (c .higher-of .ensures) (ends-below _ _ _ (c .before .before .before .pre .0) (c .before .before .before .pre .1) .1)
+vertex-requires c κs = search needs
 
 vertex-requires-2 : tie.Need-vertex-requires-2
-vertex-requires-2 c κs = rw (c .before .before .lower-of .ensures) (ends-below _ _ _ (c .before .before .before .before .pre .0) (c .before .before .before .before .pre .1) .0)
+vertex-requires-2 c κs = search needs
 
 sub-requires : tie.Need-sub-requires
 sub-requires c κs = search needs

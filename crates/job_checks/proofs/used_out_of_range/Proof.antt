@@ -19,16 +19,16 @@ returns : tie.Need-returns
 unfolding usedOutOfRange
 returns c = rw (sym (c .before .before .out-of-range .ensures) ∙ c .before .if1 .taken, lt-ltb _ _ (c .if2 .taken))
 
-shared-slice-read-if3 : tie.Need-shared-slice-read-if3
-shared-slice-read-if3 c = search needs
+kind-at-requires : tie.Need-kind-at-requires
+kind-at-requires c κs = search needs
 
 returns-2 : tie.Need-returns-2
 unfolding usedOutOfRange
-returns-2 c = rw (sym (c .before .before .before .before .out-of-range .ensures) ∙ c .before .before .before .if1 .taken, le-ltb _ _ (c .before .before .if2 .left), ne-eqb _ _ (c .if3 .taken))
+returns-2 c = rw (sym (c .before .before .before .before .out-of-range .ensures) ∙ c .before .before .before .if1 .taken, le-ltb _ _ (c .before .before .if2 .left), ne-eqb _ _ (rw (c .before .kind-at .ensures) at (c .if3 .taken)))
 
 returns-3 : tie.Need-returns-3
 unfolding usedOutOfRange
-returns-3 c = rw (sym (c .before .before .before .before .out-of-range .ensures) ∙ c .before .before .before .if1 .taken, le-ltb _ _ (c .before .before .if2 .left), eq-eqb _ _ (c .if3 .left))
+returns-3 c = rw (sym (c .before .before .before .before .out-of-range .ensures) ∙ c .before .before .before .if1 .taken, le-ltb _ _ (c .before .before .if2 .left), eq-eqb _ _ (sym (c .before .kind-at .ensures) ∙ c .if3 .left))
 
 returns-4 : tie.Need-returns-4
 unfolding usedOutOfRange
@@ -42,7 +42,7 @@ used-out-of-range-spec =
     shared-slice-read-out-of-range
     out-of-range-requires
     returns
-    shared-slice-read-if3
+    kind-at-requires
     returns-2
     returns-3
     returns-4)
