@@ -4,3 +4,4 @@ pub mod Points
 pub mod Stretches
 pub mod Buffers
 pub mod Pairs
+pub mod Stored

@@ -3,7 +3,6 @@
 --     pairs-push     what the buffer holds after one more pair
 --     pairs-more, pairs-longer  what it holds after a stretch
 --     rest           what the loop over the points comes to from pts[k - 1] on; rest-start, rest-next, rest-end, rest-full
---     answers        what `better` answers, from what its loop does
 use Prim.Native.Nat.{ℕ, zero, suc, _+_, _*_, _-_, _≤_, _<_}
 use native.Mathlib.Omega.{arith}
 use native.Mathlib.Numerals.{add-one}
@@ -84,7 +83,7 @@ module _ (l : List Float) (x0 x1 : Float) where
       rw (joined-last (pairs m l) g x0 x1, joined-one g x0 x1 h, f, pairs-set m l (suc (m + m)) x1 (omega arith), getD-set-other l (suc (m + m)) (m + m) x1 nan (omega arith), getD-set-same l (suc (m + m)) x1 nan (omega arith))
 
 -- ---- the loop over the points
-joined-more : (gs : List Interval) (x0 x1 : Float) → length gs ≤ length (joined gs x0 x1)
+pub joined-more : (gs : List Interval) (x0 x1 : Float) → length gs ≤ length (joined gs x0 x1)
 unfolding joined
 joined-more [] x0 x1 = omega arith
 joined-more (g ∷ []) x0 x1 = branch (λ (l : List Interval). 1 ≤ length l) (eq (g .to) x0) (λ t. omega arith) (λ t. omega arith)
@@ -132,9 +131,3 @@ module _ (p q : Src) where
 
   pub rest-full : (pts : List Float) (n k : ℕ) (gs : List Interval) (size : ℕ) → size < length gs + length gs → size < length (rest pts n k gs) + length (rest pts n k gs)
   rest-full pts n k gs size h = omega (arith, stretches-more (getD pts (k - 1) nan) (drop k (take n pts)) gs)
-
--- the answer of the whole
-pub answers : (p q : Src) (lo hi : Float) (r : Listed) (size : ℕ) (out : List Float) → length (walkOf p q (ptsOf p q lo hi)) ≤ size → HoldsPairs r out (outOf p q (walkOf p q (ptsOf p q lo hi))) → Answers r size out (walkOf p q (ptsOf p q lo hi)) (betterOf p q lo hi)
-unfolding betterOf
-answers p q lo hi Full size out b h = inr h
-answers p q lo hi (Entries m) size out b h = (b, h)

@@ -1,9 +1,10 @@
 -- Lists in lent buffers. Definitions only.
 use Prim.Native.Nat.{ℕ, zero, suc, _+_, _≤_, _<_}
-use mathlib.Core.Bool.{Bool, false}
+use mathlib.Core.Bool.{Bool, false, cond, _&&_}
 use mathlib.Core.Path.{_≡_}
 use mathlib.Core.Logic.{_⊎_}
 use mathlib.Core.List.{List, [], _∷_, _++_}
+use lib.Dec.{leb}
 use lib.ListN.{length, take, drop, getD}
 use lib.Ieee.{Float, nan, eq}
 use Rattle.float64.specs.Notation.{if_then_else_}
@@ -14,6 +15,11 @@ use Rattle.better.specs.declared.Placed.the-variants as placed
 use Rattle.better.specs.declared.Placed.the-variants.{From}
 use Rattle.better.specs.declared.Listed.{Listed}
 use Rattle.better.specs.declared.Listed.the-variants.{Full, Entries}
+
+-- the number in document 01 of a list's answer; 0 is no refusal
+abbrev pub refusalNumber : Listed → ℕ
+refusalNumber Full = 14
+refusalNumber (Entries n) = 0
 
 -- the list stands in front of the buffer; or it has more entries than the buffer
 abbrev pub Holds : Listed → List Float → List Float → Type 0
@@ -47,12 +53,33 @@ abbrev pub HoldsPairs : Listed → List Float → List Interval → Type 0
 HoldsPairs Full buffer gs = length buffer < length gs + length gs
 HoldsPairs (Entries m) buffer gs = (m + m ≤ length buffer) × (pairs m buffer ≡ gs)
 
+-- what is behind the list is as it was; nothing is written for one that the buffer has no entry for
+abbrev pub Spares : Listed → List Float → List Float → Type 0
+Spares Full buffer after = after ≡ buffer
+Spares (Entries m) buffer after = drop (m + m) after ≡ drop (m + m) buffer
+
 -- the last of them ends at x
 abbrev pub endsAt : ℕ → List Float → Float → Bool
 endsAt zero buffer x = false
 endsAt (suc m) buffer x = eq (getD buffer (suc (m + m)) nan) x
 
--- the stretches stand in front of `out`; or the points or the stretches have more entries than their buffer (01's refusal 14)
+-- a buffer with intervals over its front, as many as it has entries for; what stands behind them is as it was
+unfoldable pub stored : List Interval → List Float → List Float
+stored [] buffer = buffer
+stored (g ∷ gs) [] = []
+stored (g ∷ gs) (a ∷ []) = a ∷ []
+stored (g ∷ gs) (a ∷ b ∷ buffer) = g .from ∷ g .to ∷ stored gs buffer
+
+-- there are entries for all of them
+abbrev pub hasEntries : List Interval → List Float → Bool
+hasEntries gs buffer = leb (length gs + length gs) (length buffer)
+
+-- `better` where `pts` has `size` entries: its points are listed first, then its stretches
+unfoldable pub bettering : ℕ → List Float → List Float → List Interval → Listed × List Float
+unfolding stored
+bettering size out pts gs = cond (leb (length pts) size) (cond (hasEntries gs out) (Entries (length gs)) Full, stored gs out) (Full, out)
+
+-- what follows: the stretches stand in front of `out`; or the points or the stretches have more entries than their buffer
 abbrev pub Answers : Listed → ℕ → List Float → List Float → List Interval → Type 0
 Answers Full size out pts gs = (size < length pts) ⊎ (length out < length gs + length gs)
 Answers (Entries m) size out pts gs = (length pts ≤ size) × ((m + m ≤ length out) × (pairs m out ≡ gs))

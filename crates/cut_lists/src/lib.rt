@@ -2,12 +2,13 @@
 
 use better::Listed;
 ghost use mathlib.Core.Path.{_≡_};
+ghost use mathlib.Core.Bool.{cond};
 ghost use mathlib.Core.List.{[], _∷_, _++_};
 ghost use Prim.Native.Nat.{suc, _+_, _≤_, _<_};
 ghost use lib.ListN.{length, getD};
 ghost use lib.Ieee.{nan};
 ghost use Rattle.better.specs.Stretches.{interval};
-ghost use Rattle.better.specs.Buffers.{pairs, HoldsPairs};
+ghost use Rattle.better.specs.Buffers.{pairs, HoldsPairs, hasEntries, refusalNumber};
 ghost use Rattle.trim_model.specs.Intervals.{pushIf, cuts, nextOf, next, pieces};
 
 // Where interval i of a buffer starts, and where it ends.
@@ -125,6 +126,7 @@ pub fn next(
 ) -> Listed
     requires { ⌜ (k + k ≤ length (now keep)) × (m + m ≤ length (now better)) ⌝ }
     ensures { λ r. ⌜ HoldsPairs r (now (out .exit)) (next lo hi (pairs m (now (better .entry))) (pairs k (now (keep .entry)))) ⌝ }
+    ensures { λ r. ⌜ refusalNumber r ≡ cond (hasEntries (next lo hi (pairs m (now (better .entry))) (pairs k (now (keep .entry)))) (now (out .entry))) 0 14 ⌝ }
 {
     let mut n = 0;
     let mut i = 0;
@@ -144,6 +146,7 @@ pub fn next(
 pub fn pieces(better: &[f64], m: usize, b0: f64, b1: f64, tiny: f64, out: &mut [f64]) -> Listed
     requires { ⌜ m + m ≤ length (now better) ⌝ }
     ensures { λ r. ⌜ HoldsPairs r (now (out .exit)) (pieces tiny b0 b1 (pairs m (now (better .entry)))) ⌝ }
+    ensures { λ r. ⌜ refusalNumber r ≡ cond (hasEntries (pieces tiny b0 b1 (pairs m (now (better .entry)))) (now (out .entry))) 0 14 ⌝ }
 {
     let mut n = 0;
     let mut at = b0;

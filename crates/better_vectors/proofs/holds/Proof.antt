@@ -3,6 +3,7 @@ use lib.ListN.{length}
 use Rattle.better_vectors.proofs.Laws.{answer-within}
 use native.Mathlib.Omega.{arith}
 use borrow.Author.Needs.{needs}
+use Rattle.better.proofs.Stored.{answers-of}
 use Rattle.better_vectors.proofs.holds.Statement.{statement}
 use Rattle.better_vectors.proofs.holds.Tie as tie
 
@@ -38,7 +39,7 @@ same-answer-requires c κs =
     let q = lo .before in
     let p = q .before in (
       omega arith,
-      answer-within (b .better .result) (p .src-from .result) (q .src-from2 .result) (lo .float-from .result) (hi .float-from2 .result) (length (p .before .before .before .before .args .pts .now)) (b .better .last .1 .1 .1 .1 .1 .0) (b .better .ensures),
+      answer-within (b .better .result) (p .src-from .result) (q .src-from2 .result) (lo .float-from .result) (hi .float-from2 .result) (length (p .before .before .before .before .args .pts .now)) (b .better .last .1 .1 .1 .1 .1 .0) (answers-of _ _ _ _ _ _ (b .better .ensures .0)),
     )
 
 same-length : tie.Need-same-length
@@ -56,7 +57,7 @@ returns c =
     let p = q .before in
     record {
       answer = b .better .result;
-      right = rw (hi .float-from2 .ensures, lo .float-from .ensures, q .src-from2 .ensures, p .src-from .ensures) at (b .better .ensures);
+      right = rw (hi .float-from2 .ensures, lo .float-from .ensures, q .src-from2 .ensures, p .src-from .ensures) at (answers-of _ _ _ _ _ _ (b .better .ensures .0));
       decided = c .same-answer .ensures;
     }
 

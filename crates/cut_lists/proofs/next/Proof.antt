@@ -5,9 +5,11 @@ use mathlib.Core.List.{List, _++_}
 use native.Mathlib.Omega.{arith}
 use borrow.Author.Needs.{needs}
 use lib.ListN.{length, drop}
+use Rattle.better.specs.declared.Listed.the-variants.{Full, Entries}
 use Rattle.better.specs.Stretches.{Interval}
 use Rattle.better.specs.Buffers.{pairs}
 use Rattle.trim_model.specs.Intervals.{next}
+use Rattle.better.proofs.Stored.{numbered}
 use Rattle.cut_lists.proofs.Pushes.{next-turn, next-full, next-done}
 use Rattle.cut_lists.proofs.next.Statement.{statement}
 use Rattle.cut_lists.proofs.next.Tie as tie
@@ -51,7 +53,8 @@ returns c =
     let gs = pairs (i .loop .n) (i .loop .out) in
     let better = pairs (a .m) (a .better .now) in
     let h = rw (c .enum-told .given .1, g .to-of .ensures, g .before .from-of .ensures) at (f .push-next .ensures) in
-    rw (i .loop .inv .3) (next-full (a .keep .now) (a .k) (i .loop .i) gs (a .lo) (a .hi) better (length (f .push-next .last .1 .1 .1 .1 .1 .1 .0)) (w .loop-test .taken) h)
+    numbered Full (a .out .now) (f .push-next .last .1 .1 .1 .1 .1 .1 .0) (next (a .lo) (a .hi) better (pairs (a .k) (a .keep .now))) (f .push-next .kept .1 .1 .1 .1 .1 .1 .0 ∙ i .loop .inv .2)
+    (rw (i .loop .inv .3) (next-full (a .keep .now) (a .k) (i .loop .i) gs (a .lo) (a .hi) better (length (f .push-next .last .1 .1 .1 .1 .1 .1 .0)) (w .loop-test .taken) h))
 
 add-i : tie.Need-add-i Inv-loop μ-loop
 add-i c = search needs
@@ -86,6 +89,7 @@ returns-2 c =
     let i = c .before in
     let a = i .before .before .before .before .args in
     let better = pairs (a .m) (a .better .now) in
+    numbered (Entries (i .loop .n)) (a .out .now) (i .loop .out) (next (a .lo) (a .hi) better (pairs (a .k) (a .keep .now))) (i .loop .inv .2)
     (i .loop .inv .1, sym (i .loop .inv .3 ∙ next-done (a .keep .now) (a .k) (i .loop .i) (pairs (i .loop .n) (i .loop .out)) (a .lo) (a .hi) better (c .loop-test .left)))
 
 pub next-spec : {M : Type 1} → statement M

@@ -5,9 +5,11 @@ use mathlib.Core.List.{_++_}
 use native.Mathlib.Omega.{arith}
 use borrow.Author.Needs.{needs}
 use lib.ListN.{length, drop}
+use Rattle.better.specs.declared.Listed.the-variants.{Full}
 use Rattle.better.specs.Buffers.{pairs}
 use Rattle.trim_model.specs.Intervals.{pieces}
 use Rattle.float64.specs.Scalar.{maxOf}
+use Rattle.better.proofs.Stored.{numbered}
 use Rattle.cut_lists.proofs.Pushes.{pieces-turn, pieces-full, pieces-done}
 use Rattle.cut_lists.proofs.pieces.Statement.{statement}
 use Rattle.cut_lists.proofs.pieces.Tie as tie
@@ -47,7 +49,8 @@ returns c =
     let a = i .before .before .before .args in
     let gs = pairs (i .loop .n) (i .loop .out) in
     let h = rw (c .enum-told .given .1, g .from-of .ensures) at (f .push-if .ensures) in
-    rw (i .loop .inv .3) (pieces-full (a .better .now) (a .m) (i .loop .i) gs (a .tiny) (i .loop .at) (a .b1) (length (f .push-if .last .1 .0)) (w .loop-test .taken) h)
+    numbered Full (a .out .now) (f .push-if .last .1 .0) (pieces (a .tiny) (a .b0) (a .b1) (pairs (a .m) (a .better .now))) (f .push-if .kept .1 .0 ∙ i .loop .inv .2)
+    (rw (i .loop .inv .3) (pieces-full (a .better .now) (a .m) (i .loop .i) gs (a .tiny) (i .loop .at) (a .b1) (length (f .push-if .last .1 .0)) (w .loop-test .taken) h))
 
 to-of-requires : tie.Need-to-of-requires Inv-loop μ-loop
 to-of-requires c κs = search needs
@@ -96,7 +99,8 @@ returns-2 c =
     let i = d .before in
     let a = i .before .before .before .args in
     let gs = pairs (i .loop .n) (i .loop .out) in
-    rw (i .loop .inv .3, pieces-done (a .better .now) (a .m) (i .loop .i) gs (a .tiny) (i .loop .at) (a .b1) (d .loop-test .left)) (f .push-if2 .ensures)
+    numbered (f .push-if2 .result) (a .out .now) (f .push-if2 .last .1 .0) (pieces (a .tiny) (a .b0) (a .b1) (pairs (a .m) (a .better .now))) (f .push-if2 .kept .1 .0 ∙ i .loop .inv .2)
+    (rw (i .loop .inv .3, pieces-done (a .better .now) (a .m) (i .loop .i) gs (a .tiny) (i .loop .at) (a .b1) (d .loop-test .left)) (f .push-if2 .ensures))
 
 pub pieces-spec : {M : Type 1} → statement M
 pieces-spec =

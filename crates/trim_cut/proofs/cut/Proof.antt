@@ -4,6 +4,7 @@ use lib.ListN.{length}
 use Rattle.better.specs.Buffers.{pairs}
 use Rattle.trim_cut.proofs.Cutting.{full-better, full-next, full-pieces, none-lost, some-lost}
 use borrow.Author.Needs.{needs}
+use Rattle.better.proofs.Stored.{answers-of}
 use Rattle.trim_cut.proofs.cut.Statement.{statement}
 use Rattle.trim_cut.proofs.cut.Tie as tie
 
@@ -25,12 +26,12 @@ same-length-2 c = search needs
 returns : tie.Need-returns
 returns c =
     let a = c .before .before .before .before .before .before .before .before .before .before .before .before .before .args in
-    full-better (a .p) (a .q) (a .lo) (a .hi) (a .b0) (a .b1) (a .tiny) (length (a .pts .now)) (pairs (a .k) (a .keep .now)) (c .before .before .before .before .before .before .better .last .1 .1 .1 .1 .1 .0) (omega (arith, c .before .before .before .before .before .before .better .kept .1 .1 .1 .1 .1 .0, c .before .before .before .before .before .before .before .before .before .before .before .before .before .pre .0 .outs)) (rw (c .enum-told .given .1) at (c .before .before .before .before .before .before .better .ensures))
+    full-better (a .p) (a .q) (a .lo) (a .hi) (a .b0) (a .b1) (a .tiny) (length (a .pts .now)) (pairs (a .k) (a .keep .now)) (c .before .before .before .before .before .before .better .last .1 .1 .1 .1 .1 .0) (omega (arith, c .before .before .before .before .before .before .better .kept .1 .1 .1 .1 .1 .0, c .before .before .before .before .before .before .before .before .before .before .before .before .before .pre .0 .outs)) (rw (c .enum-told .given .1) at (answers-of _ _ _ _ _ _ (c .before .before .before .before .before .before .better .ensures .0)))
 
 next-requires : tie.Need-next-requires
 next-requires c κs =
     let a = c .before .before .before .before .before .before .before .before .before .before .before .before .before .before .before .before .before .args in
-    let h = (rw (c .before .before .before .before .better2 .given .1) at (c .before .before .before .before .before .before .before .before .before .before .better .ensures)) in
+    let h = (rw (c .before .before .before .before .better2 .given .1) at (answers-of _ _ _ _ _ _ (c .before .before .before .before .before .before .before .before .before .before .better .ensures .0))) in
     (omega (arith, c .before .before .before .before .before .before .before .before .before .before .before .before .before .before .before .before .before .pre .0 .keeps, c .before .before .before .before .before .before .before .before .before .before .before .before .before .before .before .before .before .pre .1), h .1 .0)
 
 enum-known-left : tie.Need-enum-known-left
@@ -53,12 +54,18 @@ same-length-6 c = search needs
 
 returns-2 : tie.Need-returns-2
 returns-2 c =
-    let a = c .before .before .before .before .before .before .before .before .before .before .before .before .before .before .before .before .before .before .before .before .before .before .args in
-    full-next (a .p) (a .q) (a .lo) (a .hi) (a .b0) (a .b1) (a .tiny) (length (a .pts .now)) (pairs (a .k) (a .keep .now)) (c .before .before .before .before .before .before .before .before .before .before .before .before .before .before .before .better .last .1 .1 .1 .1 .1 .0) (c .before .before .before .before .before .before .before .before .before .better2 .given .0 .0) (rw (c .before .before .before .before .before .before .before .before .before .better2 .given .1) at (c .before .before .before .before .before .before .before .before .before .before .before .before .before .before .before .better .ensures)) (c .before .before .before .before .next .last .1 .1 .1 .1 .1 .1 .0) (omega (arith, c .before .before .before .before .next .kept .1 .1 .1 .1 .1 .1 .0, c .before .before .before .before .before .before .before .before .before .before .before .before .before .before .before .before .before .before .before .before .before .before .pre .0 .nexts)) (rw (c .enum-told2 .given .1) at (c .before .before .before .before .next .ensures))
+    let followed = c .before .before .before .before in
+    let stretched = followed .before .before .before .before .before in
+    let compared = stretched .before .before .before .before .before .before in
+    let start = compared .before .before .before .before .before .before .before in
+    let a = start .args in
+    full-next (a .p) (a .q) (a .lo) (a .hi) (a .b0) (a .b1) (a .tiny) (length (a .pts .now)) (pairs (a .k) (a .keep .now)) (compared .better .last .1 .1 .1 .1 .1 .0) (stretched .better2 .given .0 .0)
+    (rw (stretched .better2 .given .1) at (answers-of _ _ _ _ _ _ (compared .better .ensures .0))) (followed .next .last .1 .1 .1 .1 .1 .1 .0) (omega (arith, followed .next .kept .1 .1 .1 .1 .1 .1 .0, start .pre .0 .nexts))
+    (rw (c .enum-told2 .given .1) at (followed .next .ensures .0))
 
 copy-requires : tie.Need-copy-requires
 copy-requires c κs =
-    let h = (rw (c .before .before .before .left .given .1) at (c .before .before .before .before .before .before .before .next .ensures)) in
+    let h = (rw (c .before .before .before .left .given .1) at (c .before .before .before .before .before .before .before .next .ensures .0)) in
     let g = h .0 in
     (g, omega (arith, g, c .before .before .before .before .before .before .before .next .kept .1 .1 .1 .1 .1 .1 .0, c .before .before .before .before .before .before .before .before .before .before .before .before .before .before .before .before .before .before .before .before .before .before .before .before .before .pre .0 .nexts, c .before .before .before .before .before .before .before .before .before .before .before .before .before .before .before .before .before .before .before .before .before .before .before .before .before .pre .0 .keeps))
 
@@ -76,12 +83,20 @@ same-length-10 c = search needs
 
 returns-3 : tie.Need-returns-3
 returns-3 c =
-    let a = c .before .before .before .before .before .before .before .before .before .before .before .before .before .before .before .before .before .before .before .before .before .before .before .before .before .before .before .before .before .args in
-    none-lost (a .p) (a .q) (a .lo) (a .hi) (a .b0) (a .b1) (a .tiny) (length (a .pts .now)) (pairs (a .k) (a .keep .now)) (c .before .before .before .before .before .before .before .before .before .before .before .before .before .before .before .before .before .before .before .before .before .before .better .last .1 .1 .1 .1 .1 .0) (c .before .before .before .before .before .before .before .before .before .before .before .before .before .before .before .before .better2 .given .0 .0) (rw (c .before .before .before .before .before .before .before .before .before .before .before .before .before .before .before .before .better2 .given .1) at (c .before .before .before .before .before .before .before .before .before .before .before .before .before .before .before .before .before .before .before .before .before .before .better .ensures)) (omega (arith, c .before .before .before .before .before .before .before .before .before .before .before .before .before .before .before .before .before .before .before .before .before .before .better .kept .1 .1 .1 .1 .1 .0, c .before .before .before .before .before .before .before .before .before .before .before .before .before .before .before .before .before .before .before .before .before .before .before .before .before .before .before .before .before .pre .0 .outs)) (c .before .before .before .before .before .before .before .before .before .before .before .next .last .1 .1 .1 .1 .1 .1 .0) (c .before .before .before .copy .last .1 .1 .0) (omega (arith, c .before .before .before .before .before .before .before .before .before .before .before .next .kept .1 .1 .1 .1 .1 .1 .0, c .before .before .before .before .before .before .before .before .before .before .before .before .before .before .before .before .before .before .before .before .before .before .before .before .before .before .before .before .before .pre .0 .nexts)) (c .before .before .before .before .before .before .before .left .given .0 .0) (rw (c .before .before .before .before .before .before .before .left .given .1) at (c .before .before .before .before .before .before .before .before .before .before .before .next .ensures)) (c .before .before .before .copy .ensures) (c .if1 .taken) (c .before .before .before .before .before .before .before .before .before .before .before .next .last .1 .1 .1 .1 .1 .1 .0)
+    let copied = c .before .before .before in
+    let entries = copied .before .before .before .before in
+    let followed = entries .before .before .before .before in
+    let stretched = followed .before .before .before .before .before in
+    let compared = stretched .before .before .before .before .before .before in
+    let start = compared .before .before .before .before .before .before .before in
+    let a = start .args in
+    none-lost (a .p) (a .q) (a .lo) (a .hi) (a .b0) (a .b1) (a .tiny) (length (a .pts .now)) (pairs (a .k) (a .keep .now)) (compared .better .last .1 .1 .1 .1 .1 .0) (stretched .better2 .given .0 .0)
+    (rw (stretched .better2 .given .1) at (answers-of _ _ _ _ _ _ (compared .better .ensures .0))) (omega (arith, compared .better .kept .1 .1 .1 .1 .1 .0, start .pre .0 .outs)) (followed .next .last .1 .1 .1 .1 .1 .1 .0) (copied .copy .last .1 .1 .0)
+    (omega (arith, followed .next .kept .1 .1 .1 .1 .1 .1 .0, start .pre .0 .nexts)) (entries .left .given .0 .0) (rw (entries .left .given .1) at (followed .next .ensures .0)) (copied .copy .ensures) (c .if1 .taken) (followed .next .last .1 .1 .1 .1 .1 .1 .0)
 
 pieces-requires : tie.Need-pieces-requires
 pieces-requires c κs =
-    let h = (rw (c .before .before .before .before .before .before .before .before .before .before .before .before .before .before .before .before .before .before .better2 .given .1) at (c .before .before .before .before .before .before .before .before .before .before .before .before .before .before .before .before .before .before .before .before .before .before .before .before .better .ensures)) in
+    let h = (rw (c .before .before .before .before .before .before .before .before .before .before .before .before .before .before .before .before .before .before .better2 .given .1) at (answers-of _ _ _ _ _ _ (c .before .before .before .before .before .before .before .before .before .before .before .before .before .before .before .before .before .before .before .before .before .before .before .before .better .ensures .0))) in
     h .1 .0
 
 enum-known-rest : tie.Need-enum-known-rest
@@ -104,8 +119,16 @@ same-length-14 c = search needs
 
 returns-4 : tie.Need-returns-4
 returns-4 c =
-    let a = c .before .before .before .before .before .before .before .before .before .before .before .before .before .before .before .before .before .before .before .before .before .before .before .before .before .before .before .before .before .before .before .before .before .before .before .before .args in
-    full-pieces (a .p) (a .q) (a .lo) (a .hi) (a .b0) (a .b1) (a .tiny) (length (a .pts .now)) (pairs (a .k) (a .keep .now)) (c .before .before .before .before .before .before .before .before .before .before .before .before .before .before .before .before .before .before .before .before .before .before .before .before .before .before .before .before .before .better .last .1 .1 .1 .1 .1 .0) (c .before .before .before .before .before .before .before .before .before .before .before .before .before .before .before .before .before .before .before .before .before .before .before .better2 .given .0 .0) (rw (c .before .before .before .before .before .before .before .before .before .before .before .before .before .before .before .before .before .before .before .before .before .before .before .better2 .given .1) at (c .before .before .before .before .before .before .before .before .before .before .before .before .before .before .before .before .before .before .before .before .before .before .before .before .before .before .before .before .before .better .ensures)) (c .before .before .before .before .pieces .last .1 .1 .1 .1 .1 .0) (omega (arith, c .before .before .before .before .pieces .kept .1 .1 .1 .1 .1 .0, c .before .before .before .before .before .before .before .before .before .before .before .before .before .before .before .before .before .before .next .kept .1 .1 .1 .1 .1 .1 .0, c .before .before .before .before .before .before .before .before .before .before .before .before .before .before .before .before .before .before .before .before .before .before .before .before .before .before .before .before .before .before .before .before .before .before .before .before .pre .0 .nexts)) (omega (arith, c .before .before .before .before .before .before .before .if1 .left)) (rw (c .enum-told3 .given .1) at (c .before .before .before .before .pieces .ensures))
+    let cut-off = c .before .before .before .before in
+    let tested = cut-off .before .before .before in
+    let followed = tested .before .before .before .before .before .before .before .before .before .before .before in
+    let stretched = followed .before .before .before .before .before in
+    let compared = stretched .before .before .before .before .before .before in
+    let start = compared .before .before .before .before .before .before .before in
+    let a = start .args in
+    full-pieces (a .p) (a .q) (a .lo) (a .hi) (a .b0) (a .b1) (a .tiny) (length (a .pts .now)) (pairs (a .k) (a .keep .now)) (compared .better .last .1 .1 .1 .1 .1 .0) (stretched .better2 .given .0 .0)
+    (rw (stretched .better2 .given .1) at (answers-of _ _ _ _ _ _ (compared .better .ensures .0))) (cut-off .pieces .last .1 .1 .1 .1 .1 .0)
+    (omega (arith, cut-off .pieces .kept .1 .1 .1 .1 .1 .0, followed .next .kept .1 .1 .1 .1 .1 .1 .0, start .pre .0 .nexts)) (omega (arith, tested .if1 .left)) (rw (c .enum-told3 .given .1) at (cut-off .pieces .ensures .0))
 
 same-length-15 : tie.Need-same-length-15
 same-length-15 c = search needs
@@ -121,8 +144,19 @@ same-length-18 c = search needs
 
 returns-5 : tie.Need-returns-5
 returns-5 c =
-    let a = c .before .before .before .before .before .before .before .before .before .before .before .before .before .before .before .before .before .before .before .before .before .before .before .before .before .before .before .before .before .before .before .before .before .before .before .before .before .args in
-    some-lost (a .p) (a .q) (a .lo) (a .hi) (a .b0) (a .b1) (a .tiny) (length (a .pts .now)) (pairs (a .k) (a .keep .now)) (c .before .before .before .before .before .before .before .before .before .before .before .before .before .before .before .before .before .before .before .before .before .before .before .before .before .before .before .before .before .before .better .last .1 .1 .1 .1 .1 .0) (c .before .before .before .before .before .before .before .before .before .before .before .before .before .before .before .before .before .before .before .before .before .before .before .before .better2 .given .0 .0) (rw (c .before .before .before .before .before .before .before .before .before .before .before .before .before .before .before .before .before .before .before .before .before .before .before .before .better2 .given .1) at (c .before .before .before .before .before .before .before .before .before .before .before .before .before .before .before .before .before .before .before .before .before .before .before .before .before .before .before .before .before .before .better .ensures)) (omega (arith, c .before .before .before .before .before .before .before .before .before .before .before .before .before .before .before .before .before .before .before .before .before .before .before .before .before .before .before .before .before .before .better .kept .1 .1 .1 .1 .1 .0, c .before .before .before .before .before .before .before .before .before .before .before .before .before .before .before .before .before .before .before .before .before .before .before .before .before .before .before .before .before .before .before .before .before .before .before .before .before .pre .0 .outs)) (c .before .before .before .before .before .before .before .before .before .before .before .before .before .before .before .before .before .before .before .next .last .1 .1 .1 .1 .1 .1 .0) (c .before .before .before .before .before .before .before .before .before .before .before .copy .last .1 .1 .0) (omega (arith, c .before .before .before .before .before .before .before .before .before .before .before .before .before .before .before .before .before .before .before .next .kept .1 .1 .1 .1 .1 .1 .0, c .before .before .before .before .before .before .before .before .before .before .before .before .before .before .before .before .before .before .before .before .before .before .before .before .before .before .before .before .before .before .before .before .before .before .before .before .before .pre .0 .nexts)) (c .before .before .before .before .before .before .before .before .before .before .before .before .before .before .before .left .given .0 .0) (rw (c .before .before .before .before .before .before .before .before .before .before .before .before .before .before .before .left .given .1) at (c .before .before .before .before .before .before .before .before .before .before .before .before .before .before .before .before .before .before .before .next .ensures)) (c .before .before .before .before .before .before .before .before .before .before .before .copy .ensures) (c .before .before .before .before .before .pieces .last .1 .1 .1 .1 .1 .0) (omega (arith, c .before .before .before .before .before .pieces .kept .1 .1 .1 .1 .1 .0, c .before .before .before .before .before .before .before .before .before .before .before .before .before .before .before .before .before .before .before .next .kept .1 .1 .1 .1 .1 .1 .0, c .before .before .before .before .before .before .before .before .before .before .before .before .before .before .before .before .before .before .before .before .before .before .before .before .before .before .before .before .before .before .before .before .before .before .before .before .before .pre .0 .nexts)) (c .before .rest .given .0 .0) (rw (c .before .rest .given .1) at (c .before .before .before .before .before .pieces .ensures))
+    let remaining = c .before in
+    let cut-off = remaining .before .before .before .before in
+    let copied = cut-off .before .before .before .before .before .before in
+    let entries = copied .before .before .before .before in
+    let followed = entries .before .before .before .before in
+    let stretched = followed .before .before .before .before .before in
+    let compared = stretched .before .before .before .before .before .before in
+    let start = compared .before .before .before .before .before .before .before in
+    let a = start .args in
+    some-lost (a .p) (a .q) (a .lo) (a .hi) (a .b0) (a .b1) (a .tiny) (length (a .pts .now)) (pairs (a .k) (a .keep .now)) (compared .better .last .1 .1 .1 .1 .1 .0) (stretched .better2 .given .0 .0)
+    (rw (stretched .better2 .given .1) at (answers-of _ _ _ _ _ _ (compared .better .ensures .0))) (omega (arith, compared .better .kept .1 .1 .1 .1 .1 .0, start .pre .0 .outs)) (followed .next .last .1 .1 .1 .1 .1 .1 .0) (copied .copy .last .1 .1 .0)
+    (omega (arith, followed .next .kept .1 .1 .1 .1 .1 .1 .0, start .pre .0 .nexts)) (entries .left .given .0 .0) (rw (entries .left .given .1) at (followed .next .ensures .0)) (copied .copy .ensures) (cut-off .pieces .last .1 .1 .1 .1 .1 .0)
+    (omega (arith, cut-off .pieces .kept .1 .1 .1 .1 .1 .0, followed .next .kept .1 .1 .1 .1 .1 .1 .0, start .pre .0 .nexts)) (remaining .rest .given .0 .0) (rw (remaining .rest .given .1) at (cut-off .pieces .ensures .0))
 
 pub cut-spec : {M : Type 1} → statement M
 cut-spec =
