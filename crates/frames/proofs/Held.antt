@@ -1,24 +1,21 @@
--- The definitions over buffers are the topology's where the buffers hold it, for the layers that read them. Assumes nothing.
-use Prim.Native.Nat.{ℕ, _+_, _*_, _/_, _%_, _<_, _≤_}
+-- What `lengths` and `normals` leave is the topology's where the words are. Assumes nothing.
+use Prim.Native.Nat.{ℕ, _+_, _*_, _<_, _≤_}
 use mathlib.Core.Path.{_≡_, refl, sym, ap, _∙_}
-use mathlib.Core.Bool.{cond}
 use mathlib.Core.List.{List}
 use native.Mathlib.Omega.{arith}
-use lib.Dec.{eqb}
 use lib.ListN.{length, getD}
 use lib.Ieee.{Float, nan}
 use Rattle.float64.specs.Scalar.{one}
 use Rattle.float64.specs.Notation.{_⊘_}
 use Rattle.vec3.specs.declared.Vec3.{Vec3}
-use Rattle.vec3.specs.Vec.{scaleOf, subOf, dotOf}
+use Rattle.vec3.specs.Vec.{scaleOf}
 use Rattle.job_checks.specs.Edge.{vertexAt, lenOf, xhatOf, perpendicularFrom, perpendicularOf, altitudeOf}
-use Rattle.topology.specs.Edges.{offEnds, corner, edges, triEdge, other, local, third}
-use Rattle.topology.specs.Frames.{origin, end, len, xhat, yhat, coordsX, coordsY}
+use Rattle.topology.specs.Edges.{corner, edges, triEdge}
+use Rattle.topology.specs.Frames.{origin, end, len, xhat, yhat}
 use Rattle.topology.proofs.Edges.{tri-edge-there, tri-edge-is}
-use Rattle.frames.specs.Stored.{vectorAt, lengthAt, unitAt, normalAt, unitOf, lengthRow, originAt, endAt, withLengths, perpendicularAt, normalOf, withNormals, xOf, otherAt, localAt, thirdAt, yOf}
-use Rattle.frames.specs.Held.{HoldsEdges, HoldsFaces, HoldsSides, HoldsLengths, HoldsNormals}
+use Rattle.frames.specs.Stored.{vectorAt, lengthAt, unitAt, normalAt, unitOf, lengthRow, originAt, endAt, withLengths, perpendicularAt, normalOf, withNormals}
+use Rattle.frames.specs.Held.{HoldsEdges, HoldsSides, HoldsLengths, HoldsNormals}
 use Rattle.frames.proofs.Rows.{rows-at, vectors-at}
-use Rattle.frames.proofs.Turns.{local-below}
 
 module _ (v : List Float) (edgeWords : List ℕ) (n : ℕ) (r : List Float) where
   lengths-at : (e a : ℕ) → e < n → 4 * n ≤ length r → a < 4 → getD (withLengths v edgeWords n r) (4 * e + a) nan ≡ getD (lengthRow v edgeWords e) a nan
@@ -40,11 +37,11 @@ normal-is o b t = refl
 
 module _ (v : List Float) (triangles edgeWords : List ℕ) (held : HoldsEdges triangles edgeWords) where
   module _ (e : ℕ) (l : e < length (edges triangles)) where
-    origin-held : originAt v edgeWords e ≡ origin v triangles e
+    pub origin-held : originAt v edgeWords e ≡ origin v triangles e
     unfolding origin
     origin-held = ap (vertexAt v) (held .low e l)
 
-    end-held : endAt v edgeWords e ≡ end v triangles e
+    pub end-held : endAt v edgeWords e ≡ end v triangles e
     unfolding end
     end-held = ap (vertexAt v) (held .high e l)
 
@@ -56,19 +53,6 @@ module _ (v : List Float) (triangles edgeWords : List ℕ) (held : HoldsEdges tr
         length-is = λ e l. length-stored v edgeWords (length (edges triangles)) r e l m ∙ (λ i. lenOf (origin-held e l i) (end-held e l i));
         unit-is = λ e l. unit-stored v edgeWords (length (edges triangles)) r e l m ∙ (λ i. xhatOf (origin-held e l i) (end-held e l i));
       }
-
-  module _ (edgeReals : List Float) (long : HoldsLengths v triangles edgeReals) where
-    pub x-held : (e : ℕ) → e < length (edges triangles) → (p : Vec3) → xOf v edgeWords edgeReals e p ≡ coordsX v triangles e p
-    unfolding xOf coordsX
-    x-held e l p = λ i. dotOf (subOf p (origin-held e l i)) (long .unit-is e l i)
-
-  pub third-held : (e f : ℕ) → e < length (edges triangles) → thirdAt triangles edgeWords e f ≡ third triangles e f
-  unfolding thirdAt third
-  third-held e f l =
-      let z : 3 * f + 0 ≡ 3 * f = omega arith in
-      λ i. cond (offEnds (getD triangles (z i) 0) (record { low = held .low e l i; high = held .high e l i })) (getD triangles (z i) 0)
-      (cond (offEnds (getD triangles (3 * f + 1) 0) (record { low = held .low e l i; high = held .high e l i })) (getD triangles (3 * f + 1) 0)
-      (getD triangles (3 * f + 2) 0))
 
 module _ (v : List Float) (triangles : List ℕ) (edgeReals : List Float) (long : HoldsLengths v triangles edgeReals) (triangleWords : List ℕ) (sides : HoldsSides triangles triangleWords) where
   normal-held : (h : ℕ) → h < length triangles → normalOf v triangles triangleWords edgeReals h ≡ yhat v triangles h
@@ -83,22 +67,6 @@ module _ (v : List Float) (triangles : List ℕ) (edgeReals : List Float) (long 
   pub normals-held : (r : List Float) → 3 * length triangles ≤ length r → HoldsNormals v triangles (withNormals v triangles triangleWords edgeReals (length triangles) r)
   normals-held r m h l = vectors-at (normalOf v triangles triangleWords edgeReals) (length triangles) r h l m ∙ normal-held h l
 
-pub other-held : (triangles edgeWords : List ℕ) → HoldsFaces triangles edgeWords → (e f : ℕ) → e < length (edges triangles) → otherAt edgeWords e f ≡ other triangles e f
-unfolding otherAt other
-other-held triangles edgeWords held e f l = λ i. cond (eqb (held .first e l i) f) (held .second e l i) (held .first e l i)
-
-module _ (triangles triangleWords : List ℕ) (sides : HoldsSides triangles triangleWords) (f e : ℕ) (inside : 3 * f + 2 < length triangles) where
-  side : (k : ℕ) → k < 3 → getD triangleWords (6 * f + k) 0 ≡ triEdge triangles (3 * f + k)
-  side k l =
-      let q : 6 * f + k ≡ 6 * ((3 * f + k) / 3) + (3 * f + k) % 3 = omega arith in
-      ap (λ (i : ℕ). getD triangleWords i 0) q ∙ sides (3 * f + k) (omega arith)
-
-  pub local-held : localAt triangleWords f e ≡ local triangles f e
-  unfolding localAt local
-  local-held =
-      let z : 3 * f + 0 ≡ 3 * f = omega arith in
-      λ i. cond (eqb ((side 0 (omega arith) ∙ ap (triEdge triangles) z) i) e) 0 (cond (eqb (side 1 (omega arith) i) e) 1 2)
-
 -- the normals of a triangle as nine reals, and as three for each side
 pub nine : (reals : List Float) (f k : ℕ) → vectorAt 9 reals f (3 * k) ≡ normalAt reals (3 * f + k)
 nine reals f k =
@@ -106,12 +74,3 @@ nine reals f k =
     let b : 9 * f + (3 * k + 1) ≡ 3 * (3 * f + k) + 1 = omega arith in
     let c : 9 * f + (3 * k + 2) ≡ 3 * (3 * f + k) + 2 = omega arith in
     λ i. record { x = getD reals (a i) nan; y = getD reals (b i) nan; z = getD reals (c i) nan }
-
-pub y-held : (v : List Float) (triangles edgeWords triangleWords : List ℕ) (reals : List Float) → HoldsEdges triangles edgeWords → HoldsSides triangles triangleWords → HoldsNormals v triangles reals
-    → (e f : ℕ) → e < length (edges triangles) → 3 * f + 2 < length triangles → (p : Vec3) → yOf v edgeWords triangleWords reals e f p ≡ coordsY v triangles e f p
-unfolding yOf coordsY
-y-held v triangles edgeWords triangleWords reals held sides normals e f l m p =
-    let q : localAt triangleWords f e ≡ local triangles f e = local-held triangles triangleWords sides f e m in
-    let small : localAt triangleWords f e ≤ 2 = local-below triangleWords f e (localAt triangleWords f e) refl in
-    λ i. dotOf (subOf p (origin-held v triangles edgeWords held e l i))
-    ((nine reals f (localAt triangleWords f e) ∙ (ap (λ (k : ℕ). normalAt reals (3 * f + k)) q ∙ normals (3 * f + local triangles f e) (omega arith))) i)

@@ -1,11 +1,8 @@
 -- The numbers as the code computes them, and the turns of the loops. Assumes nothing.
 use Prim.Native.Nat.{ℕ, _+_, _*_, _/_, _%_, _<_, _≤_}
 use mathlib.Core.Path.{_≡_, refl, sym, ap, _∙_}
-use mathlib.Core.Bool.{Bool, true, false, cond}
 use mathlib.Core.List.{List, [], _∷_}
 use native.Mathlib.Omega.{arith}
-use borrow.Author.Tests.{eq-eqb, ne-eqb}
-use lib.Dec.{eqb}
 use lib.ListN.{length, getD, replicate}
 use lib.Ieee.{Float, nan, neg}
 use Rattle.float64.specs.Scalar.{one, zero as zero64}
@@ -13,15 +10,20 @@ use Rattle.float64.specs.Notation.{_⊘_}
 use Rattle.vec3.specs.declared.Vec3.{Vec3}
 use Rattle.vec3.specs.Vec.{scaleOf, axpyOf, subOf, dotOf, normOf}
 use Rattle.job_checks.specs.Edge.{vertexAt, lower, lenOf, xhatOf, perpendicularFrom}
-use Rattle.buffers.specs.declared.FaceId.{FaceId}
-use Rattle.buffers.specs.declared.VertexId.{VertexId}
 use Rattle.buffers.specs.Zero.{zeroFrom}
-use Rattle.topology.specs.Edges.{between, offEnds, corner, sideEdge}
-use Rattle.frames.specs.Stored.{lowAt, highAt, faceAt, vectorAt, normalAt, unitAt, unitOf, withRows, row3, unitRow, originAt, endAt, lengthRow, withLengths, perpendicularAt, perpendicularRow, withNormals, xOf, otherAt, localAt, thirdAt, yOf}
+use Rattle.topology.specs.Edges.{between, corner, sideEdge}
+use Rattle.frames.specs.Stored.{vectorFrom, vectorAt, normalAt, unitAt, unitOf, withRows, row3, unitRow, originAt, endAt, lengthRow, withLengths, perpendicularAt, perpendicularRow, withNormals}
 use Rattle.frames.proofs.Rows.{rows-same, length-rows, vectors-at, vectors-past, zero-past-rows}
 
 pub vector-of : (r : Vec3) (a b c x y z : Float) → r ≡ record { x = a; y = b; z = c } → a ≡ x → b ≡ y → c ≡ z → r ≡ record { x = x; y = y; z = z }
 vector-of r a b c x y z e p q s = e ∙ (λ i. record { x = p i; y = q i; z = s i })
+
+-- the same three reals by slot and field
+pub vector-at : (s : ℕ) (reals : List Float) (i a : ℕ) → vectorFrom reals (s * i + a) ≡ vectorAt s reals i a
+vector-at s reals i a =
+    let y : s * i + a + 1 ≡ s * i + (a + 1) = omega arith in
+    let z : s * i + a + 2 ≡ s * i + (a + 2) = omega arith in
+    λ j. record { x = getD reals (s * i + a) nan; y = getD reals (y j) nan; z = getD reals (z j) nan }
 
 pub vertex-is : (v : List Float) (k : ℕ) → vectorAt 3 v k 0 ≡ vertexAt v k
 vertex-is v k =
@@ -41,14 +43,6 @@ module _ (v : List Float) (edgeWords : List ℕ) where
   pub lengths-made : (n : ℕ) (r₀ r₁ r₂ : List Float) → r₁ ≡ withLengths v edgeWords n r₀ → r₂ ≡ zeroFrom zero64 (4 * n) r₁ → r₂ ≡ withLengths v edgeWords n (replicate (length r₀) zero64)
   unfolding lengthRow
   lengths-made n r₀ r₁ r₂ made zeroed = zeroed ∙ (ap (zeroFrom zero64 (4 * n)) made ∙ zero-past-rows zero64 4 (lengthRow v edgeWords) (λ k. refl) n r₀)
-
-  pub x-steps : (reals : List Float) (e : ℕ) (p o d u : Vec3) (r : Float) → o ≡ originAt v edgeWords e → u ≡ unitAt reals e → d ≡ subOf p o → r ≡ dotOf d u → r ≡ xOf v edgeWords reals e p
-  unfolding xOf
-  x-steps reals e p o d u r a b c h = h ∙ (λ i. dotOf ((c ∙ (λ j. subOf p (a j))) i) (b i))
-
-  pub y-steps : (triangleWords : List ℕ) (reals : List Float) (e f k : ℕ) (p o d u : Vec3) (r : Float) → k ≡ localAt triangleWords f e → o ≡ originAt v edgeWords e → u ≡ vectorAt 9 reals f (3 * k) → d ≡ subOf p o → r ≡ dotOf d u → r ≡ yOf v edgeWords triangleWords reals e f p
-  unfolding yOf
-  y-steps triangleWords reals e f k p o d u r g a b c h = h ∙ (λ i. dotOf ((c ∙ (λ j. subOf p (a j))) i) ((b ∙ (λ j. vectorAt 9 reals f (3 * g j))) i))
 
 module _ (v : List Float) (triangles triangleWords : List ℕ) (edgeReals : List Float) where
   -- over side k of face f, from what is read
@@ -81,64 +75,3 @@ unit-row r h p u height read long unit = rw (← read, ← long, ← unit) refl
 pub unit-past : (r₀ r : List Float) (n h : ℕ) → n ≤ h → r ≡ withRows 3 (unitRow r₀) n r₀ → unitRow r h ≡ unitRow r₀ h
 unit-past r₀ r n h l so-far =
     ap (λ (p : Vec3). row3 (unitOf p)) (ap (λ (x : List Float). normalAt x h) so-far ∙ vectors-past (λ (k : ℕ). unitOf (normalAt r₀ k)) n r₀ h l)
-
-pub other-here : (w : List ℕ) (e f a b : ℕ) → a ≡ faceAt w e 0 → b ≡ faceAt w e 1 → a ≡ f → b ≡ otherAt w e f
-unfolding otherAt
-other-here w e f a b p q r = rw (eq-eqb (faceAt w e 0) f (sym p ∙ r)) q
-
-pub other-there : (w : List ℕ) (e f a : ℕ) → a ≡ faceAt w e 0 → (a ≡ f → ⊥) → a ≡ otherAt w e f
-unfolding otherAt
-other-there w e f a p r = rw (ne-eqb (faceAt w e 0) f (λ q. r (p ∙ q))) p
-
-module _ (w : List ℕ) (f e a : ℕ) (p : a ≡ getD w (6 * f + 0) 0) where
-  pub local-first : a ≡ e → 0 ≡ localAt w f e
-  unfolding localAt
-  local-first r = rw (eq-eqb (getD w (6 * f + 0) 0) e (sym p ∙ r))
-
-  module _ (n : a ≡ e → ⊥) (b : ℕ) (q : b ≡ getD w (6 * f + 1) 0) where
-    pub local-second : b ≡ e → 1 ≡ localAt w f e
-    unfolding localAt
-    local-second r = rw (ne-eqb (getD w (6 * f + 0) 0) e (λ s. n (p ∙ s)), eq-eqb (getD w (6 * f + 1) 0) e (sym q ∙ r))
-
-    pub local-third : (b ≡ e → ⊥) → 2 ≡ localAt w f e
-    unfolding localAt
-    local-third m = rw (ne-eqb (getD w (6 * f + 0) 0) e (λ s. n (p ∙ s)), ne-eqb (getD w (6 * f + 1) 0) e (λ s. m (q ∙ s)))
-
-small : (a b : Bool) → cond a 0 (cond b 1 2) ≤ 2
-small true b = omega arith
-small false true = omega arith
-small false false = omega arith
-
-local-small : (w : List ℕ) (f e : ℕ) → localAt w f e ≤ 2
-unfolding localAt
-local-small w f e = small (eqb (getD w (6 * f + 0) 0) e) (eqb (getD w (6 * f + 1) 0) e)
-
-pub local-below : (w : List ℕ) (f e k : ℕ) → k ≡ localAt w f e → k ≤ 2
-local-below w f e k q = rw q (local-small w f e)
-
-pub vertex-id : (a b : ℕ) → a ≡ b → _≡_ {A = VertexId} (record { 0 = a }) (record { 0 = b })
-vertex-id a b q i = record { 0 = q i }
-
-pub face-id : (a b : ℕ) → a ≡ b → _≡_ {A = FaceId} (record { 0 = a }) (record { 0 = b })
-face-id a b q i = record { 0 = q i }
-
-pub off-both : (k low high : ℕ) → (k ≡ low → ⊥) → (k ≡ high → ⊥) → offEnds k (record { low = low; high = high }) ≡ true
-unfolding offEnds
-off-both k low high p q = rw (ne-eqb k low p, ne-eqb k high q)
-
-module _ (t w : List ℕ) (e f low high a : ℕ) (p : low ≡ lowAt w e) (q : high ≡ highAt w e) (r : a ≡ getD t (3 * f + 0) 0) where
-  edge-is : (x : ℕ) (y : ℕ) → x ≡ y → offEnds x (record { low = low; high = high }) ≡ offEnds y (record { low = lowAt w e; high = highAt w e })
-  edge-is x y z i = offEnds (z i) (record { low = p i; high = q i })
-
-  pub third-first : (o : Bool) → o ≡ offEnds a (record { low = low; high = high }) → o ≡ true → a ≡ thirdAt t w e f
-  unfolding thirdAt
-  third-first o g h = rw (sym (edge-is a (getD t (3 * f + 0) 0) r) ∙ (sym g ∙ h)) r
-
-  module _ (o : Bool) (g : o ≡ offEnds a (record { low = low; high = high })) (h : o ≡ false) (b : ℕ) (s : b ≡ getD t (3 * f + 1) 0) (n : Bool) (k : n ≡ offEnds b (record { low = low; high = high })) where
-    pub third-second : n ≡ true → b ≡ thirdAt t w e f
-    unfolding thirdAt
-    third-second m = rw (sym (edge-is a (getD t (3 * f + 0) 0) r) ∙ (sym g ∙ h), sym (edge-is b (getD t (3 * f + 1) 0) s) ∙ (sym k ∙ m)) s
-
-    pub third-last : n ≡ false → (c : ℕ) → c ≡ getD t (3 * f + 2) 0 → c ≡ thirdAt t w e f
-    unfolding thirdAt
-    third-last m c z = rw (sym (edge-is a (getD t (3 * f + 0) 0) r) ∙ (sym g ∙ h), sym (edge-is b (getD t (3 * f + 1) 0) s) ∙ (sym k ∙ m)) z

@@ -2,18 +2,16 @@
 -- An edge has six words (its two vertices, its two faces, and two of other functions) and four reals (its length and its unit vector); a triangle has six
 -- words, of which the first three are its edges, and nine reals, the inward normals of its sides.
 use Prim.Native.Nat.{ℕ, zero, suc, _+_, _*_, _/_, _%_}
-use mathlib.Core.Bool.{cond}
 use mathlib.Core.List.{List, [], _∷_}
-use lib.Dec.{eqb}
 use lib.ListN.{getD}
 use lib.Ieee.{Float, nan}
 use Rattle.float64.specs.Scalar.{one}
 use Rattle.float64.specs.Notation.{_⊘_}
 use Rattle.vec3.specs.declared.Vec3.{Vec3}
-use Rattle.vec3.specs.Vec.{scaleOf, subOf, dotOf, normOf}
+use Rattle.vec3.specs.Vec.{scaleOf, normOf}
 use Rattle.job_checks.specs.Edge.{vertexAt, lenOf, xhatOf, perpendicularFrom}
 use Rattle.buffers.specs.Slots.{fill}
-use Rattle.topology.specs.Edges.{Edge, offEnds, corner, sideEdge}
+use Rattle.topology.specs.Edges.{corner, sideEdge}
 
 -- the ends of edge e, and its first and second face
 abbrev pub lowAt : List ℕ → ℕ → ℕ
@@ -29,7 +27,10 @@ faceAt words e i = getD words (6 * e + (2 + i)) 0
 abbrev pub sideAt : List ℕ → ℕ → ℕ
 sideAt words h = getD words (6 * (h / 3) + h % 3) 0
 
--- three reals of slot i from field a on
+-- three reals from i on, and those of slot i from field a on
+abbrev pub vectorFrom : List Float → ℕ → Vec3
+vectorFrom reals i = record { x = getD reals i nan; y = getD reals (i + 1) nan; z = getD reals (i + 2) nan }
+
 abbrev pub vectorAt : ℕ → List Float → ℕ → ℕ → Vec3
 vectorAt s reals i a = record { x = getD reals (s * i + a) nan; y = getD reals (s * i + (a + 1)) nan; z = getD reals (s * i + (a + 2)) nan }
 
@@ -77,10 +78,6 @@ module _ (v : List Float) (edgeWords : List ℕ) where
   abbrev pub withLengths : ℕ → List Float → List Float
   withLengths n reals = withRows 4 lengthRow n reals
 
-  -- p along edge e from its lower end
-  unfoldable pub xOf : List Float → ℕ → Vec3 → Float
-  xOf edgeReals e p = dotOf (subOf p (originAt e)) (unitAt edgeReals e)
-
 module _ (v : List Float) (triangles triangleWords : List ℕ) (edgeReals : List Float) where
   -- over side h, from its edge's stored unit vector, to the third vertex, not yet scaled; the Rust's `edges[e][0]` is the lower of the side's two vertices
   unfoldable pub perpendicularAt : ℕ → Vec3
@@ -95,23 +92,3 @@ module _ (v : List Float) (triangles triangleWords : List ℕ) (edgeReals : List
 
   abbrev pub withNormals : ℕ → List Float → List Float
   withNormals n reals = withRows 3 (λ (h : ℕ). row3 (normalOf h)) n reals
-
--- the face of edge e that is not f
-unfoldable pub otherAt : List ℕ → ℕ → ℕ → ℕ
-otherAt edgeWords e f = cond (eqb (faceAt edgeWords e 0) f) (faceAt edgeWords e 1) (faceAt edgeWords e 0)
-
--- which side of face f edge e is
-unfoldable pub localAt : List ℕ → ℕ → ℕ → ℕ
-localAt triangleWords f e = cond (eqb (getD triangleWords (6 * f + 0) 0) e) 0 (cond (eqb (getD triangleWords (6 * f + 1) 0) e) 1 2)
-
--- the vertex of face f that is not on edge e
-unfoldable pub thirdAt : List ℕ → List ℕ → ℕ → ℕ → ℕ
-thirdAt triangles edgeWords e f =
-    let ends : Edge = record { low = lowAt edgeWords e; high = highAt edgeWords e } in
-    cond (offEnds (getD triangles (3 * f + 0) 0) ends) (getD triangles (3 * f + 0) 0)
-    (cond (offEnds (getD triangles (3 * f + 1) 0) ends) (getD triangles (3 * f + 1) 0)
-    (getD triangles (3 * f + 2) 0))
-
--- p across edge e, into face f
-unfoldable pub yOf : List Float → List ℕ → List ℕ → List Float → ℕ → ℕ → Vec3 → Float
-yOf v edgeWords triangleWords triangleReals e f p = dotOf (subOf p (originAt v edgeWords e)) (vectorAt 9 triangleReals f (3 * localAt triangleWords f e))

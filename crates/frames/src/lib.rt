@@ -1,9 +1,5 @@
-// The frames of a mesh in lent buffers: each edge's length and unit vector, each triangle's inward normals, and the readers of the topology.
+// The frames of a mesh in lent buffers: each edge's length and unit vector, each triangle's inward normals.
 // Reads past an end give 0 or a NaN, so none of these functions asks anything of the buffers' content; those that write ask that there is room.
-use buffers::EdgeId;
-use buffers::FaceId;
-use buffers::VertexId;
-use buffers::read_f64;
 use buffers::read_u32;
 use buffers::zero_f64_from;
 use job_checks::lower_of;
@@ -11,20 +7,25 @@ use vec3::Vec3;
 ghost use mathlib.Core.Path.{_≡_};
 ghost use mathlib.Core.List.{[], _∷_};
 ghost use Prim.Native.Nat.{_+_, _*_, _%_, _≤_, _<_};
-ghost use lib.ListN.{length, replicate};
+ghost use lib.ListN.{length, getD, replicate};
+ghost use lib.Ieee.{nan};
 ghost use Rattle.buffers.specs.Slots.{fill};
 ghost use Rattle.float64.specs.Scalar.{zero};
 ghost use Rattle.vec3.specs.Vec.{subOf};
 ghost use Rattle.job_checks.specs.Edge.{vertexAt, lower, perpendicularFrom};
-ghost use Rattle.topology.specs.Edges.{offEnds};
-ghost use Rattle.frames.specs.Stored.{vectorAt, unitAt, fillThree, withRows, unitRow, originAt, endAt, lengthRow, withLengths, perpendicularRow, withNormals, xOf, otherAt, localAt, thirdAt, yOf};
+ghost use Rattle.frames.specs.Stored.{vectorFrom, vectorAt, unitAt, fillThree, withRows, unitRow, originAt, endAt, lengthRow, withLengths, perpendicularRow, withNormals};
 
-// Three reals of a slot from a field on; one test where all are inside.
-fn vector(reals: &[f64], stride: u32, slot: u32, field: u32) -> Vec3
-    requires { ⌜ field + 2 < 4294967296 ⌝ }
-    ensures { λ r. ⌜ r ≡ vectorAt stride (now (reals .entry)) slot field ⌝ }
+fn real(reals: &[f64], i: usize) -> f64
+    ensures { λ r. ⌜ r ≡ getD (now (reals .entry)) i nan ⌝ }
 {
-    let i = (stride as usize) * (slot as usize) + (field as usize);
+    if i < reals.len() { reals[i] } else { 0.0 / 0.0 }
+}
+
+// Three reals from one on; one test where all are inside.
+pub fn vector_from(reals: &[f64], i: usize) -> Vec3
+    requires { ⌜ i + 2 < 18446744073709551616 ⌝ }
+    ensures { λ r. ⌜ r ≡ vectorFrom (now (reals .entry)) i ⌝ }
+{
     if i + 2 < reals.len() {
         return Vec3 {
             x: reals[i],
@@ -33,10 +34,21 @@ fn vector(reals: &[f64], stride: u32, slot: u32, field: u32) -> Vec3
         };
     }
     Vec3 {
-        x: read_f64(reals, stride, slot, field),
-        y: read_f64(reals, stride, slot, field + 1),
-        z: read_f64(reals, stride, slot, field + 2),
+        x: real(reals, i),
+        y: real(reals, i + 1),
+        z: real(reals, i + 2),
     }
+}
+
+// Three reals of a slot from a field on.
+fn vector(reals: &[f64], stride: u32, slot: u32, field: u32) -> Vec3
+    requires { ⌜ field + 2 < 4294967296 ⌝ }
+    ensures { λ r. ⌜ r ≡ vectorAt stride (now (reals .entry)) slot field ⌝ }
+{
+    vector_from(
+        reals,
+        (stride as usize) * (slot as usize) + (field as usize),
+    )
 }
 
 fn vertex(vertices: &[f64], k: u32) -> Vec3
@@ -240,86 +252,4 @@ pub fn normals(
     );
     units(triangle_reals, faces);
     zero_f64_from(triangle_reals, 3 * triangles.len());
-}
-
-// The face of an edge that is not f, `no_face` where there is none.
-pub fn other(edge_words: &[u32], e: EdgeId, f: FaceId) -> FaceId
-    ensures { λ r. ⌜ r ≡ record { 0 = otherAt (now («edge_words» .entry)) (e .0) (f .0) } ⌝ }
-{
-    let first = read_u32(edge_words, 6, e.0, 2);
-    let second = read_u32(edge_words, 6, e.0, 3);
-    if first == f.0 {
-        return FaceId(second);
-    }
-    FaceId(first)
-}
-
-// Which side of face f edge e is.
-pub fn local(triangle_words: &[u32], f: FaceId, e: EdgeId) -> u32
-    ensures { λ r. ⌜ r ≡ localAt (now («triangle_words» .entry)) (f .0) (e .0) ⌝ }
-{
-    let first = read_u32(triangle_words, 6, f.0, 0);
-    let second = read_u32(triangle_words, 6, f.0, 1);
-    if first == e.0 {
-        return 0;
-    }
-    if second == e.0 {
-        return 1;
-    }
-    2
-}
-
-fn off_ends(k: u32, low: u32, high: u32) -> bool
-    ensures { λ r. ⌜ r ≡ offEnds k (record { low = low; high = high }) ⌝ }
-{
-    if k == low {
-        return false;
-    }
-    if k == high {
-        return false;
-    }
-    true
-}
-
-// The vertex of face f that is not on edge e.
-pub fn third(triangles: &[u32], edge_words: &[u32], e: EdgeId, f: FaceId) -> VertexId
-    ensures { λ r. ⌜ r ≡ record { 0 = thirdAt (now (triangles .entry)) (now («edge_words» .entry)) (e .0) (f .0) } ⌝ }
-{
-    let low = read_u32(edge_words, 6, e.0, 0);
-    let high = read_u32(edge_words, 6, e.0, 1);
-    let a = read_u32(triangles, 3, f.0, 0);
-    if off_ends(a, low, high) {
-        return VertexId(a);
-    }
-    let b = read_u32(triangles, 3, f.0, 1);
-    if off_ends(b, low, high) {
-        return VertexId(b);
-    }
-    VertexId(read_u32(triangles, 3, f.0, 2))
-}
-
-// The place of p in the frame of edge e, along it and across it into face f.
-pub fn coords_x(vertices: &[f64], edge_words: &[u32], edge_reals: &[f64], e: EdgeId, p: Vec3) -> f64
-    ensures { λ r. ⌜ r ≡ xOf (now (vertices .entry)) (now («edge_words» .entry)) (now («edge_reals» .entry)) (e .0) p ⌝ }
-{
-    let o = origin(vertices, edge_words, e.0);
-    let xhat = vector(edge_reals, 4, e.0, 1);
-    vec3::dot(vec3::sub(p, o), xhat)
-}
-
-pub fn coords_y(
-    vertices: &[f64],
-    edge_words: &[u32],
-    triangle_words: &[u32],
-    triangle_reals: &[f64],
-    e: EdgeId,
-    f: FaceId,
-    p: Vec3,
-) -> f64
-    ensures { λ r. ⌜ r ≡ yOf (now (vertices .entry)) (now («edge_words» .entry)) (now («triangle_words» .entry)) (now («triangle_reals» .entry)) (e .0) (f .0) p ⌝ }
-{
-    let k = local(triangle_words, f, e);
-    let o = origin(vertices, edge_words, e.0);
-    let yhat = vector(triangle_reals, 9, f.0, 3 * k);
-    vec3::dot(vec3::sub(p, o), yhat)
 }

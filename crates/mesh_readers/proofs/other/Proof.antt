@@ -1,7 +1,7 @@
-use Rattle.frames.proofs.Turns.{face-id, other-here, other-there}
+use Rattle.mesh_readers.proofs.Steps.{face-id, other-here, other-there}
 use borrow.Author.Needs.{needs}
-use Rattle.frames.proofs.other.Statement.{statement}
-use Rattle.frames.proofs.other.Tie as tie
+use Rattle.mesh_readers.proofs.other.Statement.{statement}
+use Rattle.mesh_readers.proofs.other.Tie as tie
 
 read-u32-requires : tie.Need-read-u32-requires
 read-u32-requires c κs = search needs

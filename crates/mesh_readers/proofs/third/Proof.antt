@@ -1,7 +1,7 @@
-use Rattle.frames.proofs.Turns.{vertex-id, third-first, third-second, third-last}
+use Rattle.mesh_readers.proofs.Steps.{vertex-id, third-first, third-second, third-last}
 use borrow.Author.Needs.{needs}
-use Rattle.frames.proofs.third.Statement.{statement}
-use Rattle.frames.proofs.third.Tie as tie
+use Rattle.mesh_readers.proofs.third.Statement.{statement}
+use Rattle.mesh_readers.proofs.third.Tie as tie
 
 read-u32-requires : tie.Need-read-u32-requires
 read-u32-requires c κs = search needs

@@ -1,8 +1,8 @@
 use mathlib.Core.Path.{sym}
 use Rattle.topology.proofs.Triangles.{on-low, on-high}
-use Rattle.frames.proofs.Turns.{off-both}
-use Rattle.frames.proofs.off_ends.Statement.{statement}
-use Rattle.frames.proofs.off_ends.Tie as tie
+use Rattle.mesh_readers.proofs.Steps.{off-both}
+use Rattle.mesh_readers.proofs.off_ends.Statement.{statement}
+use Rattle.mesh_readers.proofs.off_ends.Tie as tie
 
 returns : tie.Need-returns
 returns c = sym (on-low _ _ (c .if1 .taken))

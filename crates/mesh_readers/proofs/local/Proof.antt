@@ -1,7 +1,7 @@
-use Rattle.frames.proofs.Turns.{local-first, local-second, local-third}
+use Rattle.mesh_readers.proofs.Steps.{local-first, local-second, local-third}
 use borrow.Author.Needs.{needs}
-use Rattle.frames.proofs.local.Statement.{statement}
-use Rattle.frames.proofs.local.Tie as tie
+use Rattle.mesh_readers.proofs.local.Statement.{statement}
+use Rattle.mesh_readers.proofs.local.Tie as tie
 
 read-u32-requires : tie.Need-read-u32-requires
 read-u32-requires c κs = search needs

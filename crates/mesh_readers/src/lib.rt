@@ -1,0 +1,232 @@
+// What a mesh's buffers say of its edges, faces and vertices. Reads past an end give 0 or a NaN, so these functions ask nothing of what the buffers hold; where
+// they hold a mesh's topology, the answers are the topology's (proofs/Held.antt).
+use buffers::EdgeId;
+use buffers::FaceId;
+use buffers::VertexId;
+use buffers::read_f64;
+use buffers::read_u32;
+use vec3::Vec3;
+ghost use mathlib.Core.Path.{_≡_};
+ghost use Rattle.job_checks.specs.Edge.{vertexAt};
+ghost use Rattle.topology.specs.Edges.{offEnds, joins};
+ghost use Rattle.frames.specs.Stored.{lengthAt, unitAt};
+ghost use Rattle.mesh_readers.specs.Readers.{edgeAt, endsAt, facesAt, otherAt, sideIn, localAt, thirdAt, normalIn, coordsAt, rangeAt, roundAt, sharedAt, edgeBetweenAt};
+
+// The two vertices of an edge, the lower-numbered one first.
+pub struct EdgeEnds {
+    pub a: VertexId,
+    pub b: VertexId,
+}
+
+// The two faces of an edge, `no_face` where there is none.
+pub struct FacePair {
+    pub first: FaceId,
+    pub second: FaceId,
+}
+
+// A point in the frame of an edge: along it, and across it into a face.
+pub struct FrameCoords {
+    pub x: f64,
+    pub y: f64,
+}
+
+// Where the faces round a vertex start and end in the list of them.
+pub struct RoundRange {
+    pub start: u32,
+    pub end: u32,
+}
+
+pub fn ends(edge_words: &[u32], e: EdgeId) -> EdgeEnds
+    ensures { λ r. ⌜ r ≡ endsAt (now («edge_words» .entry)) (e .0) ⌝ }
+{
+    EdgeEnds {
+        a: VertexId(read_u32(edge_words, 6, e.0, 0)),
+        b: VertexId(read_u32(edge_words, 6, e.0, 1)),
+    }
+}
+
+pub fn faces(edge_words: &[u32], e: EdgeId) -> FacePair
+    ensures { λ r. ⌜ r ≡ facesAt (now («edge_words» .entry)) (e .0) ⌝ }
+{
+    FacePair {
+        first: FaceId(read_u32(edge_words, 6, e.0, 2)),
+        second: FaceId(read_u32(edge_words, 6, e.0, 3)),
+    }
+}
+
+// The face of an edge that is not f, `no_face` where there is none.
+pub fn other(edge_words: &[u32], e: EdgeId, f: FaceId) -> FaceId
+    ensures { λ r. ⌜ r ≡ record { 0 = otherAt (now («edge_words» .entry)) (e .0) (f .0) } ⌝ }
+{
+    let first = read_u32(edge_words, 6, e.0, 2);
+    let second = read_u32(edge_words, 6, e.0, 3);
+    if first == f.0 {
+        return FaceId(second);
+    }
+    FaceId(first)
+}
+
+pub fn length(edge_reals: &[f64], e: EdgeId) -> f64
+    ensures { λ r. ⌜ r ≡ lengthAt (now («edge_reals» .entry)) (e .0) ⌝ }
+{
+    read_f64(edge_reals, 4, e.0, 0)
+}
+
+// The unit vector along an edge, from its first vertex to its second.
+pub fn unit(edge_reals: &[f64], e: EdgeId) -> Vec3
+    ensures { λ r. ⌜ r ≡ unitAt (now («edge_reals» .entry)) (e .0) ⌝ }
+{
+    frames::vector_from(edge_reals, 4 * (e.0 as usize) + 1)
+}
+
+// Side k of face f.
+pub fn side(triangle_words: &[u32], f: FaceId, k: u32) -> EdgeId
+    ensures { λ r. ⌜ r ≡ record { 0 = sideIn (now («triangle_words» .entry)) (f .0) k } ⌝ }
+{
+    EdgeId(read_u32(triangle_words, 6, f.0, k))
+}
+
+// Which side of face f edge e is.
+pub fn local(triangle_words: &[u32], f: FaceId, e: EdgeId) -> u32
+    ensures { λ r. ⌜ r ≡ localAt (now («triangle_words» .entry)) (f .0) (e .0) ⌝ }
+{
+    let first = read_u32(triangle_words, 6, f.0, 0);
+    let second = read_u32(triangle_words, 6, f.0, 1);
+    if first == e.0 {
+        return 0;
+    }
+    if second == e.0 {
+        return 1;
+    }
+    2
+}
+
+// The unit vector into face f at a right angle to its side k.
+pub fn normal(triangle_reals: &[f64], f: FaceId, k: u32) -> Vec3
+    ensures { λ r. ⌜ r ≡ normalIn (now («triangle_reals» .entry)) (f .0) k ⌝ }
+{
+    frames::vector_from(triangle_reals, 9 * (f.0 as usize) + 3 * (k as usize))
+}
+
+pub fn vertex(vertices: &[f64], k: VertexId) -> Vec3
+    ensures { λ r. ⌜ r ≡ vertexAt (now (vertices .entry)) (k .0) ⌝ }
+{
+    frames::vector_from(vertices, 3 * (k.0 as usize))
+}
+
+fn off_ends(k: u32, low: u32, high: u32) -> bool
+    ensures { λ r. ⌜ r ≡ offEnds k (record { low = low; high = high }) ⌝ }
+{
+    if k == low {
+        return false;
+    }
+    if k == high {
+        return false;
+    }
+    true
+}
+
+// The vertex of face f that is not on edge e.
+pub fn third(triangles: &[u32], edge_words: &[u32], e: EdgeId, f: FaceId) -> VertexId
+    ensures { λ r. ⌜ r ≡ record { 0 = thirdAt (now (triangles .entry)) (now («edge_words» .entry)) (e .0) (f .0) } ⌝ }
+{
+    let low = read_u32(edge_words, 6, e.0, 0);
+    let high = read_u32(edge_words, 6, e.0, 1);
+    let a = read_u32(triangles, 3, f.0, 0);
+    if off_ends(a, low, high) {
+        return VertexId(a);
+    }
+    let b = read_u32(triangles, 3, f.0, 1);
+    if off_ends(b, low, high) {
+        return VertexId(b);
+    }
+    VertexId(read_u32(triangles, 3, f.0, 2))
+}
+
+// p in the frame of edge e, of which face f is on the side of positive y.
+pub fn coords(
+    vertices: &[f64],
+    edge_words: &[u32],
+    edge_reals: &[f64],
+    triangle_words: &[u32],
+    triangle_reals: &[f64],
+    e: EdgeId,
+    f: FaceId,
+    p: Vec3,
+) -> FrameCoords
+    ensures { λ r. ⌜ r ≡ coordsAt (now (vertices .entry)) (now («edge_words» .entry)) (now («edge_reals» .entry)) (now («triangle_words» .entry)) (now («triangle_reals» .entry)) (e .0) (f .0) p ⌝ }
+{
+    let o = vertex(vertices, VertexId(read_u32(edge_words, 6, e.0, 0)));
+    let w = vec3::sub(p, o);
+    let xhat = unit(edge_reals, e);
+    let yhat = normal(triangle_reals, f, local(triangle_words, f, e));
+    FrameCoords {
+        x: vec3::dot(w, xhat),
+        y: vec3::dot(w, yhat),
+    }
+}
+
+pub fn faces_round(vertex_words: &[u32], k: VertexId) -> RoundRange
+    ensures { λ r. ⌜ r ≡ rangeAt (now («vertex_words» .entry)) (k .0) ⌝ }
+{
+    RoundRange {
+        start: read_u32(vertex_words, 3, k.0, 0),
+        end: read_u32(vertex_words, 3, k.0, 1),
+    }
+}
+
+// Entry i of the list of the faces round the vertices.
+pub fn face_round(round: &[u32], i: u32) -> FaceId
+    ensures { λ r. ⌜ r ≡ record { 0 = roundAt (now (round .entry)) i } ⌝ }
+{
+    FaceId(read_u32(round, 1, i, 0))
+}
+
+// The vertex that two edges of one face share: the first end of e if o has it, or else the second.
+pub fn shared_vertex(edge_words: &[u32], e: EdgeId, o: EdgeId) -> VertexId
+    ensures { λ r. ⌜ r ≡ record { 0 = sharedAt (now («edge_words» .entry)) (e .0) (o .0) } ⌝ }
+{
+    let a = read_u32(edge_words, 6, e.0, 0);
+    let low = read_u32(edge_words, 6, o.0, 0);
+    let high = read_u32(edge_words, 6, o.0, 1);
+    if off_ends(a, low, high) {
+        return VertexId(read_u32(edge_words, 6, e.0, 1));
+    }
+    VertexId(a)
+}
+
+// Both vertices are ends of an edge.
+fn joined(edge_words: &[u32], e: u32, a: u32, b: u32) -> bool
+    ensures { λ r. ⌜ r ≡ joins a b (edgeAt (now («edge_words» .entry)) e) ⌝ }
+{
+    let low = read_u32(edge_words, 6, e, 0);
+    let high = read_u32(edge_words, 6, e, 1);
+    if off_ends(a, low, high) {
+        return false;
+    }
+    if off_ends(b, low, high) {
+        return false;
+    }
+    true
+}
+
+// The edge of face f between two of its vertices: the first of its edges that has both.
+pub fn edge_between(
+    edge_words: &[u32],
+    triangle_words: &[u32],
+    f: FaceId,
+    a: VertexId,
+    b: VertexId,
+) -> EdgeId
+    ensures { λ r. ⌜ r ≡ record { 0 = edgeBetweenAt (now («edge_words» .entry)) (now («triangle_words» .entry)) (f .0) (a .0) (b .0) } ⌝ }
+{
+    let first = read_u32(triangle_words, 6, f.0, 0);
+    if joined(edge_words, first, a.0, b.0) {
+        return EdgeId(first);
+    }
+    let second = read_u32(triangle_words, 6, f.0, 1);
+    if joined(edge_words, second, a.0, b.0) {
+        return EdgeId(second);
+    }
+    EdgeId(read_u32(triangle_words, 6, f.0, 2))
+}
