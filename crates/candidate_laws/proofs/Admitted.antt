@@ -1,6 +1,6 @@
 -- A candidate window whose start is from 0 on and whose end is up to its edge's length, infinities among them, is proper where it is admitted: its width as
 -- computed is above tiny then, so both ends are finite. For whatever is offered that way: by insertion, by a vertex and by propagation. Assumes nothing.
---     admitted-inside, admitted-proper; clipped-proper (x.max(0.) and y.min(l)), whole-proper (the whole edge, 0 and l)
+--     admitted-inside, admitted-proper; clipped-proper (x.max(0.) and y.min(l)), whole-proper (the whole edge, 0 and l); length-point (of an edge of a checked mesh)
 use Prim.Native.Nat.{ℕ}
 use mathlib.Core.Bool.{Bool, true, false, not, _||_}
 use lib.Dec.{T}
@@ -12,10 +12,15 @@ use Rattle.source.specs.Distance.{lowestOf}
 use Rattle.better.specs.Claim.{Point}
 use Rattle.float_bounds.specs.Within.{Start, End, Inside}
 use Rattle.float_bounds.proofs.Ends.{start-zero, max-start, end-length, min-end, wide-inside}
+use Rattle.mesh_laws.specs.Bounds.{EdgeLength}
 use Rattle.trim_model.specs.Intervals.{width, tinyOf}
 use Rattle.trim_model.specs.Model.{Candidate, admits}
 use Rattle.trim_model.specs.Claim.{Proper}
 use Rattle.trim_model.proofs.Ranks.{tiny-nonneg}
+
+-- the length of an edge of a checked mesh is such a length
+pub length-point : (l : Float) → EdgeLength l → Point l
+length-point l h = record { number = h .number; double = h .double }
 
 neither : (a b : Bool) → T (not (a || b)) → T (not a)
 neither true b h = h

@@ -63,7 +63,7 @@ module _ (triangles triangleWords : List ℕ) (sides : HoldsSides triangles tria
       let q : 6 * f + k ≡ 6 * ((3 * f + k) / 3) + (3 * f + k) % 3 = omega arith in
       ap (λ (i : ℕ). getD triangleWords i 0) q ∙ sides (3 * f + k) (omega arith)
 
-  side-first : sideIn triangleWords f 0 ≡ triEdge triangles (3 * f)
+  pub side-first : sideIn triangleWords f 0 ≡ triEdge triangles (3 * f)
   side-first = let z : 3 * f + 0 ≡ 3 * f = omega arith in side-held 0 (omega arith) ∙ ap (triEdge triangles) z
 
   pub local-held : (e : ℕ) → localAt triangleWords f e ≡ local triangles f e

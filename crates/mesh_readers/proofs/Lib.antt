@@ -1,2 +1,4 @@
 pub mod Held
+pub mod Round
+pub mod Sides
 pub mod Steps

@@ -1,7 +1,7 @@
 -- The answers as the code computes them. Assumes nothing.
 use Prim.Native.Nat.{ℕ, _+_, _*_, _≤_}
 use mathlib.Core.Path.{_≡_, refl, sym, ap, _∙_}
-use mathlib.Core.Bool.{Bool, true, false, cond, and-false, not}
+use mathlib.Core.Bool.{Bool, true, false, cond, _||_}
 use mathlib.Core.List.{List}
 use native.Mathlib.Omega.{arith}
 use borrow.Author.Tests.{eq-eqb, ne-eqb}
@@ -20,7 +20,7 @@ use Rattle.mesh_readers.specs.declared.EdgeEnds.{EdgeEnds}
 use Rattle.mesh_readers.specs.declared.FacePair.{FacePair}
 use Rattle.mesh_readers.specs.declared.FrameCoords.{FrameCoords}
 use Rattle.mesh_readers.specs.declared.RoundRange.{RoundRange}
-use Rattle.mesh_readers.specs.Readers.{edgeAt, roundAt, otherAt, sharedAt, sideIn, normalIn, localAt, thirdAt, edgeBetweenAt, coordsAt}
+use Rattle.mesh_readers.specs.Readers.{edgeAt, roundAt, otherAt, sharedAt, sideIn, normalIn, localAt, thirdAt, edgeBetweenAt, faceOf, sideToAt, coordsAt}
 
 pub other-here : (w : List ℕ) (e f a b : ℕ) → a ≡ faceAt w e 0 → b ≡ faceAt w e 1 → a ≡ f → b ≡ otherAt w e f
 unfolding otherAt
@@ -147,3 +147,42 @@ coords-of v ew er tw tr e f a k p o w u n x y first from along unit place normal
     let W : w ≡ subOf p (originAt v ew e) = along ∙ (λ i. subOf p ((from ∙ ap (vertexAt v) first) i)) in
     let N : n ≡ normalIn tr f (localAt tw f e) = normal ∙ ap (normalIn tr f) place in
     λ i. record { x = (is-x ∙ (λ j. dotOf (W j) (unit j))) i; y = (is-y ∙ (λ j. dotOf (W j) (N j))) i }
+
+-- ---- whether an edge has a face, and the side of a face towards another
+module _ (a b h x y : ℕ) where
+  pub has-first : a ≡ x → a ≡ h → true ≡ (eqb x h || eqb y h)
+  has-first p r = rw (eq-eqb x h (sym p ∙ r)) refl
+
+  pub has-second : a ≡ x → (a ≡ h → ⊥) → b ≡ y → b ≡ h → true ≡ (eqb x h || eqb y h)
+  has-second p n q r = rw (ne-eqb x h (λ s. n (p ∙ s)), eq-eqb y h (sym q ∙ r)) refl
+
+  pub has-neither : a ≡ x → (a ≡ h → ⊥) → b ≡ y → (b ≡ h → ⊥) → false ≡ (eqb x h || eqb y h)
+  has-neither p n q m = rw (ne-eqb x h (λ s. n (p ∙ s)), ne-eqb y h (λ s. m (q ∙ s))) refl
+
+module _ (w tw : List ℕ) (f h first : ℕ) (p : first ≡ sideIn tw f 0) (t : Bool) (g : t ≡ faceOf w first h) where
+  has-0 : faceOf w (sideIn tw f 0) h ≡ t
+  has-0 = sym (g ∙ (λ i. faceOf w (p i) h))
+
+  pub side-to-0 : t ≡ true → 0 ≡ sideToAt w tw f h
+  unfolding sideToAt
+  side-to-0 z = rw (has-0 ∙ z) refl
+
+  module _ (z : t ≡ false) (second : ℕ) (q : second ≡ sideIn tw f 1) (u : Bool) (k : u ≡ faceOf w second h) where
+    has-1 : faceOf w (sideIn tw f 1) h ≡ u
+    has-1 = sym (k ∙ (λ i. faceOf w (q i) h))
+
+    pub side-to-1 : u ≡ true → 1 ≡ sideToAt w tw f h
+    unfolding sideToAt
+    side-to-1 y = rw (has-0 ∙ z, has-1 ∙ y) refl
+
+    module _ (y : u ≡ false) (third : ℕ) (s : third ≡ sideIn tw f 2) (o : Bool) (m : o ≡ faceOf w third h) where
+      has-2 : faceOf w (sideIn tw f 2) h ≡ o
+      has-2 = sym (m ∙ (λ i. faceOf w (s i) h))
+
+      pub side-to-2 : o ≡ true → 2 ≡ sideToAt w tw f h
+      unfolding sideToAt
+      side-to-2 x = rw (has-0 ∙ z, has-1 ∙ y, has-2 ∙ x) refl
+
+      pub side-to-none : o ≡ false → 3 ≡ sideToAt w tw f h
+      unfolding sideToAt
+      side-to-none x = rw (has-0 ∙ z, has-1 ∙ y, has-2 ∙ x) refl

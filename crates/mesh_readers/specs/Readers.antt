@@ -1,6 +1,6 @@
 -- What the readers answer, from what the buffers hold. Definitions only: `*-held` in proofs/Held.antt say that it is the topology's where they hold one.
 use Prim.Native.Nat.{ℕ, _+_, _*_}
-use mathlib.Core.Bool.{cond}
+use mathlib.Core.Bool.{Bool, cond, _||_}
 use mathlib.Core.List.{List}
 use lib.Dec.{eqb}
 use lib.ListN.{getD}
@@ -57,6 +57,17 @@ edgeBetweenAt edgeWords triangleWords f a b =
     cond (joins a b (edgeAt edgeWords (sideIn triangleWords f 0))) (sideIn triangleWords f 0)
     (cond (joins a b (edgeAt edgeWords (sideIn triangleWords f 1))) (sideIn triangleWords f 1)
     (sideIn triangleWords f 2))
+
+-- h is the first or the second face of edge e
+abbrev pub faceOf : List ℕ → ℕ → ℕ → Bool
+faceOf edgeWords e h = eqb (faceAt edgeWords e 0) h || eqb (faceAt edgeWords e 1) h
+
+-- the first side of it whose edge has face h, 3 where none has
+unfoldable pub sideToAt : List ℕ → List ℕ → ℕ → ℕ → ℕ
+sideToAt edgeWords triangleWords f h =
+    cond (faceOf edgeWords (sideIn triangleWords f 0) h) 0
+    (cond (faceOf edgeWords (sideIn triangleWords f 1) h) 1
+    (cond (faceOf edgeWords (sideIn triangleWords f 2) h) 2 3))
 
 -- p in the frame of edge e, across it into face f
 unfoldable pub coordsAt : List Float → List ℕ → List Float → List ℕ → List Float → ℕ → ℕ → Vec3 → FrameCoords

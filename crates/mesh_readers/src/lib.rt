@@ -7,10 +7,12 @@ use buffers::read_f64;
 use buffers::read_u32;
 use vec3::Vec3;
 ghost use mathlib.Core.Path.{_≡_};
+ghost use Prim.Native.Nat.{_+_, _*_};
+ghost use lib.ListN.{getD};
 ghost use Rattle.job_checks.specs.Edge.{vertexAt};
 ghost use Rattle.topology.specs.Edges.{offEnds, joins};
 ghost use Rattle.frames.specs.Stored.{lengthAt, unitAt};
-ghost use Rattle.mesh_readers.specs.Readers.{edgeAt, endsAt, facesAt, otherAt, sideIn, localAt, thirdAt, normalIn, coordsAt, rangeAt, roundAt, sharedAt, edgeBetweenAt};
+ghost use Rattle.mesh_readers.specs.Readers.{edgeAt, endsAt, facesAt, otherAt, sideIn, localAt, thirdAt, normalIn, coordsAt, rangeAt, roundAt, sharedAt, edgeBetweenAt, faceOf, sideToAt};
 
 // The two vertices of an edge, the lower-numbered one first.
 pub struct EdgeEnds {
@@ -126,6 +128,13 @@ fn off_ends(k: u32, low: u32, high: u32) -> bool
     true
 }
 
+// Vertex k of face f.
+pub fn face_vertex(triangles: &[u32], f: FaceId, k: u32) -> VertexId
+    ensures { λ r. ⌜ r ≡ record { 0 = getD (now (triangles .entry)) (3 * f .0 + k) 0 } ⌝ }
+{
+    VertexId(read_u32(triangles, 3, f.0, k))
+}
+
 // The vertex of face f that is not on edge e.
 pub fn third(triangles: &[u32], edge_words: &[u32], e: EdgeId, f: FaceId) -> VertexId
     ensures { λ r. ⌜ r ≡ record { 0 = thirdAt (now (triangles .entry)) (now («edge_words» .entry)) (e .0) (f .0) } ⌝ }
@@ -229,4 +238,32 @@ pub fn edge_between(
         return EdgeId(second);
     }
     EdgeId(read_u32(triangle_words, 6, f.0, 2))
+}
+
+fn has_face(edge_words: &[u32], e: u32, h: u32) -> bool
+    ensures { λ r. ⌜ r ≡ faceOf (now («edge_words» .entry)) e h ⌝ }
+{
+    if read_u32(edge_words, 6, e, 2) == h {
+        return true;
+    }
+    if read_u32(edge_words, 6, e, 3) == h {
+        return true;
+    }
+    false
+}
+
+// The first side of face f whose edge has face h too, 3 where none has.
+pub fn side_to(edge_words: &[u32], triangle_words: &[u32], f: FaceId, h: FaceId) -> u32
+    ensures { λ r. ⌜ r ≡ sideToAt (now («edge_words» .entry)) (now («triangle_words» .entry)) (f .0) (h .0) ⌝ }
+{
+    if has_face(edge_words, read_u32(triangle_words, 6, f.0, 0), h.0) {
+        return 0;
+    }
+    if has_face(edge_words, read_u32(triangle_words, 6, f.0, 1), h.0) {
+        return 1;
+    }
+    if has_face(edge_words, read_u32(triangle_words, 6, f.0, 2), h.0) {
+        return 2;
+    }
+    3
 }
