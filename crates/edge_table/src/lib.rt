@@ -2,6 +2,7 @@
 // as the mesh has sides, each a chain of edges through the edge buffer, the newest first. `bucketOf` in specs/ spreads them.
 // On the meshes of tests/mesh/bench.rs no bucket has more than 7 edges. Nothing proves that: tests/mesh/worst.rs counts how full one can get, some
 // thousands, and from the code alone E edges take at most a step for each edge before, E (E - 1) / 2.
+use buffers::no_face;
 use buffers::read_u32;
 use buffers::write_u32;
 use buffers::zero_u32;
@@ -71,11 +72,12 @@ fn add_edge(
     ensures { λ r. ⌜ (now (heads .exit) ≡ set (now (heads .entry)) (1 * bucket + 0) (e + 1))
         × (now («edge_words» .exit) ≡ fill 6 (now («edge_words» .entry)) e 0 (low ∷ high ∷ f ∷ 4294967295 ∷ 0 ∷ getD (now (heads .entry)) (1 * bucket + 0) 0 ∷ [])) ⌝ }
 {
+    let none = no_face();
     let next = read_u32(heads, 1, bucket, 0);
     write_u32(edge_words, 6, e, 0, low);
     write_u32(edge_words, 6, e, 1, high);
     write_u32(edge_words, 6, e, 2, f);
-    write_u32(edge_words, 6, e, 3, 4294967295);
+    write_u32(edge_words, 6, e, 3, none.0);
     write_u32(edge_words, 6, e, 4, 0);
     write_u32(edge_words, 6, e, 5, next);
     write_u32(heads, 1, bucket, 0, e + 1);
@@ -108,7 +110,8 @@ fn enter_side(
         return Table::Edges(count + 1);
     }
     let e = link - 1;
-    if read_u32(edge_words, 6, e, 3) != 4294967295 {
+    let none = no_face();
+    if read_u32(edge_words, 6, e, 3) != none.0 {
         return Table::ThirdFace;
     }
     write_u32(edge_words, 6, e, 3, f);

@@ -1,8 +1,12 @@
 -- `edge_table::add_edge` meets its contract: the six stores make a row. Assumes nothing.
+use native.Mathlib.Omega.{arith}
 use Rattle.edge_table.proofs.Turns.{stored}
 use borrow.Author.Needs.{needs}
 use Rattle.edge_table.proofs.add_edge.Statement.{statement}
 use Rattle.edge_table.proofs.add_edge.Tie as tie
+
+no-face-requires : tie.Need-no-face-requires
+no-face-requires c κs = search needs
 
 read-u32-requires : tie.Need-read-u32-requires
 read-u32-requires c κs = search needs
@@ -26,7 +30,7 @@ write-u32-requires-6 : tie.Need-write-u32-requires-6
 write-u32-requires-6 c κs = search needs
 
 add-write-u32 : tie.Need-add-write-u32
-add-write-u32 c = search needs
+add-write-u32 c = omega (arith, c .before .before .before .before .before .before .before .before .before .before .before .before .before .before .before .before .before .before .before .before .before .before .before .before .before .before .before .before .before .before .pre)
 
 write-u32-requires-7 : tie.Need-write-u32-requires-7
 write-u32-requires-7 c κs = search needs
@@ -48,13 +52,14 @@ returns c =
     let w₁ = w₂ .before .before .before .before in
     let read = w₁ .before .before in (
       w₇ .write-u327 .ensures,
-      stored _ _ _ _ _ _ _ _ _ _ _ _ _ _ (read .read-u32 .ensures) (w₁ .write-u32 .ensures) (w₂ .write-u322 .ensures) (w₃ .write-u323 .ensures) (w₄ .write-u324 .ensures) (w₅ .write-u325 .ensures) (w₆ .write-u326 .ensures),
+      stored _ _ _ _ _ _ _ _ _ _ _ _ _ _ (read .read-u32 .ensures) (w₁ .write-u32 .ensures) (w₂ .write-u322 .ensures) (w₃ .write-u323 .ensures) (rw (read .before .before .no-face .ensures) at (w₄ .write-u324 .ensures)) (w₅ .write-u325 .ensures) (w₆ .write-u326 .ensures),
     )
 
 pub add-edge-spec : {M : Type 1} → statement M
 add-edge-spec =
     tie.close
     (tie.spec
+    no-face-requires
     read-u32-requires
     write-u32-requires
     write-u32-requires-2

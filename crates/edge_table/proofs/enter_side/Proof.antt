@@ -66,8 +66,8 @@ add-edge-requires c κs =
 write-u32-requires : tie.Need-write-u32-requires
 write-u32-requires c κs = search needs
 
-add-t32 : tie.Need-add-t32
-add-t32 c =
+add-t33 : tie.Need-add-t33
+add-t33 c =
     let found = c .before .before .before .before .before .before .before .before .before .before .before .before in
     let head = found .before .before in
     let bucket = head .before .before in
@@ -113,6 +113,9 @@ returns c =
 sub-e : tie.Need-sub-e
 sub-e c = search needs
 
+no-face-requires : tie.Need-no-face-requires
+no-face-requires c κs = search needs
+
 read-u32-requires-4 : tie.Need-read-u32-requires-4
 read-u32-requires-4 c κs = search needs
 
@@ -124,7 +127,8 @@ same-length-5 c = search needs
 
 returns-2 : tie.Need-returns-2
 returns-2 c =
-    let there = c .before .before .before in
+    let none = c .before .before .before .before in
+    let there = none .before in
     let found = there .before in
     let head = found .before .before in
     let bucket = head .before .before in
@@ -138,7 +142,7 @@ returns-2 c =
     let q = side-is (a .triangles .now) (a .h) _ _ (first .read-u32 .ensures) (second .read-u322 .ensures) _ _ (low .lower-of .ensures) (high .higher-of .ensures) in
     third-done (a .triangles .now) (length (a .triangles .now)) (a .h) (a .heads .now) (a .edge-words .now) (a .triangle-words .now) (r .mesh) (r .long) (r .side) refl (r .words) _ _ _ _
     (side-found (a .triangles .now) (length (a .triangles .now)) (a .h) (a .heads .now) (a .edge-words .now) (a .triangle-words .now) (r .words) _ _ _ _ _ q (bucket .bucket-of .ensures) (head .read-u323 .ensures) (found .find-in-bucket .ensures) (there .if1 .left))
-    _ (c .before .read-u324 .ensures) (c .if2 .taken)
+    _ (c .before .before .read-u324 .ensures) (rw (none .no-face .ensures) at (c .if2 .taken))
 
 write-u32-requires-2 : tie.Need-write-u32-requires-2
 write-u32-requires-2 c κs = search needs
@@ -160,7 +164,8 @@ returns-3 c =
     let numbered = c .before .before in
     let stored = numbered .before .before .before .before in
     let one = stored .before .before in
-    let there = one .before .before .before in
+    let none = one .before .before .before .before in
+    let there = none .before in
     let found = there .before in
     let head = found .before .before in
     let bucket = head .before .before in
@@ -175,7 +180,7 @@ returns-3 c =
     found-done (a .triangles .now) (length (a .triangles .now)) (a .h) (a .heads .now) (a .edge-words .now) (a .triangle-words .now) (r .mesh) (r .long) (r .side) refl (r .words) _ _ _ _ _
     (side-found (a .triangles .now) (length (a .triangles .now)) (a .h) (a .heads .now) (a .edge-words .now) (a .triangle-words .now) (r .words) _ _ _ _ _ q (bucket .bucket-of .ensures) (head .read-u323 .ensures) (found .find-in-bucket .ensures) (there .if1 .left))
     (r .counted)
-    _ (one .before .read-u324 .ensures) (one .if2 .left)
+    _ (one .before .before .read-u324 .ensures) (rw (none .no-face .ensures) at (one .if2 .left))
     refl (stored .write-u322 .ensures) (numbered .write-u323 .ensures)
 
 pub enter-side-spec : {M : Type 1} → statement M
@@ -193,12 +198,13 @@ enter-side-spec =
     find-in-bucket-requires
     add-edge-requires
     write-u32-requires
-    add-t32
+    add-t33
     same-length
     same-length-2
     same-length-3
     returns
     sub-e
+    no-face-requires
     read-u32-requires-4
     same-length-4
     same-length-5
