@@ -1,3 +1,4 @@
-pub mod Vectors
 pub mod Edges
 pub mod Frames
+pub mod Pieces
+pub mod Vectors
