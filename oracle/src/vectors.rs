@@ -6,6 +6,7 @@ mod jobs;
 mod leaves;
 mod pairs;
 mod topology;
+mod values;
 
 pub use pairs::hypot_pairs;
 
@@ -81,6 +82,11 @@ pub fn make(leaf: &str, seed: u64, count: u32) -> Result<Vec<u8>, String> {
             "topology" => topology::small(seed + u64::from(k), &mut out),
             "topology-large" => topology::large(seed + u64::from(k), &mut out),
             "topology-huge" => topology::huge(seed + u64::from(k), &mut out),
+            "propagate" => values::propagate(&mut rng, &mut out),
+            "point" => values::point(&mut rng, &mut out),
+            "segment" => values::segment(&mut rng, &mut out),
+            "emit" => values::emit(&mut rng, &mut out),
+            "entry" => values::entry(&mut rng, &mut out),
             "jobs" => jobs::job(&mut rng, &mut out),
             "slips" => jobs::slip(&mut rng, &mut out),
             _ => return Err(format!("no such leaf: {leaf}")),

@@ -1,10 +1,13 @@
--- What a window passes on, and what a vertex emits, begins from 0 on and ends up to the edge's length, if that is not below zero. Assumes nothing.
+-- What a window passes on, and what a vertex emits, starts from 0 on and ends up to the edge's length, a finite double. Assumes nothing.
 use mathlib.Core.Bool.{Bool, true, false, cond}
 use lib.Dec.{T}
-use lib.Ieee.{Float, le}
+use lib.Ieee.{Float, binary64, fits, inf, neg, le}
+use lib.Ieee.Fits.{cond-fits, inf-fits, add-fits}
+use lib.Ieee.Scale.{finite}
 use Rattle.float64.specs.Scalar.{zero, minOf, maxOf}
-use Rattle.float_laws.proofs.Order.{le-number-r, le-refl, zero-finite, finite-number}
-use Rattle.float_laws.proofs.MinMax.{min-le-r, max-ge-r}
+use Rattle.float64.specs.Notation.{_⊖_, _⊗_, _⊘_}
+use Rattle.float_laws.proofs.MinMax.{min-fits, max-fits}
+use Rattle.float_bounds.proofs.Ends.{start-zero, max-start, end-length, min-end}
 use Rattle.source.specs.declared.Src.{Src}
 use Rattle.source.specs.declared.Src.the-variants.{Point, Line}
 use Rattle.source_windows.specs.Tolerance.{tooNarrow}
@@ -12,9 +15,10 @@ use Rattle.source_windows.specs.Ends.{EndsOn, no-window, window}
 use Rattle.source_windows.specs.declared.Bounds.{Bounds}
 use Rattle.source_windows.specs.declared.CandidateRange.{CandidateRange}
 use Rattle.source_windows.specs.declared.CandidateRange.the-variants.{Nothing}
-use Rattle.propagation.specs.Plane.{frameOf}
-use Rattle.propagation.specs.Propagate.{clippedOf, imagesOf, partOf, sideOf, xcOf, afterRay, propagateOf, emitOf}
+use Rattle.propagation.specs.Plane.{frameOf, turnTo, mapTo}
+use Rattle.propagation.specs.Propagate.{imageOfPoint, imageOfLine, clippedOf, imagesOf, partOf, sideOf, xcOf, afterRay, propagateOf, emitOf}
 use Rattle.propagation.specs.Clipped.{ClippedTo, none-passed, passed}
+use Rattle.propagation.specs.declared.Vec2.{Vec2}
 use Rattle.propagation.specs.declared.FaceAhead.{FaceAhead}
 use Rattle.propagation.specs.declared.Frame.{Frame}
 use Rattle.propagation.specs.declared.NextEdge.{NextEdge}
@@ -22,11 +26,32 @@ use Rattle.propagation.specs.declared.Ray.{Ray}
 use Rattle.propagation.specs.declared.Ray.the-variants.{Stopped, Crosses}
 use Rattle.propagation.specs.declared.Side.{Side}
 
+-- ---- an image is a double
+past : (b c : Bool) (x : Float) → T (fits binary64 x) → T (fits binary64 (cond b (cond c (inf false) (inf true)) x))
+past b c x h = cond-fits binary64 b _ x (cond-fits binary64 c (inf false) (inf true) (inf-fits binary64 false) (inf-fits binary64 true)) h
+
+point-fits : (f : Frame) (sn : Vec2) (x : Float) → T (fits binary64 (imageOfPoint f sn x))
+unfolding imageOfPoint
+point-fits f sn x =
+    let xn = mapTo f (record { x = x; y = zero }) in
+    let k = xn .y ⊖ sn .y in
+    past (le k zero) (le (sn .x) (xn .x)) _ (add-fits binary64 (sn .x) ((xn .x ⊖ sn .x) ⊗ neg (sn .y) ⊘ k))
+
+line-fits : (f : Frame) (un : Vec2) (x : Float) → T (fits binary64 (imageOfLine f un x))
+unfolding imageOfLine
+line-fits f un x =
+    let xn = mapTo f (record { x = x; y = zero }) in
+    past (le (un .y) zero) (le zero (un .x)) _ (add-fits binary64 (xn .x) (un .x ⊗ neg (xn .y) ⊘ un .y))
+
 -- ---- cut off at the edge's ends
+clipped-is : (i0 i1 ln : Float) (src : Src) → T (fits binary64 i0) → T (fits binary64 i1) → ClippedTo ln (clippedOf i0 i1 ln src)
+unfolding clippedOf
+clipped-is i0 i1 ln src p q = passed (minOf i0 i1) (maxOf i0 i1) src (min-fits binary64 i0 i1 p q) (max-fits binary64 i0 i1 p q)
+
 images-clipped : (src : Src) (f : Frame) (r : Bounds) (ln : Float) → ClippedTo ln (imagesOf src f r ln)
-unfolding imagesOf clippedOf
-images-clipped (Point sx sy s) f r ln = passed _ _ _
-images-clipped (Line ux uy c) f r ln = passed _ _ _
+unfolding imagesOf
+images-clipped (Point sx sy s) f r ln = clipped-is _ _ ln _ (point-fits f (mapTo f (record { x = sx; y = sy })) (r .b0)) (point-fits f (mapTo f (record { x = sx; y = sy })) (r .b1))
+images-clipped (Line ux uy c) f r ln = clipped-is _ _ ln _ (line-fits f (turnTo f (record { x = ux; y = uy })) (r .b0)) (line-fits f (turnTo f (record { x = ux; y = uy })) (r .b1))
 
 none-or : (b : Bool) {ln : Float} {x : CandidateRange} → ClippedTo ln x → ClippedTo ln (cond b Nothing x)
 none-or true h = none-passed
@@ -45,13 +70,14 @@ propagate-clipped src w g side ne = go (xcOf src g)
     go (Crosses xc) = side-clipped src w g xc side ne
 
 -- ---- on the edge
-pub clipped-on : {ln : Float} {x : CandidateRange} → T (le zero ln) → ClippedTo ln x → EndsOn ln x
-clipped-on h none-passed = no-window
-clipped-on {ln} h (passed lo hi src) = window (max-ge-r lo zero (finite-number zero zero-finite), min-le-r hi ln (le-number-r zero ln h))
+module _ (l : Float) (F : T (finite l)) (d : T (fits binary64 l)) where
+  pub clipped-on : {x : CandidateRange} → ClippedTo l x → EndsOn l x
+  clipped-on none-passed = no-window
+  clipped-on (passed lo hi src p q) = window (max-start zero lo start-zero p) (min-end l l hi (end-length l F d) q)
 
-pub propagate-on : (src : Src) (w : Bounds) (g : FaceAhead) (side : Side) (ne : NextEdge) → T (le zero (ne .ln)) → EndsOn (ne .ln) (propagateOf src w g side ne)
-propagate-on src w g side ne h = clipped-on h (propagate-clipped src w g side ne)
+  pub emit-on : (x y s : Float) → EndsOn l (emitOf x y l s)
+  unfolding emitOf
+  emit-on x y s = window start-zero (end-length l F d)
 
-pub emit-on : (x y l d : Float) → T (le zero l) → EndsOn l (emitOf x y l d)
-unfolding emitOf
-emit-on x y l d h = window (le-refl zero (finite-number zero zero-finite), le-refl l (le-number-r zero l h))
+pub propagate-on : (src : Src) (w : Bounds) (g : FaceAhead) (side : Side) (ne : NextEdge) → T (finite (ne .ln)) → T (fits binary64 (ne .ln)) → EndsOn (ne .ln) (propagateOf src w g side ne)
+propagate-on src w g side ne F d = clipped-on (ne .ln) F d (propagate-clipped src w g side ne)
