@@ -3,7 +3,7 @@
 use oracle::generate::workshop::{Shape, job};
 use oracle::vectors::{make, stream};
 
-const FIXED: [(&str, usize); 9] = [
+const FIXED: [(&str, usize); 14] = [
     ("sqrt", 16),
     ("hypot", 24),
     ("roots", 41),
@@ -13,6 +13,11 @@ const FIXED: [(&str, usize); 9] = [
     ("foot", 49),
     ("lowest", 49),
     ("eval", 65),
+    ("propagate", 216),
+    ("point", 336),
+    ("segment", 136),
+    ("emit", 80),
+    ("entry", 184),
 ];
 
 #[test]
