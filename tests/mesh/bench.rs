@@ -199,23 +199,14 @@ impl Lent {
         }
     }
 
-    /// How many edges the fullest bucket has: an edge's sixth word is the link to the next of its bucket, which was entered before it.
-    fn longest_bucket(&self, edges: usize) -> u32 {
-        let mut from = vec![0; edges + 1];
-        for e in 0..edges {
-            from[e + 1] = from[self.edge_words[6 * e + 5] as usize] + 1;
-        }
-        from.into_iter().max().unwrap_or(0)
-    }
-
     /// Every number of the Rust's, to the bit.
     fn compare(&self, topo: &Topology) {
         let same = |a: &[f64], b: &[f64]| a.iter().zip(b).all(|(x, y)| x.to_bits() == y.to_bits());
         for e in 0..topo.edges.len() {
-            let w = &self.edge_words[6 * e..6 * e + 5];
+            let w = &self.edge_words[6 * e..6 * e + 6];
             assert_eq!(w[..2], topo.edges[e]);
             assert_eq!(w[2..4], topo.faces[e]);
-            assert_eq!(w[4], 0);
+            assert_eq!(w[4..], [0; 2]);
             let r = &self.edge_reals[4 * e..4 * e + 4];
             assert!(
                 same(&r[..1], &[topo.len[e]]) && same(&r[1..], &topo.xhat[e]),
@@ -242,8 +233,21 @@ impl Lent {
         for (k, faces) in topo.vertex_faces.iter().enumerate() {
             let (start, end) = (self.vertex_words[3 * k], self.vertex_words[3 * k + 1]);
             assert_eq!(&self.round[start as usize..end as usize], &faces[..]);
+            assert_eq!(self.vertex_words[3 * k + 2] == 1, topo.pseudo[k]);
         }
     }
+}
+
+/// How many edges the fullest bucket has: `bucketOf` of crates/edge_table/specs/Words.antt.
+fn fullest_bucket(topo: &Topology, triangles: usize) -> u32 {
+    let size = 3 * triangles as u64;
+    let mut full = vec![0; 3 * triangles];
+    for e in &topo.edges {
+        let [low, high] = e.map(u64::from);
+        let base = (high - low) / 8 * 2_654_435_761 % (1 << 32) * size >> 32;
+        full[((4 * low + (high - low) % 8 + base) % size) as usize] += 1;
+    }
+    full.into_iter().max().unwrap_or(0)
 }
 
 /// The least times of four programs: TURNS turns of each, turn by turn, or ROW turns of one after the other before the next.
@@ -272,7 +276,7 @@ fn measure(name: &str, mesh: &Mesh) -> [f64; 2] {
     let mut lent = Lent::new(&job);
     assert_eq!(lent.build(&job), topo.edges.len() as u64);
     lent.compare(&topo);
-    let bucket = lent.longest_bucket(topo.edges.len());
+    let bucket = fullest_bucket(&topo, t.len());
     let times = [true, false].map(|turn_by_turn| {
         least(
             turn_by_turn,

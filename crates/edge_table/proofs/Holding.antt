@@ -2,10 +2,10 @@
 use Prim.Native.Nat.{ℕ, _+_, _*_, _/_, _%_, _<_, _≤_}
 use mathlib.Core.Path.{_≡_, sym, ap, _∙_}
 use mathlib.Core.List.{List}
-use native.Mathlib.Decide.{ℕ-discrete}
+use native.Mathlib.Decide.{ℕ-discrete, decLe}
 use native.Mathlib.Nat.{mod-lt, div-add-mod, mul-add-div, mul-add-mod-self-left, div-eq-of-lt, mod-eq-of-lt}
 use native.Mathlib.Omega.{arith}
-use lib.ListN.{length, getD, set}
+use lib.ListN.{length, getD, set, List·getD-eq-default}
 use lib.Seq.{ext-getD, getD-set-same, getD-set-other}
 use Rattle.nat_laws.proofs.Lists.{length-listOf, getD-listOf}
 use Rattle.buffers.specs.Slots.{fill}
@@ -26,6 +26,13 @@ module _ (n s : ℕ) (word : ℕ → ℕ → ℕ) where
       let d : (s * i + a) / s ≡ i = mul-add-div k i a ∙ omega (arith, div-eq-of-lt l) in
       let r : (s * i + a) % s ≡ a = mul-add-mod-self-left s i a ∙ mod-eq-of-lt l in
       getD-listOf n (λ (p : ℕ). word (p / s) (p % s)) (s * i + a) 0 m ∙ (ap (λ (z : ℕ). word z ((s * i + a) % s)) d ∙ ap (word i) r)
+
+  -- a field that is zero, whether or not the list has it
+  pub words-zero : (i a : ℕ) → a < s → word i a ≡ 0 → getD (wordsOf n s word) (s * i + a) 0 ≡ 0
+  words-zero i a l z = go (decLe n (s * i + a)) where
+    go : Dec (n ≤ s * i + a) → getD (wordsOf n s word) (s * i + a) 0 ≡ 0
+    go (yes p) = List·getD-eq-default (wordsOf n s word) 0 (rw length-words p)
+    go (no p) = words-at i a l (omega arith) ∙ z
 
   -- a buffer that holds the fields is that list
   pub words-are : (l : List ℕ) → 0 < s → length l ≡ n → Holds s l word → l ≡ wordsOf n s word

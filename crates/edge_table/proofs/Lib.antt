@@ -3,4 +3,5 @@ pub mod Holding
 pub mod Reading
 pub mod Seeking
 pub mod Turns
+pub mod Unlinking
 pub mod Whole

@@ -1,17 +1,18 @@
 -- The finished table read: each field of an edge, a triangle and a bucket; and that a checked job's mesh is one that it is made of. Assumes nothing.
 use Prim.Native.Nat.{ℕ, _+_, _*_, _<_, _≤_}
 use mathlib.Core.Path.{_≡_, refl, _∙_}
+use mathlib.Core.Bool.{Bool, true, false, cond}
 use mathlib.Core.List.{List}
 use native.Mathlib.Omega.{arith}
-use borrow.Author.Tests.{lt-ltb}
+use borrow.Author.Tests.{lt-ltb, le-ltb}
+use lib.Dec.{ltb}
 use lib.ListN.{length, getD}
 use Rattle.job_checks.specs.Refusals.{maxVertices}
 use Rattle.job_checks.specs.Sound.{ValidTriangles}
 use Rattle.topology.specs.Edges.{noEdge, edges, triEdge, edgeFaces, face}
 use Rattle.edge_table.specs.Words.{lastIn, headWord, edgeRow, edgeWord, triangleWord}
 use Rattle.edge_table.specs.Table.{Mesh, headWords, edgeWords, triangleWords}
-use Rattle.edge_table.proofs.Holding.{words-at}
-use Rattle.edge_table.proofs.Turns.{edge-live, edge-none}
+use Rattle.edge_table.proofs.Holding.{words-at, words-zero}
 
 pub mesh-of : (triangles : List ℕ) (n : ℕ) → ValidTriangles triangles n → n ≤ maxVertices → Mesh triangles n
 mesh-of triangles n s l = record { whole = s .whole; few-triangles = s .few; few-vertices = l; there = s .there }
@@ -20,12 +21,16 @@ mesh-of triangles n s l = record { whole = s .whole; few-triangles = s .few; few
 pub mesh-most : (triangles : List ℕ) (v : ℕ) → Mesh triangles v → Mesh triangles 65535
 mesh-most triangles v m = record { whole = m .whole; few-triangles = m .few-triangles; few-vertices = omega arith; there = λ i l. omega (arith, m .there i l, m .few-vertices) }
 
+no-matter : (b : Bool) → _≡_ {A = ℕ} (cond b 0 0) 0
+no-matter true = refl
+no-matter false = refl
+
 module _ (triangles : List ℕ) (n : ℕ) where
   -- the fields of an edge
   module _ (e : ℕ) (l : e < length (edges triangles)) (fits : 6 * e + 6 ≤ n) where
-    field : (a : ℕ) → a < 6 → getD (edgeWords triangles n) (6 * e + a) 0 ≡ getD (edgeRow (length triangles) (edges triangles) e (edgeFaces triangles e)) a 0
-    unfolding edgeWords
-    field a k = words-at n 6 (edgeWord (length triangles) (edges triangles) (edgeFaces triangles)) e a k (omega arith) ∙ edge-live (length triangles) (edges triangles) (edgeFaces triangles) e a l
+    field : (a : ℕ) → a < 6 → getD (edgeWords triangles n) (6 * e + a) 0 ≡ getD (edgeRow (edges triangles) e (edgeFaces triangles e)) a 0
+    unfolding edgeWords edgeWord
+    field a k = words-at n 6 (edgeWord (edges triangles) (edgeFaces triangles)) e a k (omega arith) ∙ rw (lt-ltb e (length (edges triangles)) l) refl
 
     pub low-read : getD (edgeWords triangles n) (6 * e + 0) 0 ≡ getD (edges triangles) e noEdge .low
     unfolding edgeRow
@@ -43,15 +48,19 @@ module _ (triangles : List ℕ) (n : ℕ) where
     unfolding edgeRow face
     second-face-read = field 3 (omega arith)
 
-    -- no windows yet
-    pub windows-read : getD (edgeWords triangles n) (6 * e + 4) 0 ≡ 0
-    unfolding edgeRow
-    windows-read = field 4 (omega arith)
+  -- no windows yet, and a zero
+  pub windows-read : (e : ℕ) → getD (edgeWords triangles n) (6 * e + 4) 0 ≡ 0
+  unfolding edgeWords edgeWord edgeRow
+  windows-read e = words-zero n 6 (edgeWord (edges triangles) (edgeFaces triangles)) e 4 (omega arith) (no-matter (ltb e (length (edges triangles))))
+
+  pub scratch-read : (e : ℕ) → getD (edgeWords triangles n) (6 * e + 5) 0 ≡ 0
+  unfolding edgeWords edgeWord edgeRow
+  scratch-read e = words-zero n 6 (edgeWord (edges triangles) (edgeFaces triangles)) e 5 (omega arith) (no-matter (ltb e (length (edges triangles))))
 
   -- a slot that no edge takes
   pub untaken-read : (e a : ℕ) → length (edges triangles) ≤ e → a < 6 → 6 * e + a < n → getD (edgeWords triangles n) (6 * e + a) 0 ≡ 0
-  unfolding edgeWords
-  untaken-read e a l k m = words-at n 6 (edgeWord (length triangles) (edges triangles) (edgeFaces triangles)) e a k m ∙ edge-none (length triangles) (edges triangles) (edgeFaces triangles) e a l
+  unfolding edgeWords edgeWord
+  untaken-read e a l k m = words-at n 6 (edgeWord (edges triangles) (edgeFaces triangles)) e a k m ∙ rw (le-ltb e (length (edges triangles)) l) refl
 
   -- the head of a bucket
   pub bucket-read : (b : ℕ) → b < n → getD (headWords triangles n) (1 * b + 0) 0 ≡ lastIn (length triangles) (edges triangles) b (length (edges triangles))
@@ -63,3 +72,8 @@ module _ (triangles : List ℕ) (n : ℕ) where
   unfolding triangleWords triangleWord
   number-read f k lk l m =
       words-at n 6 (triangleWord (length triangles) (triEdge triangles)) f k (omega arith) m ∙ rw (lt-ltb k 3 lk, lt-ltb (3 * f + k) (length triangles) l) refl
+
+  -- what no side takes of a triangle
+  pub spare-read : (f a : ℕ) → 3 ≤ a → a < 6 → getD (triangleWords triangles n) (6 * f + a) 0 ≡ 0
+  unfolding triangleWords triangleWord
+  spare-read f a l k = words-zero n 6 (triangleWord (length triangles) (triEdge triangles)) f a k (rw (le-ltb a 3 l) refl)

@@ -22,9 +22,9 @@ use Rattle.topology.proofs.Edges.{numbered, few-edges, number-kept}
 use Rattle.topology.proofs.Faces.{OfSide, listed-face}
 use Rattle.topology.proofs.Growth.{other-edge, faces-more, faces-same, faces-none, faces-some, third-face}
 use Rattle.edge_table.specs.declared.Table.the-variants.{Edges, ThirdFace}
-use Rattle.edge_table.specs.Words.{bucketOf, lastIn, headWord, edgeRow, edgeWord, triangleWord}
+use Rattle.edge_table.specs.Words.{bucketOf, lastIn, headWord, triangleWord}
 use Rattle.edge_table.specs.Table.{Mesh, LongEnough}
-use Rattle.edge_table.specs.Sides.{Holds, Partial, Turned, Falling, facesSoFar, numberSoFar, seek}
+use Rattle.edge_table.specs.Sides.{Holds, linkedRow, linkedWord, Partial, Turned, Falling, facesSoFar, numberSoFar, seek}
 use Rattle.edge_table.proofs.Buckets.{bucket-below, last-le, last-append, last-new, last-kept}
 use Rattle.edge_table.proofs.Holding.{holds-set, holds-fill}
 use Rattle.edge_table.proofs.Seeking.{Linked, seek-missing, seek-found}
@@ -36,18 +36,18 @@ stored l₀ l₁ l₂ l₃ l₄ l₅ l₆ e a b f n next k p e₁ e₂ e₃ e₄
 
 -- A slot that has an edge, and one that has none.
 module _ (size : ℕ) (es : List Edge) (faces : ℕ → List ℕ) (e a : ℕ) where
-  pub edge-live : e < length es → edgeWord size es faces e a ≡ getD (edgeRow size es e (faces e)) a 0
-  unfolding edgeWord
+  pub edge-live : e < length es → linkedWord size es faces e a ≡ getD (linkedRow size es e (faces e)) a 0
+  unfolding linkedWord
   edge-live l = rw (lt-ltb e (length es) l) refl
 
-  pub edge-none : length es ≤ e → edgeWord size es faces e a ≡ 0
-  unfolding edgeWord
+  pub edge-none : length es ≤ e → linkedWord size es faces e a ≡ 0
+  unfolding linkedWord
   edge-none l = rw (le-ltb e (length es) l) refl
 
 -- The row of an edge: its faces count, and of the list the edges up to it.
 module _ (size : ℕ) (es : List Edge) (e : ℕ) where
-  row-faces : (fs gs : List ℕ) (a : ℕ) → a ≢ 3 → getD fs 0 noFace ≡ getD gs 0 noFace → getD (edgeRow size es e fs) a 0 ≡ getD (edgeRow size es e gs) a 0
-  unfolding edgeRow
+  row-faces : (fs gs : List ℕ) (a : ℕ) → a ≢ 3 → getD fs 0 noFace ≡ getD gs 0 noFace → getD (linkedRow size es e fs) a 0 ≡ getD (linkedRow size es e gs) a 0
+  unfolding linkedRow
   row-faces fs gs zero n q = refl
   row-faces fs gs (suc zero) n q = refl
   row-faces fs gs (suc (suc zero)) n q = q
@@ -55,16 +55,16 @@ module _ (size : ℕ) (es : List Edge) (e : ℕ) where
   row-faces fs gs (suc (suc (suc (suc zero)))) n q = refl
   row-faces fs gs (suc (suc (suc (suc (suc a))))) n q = refl
 
-  row-second : (fs : List ℕ) → getD (edgeRow size es e fs) 3 0 ≡ getD fs 1 noFace
-  unfolding edgeRow
+  row-second : (fs : List ℕ) → getD (linkedRow size es e fs) 3 0 ≡ getD fs 1 noFace
+  unfolding linkedRow
   row-second fs = refl
 
-  row-append : (xs : List Edge) (fs : List ℕ) → e < length es → edgeRow size (es ++ xs) e fs ≡ edgeRow size es e fs
-  unfolding edgeRow
+  row-append : (xs : List Edge) (fs : List ℕ) → e < length es → linkedRow size (es ++ xs) e fs ≡ linkedRow size es e fs
+  unfolding linkedRow
   row-append xs fs l = rw (List·getD-append es xs noEdge e l, last-append size es (bucketOf size (getD es e noEdge)) xs e (omega arith)) refl
 
-  row-last : (x : Edge) (f : ℕ) → e ≡ length es → edgeRow size (es ++ (x ∷ [])) e (f ∷ []) ≡ x .low ∷ x .high ∷ f ∷ noFace ∷ 0 ∷ lastIn size es (bucketOf size x) (length es) ∷ []
-  unfolding edgeRow
+  row-last : (x : Edge) (f : ℕ) → e ≡ length es → linkedRow size (es ++ (x ∷ [])) e (f ∷ []) ≡ x .low ∷ x .high ∷ f ∷ noFace ∷ 0 ∷ lastIn size es (bucketOf size x) (length es) ∷ []
+  unfolding linkedRow
   row-last x f q = rw (q, getD-append-seam es x [] noEdge, last-append size es (bucketOf size x) (x ∷ []) (length es) (omega arith)) refl
 
 past : (n j : ℕ) → n ≤ j → (j ≡ n → ⊥) → n < j
@@ -127,14 +127,14 @@ module _ (triangles : List ℕ) (h k : ℕ) (number : find (sideEdge triangles h
 -- The buffers after h sides, read.
 module _ (triangles : List ℕ) (size h : ℕ) (heads edge triangle : List ℕ) (p : Partial triangles size h heads edge triangle) where
   pub links-fall : Falling edge
-  unfolding edgeRow
+  unfolding linkedRow
   links-fall e = go (decLe (length (edgesOf triangles h)) e) where
     go : Dec (length (edgesOf triangles h) ≤ e) → getD edge (6 * e + 5) 0 ≤ e
     go (yes l) = omega (arith, p .edge-words e 5 (omega arith) ∙ edge-none size (edgesOf triangles h) (facesSoFar triangles h) e 5 l)
     go (no l) = omega (arith, p .edge-words e 5 (omega arith) ∙ edge-live size (edgesOf triangles h) (facesSoFar triangles h) e 5 (omega arith), last-le size (edgesOf triangles h) (bucketOf size (getD (edgesOf triangles h) e noEdge)) e)
 
   linked : Linked size (edgesOf triangles h) edge
-  unfolding edgeRow
+  unfolding linkedRow
   linked =
       record {
         low-at = λ e l. p .edge-words e 0 (omega arith) ∙ edge-live size (edgesOf triangles h) (facesSoFar triangles h) e 0 l;
@@ -174,12 +174,12 @@ facesIn triangles es n j = facesAmong triangles (getD es j noEdge) n
 
 -- The buffers after one more side, whose edges are es.
 module _ (triangles : List ℕ) (size h : ℕ) (es : List Edge) (e : edgesOf triangles (suc h) ≡ es) where
-  partial : (heads edge triangle : List ℕ) → Holds 1 heads (headWord size es) → Holds 6 edge (edgeWord size es (facesIn triangles es (suc h))) → Holds 6 triangle (triangleWord (suc h) (numberSoFar triangles (suc h))) → ((j : ℕ) → j < length es → length (facesIn triangles es (suc h) j) ≤ 2) → Partial triangles size (suc h) heads edge triangle
+  partial : (heads edge triangle : List ℕ) → Holds 1 heads (headWord size es) → Holds 6 edge (linkedWord size es (facesIn triangles es (suc h))) → Holds 6 triangle (triangleWord (suc h) (numberSoFar triangles (suc h))) → ((j : ℕ) → j < length es → length (facesIn triangles es (suc h) j) ≤ 2) → Partial triangles size (suc h) heads edge triangle
   unfolding facesSoFar
   partial heads edge triangle a b c d =
       record {
         head-words = subst (λ (z : List Edge). Holds 1 heads (headWord size z)) (sym e) a;
-        edge-words = subst (λ (z : List Edge). Holds 6 edge (edgeWord size z (facesIn triangles z (suc h)))) (sym e) b;
+        edge-words = subst (λ (z : List Edge). Holds 6 edge (linkedWord size z (facesIn triangles z (suc h)))) (sym e) b;
         triangle-words = c;
         two-faces = subst (λ (z : List Edge). (j : ℕ) → j < length z → length (facesIn triangles z (suc h) j) ≤ 2) (sym e) d;
       }
@@ -243,15 +243,15 @@ module _ (triangles : List ℕ) (size h : ℕ) (heads edge triangle : List ℕ) 
             let n : 1 < length (facesAmong triangles (sideEdge triangles h) h) = omega (arith, ap length faces-before) in
             absurd (face-small (sideEdge triangles h) 1 n (ap (λ (fs : List ℕ). getD fs 1 noFace) (sym faces-before) ∙ (sym (second-at triangles size h heads edge triangle p e there) ∙ vacant)))
 
-      second-here : edgeWord size (edgesOf triangles h) (facesIn triangles (edgesOf triangles h) (suc h)) e 3 ≡ h / 3
+      second-here : linkedWord size (edgesOf triangles h) (facesIn triangles (edgesOf triangles h) (suc h)) e 3 ≡ h / 3
       second-here =
           edge-live size (edgesOf triangles h) (facesIn triangles (edgesOf triangles h) (suc h)) e 3 there
           ∙ (row-second size (edgesOf triangles h) e (facesIn triangles (edgesOf triangles h) (suc h) e)
           ∙ (ap (λ (fs : List ℕ). getD fs 1 noFace) faces-after ∙ second-face (facesSoFar triangles h e) (h / 3) one-face .1 .0))
 
-      others : (j b : ℕ) → b < 6 → (j ≡ e → b ≡ 3 → ⊥) → edgeWord size (edgesOf triangles h) (facesIn triangles (edgesOf triangles h) (suc h)) j b ≡ edgeWord size (edgesOf triangles h) (facesSoFar triangles h) j b
+      others : (j b : ℕ) → b < 6 → (j ≡ e → b ≡ 3 → ⊥) → linkedWord size (edgesOf triangles h) (facesIn triangles (edgesOf triangles h) (suc h)) j b ≡ linkedWord size (edgesOf triangles h) (facesSoFar triangles h) j b
       others j b k ne = go (decLe (length (edgesOf triangles h)) j) (ℕ-discrete j e) where
-        go : Dec (length (edgesOf triangles h) ≤ j) → Dec (j ≡ e) → edgeWord size (edgesOf triangles h) (facesIn triangles (edgesOf triangles h) (suc h)) j b ≡ edgeWord size (edgesOf triangles h) (facesSoFar triangles h) j b
+        go : Dec (length (edgesOf triangles h) ≤ j) → Dec (j ≡ e) → linkedWord size (edgesOf triangles h) (facesIn triangles (edgesOf triangles h) (suc h)) j b ≡ linkedWord size (edgesOf triangles h) (facesSoFar triangles h) j b
         go (yes n) q = edge-none size (edgesOf triangles h) (facesIn triangles (edgesOf triangles h) (suc h)) j b n ∙ sym (edge-none size (edgesOf triangles h) (facesSoFar triangles h) j b n)
         go (no n) (yes q) =
             edge-live size (edgesOf triangles h) (facesIn triangles (edgesOf triangles h) (suc h)) j b (omega arith)
@@ -260,7 +260,7 @@ module _ (triangles : List ℕ) (size h : ℕ) (heads edge triangle : List ℕ) 
             ∙ sym (edge-live size (edgesOf triangles h) (facesSoFar triangles h) j b (omega arith)))
         go (no n) (no q) =
             edge-live size (edgesOf triangles h) (facesIn triangles (edgesOf triangles h) (suc h)) j b (omega arith)
-            ∙ (ap (λ (fs : List ℕ). getD (edgeRow size (edgesOf triangles h) j fs) b 0) (faces-kept j (omega arith) (λ z. q (sym z ∙ number)))
+            ∙ (ap (λ (fs : List ℕ). getD (linkedRow size (edgesOf triangles h) j fs) b 0) (faces-kept j (omega arith) (λ z. q (sym z ∙ number)))
             ∙ sym (edge-live size (edgesOf triangles h) (facesSoFar triangles h) j b (omega arith)))
 
       still-two : (j : ℕ) → j < length (edgesOf triangles h) → length (facesIn triangles (edgesOf triangles h) (suc h) j) ≤ 2
@@ -273,7 +273,7 @@ module _ (triangles : List ℕ) (size h : ℕ) (heads edge triangle : List ℕ) 
       found-turn =
           partial triangles size h (edgesOf triangles h) same-edges heads (set edge (6 * e + 3) (h / 3)) (set triangle (6 * (h / 3) + h % 3) e)
           (p .head-words)
-          (holds-set 6 edge (edgeWord size (edgesOf triangles h) (facesSoFar triangles h)) (edgeWord size (edgesOf triangles h) (facesIn triangles (edgesOf triangles h) (suc h))) (p .edge-words) e 3 (h / 3) (omega arith) (omega (arith, edge-fits e (omega arith))) second-here others)
+          (holds-set 6 edge (linkedWord size (edgesOf triangles h) (facesSoFar triangles h)) (linkedWord size (edgesOf triangles h) (facesIn triangles (edgesOf triangles h) (suc h))) (p .edge-words) e 3 (h / 3) (omega arith) (omega (arith, edge-fits e (omega arith))) second-here others)
           (numbers-turn triangles h e same-number triangle number-fits (p .triangle-words))
           still-two
 
@@ -314,21 +314,21 @@ module _ (triangles : List ℕ) (size h : ℕ) (heads edge triangle : List ℕ) 
     old-faces j k =
         ap (λ (x : Edge). facesAmong triangles x (suc h)) (List·getD-append (edgesOf triangles h) (sideEdge triangles h ∷ []) noEdge j k) ∙ faces-kept j k (omega arith)
 
-    new-row : (a : ℕ) → a < 6 → edgeWord size grown (facesIn triangles grown (suc h)) (length (edgesOf triangles h)) a ≡ getD (sideEdge triangles h .low ∷ sideEdge triangles h .high ∷ h / 3 ∷ noFace ∷ 0 ∷ lastIn size (edgesOf triangles h) (bucketOf size (sideEdge triangles h)) (length (edgesOf triangles h)) ∷ []) a 0
+    new-row : (a : ℕ) → a < 6 → linkedWord size grown (facesIn triangles grown (suc h)) (length (edgesOf triangles h)) a ≡ getD (sideEdge triangles h .low ∷ sideEdge triangles h .high ∷ h / 3 ∷ noFace ∷ 0 ∷ lastIn size (edgesOf triangles h) (bucketOf size (sideEdge triangles h)) (length (edgesOf triangles h)) ∷ []) a 0
     new-row a k =
         edge-live size grown (facesIn triangles grown (suc h)) (length (edgesOf triangles h)) a (omega (arith, one-more))
-        ∙ (ap (λ (fs : List ℕ). getD (edgeRow size grown (length (edgesOf triangles h)) fs) a 0) new-faces
+        ∙ (ap (λ (fs : List ℕ). getD (linkedRow size grown (length (edgesOf triangles h)) fs) a 0) new-faces
         ∙ ap (λ (r : List ℕ). getD r a 0) (row-last size (edgesOf triangles h) (length (edgesOf triangles h)) (sideEdge triangles h) (h / 3) refl))
 
-    rows-kept : (j b : ℕ) → b < 6 → (j ≡ length (edgesOf triangles h) → ⊥) → edgeWord size grown (facesIn triangles grown (suc h)) j b ≡ edgeWord size (edgesOf triangles h) (facesSoFar triangles h) j b
+    rows-kept : (j b : ℕ) → b < 6 → (j ≡ length (edgesOf triangles h) → ⊥) → linkedWord size grown (facesIn triangles grown (suc h)) j b ≡ linkedWord size (edgesOf triangles h) (facesSoFar triangles h) j b
     rows-kept j b k ne = go (decLe (length (edgesOf triangles h)) j) where
-      go : Dec (length (edgesOf triangles h) ≤ j) → edgeWord size grown (facesIn triangles grown (suc h)) j b ≡ edgeWord size (edgesOf triangles h) (facesSoFar triangles h) j b
+      go : Dec (length (edgesOf triangles h) ≤ j) → linkedWord size grown (facesIn triangles grown (suc h)) j b ≡ linkedWord size (edgesOf triangles h) (facesSoFar triangles h) j b
       go (yes n) =
           let n′ : length (edgesOf triangles h) < j = past (length (edgesOf triangles h)) j n ne in
           edge-none size grown (facesIn triangles grown (suc h)) j b (omega (arith, one-more)) ∙ sym (edge-none size (edgesOf triangles h) (facesSoFar triangles h) j b n)
       go (no n) =
           edge-live size grown (facesIn triangles grown (suc h)) j b (omega (arith, one-more))
-          ∙ (ap (λ (fs : List ℕ). getD (edgeRow size grown j fs) b 0) (old-faces j (omega arith))
+          ∙ (ap (λ (fs : List ℕ). getD (linkedRow size grown j fs) b 0) (old-faces j (omega arith))
           ∙ (ap (λ (r : List ℕ). getD r b 0) (row-append size (edgesOf triangles h) j (sideEdge triangles h ∷ []) (facesSoFar triangles h j) (omega arith))
           ∙ sym (edge-live size (edgesOf triangles h) (facesSoFar triangles h) j b (omega arith))))
 
@@ -347,7 +347,7 @@ module _ (triangles : List ℕ) (size h : ℕ) (heads edge triangle : List ℕ) 
     new-turn =
         partial triangles size h grown more-edges _ _ _
         (holds-set 1 heads (headWord size (edgesOf triangles h)) (headWord size grown) (p .head-words) (bucketOf size (sideEdge triangles h)) 0 (suc (length (edgesOf triangles h))) (omega arith) bucket-fits head-here heads-kept)
-        (holds-fill 6 edge (edgeWord size (edgesOf triangles h) (facesSoFar triangles h)) (edgeWord size grown (facesIn triangles grown (suc h))) (p .edge-words) (length (edgesOf triangles h)) _ refl (edge-fits (length (edgesOf triangles h)) (omega arith)) new-row rows-kept)
+        (holds-fill 6 edge (linkedWord size (edgesOf triangles h) (facesSoFar triangles h)) (linkedWord size grown (facesIn triangles grown (suc h))) (p .edge-words) (length (edgesOf triangles h)) _ refl (edge-fits (length (edgesOf triangles h)) (omega arith)) new-row rows-kept)
         (numbers-turn triangles h (length (edgesOf triangles h)) new-last triangle number-fits (p .triangle-words))
         all-two
 

@@ -6,24 +6,25 @@ use mathlib.Core.List.{List, []}
 use native.Mathlib.Omega.{arith}
 use borrow.Author.Tests.{le-ltb}
 use lib.Dec.{ltb}
-use lib.ListN.{length, replicate, length-replicate}
+use lib.ListN.{length, replicate}
 use Rattle.topology.specs.Edges.{edgesOf, edges, triEdge, edgeFaces, sharedByThree}
 use Rattle.topology.proofs.Growth.{no-third-face}
 use Rattle.edge_table.specs.declared.Table.{Table}
 use Rattle.edge_table.specs.declared.Table.the-variants.{Edges, ThirdFace}
 use Rattle.edge_table.specs.Words.{lastIn, headWord, edgeWord, triangleWord}
-use Rattle.edge_table.specs.Table.{LongEnough, Filled, Built, tableOf, headWords, edgeWords, triangleWords}
-use Rattle.edge_table.specs.Sides.{Partial, Turned, facesSoFar, numberSoFar}
+use Rattle.edge_table.specs.Table.{Mesh, LongEnough, Built, tableOf, headWords, edgeWords, triangleWords}
+use Rattle.edge_table.specs.Sides.{linkedWord, withoutLinks, Partial, Turned, Blank, facesSoFar, numberSoFar}
 use Rattle.buffers.proofs.Zeroing.{zero-at}
 use Rattle.edge_table.proofs.Holding.{words-are}
+use Rattle.edge_table.proofs.Unlinking.{length-unlinked, unlinked}
 
 module _ (triangles : List ℕ) (size : ℕ) where
   no-heads : (b a : ℕ) → headWord size [] b a ≡ 0
   unfolding headWord lastIn
   no-heads b a = refl
 
-  no-edges : (faces : ℕ → List ℕ) (e a : ℕ) → edgeWord size [] faces e a ≡ 0
-  unfolding edgeWord
+  no-edges : (faces : ℕ → List ℕ) (e a : ℕ) → linkedWord size [] faces e a ≡ 0
+  unfolding linkedWord
   no-edges faces e a = rw (le-ltb e 0 (omega arith)) refl
 
   no-numbers : (number : ℕ → ℕ) (f a : ℕ) → triangleWord 0 number f a ≡ 0
@@ -46,34 +47,39 @@ module _ (triangles : List ℕ) (size : ℕ) where
   unfolding edgesOf
   none-counted = refl
 
-  module _ (heads₀ edge₀ triangle₀ heads edge triangle : List ℕ) where
-    -- an edge had a third face
-    pub built-third : sharedByThree triangles ≡ true → Built triangles ThirdFace heads₀ edge₀ triangle₀ heads edge triangle
-    unfolding tableOf
-    built-third q =
+  -- an edge had a third face
+  pub built-third : (heads₀ edge₀ triangle₀ heads edge triangle : List ℕ) → sharedByThree triangles ≡ true → heads ≡ replicate (length heads₀) 0 → edge ≡ replicate (length edge₀) 0 → triangle ≡ replicate (length triangle₀) 0 → Built triangles ThirdFace heads₀ edge₀ triangle₀ heads edge triangle
+  unfolding tableOf
+  built-third heads₀ edge₀ triangle₀ heads edge triangle q eh ee et = record { answer = rw q refl; head-words = rw q eh; edge-words = rw q ee; triangle-words = rw q et }
+
+  -- all sides were entered, and then the links zeroed
+  module _ (heads₀ edge₀ triangle₀ heads edge triangle edge′ : List ℕ) (lh : length heads ≡ length heads₀) (le : length edge ≡ length edge₀) (lt : length triangle ≡ length triangle₀) (p : Partial triangles (length triangles) (length triangles) heads edge triangle) where
+    two : sharedByThree triangles ≡ false
+    unfolding edges edgeFaces facesSoFar
+    two = no-third-face triangles (p .two-faces)
+
+    pub built-all : (count : ℕ) → count ≡ length (edgesOf triangles (length triangles)) → edge′ ≡ withoutLinks count edge → Built triangles (Edges count) heads₀ edge₀ triangle₀ heads edge′ triangle
+    unfolding tableOf edges edgeFaces triEdge facesSoFar numberSoFar headWords edgeWords triangleWords
+    built-all count e z =
+        let z′ : edge′ ≡ withoutLinks (length (edges triangles)) edge = z ∙ rw e refl in
         record {
-          answer = rw q refl;
-          words = λ n. absurd (let z : _≡_ {A = ℕ} 0 1 = cc in omega arith);
+          answer = rw (two, e) refl;
+          head-words = rw two (words-are (length heads₀) 1 (headWord (length triangles) (edges triangles)) heads (omega arith) lh (p .head-words));
+          edge-words =
+              rw two
+              (words-are (length edge₀) 6 (edgeWord (edges triangles) (edgeFaces triangles)) edge′ (omega arith) (ap length z′ ∙ (length-unlinked edge (length (edges triangles)) ∙ le))
+              (rw z′ (unlinked (length triangles) (edges triangles) (edgeFaces triangles) edge (p .edge-words))));
+          triangle-words = rw two (words-are (length triangle₀) 6 (triangleWord (length triangles) (triEdge triangles)) triangle (omega arith) lt (p .triangle-words));
         }
 
-    -- all sides were entered
-    module _ (lv : length heads ≡ length heads₀) (le : length edge ≡ length edge₀) (lt : length triangle ≡ length triangle₀) (p : Partial triangles (length triangles) (length triangles) heads edge triangle) where
-      two : sharedByThree triangles ≡ false
-      unfolding edges edgeFaces facesSoFar
-      two = no-third-face triangles (p .two-faces)
+  -- the answer after all sides
+  pub third-turned : (h : ℕ) (heads edge triangle : List ℕ) → sharedByThree triangles ≡ true → Turned triangles size h heads edge triangle ThirdFace
+  unfolding Turned
+  third-turned h heads edge triangle q = q
 
-      all-words : Filled triangles heads₀ edge₀ triangle₀ heads edge triangle
-      unfolding edges edgeFaces triEdge facesSoFar numberSoFar headWords edgeWords triangleWords
-      all-words =
-          record {
-            head-words = words-are (length heads₀) 1 (headWord (length triangles) (edges triangles)) heads (omega arith) lv (p .head-words);
-            edge-words = words-are (length edge₀) 6 (edgeWord (length triangles) (edges triangles) (edgeFaces triangles)) edge (omega arith) le (p .edge-words);
-            triangle-words = words-are (length triangle₀) 6 (triangleWord (length triangles) (triEdge triangles)) triangle (omega arith) lt (p .triangle-words);
-          }
-
-      pub built-all : (count : ℕ) → count ≡ length (edgesOf triangles (length triangles)) → Built triangles (Edges count) heads₀ edge₀ triangle₀ heads edge triangle
-      unfolding tableOf edges
-      built-all count e = record { answer = rw (two, e) refl; words = λ n. all-words }
+  pub all-turned : (h k count : ℕ) (heads edge triangle : List ℕ) → h ≡ k → count ≡ length (edgesOf triangles h) → Partial triangles size h heads edge triangle → Turned triangles size k heads edge triangle (Edges count)
+  unfolding Turned
+  all-turned h k count heads edge triangle q e p = rw (← q) (e, p)
 
   -- What a side's answer says.
   module _ (h : ℕ) (heads edge triangle : List ℕ) (r : Table) (said : Turned triangles size h heads edge triangle r) where
@@ -85,9 +91,9 @@ module _ (triangles : List ℕ) (size : ℕ) where
     unfolding Turned
     turned-on n q = rw q at said
 
--- a buffer that is as long as it was when it was zeroed
-pub as-long : (words zeroed at-entry : List ℕ) → length words ≡ length zeroed → zeroed ≡ replicate (length at-entry) 0 → length words ≡ length at-entry
-as-long words zeroed at-entry l z = l ∙ (ap length z ∙ length-replicate (length at-entry) 0)
+-- zeros by how many they are
+pub same-zeros : {m n : ℕ} → m ≡ n → replicate {A = ℕ} m 0 ≡ replicate n 0
+same-zeros e = ap (λ (k : ℕ). replicate {A = ℕ} k 0) e
 
 pub still-long : (triangles : List ℕ) (a b c a′ b′ c′ : ℕ) → LongEnough triangles a b c → a′ ≡ a → b′ ≡ b → c′ ≡ c → LongEnough triangles a′ b′ c′
 still-long triangles a b c a′ b′ c′ l p q r = rw (p, q, r) l

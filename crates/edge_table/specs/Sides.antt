@@ -2,18 +2,37 @@
 use Prim.Native.Nat.{ℕ, zero, suc, _+_, _*_, _<_, _≤_}
 use mathlib.Core.Path.{_≡_}
 use mathlib.Core.Bool.{true, cond, _&&_}
-use mathlib.Core.List.{List}
-use lib.Dec.{eqb}
-use lib.ListN.{length, getD}
-use Rattle.topology.specs.Edges.{noEdge, sideEdge, find, edgesOf, facesAmong, sharedByThree}
+use mathlib.Core.List.{List, [], _∷_}
+use lib.Dec.{ltb, eqb}
+use lib.ListN.{length, getD, set}
+use Rattle.topology.specs.Edges.{Edge, noEdge, noFace, sideEdge, find, edgesOf, facesAmong, sharedByThree}
 use Rattle.edge_table.specs.declared.Table.{Table}
 use Rattle.edge_table.specs.declared.Table.the-variants.{Edges, ThirdFace}
-use Rattle.edge_table.specs.Words.{headWord, edgeWord, triangleWord}
+use Rattle.edge_table.specs.Words.{bucketOf, lastIn, headWord, triangleWord}
 use Rattle.edge_table.specs.Table.{Mesh, LongEnough}
 
 -- Every field a of every slot i of a buffer, whether or not it has the slot.
 abbrev pub Holds : ℕ → List ℕ → (ℕ → ℕ → ℕ) → Type 0
 Holds s words word = (i a : ℕ) → a < s → getD words (s * i + a) 0 ≡ word i a
+
+-- the fields of edge e while edges are entered: the last is the link to the next edge of its bucket
+unfoldable pub linkedRow : ℕ → List Edge → ℕ → List ℕ → List ℕ
+linkedRow size es e fs =
+    getD es e noEdge .low
+    ∷ getD es e noEdge .high
+    ∷ getD fs 0 noFace
+    ∷ getD fs 1 noFace
+    ∷ 0
+    ∷ lastIn size es (bucketOf size (getD es e noEdge)) e
+    ∷ []
+
+unfoldable pub linkedWord : ℕ → List Edge → (ℕ → List ℕ) → ℕ → ℕ → ℕ
+linkedWord size es faces e a = cond (ltb e (length es)) (getD (linkedRow size es e (faces e)) a 0) 0
+
+-- the edges' words with the links of the first n edges zeroed
+unfoldable pub withoutLinks : ℕ → List ℕ → List ℕ
+withoutLinks zero words = words
+withoutLinks (suc e) words = set (withoutLinks e words) (6 * e + 5) 0
 
 -- The buffers after the first h sides.
 module _ (triangles : List ℕ) (h : ℕ) where
@@ -26,7 +45,7 @@ module _ (triangles : List ℕ) (h : ℕ) where
 
 pub record Partial (triangles : List ℕ) (size h : ℕ) (heads edge triangle : List ℕ) : Type 0 where
   pub head-words : Holds 1 heads (headWord size (edgesOf triangles h))
-  pub edge-words : Holds 6 edge (edgeWord size (edgesOf triangles h) (facesSoFar triangles h))
+  pub edge-words : Holds 6 edge (linkedWord size (edgesOf triangles h) (facesSoFar triangles h))
   pub triangle-words : Holds 6 triangle (triangleWord h (numberSoFar triangles h))
   pub two-faces : (e : ℕ) → e < length (edgesOf triangles h) → length (facesSoFar triangles h e) ≤ 2
 
@@ -37,6 +56,12 @@ pub record Ready (triangles : List ℕ) (h count : ℕ) (heads edge triangle : L
   pub side : h < length triangles
   pub counted : count ≡ length (edgesOf triangles h)
   pub words : Partial triangles (length triangles) h heads edge triangle
+
+-- What all sides are entered into: the buffers before any.
+pub record Blank (triangles heads edge triangle : List ℕ) : Type 0 where
+  pub mesh : Mesh triangles 65535
+  pub long : LongEnough triangles (length heads) (length edge) (length triangle)
+  pub words : Partial triangles (length triangles) 0 heads edge triangle
 
 -- The answer after h sides.
 unfoldable pub Turned : List ℕ → ℕ → ℕ → List ℕ → List ℕ → List ℕ → Table → Type 0

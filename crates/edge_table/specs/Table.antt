@@ -1,9 +1,9 @@
 -- The edge table of a mesh: the answer and the three buffers. Definitions only.
 use Prim.Native.Nat.{ℕ, _*_, _/_, _<_, _≤_}
 use mathlib.Core.Path.{_≡_}
-use mathlib.Core.Bool.{false, cond}
+use mathlib.Core.Bool.{cond}
 use mathlib.Core.List.{List}
-use lib.ListN.{length, getD}
+use lib.ListN.{length, getD, replicate}
 use Rattle.topology.specs.Edges.{edges, triEdge, edgeFaces, sharedByThree}
 use Rattle.edge_table.specs.declared.Table.{Table}
 use Rattle.edge_table.specs.declared.Table.the-variants.{Edges, ThirdFace}
@@ -29,19 +29,19 @@ tableOf triangles = cond (sharedByThree triangles) ThirdFace (Edges (length (edg
 unfoldable pub triangleWords : List ℕ → ℕ → List ℕ
 triangleWords triangles n = wordsOf n 6 (triangleWord (length triangles) (triEdge triangles))
 
-module _ (triangles : List ℕ) where
-  unfoldable pub headWords : ℕ → List ℕ
-  headWords n = wordsOf n 1 (headWord (length triangles) (edges triangles))
+unfoldable pub headWords : List ℕ → ℕ → List ℕ
+headWords triangles n = wordsOf n 1 (headWord (length triangles) (edges triangles))
 
-  unfoldable pub edgeWords : ℕ → List ℕ
-  edgeWords n = wordsOf n 6 (edgeWord (length triangles) (edges triangles) (edgeFaces triangles))
+unfoldable pub edgeWords : List ℕ → ℕ → List ℕ
+edgeWords triangles n = wordsOf n 6 (edgeWord (edges triangles) (edgeFaces triangles))
 
-  -- What the buffers hold where no edge lies in more than two triangles, against what they held before, which counts by its length alone.
-  pub record Filled (heads₀ edge₀ triangle₀ heads edge triangle : List ℕ) : Type 0 where
-    pub head-words : heads ≡ headWords (length heads₀)
-    pub edge-words : edge ≡ edgeWords (length edge₀)
-    pub triangle-words : triangle ≡ triangleWords triangles (length triangle₀)
+-- zeros where an edge lies in more than two triangles
+abbrev pub unlessThird : List ℕ → ℕ → (List ℕ → ℕ → List ℕ) → List ℕ
+unlessThird triangles n words = cond (sharedByThree triangles) (replicate n 0) (words triangles n)
 
-  pub record Built (r : Table) (heads₀ edge₀ triangle₀ heads edge triangle : List ℕ) : Type 0 where
-    pub answer : r ≡ tableOf triangles
-    pub words : sharedByThree triangles ≡ false → Filled heads₀ edge₀ triangle₀ heads edge triangle
+-- The answer, and what the buffers hold against what they held before, which counts by its length alone.
+pub record Built (triangles : List ℕ) (r : Table) (heads₀ edge₀ triangle₀ heads edge triangle : List ℕ) : Type 0 where
+  pub answer : r ≡ tableOf triangles
+  pub head-words : heads ≡ unlessThird triangles (length heads₀) headWords
+  pub edge-words : edge ≡ unlessThird triangles (length edge₀) edgeWords
+  pub triangle-words : triangle ≡ unlessThird triangles (length triangle₀) triangleWords

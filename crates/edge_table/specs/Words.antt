@@ -29,19 +29,12 @@ lastIn size es b (suc n) = cond (eqb (bucketOf size (getD es n noEdge)) b) (suc 
 unfoldable pub headWord : ℕ → List Edge → ℕ → ℕ → ℕ
 headWord size es b a = lastIn size es b (length es)
 
--- the fields of edge e, whose faces are fs: its ends, its first and its second face, no windows, the next edge of its bucket
-unfoldable pub edgeRow : ℕ → List Edge → ℕ → List ℕ → List ℕ
-edgeRow size es e fs =
-    getD es e noEdge .low
-    ∷ getD es e noEdge .high
-    ∷ getD fs 0 noFace
-    ∷ getD fs 1 noFace
-    ∷ 0
-    ∷ lastIn size es (bucketOf size (getD es e noEdge)) e
-    ∷ []
+-- the fields of edge e, whose faces are fs: its ends, its first and its second face, no windows, and a zero
+unfoldable pub edgeRow : List Edge → ℕ → List ℕ → List ℕ
+edgeRow es e fs = getD es e noEdge .low ∷ getD es e noEdge .high ∷ getD fs 0 noFace ∷ getD fs 1 noFace ∷ 0 ∷ 0 ∷ []
 
-unfoldable pub edgeWord : ℕ → List Edge → (ℕ → List ℕ) → ℕ → ℕ → ℕ
-edgeWord size es faces e a = cond (ltb e (length es)) (getD (edgeRow size es e (faces e)) a 0) 0
+unfoldable pub edgeWord : List Edge → (ℕ → List ℕ) → ℕ → ℕ → ℕ
+edgeWord es faces e a = cond (ltb e (length es)) (getD (edgeRow es e (faces e)) a 0) 0
 
 -- field a of triangle f, where sides below n have the numbers of their edges
 unfoldable pub triangleWord : ℕ → (ℕ → ℕ) → ℕ → ℕ → ℕ

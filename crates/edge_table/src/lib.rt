@@ -15,7 +15,7 @@ ghost use lib.ListN.{length, getD, set};
 ghost use Rattle.buffers.specs.Slots.{fill};
 ghost use Rattle.edge_table.specs.Words.{bucketOf};
 ghost use Rattle.edge_table.specs.Table.{Mesh, LongEnough, Built};
-ghost use Rattle.edge_table.specs.Sides.{Ready, Turned, Falling, seek};
+ghost use Rattle.edge_table.specs.Sides.{withoutLinks, Ready, Blank, Turned, Falling, seek};
 
 // How many edges there are, or document 01's refusal 10: an edge lies in more than two triangles.
 pub enum Table {
@@ -119,22 +119,16 @@ fn enter_side(
     Table::Edges(count)
 }
 
-// The table of a mesh whose triangles were checked. Where an edge lies in more than two triangles the buffers are left as they are then.
-pub fn build(
+// All sides, in buffers that are zero.
+fn enter_sides(
     triangles: &[u32],
     heads: &mut [u32],
     edge_words: &mut [u32],
     triangle_words: &mut [u32],
 ) -> Table
-    requires { ⌜ Mesh (now triangles) 65535
-        × LongEnough (now triangles) (length (now heads)) (length (now «edge_words»)) (length (now «triangle_words»)) ⌝ }
-    ensures { λ r. ⌜ Built (now (triangles .entry)) r
-        (now (heads .entry)) (now («edge_words» .entry)) (now («triangle_words» .entry))
-        (now (heads .exit)) (now («edge_words» .exit)) (now («triangle_words» .exit)) ⌝ }
+    requires { ⌜ Blank (now triangles) (now heads) (now «edge_words») (now «triangle_words») ⌝ }
+    ensures { λ r. ⌜ Turned (now (triangles .entry)) (length (now (triangles .entry))) (length (now (triangles .entry))) (now (heads .exit)) (now («edge_words» .exit)) (now («triangle_words» .exit)) r ⌝ }
 {
-    zero_u32(heads);
-    zero_u32(edge_words);
-    zero_u32(triangle_words);
     let sides = triangles.len() as u32;
     let mut count: u32 = 0;
     let mut h: u32 = 0;
@@ -150,4 +144,45 @@ pub fn build(
         h += 1;
     }
     Table::Edges(count)
+}
+
+// The links of the first `count` edges, which are wanted no longer.
+fn clear_links(edge_words: &mut [u32], count: u32)
+    ensures { λ r. ⌜ now («edge_words» .exit) ≡ withoutLinks count (now («edge_words» .entry)) ⌝ }
+{
+    let mut e: u32 = 0;
+    while e < count {
+        write_u32(edge_words, 6, e, 5, 0);
+        e += 1;
+    }
+}
+
+// The table of a mesh whose triangles were checked. Where an edge lies in more than two triangles the buffers are zero.
+pub fn build(
+    triangles: &[u32],
+    heads: &mut [u32],
+    edge_words: &mut [u32],
+    triangle_words: &mut [u32],
+) -> Table
+    requires { ⌜ Mesh (now triangles) 65535
+        × LongEnough (now triangles) (length (now heads)) (length (now «edge_words»)) (length (now «triangle_words»)) ⌝ }
+    ensures { λ r. ⌜ Built (now (triangles .entry)) r
+        (now (heads .entry)) (now («edge_words» .entry)) (now («triangle_words» .entry))
+        (now (heads .exit)) (now («edge_words» .exit)) (now («triangle_words» .exit)) ⌝ }
+{
+    zero_u32(heads);
+    zero_u32(edge_words);
+    zero_u32(triangle_words);
+    match enter_sides(triangles, heads, edge_words, triangle_words) {
+        Table::Edges(count) => {
+            clear_links(edge_words, count);
+            Table::Edges(count)
+        }
+        Table::ThirdFace => {
+            zero_u32(heads);
+            zero_u32(edge_words);
+            zero_u32(triangle_words);
+            Table::ThirdFace
+        }
+    }
 }

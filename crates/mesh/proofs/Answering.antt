@@ -59,9 +59,9 @@ module _ (j : Job) (others : OtherCounts) (before : MeshBuffers) where
     then-third : sharedByThree (j .triangles) ≡ true → meshRefusal j (countsIn before others) ≡ 10
     then-third e = then ∙ first-holds _ _ _ e
 
-    module _ (after : MeshBuffers) (t : Table) (made : Made (j .vertices) (j .triangles) t before after) where
-      same : after ≡ afterwards (refusalOf j (countsIn before others)) before (topologyOf (j .vertices) (j .triangles) before)
-      same = made .buffers ∙ changes (refusalOf j (countsIn before others)) before (topologyOf (j .vertices) (j .triangles) before) passed
+    module _ (after : MeshBuffers) (t : Table) (made : Made (j .vertices) (j .triangles) (j .flags) t before after) where
+      same : after ≡ afterwards (refusalOf j (countsIn before others)) before (topologyOf (j .vertices) (j .triangles) (j .flags) before)
+      same = made .buffers ∙ changes (refusalOf j (countsIn before others)) before (topologyOf (j .vertices) (j .triangles) (j .flags) before) passed
 
       pub answer-edges : (n : ℕ) → t ≡ Table·Edges n → Answered j others (Edges n) before after
       answer-edges n e =

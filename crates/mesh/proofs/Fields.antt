@@ -17,22 +17,22 @@ use Rattle.topology.specs.Rows.{rows}
 use Rattle.topology.proofs.Edges.{edge-count}
 use Rattle.topology.proofs.Rows.{row-inside, row-read}
 use Rattle.edge_table.specs.Table.{edgeWords, triangleWords}
-use Rattle.edge_table.proofs.Reading.{low-read, high-read, first-face-read, second-face-read, windows-read, number-read}
-use Rattle.vertex_faces.specs.Ranges.{withRanges, startOf, endOf, roundOf}
-use Rattle.vertex_faces.proofs.Ranges.{read-start, read-end}
+use Rattle.edge_table.proofs.Reading.{low-read, high-read, first-face-read, second-face-read, windows-read, scratch-read, spare-read, number-read}
+use Rattle.vertex_faces.specs.Ranges.{withFlags, startOf, endOf, roundOf}
+use Rattle.vertex_faces.proofs.Ranges.{read-start, read-end, read-third, length-flags, read-flag}
 use Rattle.frames.specs.Stored.{vectorAt, withLengths}
 use Rattle.frames.specs.Held.{HoldsEdges, HoldsFaces, HoldsSides, HoldsLengths}
 use Rattle.frames.proofs.Held.{lengths-held, normals-held, nine}
 use Rattle.mesh.specs.declared.OtherCounts.{OtherCounts}
 use Rattle.mesh.specs.declared.Meshed.{Meshed}
 use Rattle.mesh.specs.declared.Meshed.the-variants.{Edges}
-use Rattle.mesh.specs.Topology.{MeshBuffers, Fits, filled, topologyOf}
+use Rattle.mesh.specs.Topology.{MeshBuffers, Fits, vertexWords, filled, topologyOf}
 use Rattle.mesh.specs.Answer.{numberOf, countsIn, meshRefusals, meshRefusal, afterwards, Answered}
-use Rattle.mesh.specs.Held.{Held}
+use Rattle.mesh.specs.Held.{Held, Fresh}
 use Rattle.mesh.proofs.Answering.{fits}
 
 -- The filled buffers, one after the other.
-module _ (v : List Float) (triangles : List ℕ) (n : ℕ) where
+module _ (v : List Float) (triangles flags : List ℕ) (n : ℕ) where
   module _ (long : 6 * length triangles ≤ n) where
     edge-slot : (e : ℕ) → e < length (edges triangles) → 6 * e + 6 ≤ n
     edge-slot e l = omega (arith, edge-count triangles)
@@ -42,9 +42,6 @@ module _ (v : List Float) (triangles : List ℕ) (n : ℕ) where
 
     faces-held : HoldsFaces triangles (edgeWords triangles n)
     faces-held = record { first = λ e l. first-face-read triangles n e l (edge-slot e l); second = λ e l. second-face-read triangles n e l (edge-slot e l) }
-
-    windows-held : (e : ℕ) → e < length (edges triangles) → getD (edgeWords triangles n) (6 * e + 4) 0 ≡ 0
-    windows-held e l = windows-read triangles n e l (edge-slot e l)
 
   sides-held : length triangles ≡ 3 * (length triangles / 3) → 2 * length triangles ≤ n → HoldsSides triangles (triangleWords triangles n)
   sides-held whole long h l =
@@ -61,15 +58,26 @@ module _ (v : List Float) (triangles : List ℕ) (n : ℕ) where
     zeros-long : 3 * (length v / 3) ≤ length (replicate {A = ℕ} n 0)
     zeros-long = omega (arith, length-replicate {A = ℕ} n 0)
 
-    start-held : getD (withRanges (startOf triangles) (endOf triangles) (length v / 3) (replicate n 0)) (3 * k + 0) 0 ≡ startOf triangles k
+    flags-long : 3 * (length v / 3) ≤ length (withFlags flags (length v / 3) (replicate n 0))
+    flags-long = omega (arith, zeros-long, length-flags flags (length v / 3) (replicate n 0))
+
+    start-held : getD (vertexWords v triangles flags n) (3 * k + 0) 0 ≡ startOf triangles k
+    unfolding vertexWords
     start-held =
         let z : 3 * k + 0 ≡ 3 * k = omega arith in
-        rw z (read-start (startOf triangles) (endOf triangles) (replicate n 0) k (length v / 3) l zeros-long)
+        rw z (read-start (startOf triangles) (endOf triangles) (withFlags flags (length v / 3) (replicate n 0)) k (length v / 3) l flags-long)
 
-    end-held : getD (withRanges (startOf triangles) (endOf triangles) (length v / 3) (replicate n 0)) (3 * k + 1) 0 ≡ endOf triangles k
-    end-held = read-end (startOf triangles) (endOf triangles) (replicate n 0) k (length v / 3) l zeros-long
+    end-held : getD (vertexWords v triangles flags n) (3 * k + 1) 0 ≡ endOf triangles k
+    unfolding vertexWords
+    end-held = read-end (startOf triangles) (endOf triangles) (withFlags flags (length v / 3) (replicate n 0)) k (length v / 3) l flags-long
 
-module _ (v : List Float) (triangles : List ℕ) (m : MeshBuffers) where
+    flag-held : getD (vertexWords v triangles flags n) (3 * k + 2) 0 ≡ getD flags k 0
+    unfolding vertexWords
+    flag-held =
+        read-third (startOf triangles) (endOf triangles) (length v / 3) (withFlags flags (length v / 3) (replicate n 0)) k
+        ∙ read-flag flags (replicate n 0) k (length v / 3) l zeros-long
+
+module _ (v : List Float) (triangles flags : List ℕ) (m : MeshBuffers) where
   abbrev FitsIn : Type 0
   FitsIn = Fits v triangles (length (m .vertex-words)) (length (m .edge-words)) (length (m .edge-reals)) (length (m .round)) (length (m .triangle-words)) (length (m .triangle-reals))
 
@@ -79,32 +87,41 @@ module _ (v : List Float) (triangles : List ℕ) (m : MeshBuffers) where
   module _ (fit : FitsIn) where
     lengths-of : HoldsLengths v triangles edgeReals
     lengths-of =
-        lengths-held v triangles (edgeWords triangles (length (m .edge-words))) (ends-held v triangles (length (m .edge-words)) (fit .edges-fit)) (replicate (length (m .edge-reals)) positiveZero)
+        lengths-held v triangles (edgeWords triangles (length (m .edge-words))) (ends-held v triangles flags (length (m .edge-words)) (fit .edges-fit)) (replicate (length (m .edge-reals)) positiveZero)
         (omega (arith, edge-count triangles, fit .edge-reals-fit, length-replicate (length (m .edge-reals)) positiveZero))
 
     sides-of : HoldsSides triangles (triangleWords triangles (length (m .triangle-words)))
-    sides-of = sides-held v triangles (length (m .triangle-words)) (fit .mesh .whole) (fit .triangles-fit)
+    sides-of = sides-held v triangles flags (length (m .triangle-words)) (fit .mesh .whole) (fit .triangles-fit)
 
-    filled-held : Held v triangles (filled v triangles m)
+    filled-held : Held v triangles flags (filled v triangles flags m)
     unfolding filled
     filled-held =
         record {
-          ends = ends-held v triangles (length (m .edge-words)) (fit .edges-fit);
-          faces = faces-held v triangles (length (m .edge-words)) (fit .edges-fit);
-          no-windows = windows-held v triangles (length (m .edge-words)) (fit .edges-fit);
+          ends = ends-held v triangles flags (length (m .edge-words)) (fit .edges-fit);
+          faces = faces-held v triangles flags (length (m .edge-words)) (fit .edges-fit);
           lengths = lengths-of;
           sides = sides-of;
           normals =
               normals-held v triangles edgeReals lengths-of (triangleWords triangles (length (m .triangle-words))) sides-of (replicate (length (m .triangle-reals)) positiveZero)
               (omega (arith, fit .triangle-reals-fit, length-replicate (length (m .triangle-reals)) positiveZero));
-          start = λ k l. start-held v triangles (length (m .vertex-words)) k l (fit .vertices-fit);
-          end = λ k l. end-held v triangles (length (m .vertex-words)) k l (fit .vertices-fit);
-          faces-round = faces-round-held v triangles (length (m .round));
+          start = λ k l. start-held v triangles flags (length (m .vertex-words)) k l (fit .vertices-fit);
+          end = λ k l. end-held v triangles flags (length (m .vertex-words)) k l (fit .vertices-fit);
+          faces-round = faces-round-held v triangles flags (length (m .round));
+          flag = λ k l. flag-held v triangles flags (length (m .vertex-words)) k l (fit .vertices-fit);
         }
 
-after-none : (v : List Float) (triangles : List ℕ) (m after : MeshBuffers) (k : ℕ) → k ≡ 0 → sharedByThree triangles ≡ false → after ≡ afterwards k m (topologyOf v triangles m) → after ≡ filled v triangles m
+  filled-fresh : Fresh (filled v triangles flags m)
+  unfolding filled
+  filled-fresh =
+      record {
+        no-windows = windows-read triangles (length (m .edge-words));
+        scratch = scratch-read triangles (length (m .edge-words));
+        no-entries = spare-read triangles (length (m .triangle-words));
+      }
+
+after-none : (v : List Float) (triangles flags : List ℕ) (m after : MeshBuffers) (k : ℕ) → k ≡ 0 → sharedByThree triangles ≡ false → after ≡ afterwards k m (topologyOf v triangles flags m) → after ≡ filled v triangles flags m
 unfolding afterwards topologyOf
-after-none v triangles m after k z s e = e ∙ rw (z, s) refl
+after-none v triangles flags m after k z s e = e ∙ rw (z, s) refl
 
 pub same-number : {r : Meshed} {n k : ℕ} → r ≡ Edges n → r ≡ Edges k → n ≡ k
 same-number e f = cc
@@ -123,13 +140,17 @@ module _ (j : Job) (others : OtherCounts) (r : Meshed) (before after : MeshBuffe
   pub counted-edges : n ≡ length (edges (j .triangles))
   counted-edges = same-number e (answered .edge-count (sym unrefused))
 
-  pub held : Held (j .vertices) (j .triangles) after
-  held =
-      subst (Held (j .vertices) (j .triangles)) (sym (after-none (j .vertices) (j .triangles) before after (refusalOf j (countsIn before others)) (both .0) (both .1) (answered .buffers)))
-      (filled-held (j .vertices) (j .triangles) before (fits j others before (both .0)))
+  is-filled : after ≡ filled (j .vertices) (j .triangles) (j .flags) before
+  is-filled = after-none (j .vertices) (j .triangles) (j .flags) before after (refusalOf j (countsIn before others)) (both .0) (both .1) (answered .buffers)
+
+  pub held : Held (j .vertices) (j .triangles) (j .flags) after
+  held = subst (Held (j .vertices) (j .triangles) (j .flags)) (sym is-filled) (filled-held (j .vertices) (j .triangles) (j .flags) before (fits j others before (both .0)))
+
+  pub fresh : Fresh after
+  fresh = subst Fresh (sym is-filled) (filled-fresh (j .vertices) (j .triangles) (j .flags) before)
 
 -- The edge and the normal of side k of face f, as the readers of the buffers have them: six words and nine reals for each triangle.
-module _ (v : List Float) (triangles : List ℕ) (m : MeshBuffers) (h : Held v triangles m) (f k : ℕ) (l : k < 3) (inside : 3 * f + k < length triangles) where
+module _ (v : List Float) (triangles flags : List ℕ) (m : MeshBuffers) (h : Held v triangles flags m) (f k : ℕ) (l : k < 3) (inside : 3 * f + k < length triangles) where
   pub side-edge : getD (m .triangle-words) (6 * f + k) 0 ≡ triEdge triangles (3 * f + k)
   side-edge =
       let z : 6 * f + k ≡ 6 * ((3 * f + k) / 3) + (3 * f + k) % 3 = omega arith in

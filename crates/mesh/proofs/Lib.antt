@@ -1,3 +1,4 @@
 pub mod Making
 pub mod Answering
 pub mod Fields
+pub mod Keeping

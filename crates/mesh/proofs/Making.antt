@@ -11,10 +11,10 @@ use Rattle.topology.specs.Edges.{edges, sharedByThree}
 use Rattle.topology.proofs.Edges.{edge-count}
 use Rattle.edge_table.specs.declared.Table.{Table}
 use Rattle.edge_table.specs.declared.Table.the-variants.{Edges, ThirdFace}
-use Rattle.edge_table.specs.Table.{Mesh, tableOf, edgeWords, Built, Filled}
-use Rattle.vertex_faces.specs.Ranges.{withRanges, startOf, endOf, roundOf, InRange}
+use Rattle.edge_table.specs.Table.{Mesh, tableOf, edgeWords, triangleWords, Built}
+use Rattle.vertex_faces.specs.Ranges.{withRanges, withFlags, startOf, endOf, roundOf, InRange}
 use Rattle.frames.specs.Stored.{withLengths, withNormals}
-use Rattle.mesh.specs.Topology.{MeshBuffers, meshBuffers, zeroed, Completed, filled, topologyOf, Made}
+use Rattle.mesh.specs.Topology.{meshBuffers, zeroed, vertexWords, Completed, filled, topologyOf, Made}
 
 pub in-range : (triangles : List ℕ) (n : ℕ) → Mesh triangles n → InRange triangles n
 in-range triangles n m = record { there = m .there; few = omega (arith, m .whole, m .few-triangles) }
@@ -24,10 +24,12 @@ pub same-buffers : {a a′ b b′ : List ℕ} {c c′ : List Float} {d d′ e e�
 same-buffers p q r s t u = λ i. record { vertex-words = p i; edge-words = q i; edge-reals = r i; round = s i; triangle-words = t i; triangle-reals = u i }
 
 -- what is added to the table, one callee after the other
-pub completed : (v : List Float) (triangles : List ℕ) (n : ℕ) (ew tw vw : List ℕ) (er : List Float) (r : List ℕ) (tr : List Float) (vw₁ vw′ : List ℕ) (er′ : List Float) (r′ : List ℕ) (tr′ : List Float) → vw₁ ≡ replicate (length vw) 0 → vw′ ≡ withRanges (startOf triangles) (endOf triangles) (length v / 3) vw₁ → r′ ≡ roundOf triangles (length v / 3) (length r) → er′ ≡ withLengths v ew n (replicate (length er) zero) → tr′ ≡ withNormals v triangles tw er′ (length triangles) (replicate (length tr) zero) → Completed v triangles n ew tw vw er r tr vw′ er′ r′ tr′
-completed v triangles n ew tw vw er r tr vw₁ vw′ er′ r′ tr′ z a b d f =
+pub completed : (v : List Float) (triangles flags : List ℕ) (n : ℕ) (ew tw vw : List ℕ) (er : List Float) (r : List ℕ) (tr : List Float) (vw₁ vw₂ vw′ : List ℕ) (er′ : List Float) (r′ : List ℕ) (tr′ : List Float)
+    → vw₁ ≡ replicate (length vw) 0 → vw₂ ≡ withFlags flags (length v / 3) vw₁ → vw′ ≡ withRanges (startOf triangles) (endOf triangles) (length v / 3) vw₂ → r′ ≡ roundOf triangles (length v / 3) (length r) → er′ ≡ withLengths v ew n (replicate (length er) zero) → tr′ ≡ withNormals v triangles tw er′ (length triangles) (replicate (length tr) zero) → Completed v triangles flags n ew tw vw er r tr vw′ er′ r′ tr′
+unfolding vertexWords
+completed v triangles flags n ew tw vw er r tr vw₁ vw₂ vw′ er′ r′ tr′ z g a b d f =
     record {
-      ranges = a ∙ ap (withRanges (startOf triangles) (endOf triangles) (length v / 3)) z;
+      vertices = a ∙ ap (withRanges (startOf triangles) (endOf triangles) (length v / 3)) (g ∙ ap (withFlags flags (length v / 3)) z);
       faces-round = b;
       lengths = d;
       normals = f;
@@ -55,38 +57,36 @@ module _ (triangles : List ℕ) (r : Table) (is : r ≡ tableOf triangles) where
   pub few-edges : (n : ℕ) → r ≡ Edges n → n ≤ length triangles
   few-edges n e = omega (arith, has-edges n e .1, edge-count triangles)
 
--- buffers count by their lengths where they are zeroed
-zeros : {m n : ℕ} → m ≡ n → replicate {A = ℕ} m 0 ≡ replicate n 0
-zeros e = ap (λ (k : ℕ). replicate {A = ℕ} k 0) e
-
-module _ (v : List Float) (triangles vw ew : List ℕ) (er : List Float) (r tw : List ℕ) (tr : List Float) where
+module _ (v : List Float) (triangles flags vw ew : List ℕ) (er : List Float) (r tw : List ℕ) (tr : List Float) where
   -- an edge in a third triangle
-  module _ (r′ ew′ tw′ : List ℕ) (after : MeshBuffers) (t : Table) where
-    pub made-third : t ≡ tableOf triangles → t ≡ ThirdFace → length r′ ≡ length r → length ew′ ≡ length ew → length tw′ ≡ length tw → after ≡ zeroed (meshBuffers vw ew′ er r′ tw′ tr) → Made v triangles ThirdFace (meshBuffers vw ew er r tw tr) after
+  module _ (vw′ ew′ : List ℕ) (er′ : List Float) (r′ tw′ : List ℕ) (tr′ : List Float) (t : Table) where
+    pub made-third : Built triangles t r ew tw r′ ew′ tw′ → t ≡ ThirdFace → vw′ ≡ replicate (length vw) 0 → er′ ≡ replicate (length er) zero → tr′ ≡ replicate (length tr) zero → Made v triangles flags ThirdFace (meshBuffers vw ew er r tw tr) (meshBuffers vw′ ew′ er′ r′ tw′ tr′)
     unfolding zeroed topologyOf
-    made-third is third a b c z =
+    made-third b third a d f =
+        let k = is-third triangles t (b .answer) third in
         record {
-          answer = sym third ∙ is;
-          buffers = rw (is-third triangles t is third) (z ∙ same-buffers refl (zeros b) refl (zeros a) (zeros c) refl);
+          answer = sym third ∙ b .answer;
+          buffers = rw k (same-buffers a (b .edge-words ∙ rw k refl) d (b .head-words ∙ rw k refl) (b .triangle-words ∙ rw k refl) f);
         }
 
   -- none
   module _ (r₁ ew₁ tw₁ vw₂ r₂ : List ℕ) (er₂ tr₂ : List Float) (t : Table) (n : ℕ) where
-    pub made-filled : Built triangles t r ew tw r₁ ew₁ tw₁ → t ≡ Edges n → length r₁ ≡ length r → Completed v triangles n ew₁ tw₁ vw er r₁ tr vw₂ er₂ r₂ tr₂ → Made v triangles (Edges n) (meshBuffers vw ew er r tw tr) (meshBuffers vw₂ ew₁ er₂ r₂ tw₁ tr₂)
+    pub made-filled : Built triangles t r ew tw r₁ ew₁ tw₁ → t ≡ Edges n → length r₁ ≡ length r → Completed v triangles flags n ew₁ tw₁ vw er r₁ tr vw₂ er₂ r₂ tr₂ → Made v triangles flags (Edges n) (meshBuffers vw ew er r tw tr) (meshBuffers vw₂ ew₁ er₂ r₂ tw₁ tr₂)
     unfolding topologyOf filled
     made-filled b e same c =
         let k = has-edges triangles t (b .answer) n e in
-        let w : Filled triangles r ew tw r₁ ew₁ tw₁ = b .words (k .0) in
-        let l : er₂ ≡ withLengths v (edgeWords triangles (length ew)) (length (edges triangles)) (replicate (length er) zero) = c .lengths ∙ rw (w .edge-words, k .1) in
+        let ends : ew₁ ≡ edgeWords triangles (length ew) = b .edge-words ∙ rw (k .0) refl in
+        let sides : tw₁ ≡ triangleWords triangles (length tw) = b .triangle-words ∙ rw (k .0) refl in
+        let l : er₂ ≡ withLengths v (edgeWords triangles (length ew)) (length (edges triangles)) (replicate (length er) zero) = c .lengths ∙ rw (ends, k .1) in
         record {
           answer = sym e ∙ b .answer;
           buffers =
               rw (k .0)
               (same-buffers
-              (c .ranges)
-              (w .edge-words)
+              (c .vertices)
+              ends
               l
               (c .faces-round ∙ ap (roundOf triangles (length v / 3)) same)
-              (w .triangle-words)
-              (c .normals ∙ rw (w .triangle-words, l)));
+              sides
+              (c .normals ∙ rw (sides, l)));
         }

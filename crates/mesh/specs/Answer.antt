@@ -25,7 +25,7 @@ numberOf ThirdFace = 10
 abbrev pub countsOf : ℕ → ℕ → ℕ → ℕ → ℕ → ℕ → OtherCounts → BufferCounts
 countsOf vw ew er r tw tr others =
     record {
-      vertices = slotsOf vw 3;
+      vertices = min (slotsOf vw 3) (others .«vertex_reals»);
       edges = min (slotsOf ew 6) (slotsOf er 4);
       «vertex_faces» = slotsOf r 1;
       triangles = min (slotsOf tw 6) (slotsOf tr 9);
@@ -55,4 +55,4 @@ afterwards (suc k) m t = m
 pub record Answered (j : Job) (others : OtherCounts) (r : Meshed) (before after : MeshBuffers) : Type 0 where
   pub number : numberOf r ≡ meshRefusal j (countsIn before others)
   pub edge-count : meshRefusal j (countsIn before others) ≡ 0 → r ≡ Edges (length (edges (j .triangles)))
-  pub buffers : after ≡ afterwards (refusalOf j (countsIn before others)) before (topologyOf (j .vertices) (j .triangles) before)
+  pub buffers : after ≡ afterwards (refusalOf j (countsIn before others)) before (topologyOf (j .vertices) (j .triangles) (j .flags) before)

@@ -9,13 +9,13 @@ use Rattle.float64.specs.Scalar.{zero}
 use Rattle.topology.specs.Edges.{edges, sharedByThree}
 use Rattle.edge_table.specs.declared.Table.{Table}
 use Rattle.edge_table.specs.Table.{Mesh, tableOf, edgeWords, triangleWords}
-use Rattle.vertex_faces.specs.Ranges.{withRanges, startOf, endOf, roundOf}
+use Rattle.vertex_faces.specs.Ranges.{withRanges, withFlags, startOf, endOf, roundOf}
 use Rattle.frames.specs.Stored.{withLengths, withNormals}
 
 -- document 01's rooms of the mesh
 pub record MeshBuffers : Type 0 where
-  pub vertex-words : List ℕ  -- three for each vertex: where its faces start and end in `round`; and a zero
-  pub edge-words : List ℕ  -- six for each edge: its two vertices, its two faces, no windows, the next edge of its bucket
+  pub vertex-words : List ℕ  -- three for each vertex: where its faces start and end in `round`; its flag
+  pub edge-words : List ℕ  -- six for each edge: its two vertices, its two faces, and two zeros
   pub edge-reals : List Float  -- four for each edge: its length and its unit vector
   pub round : List ℕ  -- the faces round each vertex, one vertex after the other
   pub triangle-words : List ℕ  -- six for each triangle: its three edges, and three zeros
@@ -46,25 +46,30 @@ module _ (v : List Float) (triangles : List ℕ) where
     pub triangles-fit : 2 * length triangles ≤ tw
     pub triangle-reals-fit : 3 * length triangles ≤ tr
 
+module _ (v : List Float) (triangles flags : List ℕ) where
+  -- the words of the vertices, of which there are n in all
+  unfoldable pub vertexWords : ℕ → List ℕ
+  vertexWords n = withRanges (startOf triangles) (endOf triangles) (length v / 3) (withFlags flags (length v / 3) (replicate n 0))
+
   -- What is added to an edge table of n edges.
   pub record Completed (n : ℕ) (ew tw vertex₀ : List ℕ) (edge₀ : List Float) (round₀ : List ℕ) (triangle₀ : List Float) (vertex : List ℕ) (edge : List Float) (round : List ℕ) (triangle : List Float) : Type 0 where
-    pub ranges : vertex ≡ withRanges (startOf triangles) (endOf triangles) (length v / 3) (replicate (length vertex₀) 0)
+    pub vertices : vertex ≡ vertexWords (length vertex₀)
     pub faces-round : round ≡ roundOf triangles (length v / 3) (length round₀)
     pub lengths : edge ≡ withLengths v ew n (replicate (length edge₀) zero)
     pub normals : triangle ≡ withNormals v triangles tw edge (length triangles) (replicate (length triangle₀) zero)
 
   -- The topology in buffers, which count by their lengths alone.
   unfoldable pub filled : MeshBuffers → MeshBuffers
+  unfolding vertexWords
   filled m =
-      let vertices : ℕ = length v / 3 in
       let ew : List ℕ = edgeWords triangles (length (m .edge-words)) in
       let tw : List ℕ = triangleWords triangles (length (m .triangle-words)) in
       let er : List Float = withLengths v ew (length (edges triangles)) (replicate (length (m .edge-reals)) zero) in
       meshBuffers
-      (withRanges (startOf triangles) (endOf triangles) vertices (replicate (length (m .vertex-words)) 0))
+      (vertexWords (length (m .vertex-words)))
       ew
       er
-      (roundOf triangles vertices (length (m .round)))
+      (roundOf triangles (length v / 3) (length (m .round)))
       tw
       (withNormals v triangles tw er (length triangles) (replicate (length (m .triangle-reals)) zero))
 

@@ -5,14 +5,16 @@ use edge_table::Table;
 use job_checks::BufferCounts;
 use job_checks::Checked;
 ghost use mathlib.Core.Path.{_≡_};
-ghost use Prim.Native.Nat.{_≤_};
+ghost use Prim.Native.Nat.{_≤_, min};
 ghost use lib.ListN.{length};
 ghost use Rattle.job_checks.specs.Job.{job};
-ghost use Rattle.mesh.specs.Topology.{meshBuffers, zeroed, Fits, Completed, Made};
+ghost use Rattle.mesh.specs.Topology.{meshBuffers, Fits, Completed, Made};
 ghost use Rattle.mesh.specs.Answer.{numberOf, countsOf, Answered};
 
-// How many slots the buffers have that a job needs beside those of the mesh, and how many windows there is a slot for.
+// How many slots the slices have that a job needs beside those of the mesh: the distances of vertices, two f64 each, count with the words of vertices. And how
+// many windows there is a slot for.
 pub struct OtherCounts {
+    pub vertex_reals: u32,
     pub pieces: u32,
     pub windows: u32,
     pub scratch: u32,
@@ -36,29 +38,11 @@ pub fn refusal_number(meshed: Meshed) -> u32
     }
 }
 
-fn clear(
-    vertex_words: &mut [u32],
-    edge_words: &mut [u32],
-    edge_reals: &mut [f64],
-    round: &mut [u32],
-    triangle_words: &mut [u32],
-    triangle_reals: &mut [f64],
-)
-    ensures { λ r. ⌜ meshBuffers (now («vertex_words» .exit)) (now («edge_words» .exit)) (now («edge_reals» .exit)) (now (round .exit)) (now («triangle_words» .exit)) (now («triangle_reals» .exit))
-        ≡ zeroed (meshBuffers (now («vertex_words» .entry)) (now («edge_words» .entry)) (now («edge_reals» .entry)) (now (round .entry)) (now («triangle_words» .entry)) (now («triangle_reals» .entry))) ⌝ }
-{
-    zero_u32(vertex_words);
-    zero_u32(edge_words);
-    zero_f64(edge_reals);
-    zero_u32(round);
-    zero_u32(triangle_words);
-    zero_f64(triangle_reals);
-}
-
-// What is computed from a table of `edges` edges: the faces round each vertex, lengths and normals.
+// What is computed from a table of `edges` edges, the flags and the faces round each vertex, lengths and normals.
 fn complete(
     vertices: &[f64],
     triangles: &[u32],
+    flags: &[u8],
     edges: u32,
     vertex_words: &mut [u32],
     edge_words: &[u32],
@@ -68,12 +52,14 @@ fn complete(
     triangle_reals: &mut [f64],
 )
     requires { ⌜ Fits (now vertices) (now triangles) (length (now «vertex_words»)) (length (now «edge_words»)) (length (now «edge_reals»)) (length (now round)) (length (now «triangle_words»)) (length (now «triangle_reals»)) × (edges ≤ length (now triangles)) ⌝ }
-    ensures { λ r. ⌜ Completed (now (vertices .entry)) (now (triangles .entry)) edges (now («edge_words» .entry)) (now («triangle_words» .entry))
+    ensures { λ r. ⌜ Completed (now (vertices .entry)) (now (triangles .entry)) (now (flags .entry)) edges (now («edge_words» .entry)) (now («triangle_words» .entry))
         (now («vertex_words» .entry)) (now («edge_reals» .entry)) (now (round .entry)) (now («triangle_reals» .entry))
         (now («vertex_words» .exit)) (now («edge_reals» .exit)) (now (round .exit)) (now («triangle_reals» .exit)) ⌝ }
 {
+    let vertex_count = (vertices.len() / 3) as u32;
     zero_u32(vertex_words);
-    vertex_faces::build(triangles, vertex_words, (vertices.len() / 3) as u32, round);
+    vertex_faces::store_flags(flags, vertex_words, vertex_count);
+    vertex_faces::build(triangles, vertex_words, vertex_count, round);
     frames::lengths(vertices, edge_words, edges, edge_reals);
     frames::normals(
         vertices,
@@ -88,6 +74,7 @@ fn complete(
 pub fn topology(
     vertices: &[f64],
     triangles: &[u32],
+    flags: &[u8],
     vertex_words: &mut [u32],
     edge_words: &mut [u32],
     edge_reals: &mut [f64],
@@ -96,27 +83,23 @@ pub fn topology(
     triangle_reals: &mut [f64],
 ) -> Table
     requires { ⌜ Fits (now vertices) (now triangles) (length (now «vertex_words»)) (length (now «edge_words»)) (length (now «edge_reals»)) (length (now round)) (length (now «triangle_words»)) (length (now «triangle_reals»)) ⌝ }
-    ensures { λ r. ⌜ Made (now (vertices .entry)) (now (triangles .entry)) r
+    ensures { λ r. ⌜ Made (now (vertices .entry)) (now (triangles .entry)) (now (flags .entry)) r
         (meshBuffers (now («vertex_words» .entry)) (now («edge_words» .entry)) (now («edge_reals» .entry)) (now (round .entry)) (now («triangle_words» .entry)) (now («triangle_reals» .entry)))
         (meshBuffers (now («vertex_words» .exit)) (now («edge_words» .exit)) (now («edge_reals» .exit)) (now (round .exit)) (now («triangle_words» .exit)) (now («triangle_reals» .exit))) ⌝ }
 {
     // the heads of the table's buckets are no longer wanted where the faces round each vertex are listed
     match edge_table::build(triangles, round, edge_words, triangle_words) {
         Table::ThirdFace => {
-            clear(
-                vertex_words,
-                edge_words,
-                edge_reals,
-                round,
-                triangle_words,
-                triangle_reals,
-            );
+            zero_u32(vertex_words);
+            zero_f64(edge_reals);
+            zero_f64(triangle_reals);
             Table::ThirdFace
         }
         Table::Edges(edges) => {
             complete(
                 vertices,
                 triangles,
+                flags,
                 edges,
                 vertex_words,
                 edge_words,
@@ -128,6 +111,12 @@ pub fn topology(
             Table::Edges(edges)
         }
     }
+}
+
+fn fewer(a: u32, b: u32) -> u32
+    ensures { λ r. ⌜ r ≡ min a b ⌝ }
+{
+    if a <= b { a } else { b }
 }
 
 // How many slots a job's buffers have, of which those of the mesh have slices of these lengths.
@@ -143,7 +132,7 @@ fn buffer_counts(
     ensures { λ r. ⌜ r ≡ countsOf «vertex_words» «edge_words» «edge_reals» round «triangle_words» «triangle_reals» others ⌝ }
 {
     BufferCounts {
-        vertices: buffers::slots(vertex_words, 3),
+        vertices: fewer(buffers::slots(vertex_words, 3), others.vertex_reals),
         edges: buffers::count(edge_words, 6, edge_reals, 4),
         vertex_faces: buffers::slots(round, 1),
         triangles: buffers::count(triangle_words, 6, triangle_reals, 9),
@@ -202,6 +191,7 @@ pub fn build(
     match topology(
         vertices,
         triangles,
+        flags,
         vertex_words,
         edge_words,
         edge_reals,

@@ -17,8 +17,9 @@ use Rattle.mesh.specs.Answer.{countsIn, meshRefusal, afterwards}
 abbrev pub meshAlone : List Float → List ℕ → List ℕ → Job
 meshAlone v t f = job v t f [] [] [] positiveZero
 
+-- no distances are lent, so they do not count
 abbrev pub noOthers : OtherCounts
-noOthers = record { pieces = 0; windows = 0; scratch = 0; «other_scratch» = 0 }
+noOthers = record { «vertex_reals» = maxVertices; pieces = 0; windows = 0; scratch = 0; «other_scratch» = 0 }
 
 -- the slots that the largest mesh needs
 abbrev pub plenty : BufferCounts
@@ -41,4 +42,4 @@ packed (suc k) n = 4_294_967_296 * suc k
 
 pub record Packed (j : Job) (r : ℕ) (before after : MeshBuffers) : Type 0 where
   pub number : r ≡ packed (meshRefusal j (countsIn before noOthers)) (length (edges (j .triangles)))
-  pub buffers : after ≡ afterwards (refusalOf j (countsIn before noOthers)) before (topologyOf (j .vertices) (j .triangles) before)
+  pub buffers : after ≡ afterwards (refusalOf j (countsIn before noOthers)) before (topologyOf (j .vertices) (j .triangles) (j .flags) before)

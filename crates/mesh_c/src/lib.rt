@@ -60,6 +60,7 @@ pub extern "C" fn sirmolaat_mesh_build(
         &vertices[..0],
         0.0,
         OtherCounts {
+            vertex_reals: 65_535,
             pieces: 0,
             windows: 0,
             scratch: 0,

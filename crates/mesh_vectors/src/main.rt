@@ -222,6 +222,7 @@ fn other_counts(s: &[u8], k: usize) -> OtherCounts
     requires { ⌜ k < 500_000 ⌝ }
 {
     OtherCounts {
+        vertex_reals: number(s, k + 9),
         pieces: number(s, k + 13),
         windows: number(s, k + 14),
         scratch: number(s, k + 15),

@@ -1,24 +1,34 @@
 -- `mesh::complete` meets its contract. Assumes nothing.
+use mathlib.Core.Path.{_∙_}
 use native.Mathlib.Omega.{arith}
 use Rattle.mesh.proofs.Making.{in-range, completed}
 use borrow.Author.Needs.{needs}
 use Rattle.mesh.proofs.complete.Statement.{statement}
 use Rattle.mesh.proofs.complete.Tie as tie
 
+cast-vertex-count : tie.Need-cast-vertex-count
+cast-vertex-count c = search needs
+
 zero-u32-requires : tie.Need-zero-u32-requires
 zero-u32-requires c κs = search needs
 
-cast-build : tie.Need-cast-build
-cast-build c = omega (arith, c .before .before .before .before .before .before .before .before .before .before .before .before .before .pre .0 .mesh .few-vertices)
+store-flags-requires : tie.Need-store-flags-requires
+store-flags-requires c κs = search needs
 
 build-requires : tie.Need-build-requires
-build-requires c κs = (in-range _ _ (c .before .before .before .before .before .before .before .before .before .before .before .before .before .before .pre .0 .mesh), (omega (arith, c .before .before .before .before .before .before .before .before .before .before .before .before .before .before .pre .0 .vertices-fit, c .before .before .before .before .zero-u32 .kept .0), c .before .before .before .before .before .before .before .before .before .before .before .before .before .before .pre .0 .round-fits))
+build-requires c κs =
+    let start = c .before .before .before .before .before .before .before .before .before .before .before .before .before .before .before .before .before .before .before in
+    (in-range _ _ (start .pre .0 .mesh), (omega (arith, start .pre .0 .vertices-fit, c .before .before .before .before .store-flags .kept .1 .0, c .before .before .before .before .before .before .before .before .zero-u32 .kept .0), start .pre .0 .round-fits))
 
 lengths-requires : tie.Need-lengths-requires
-lengths-requires c κs = omega (arith, c .before .before .before .before .before .before .before .before .before .before .before .before .before .before .before .before .before .before .before .before .pre .0 .edge-reals-fit, c .before .before .before .before .before .before .before .before .before .before .before .before .before .before .before .before .before .before .before .before .pre .1)
+lengths-requires c κs =
+    let start = c .before .before .before .before .before .before .before .before .before .before .before .before .before .before .before .before .before .before .before .before .before .before .before .before .before in
+    omega (arith, start .pre .0 .edge-reals-fit, start .pre .1)
 
 normals-requires : tie.Need-normals-requires
-normals-requires c κs = (omega (arith, c .before .before .before .before .before .before .before .before .before .before .before .before .before .before .before .before .before .before .before .before .before .before .before .before .before .pre .0 .mesh .whole, c .before .before .before .before .before .before .before .before .before .before .before .before .before .before .before .before .before .before .before .before .before .before .before .before .before .pre .0 .mesh .few-triangles), (omega (arith, c .before .before .before .before .before .before .before .before .before .before .before .before .before .before .before .before .before .before .before .before .before .before .before .before .before .pre .0 .mesh .whole), c .before .before .before .before .before .before .before .before .before .before .before .before .before .before .before .before .before .before .before .before .before .before .before .before .before .pre .0 .triangle-reals-fit))
+normals-requires c κs =
+    let start = c .before .before .before .before .before .before .before .before .before .before .before .before .before .before .before .before .before .before .before .before .before .before .before .before .before .before .before .before .before .before in
+    (omega (arith, start .pre .0 .mesh .whole, start .pre .0 .mesh .few-triangles), (omega (arith, start .pre .0 .mesh .whole), start .pre .0 .triangle-reals-fit))
 
 same-length : tie.Need-same-length
 same-length c = search needs
@@ -33,14 +43,18 @@ same-length-4 : tie.Need-same-length-4
 same-length-4 c = search needs
 
 returns : tie.Need-returns
-returns c = completed _ _ _ _ _ _ _ _ _ _ _ _ _ _ (c .before .before .before .before .before .before .before .before .before .before .before .before .before .before .before .before .before .before .zero-u32 .ensures) (c .before .before .before .before .before .before .before .before .before .before .before .before .before .build .ensures .0) (c .before .before .before .before .before .before .before .before .before .before .before .before .before .build .ensures .1) (c .before .before .before .before .before .before .before .lengths .ensures) (c .before .before .normals .ensures)
+returns c =
+    let built = c .before .before .before .before .before .before .before .before .before .before .before .before .before in
+    let flagged = built .before .before .before .before .before in
+    completed _ _ _ _ _ _ _ _ _ _ _ _ _ _ _ _ (flagged .before .before .before .before .zero-u32 .ensures) (flagged .store-flags .ensures) (built .build .ensures .0) (built .build .ensures .1) (c .before .before .before .before .before .before .before .lengths .ensures) (c .before .before .normals .ensures)
 
 pub complete-spec : {M : Type 1} → statement M
 complete-spec =
     tie.close
     (tie.spec
+    cast-vertex-count
     zero-u32-requires
-    cast-build
+    store-flags-requires
     build-requires
     lengths-requires
     normals-requires

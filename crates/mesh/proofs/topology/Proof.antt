@@ -8,21 +8,27 @@ use Rattle.mesh.proofs.topology.Tie as tie
 
 build-requires : tie.Need-build-requires
 build-requires c κs =
-    let fits = c .before .before .before .before .before .before .before .before .before .before .before .pre in
+    let fits = c .before .before .before .before .before .before .before .before .before .before .before .before .pre in
     (mesh-most _ _ (fits .mesh), record { heads-fit = fits .round-fits; edges-fit = fits .edges-fit; triangles-fit = fits .triangles-fit })
 
 enum-told : tie.Need-enum-told
 enum-told c = search needs
 
-clear-requires : tie.Need-clear-requires
-clear-requires c κs = search needs
+zero-u32-requires : tie.Need-zero-u32-requires
+zero-u32-requires c κs = search needs
+
+zero-f64-requires : tie.Need-zero-f64-requires
+zero-f64-requires c κs = search needs
+
+zero-f64-requires-2 : tie.Need-zero-f64-requires-2
+zero-f64-requires-2 c κs = search needs
 
 enum-known-edges : tie.Need-enum-known-edges
 enum-known-edges c = search needs
 
 complete-requires : tie.Need-complete-requires
 complete-requires c κs =
-    let fits = c .before .before .before .before .before .before .before .before .before .before .before .before .before .before .before .before .before .before .before .before .before .before .before .before .before .before .before .pre in
+    let fits = c .before .before .before .before .before .before .before .before .before .before .before .before .before .before .before .before .before .before .before .before .before .before .before .before .before .before .before .before .pre in
     let build = c .before .before .before .before .before .before .before .before .before .before .before .before .before .before .before .build in (
       record {
         mesh = fits .mesh;
@@ -55,9 +61,7 @@ same-length-6 : tie.Need-same-length-6
 same-length-6 c = search needs
 
 returns : tie.Need-returns
-returns c =
-    let built = c .before .before .before .before .before .before .before .before .before .before .before .before .before .before .before .before .before .before .before .before .before .before .before .before .before .before .before .build in
-    made-third _ _ _ _ _ _ _ _ _ _ _ _ _ (built .ensures .answer) (c .before .before .before .before .before .before .before .before .before .before .before .before .before .before .before .before .before .before .before .enum-told .given .1) (built .kept .1 .0) (built .kept .1 .1 .0) (built .kept .1 .1 .1 .0) (c .before .before .before .before .before .before .before .before .before .before .before .before .clear .ensures)
+returns c = made-third _ _ _ _ _ _ _ _ _ _ _ _ _ _ _ _ (c .before .before .before .before .before .before .before .before .before .before .before .before .before .before .before .before .before .before .before .before .build .ensures) (c .before .before .before .before .before .before .before .before .before .before .before .before .enum-told .given .1) (c .before .before .before .before .before .before .before .before .before .before .zero-u32 .ensures) (c .before .before .before .before .before .before .zero-f64 .ensures) (c .before .before .zero-f642 .ensures)
 
 same-length-7 : tie.Need-same-length-7
 same-length-7 c = search needs
@@ -78,7 +82,9 @@ same-length-12 : tie.Need-same-length-12
 same-length-12 c = search needs
 
 returns-2 : tie.Need-returns-2
-returns-2 c = made-filled _ _ _ _ _ _ _ _ _ _ _ _ _ _ _ _ _ (c .before .before .before .before .before .before .before .before .before .before .before .before .before .before .before .before .before .before .before .before .before .before .before .before .build .ensures) (c .before .before .before .before .before .before .before .before .before .before .before .before .before .before .before .before .edges .given .1) (c .before .before .before .before .before .before .before .before .before .before .before .before .before .before .before .before .before .before .before .before .before .before .before .before .build .kept .1 .0) (c .before .before .before .before .before .before .before .before .complete .ensures)
+returns-2 c =
+    let build = c .before .before .before .before .before .before .before .before .before .before .before .before .before .before .before .before .before .before .before .before .before .before .before .before .build in
+    made-filled _ _ _ _ _ _ _ _ _ _ _ _ _ _ _ _ _ _ (build .ensures) (c .before .before .before .before .before .before .before .before .before .before .before .before .before .before .before .before .edges .given .1) (build .kept .1 .0) (c .before .before .before .before .before .before .before .before .complete .ensures)
 
 pub topology-spec : {M : Type 1} → statement M
 topology-spec =
@@ -86,7 +92,9 @@ topology-spec =
     (tie.spec
     build-requires
     enum-told
-    clear-requires
+    zero-u32-requires
+    zero-f64-requires
+    zero-f64-requires-2
     enum-known-edges
     complete-requires
     same-length
