@@ -1,5 +1,6 @@
 -- What `source_point` and `source_segment` give an edge starts from 0 on and ends up to the edge's length, a finite double from 0 on. Assumes nothing.
 use mathlib.Core.Bool.{Bool, true, false, cond, not, _&&_}
+use mathlib.Core.Path.{_≡_, subst}
 use mathlib.Core.List.{List, [], _∷_}
 use lib.Dec.{T}
 use lib.Ieee.{Float, binary64, fits, ofBits, neg, lt, le}
@@ -13,6 +14,9 @@ use Rattle.float_laws.proofs.MinMax.{min-fits, max-fits}
 use Rattle.float_bounds.specs.Within.{Start, End}
 use Rattle.float_bounds.proofs.Ends.{start-zero, start-max, end-length, end-min}
 use Rattle.vec3.specs.declared.Vec3.{Vec3}
+use Rattle.source.specs.declared.Src.{Src}
+use Rattle.source_windows.specs.declared.CandidateRange.{CandidateRange}
+use Rattle.source_windows.specs.declared.CandidateRange.the-variants.{Window}
 use Rattle.source_windows.specs.Tolerance.{narrowest, upright, tooNarrow}
 use Rattle.source_windows.specs.Wedge.{wholeOf, narrowOf, behindOf, wedgeOf, pointWindowOf}
 use Rattle.source_windows.specs.Segment.{feetOf, aheadOf, waveOf, nxOf, nyOf, sideWindowOf, segmentWindowOf}
@@ -24,6 +28,13 @@ use Rattle.source_windows.specs.declared.FootRange.the-variants.{Outside
 use Rattle.source_windows.specs.declared.InFrame.{InFrame}
 use Rattle.source_windows.specs.declared.InFrame.the-variants.{TooShort, Long}
 use Rattle.source_windows.specs.declared.Normal.{Normal}
+
+-- the ends of a window that there is
+pub ends-of : {l b0 b1 : Float} {src : Src} {c : CandidateRange} → EndsOn l c → c ≡ Window b0 b1 src → Start b0 × End l b1
+ends-of {l} h e = go (subst (EndsOn l) e h)
+  where
+    go : {b0 b1 : Float} {src : Src} → EndsOn l (Window b0 b1 src) → Start b0 × End l b1
+    go (window s t) = (s, t)
 
 if-either : {A : Type 0} (P : A → Type 0) (b : Bool) {x y : A} → P x → P y → P (cond b x y)
 if-either P true h k = h
