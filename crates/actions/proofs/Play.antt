@@ -3,13 +3,25 @@ use Prim.Native.Nat.{ℕ}
 use mathlib.Core.List.{List, [], _∷_, _++_}
 use mathlib.Core.Path.{_≡_, refl, ap, _∙_}
 use lib.Ieee.{Float}
-use Rattle.actions.specs.Actions.{Action, Stock, Outcome, stopped, went, andThen, act, play}
+use Rattle.windows.specs.declared.WindowRecord.{WindowRecord}
+use Rattle.actions.specs.Actions.{Action, Stock, Outcome, stopped, went, andThen, winsWith, winsAfter, act, play}
 
 -- three things done in turn
 then-then : (o : Outcome) (f g : Stock → Outcome) → andThen o (λ (s : Stock). andThen (f s) g) ≡ andThen (andThen o f) g
 unfolding andThen
 then-then (stopped n) f g = refl
 then-then (went s) f g = refl
+
+-- no action changes no window
+pub wins-none : (wins : List WindowRecord) → winsAfter [] wins ≡ wins
+unfolding winsAfter
+wins-none wins = refl
+
+-- windows made by two lists of actions, one after the other
+pub wins-append : (xs ys : List Action) (wins : List WindowRecord) → winsAfter (xs ++ ys) wins ≡ winsAfter ys (winsAfter xs wins)
+unfolding winsAfter
+wins-append [] ys wins = refl
+wins-append (a ∷ xs) ys wins = wins-append xs ys (winsWith a wins)
 
 module _ (cuts windows : ℕ) (limit : Float) (flags : List ℕ) where
   abbrev played : List Action → Stock → Outcome

@@ -1,13 +1,15 @@
 -- What the Rust's `add` does beside the list of its edge, one action after the other in the Rust's order, and what stops it. Definitions only.
 use Prim.Native.Nat.{ℕ, suc, _+_, _*_}
 use mathlib.Core.Bool.{Bool, cond, _&&_}
-use mathlib.Core.List.{List, [], _∷_}
+use mathlib.Core.List.{List, [], _∷_, _++_}
 use lib.Dec.{ltb, leb, eqb}
 use lib.ListN.{length, getD, set}
 use lib.Ieee.{Float, nan, lt, le}
 use Rattle.buffers.specs.declared.Lack.the-variants.{Windows, Cuts}
 use Rattle.buffers.specs.Lack.{lackNumber}
 use Rattle.float64.specs.Notation.{if_then_else_}
+use Rattle.windows.specs.declared.WindowRecord.{WindowRecord}
+use Rattle.windows.specs.Windows.{trimmed, dead, adjust}
 use Rattle.heap.specs.declared.Event.{Event}
 use Rattle.heap.specs.declared.Pushed.{Pushed}
 use Rattle.heap.specs.declared.Pushed.the-variants.{Full, Queued}
@@ -16,7 +18,9 @@ use Rattle.heap.specs.Queue.{Queue, pushing, refusalNumber}
 
 pub data Action : Type 0 where
   list : ℕ → Action  -- one of the lists `pts`, `out`, `keep`, `next` and `pieces` comes to so many entries
-  make : Action  -- `wins.push`
+  make : WindowRecord → Action  -- `wins.push`
+  trim : ℕ → Float → Float → Float → Action  -- a window's ends and lowest value change
+  kill : ℕ → Action  -- a window is no more alive
   push : Event → Action  -- `queue.push`
   touch : ℕ → Float → Action  -- `touch` of a vertex at a distance
 
@@ -51,13 +55,29 @@ unfoldable pub andThen : Outcome → (Stock → Outcome) → Outcome
 andThen (stopped n) next = stopped n
 andThen (went s) next = next s
 
--- the cut buffer's count and the window buffer's, the limit, and the vertices' words, three for each: the third is 1 where a vertex passes distances
+-- ---- the Rust's `wins`, all windows made in the order of their numbers, dead ones too. Of a link only the chains tell: here it is 0.
+unfoldable pub winsWith : Action → List WindowRecord → List WindowRecord
+winsWith (list n) wins = wins
+winsWith (make x) wins = wins ++ (x ∷ [])
+winsWith (trim i b0 b1 low) wins = adjust i (λ x. trimmed x b0 b1 low) wins
+winsWith (kill i) wins = adjust i dead wins
+winsWith (push e) wins = wins
+winsWith (touch v d) wins = wins
+
+unfoldable pub winsAfter : List Action → List WindowRecord → List WindowRecord
+unfolding winsWith
+winsAfter [] wins = wins
+winsAfter (a ∷ rest) wins = winsAfter rest (winsWith a wins)
+
+-- ---- the cut buffer's count and the window buffer's, the limit, and the vertices' words, three for each: the third is 1 where a vertex passes distances
 -- round itself
 module _ (cuts windows : ℕ) (limit : Float) (vertexWords : List ℕ) where
   unfoldable pub act : Action → Stock → Outcome
   unfolding queueing
   act (list n) s = cond (leb n cuts) (went s) (stopped (lackNumber Cuts))
-  act make s = cond (ltb (s .made) windows) (went (stock (suc (s .made)) (s .queued) (s .queue) (s .vertex))) (stopped (lackNumber Windows))
+  act (make x) s = cond (ltb (s .made) windows) (went (stock (suc (s .made)) (s .queued) (s .queue) (s .vertex))) (stopped (lackNumber Windows))
+  act (trim i b0 b1 low) s = went s
+  act (kill i) s = went s
   act (push e) s = queueing (s .made) (s .vertex) (pushing (s .queue) (s .queued) e)
   act (touch v d) s =
       if lt d (distanceOf (s .vertex) v) then

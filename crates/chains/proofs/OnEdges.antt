@@ -86,20 +86,6 @@ module _ (count : ℕ) (b : Links) (e k : ℕ) where
   unfolding removed
   removed-head n stop = head-with (links (b .edges) (cleared count n (b .words) (linkIn count (linkAt b e k)) stop)) e k stop
 
--- a window is then as it was but for its link
-pub relinked-only : (w w′ : List ℕ) (f : List Float) (i : ℕ) → OnlyLinks w w′ → windowAt w′ f i ≡ relinked (windowAt w f i) (nextOf w′ i)
-unfolding windowAt relinked
-relinked-only w w′ f i h =
-    let flags = h .fields i 2 (omega arith) in
-    λ t. record {
-      edge = record { 0 = h .fields i 0 (omega arith) t };
-      into = record { 0 = h .fields i 1 (omega arith) t };
-      alive = hasFlag (flags t) 2;
-      queued = hasFlag (flags t) 4;
-      link = nextOf w′ i;
-      win = winAt (hasFlag (flags t) 1) f i;
-    }
-
 -- ---- what chains see of a window
 pub record Agrees (w w′ : List ℕ) (i : ℕ) : Type 0 where
   pub edge : edgeOf w′ i ≡ edgeOf w i

@@ -12,7 +12,7 @@ use lib.ListN.{length, getD}
 use lib.Seq.{drop-set-lt}
 use lib.Ieee.{Float}
 use Rattle.windows.specs.declared.WindowRecord.{WindowRecord}
-use Rattle.windows.specs.Windows.{hasFlag, windowAt, rangeWith, flagsWith, trimmedWin, trimmed, reflagged, relinked}
+use Rattle.windows.specs.Windows.{hasFlag, windowAt, rangeWith, flagsWith, trimmedWin, trimmed, reflagged, relinked, popped, adjust}
 use Rattle.windows.proofs.WindowList.{edge-is, trim-same, trim-other, flags-same, flags-other}
 use Rattle.chains.specs.Chains.{Links, links, Path, Out, Belongs, OnEdge}
 use Rattle.chains.proofs.OnEdges.{flags-frame}
@@ -20,15 +20,16 @@ use Rattle.better.specs.Claim.{All}
 use Rattle.source.specs.Distance.{lowestOf}
 use Rattle.trim_model.specs.Windows.{Window, part, unqueued}
 use Rattle.trim_state.specs.State.{put}
-use Rattle.live_windows.specs.Live.{liveOf, nums, Alive, Complete, Stands, Holds, bare, winsOf, adjust, popped, ranged, unqueuedIn, Loads, Trims, Unqueues}
+use Rattle.live_windows.specs.Live.{liveOf, nums, Alive, Complete, Stands, Holds, bare, winsOf, ranged, unqueuedIn, Loads, Trims, Unqueues}
 use Rattle.live_windows.proofs.Places.{nums-cons}
 use Rattle.live_windows.proofs.Stored.{Same, same-alive, others, wins-adjust}
-use Rattle.live_windows.proofs.Standing.{at-edge, holds-put, stands-both, around, not-there, complete-at}
+use Rattle.live_windows.proofs.Standing.{at-edge, stands-put, stands-both, around, not-there, complete-at}
+use Rattle.live_windows.proofs.Few.{few-flags}
 use Rattle.buffers.proofs.Strides.{fill-outside}
 
 -- ---- a window is read
 pub loaded : (w : List ℕ) (f : List Float) (i : ℕ) (x : WindowRecord) → x ≡ windowAt w f i → Loads w f i x
-loaded w f i x h = record { is = h; live = λ n m edges e live xs u zs l H d g. go n edges e xs u zs (at-edge n m (links edges w) f live e (xs ++ u ∷ zs) l H d) g } where
+loaded w f i x h = record { is = h; live = λ n wins edges e live xs u zs H d g. go n edges e xs u zs (at-edge n wins (links edges w) f live e (xs ++ u ∷ zs) H d) g } where
   go : (n : ℕ) (edges : List ℕ) (e : ℕ) (xs : List Window) (u : Window) (zs : List Window) → Stands n (links edges w) f e (xs ++ u ∷ zs) → i ≡ u .num → (liveOf x i ≡ u) × ((x .edge .0 ≡ e) × (x .alive ≡ true))
   go n edges e xs u zs s g =
       let a = around n (links edges w) f e xs u zs s in
@@ -76,21 +77,23 @@ module _ (f : List Float) (i : ℕ) (b0 b1 low : Float) (there : 6 * i + 6 ≤ l
   unfolding rangeWith
   trim-done f′ h = subst (λ z. Trims f z i b0 b1 low) (sym h) (record {
     reals = λ n l. fill-outside 6 n (b0 ∷ b1 ∷ low ∷ []) f i 0 l (omega arith);
-    holds = λ n m b e live xs u zs l H d g. go n m b e live xs u zs l H g (at-edge n m b f live e (xs ++ u ∷ zs) l H d);
+    holds = λ n wins b e live xs u zs H d g. go n wins b e live xs u zs H g (at-edge n wins b f live e (xs ++ u ∷ zs) H d);
   }) where
-    go : (n m : ℕ) (b : Links) (e : ℕ) (live : ℕ → List Window) (xs : List Window) (u : Window) (zs : List Window) → e < m → Holds n m b f live → i ≡ u .num → Stands n b f e (xs ++ u ∷ zs)
-        → Holds n m b f1 (put e (xs ++ ranged u b0 b1 low ∷ zs) live) × (winsOf n (b .words) f1 ≡ adjust i (λ x. trimmed x b0 b1 low) (winsOf n (b .words) f))
-    go n m b e live xs u zs l H g s =
+    go : (n : ℕ) (wins : List WindowRecord) (b : Links) (e : ℕ) (live : ℕ → List Window) (xs : List Window) (u : Window) (zs : List Window) → Holds n wins b f live → i ≡ u .num → Stands n b f e (xs ++ u ∷ zs)
+        → Holds n (adjust i (λ x. trimmed x b0 b1 low) wins) b f1 (put e (xs ++ ranged u b0 b1 low ∷ zs) live)
+    go n wins b e live xs u zs H g s =
         let w = b .words in
-        let a = around n b f e xs u zs s in (
-          holds-put n m b f1 live e (xs ++ ranged u b0 b1 low ∷ zs) (trim-edge n b e xs u zs g s)
-              (λ x ne k. record {
-                chain = H x k .chain;
-                windows = others w f w f1 i (live x) (not-there n b f e x i (live x) ne (subst (Belongs n w e) (sym g) (a .belongs)) (H x k)) (trim-others w) (H x k .windows);
-                complete = reals-complete n w f f1 x (nums (live x)) (H x k .complete);
-              }),
-          wins-adjust n w f w f1 i (λ x. trimmed x b0 b1 low) (trim-others w) (trim-here w),
-        )
+        let a = around n b f e xs u zs s in
+        record {
+          on-edge = stands-put n b f1 live e (xs ++ ranged u b0 b1 low ∷ zs) (trim-edge n b e xs u zs g s)
+              (λ x ne. record {
+                chain = H .on-edge x .chain;
+                windows = others w f w f1 i (live x) (not-there n b f e x i (live x) ne (subst (Belongs n w e) (sym g) (a .belongs)) (H .on-edge x)) (trim-others w) (H .on-edge x .windows);
+                complete = reals-complete n w f f1 x (nums (live x)) (H .on-edge x .complete);
+              });
+          all = wins-adjust n w f w f1 i (λ x. trimmed x b0 b1 low) (trim-others w) (trim-here w) ∙ ap (adjust i (λ x. trimmed x b0 b1 low)) (H .all);
+          flags = H .flags;
+        }
 
 -- ---- a window is no more queued
 nums-unqueued : (i : ℕ) (us : List Window) → nums (unqueuedIn i us) ≡ nums us
@@ -141,14 +144,15 @@ module _ (w : List ℕ) (i : ℕ) (alive : Bool) (there : 4 * i + 4 ≤ length w
   unfolding flagsWith
   unqueue-done w′ h = subst (λ z. Unqueues w z i) (sym h) (record {
     words = λ n l. drop-set-lt (4 * n) w (4 * i + 2) _ (omega arith);
-    holds = λ n m edges f live H. (
-      (λ e l. record {
-        chain = subst (OnEdge n (links edges w1) e) (sym (nums-unqueued i (live e))) (flags-frame n (links edges w) i alive false e (nums (live e)) (H e l .chain));
-        windows = pop-all f (live e) (H e l .windows);
-        complete = subst (Complete n w1 f e) (sym (nums-unqueued i (live e))) (pop-complete n f e (nums (live e)) (H e l .complete));
-      }),
-      wins-adjust n w f w1 f i popped (pop-others f) (pop-here f),
-    );
+    holds = λ n wins edges f live H. record {
+      on-edge = λ e. record {
+        chain = subst (OnEdge n (links edges w1) e) (sym (nums-unqueued i (live e))) (flags-frame n (links edges w) i alive false e (nums (live e)) (H .on-edge e .chain));
+        windows = pop-all f (live e) (H .on-edge e .windows);
+        complete = subst (Complete n w1 f e) (sym (nums-unqueued i (live e))) (pop-complete n f e (nums (live e)) (H .on-edge e .complete));
+      };
+      all = wins-adjust n w f w1 f i popped (pop-others f) (pop-here f) ∙ ap (adjust i popped) (H .all);
+      flags = few-flags n w i alive false there (H .flags);
+    };
   })
 
 -- with the lowest value of its source a trimmed window is what the model says

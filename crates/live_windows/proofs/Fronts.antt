@@ -10,13 +10,14 @@ use lib.ListN.{getD, set}
 use lib.Ieee.{Float}
 use Rattle.float64.specs.Notation.{_⊖_}
 use Rattle.buffers.proofs.Strides.{other-fields}
+use Rattle.windows.specs.declared.WindowRecord.{WindowRecord}
 use Rattle.windows.specs.Windows.{hasFlag, windowAt}
 use Rattle.chains.specs.Chains.{Links, links, headOf, Path, Out}
 use Rattle.better.specs.Claim.{All}
 use Rattle.trim_model.specs.Windows.{Window, takeWhile}
 use Rattle.trim_model.specs.Add.{passes}
 use Rattle.trim_model.proofs.Lists.{all-append}
-use Rattle.live_windows.specs.Live.{nums, endLink, lastLink, In, Holds, Walked, Leads, Lead, Begins, Fronted}
+use Rattle.live_windows.specs.Live.{nums, endLink, lastLink, In, Stands, Holds, Walked, Leads, Lead, Begins, Fronted}
 use Rattle.live_windows.proofs.Walks.{passesAt, passes-is}
 use Rattle.live_windows.proofs.Lists.{last-snoc}
 use Rattle.live_windows.proofs.Standing.{at-edge, around}
@@ -49,7 +50,7 @@ take-all p (x ∷ xs) zs h = ap (λ c. cond c (x ∷ takeWhile p (xs ++ zs)) [])
 -- ---- where the walk starts
 pub from-head : (p : Window → Bool) (n : ℕ) (b : Links) (f : List Float) (e : ℕ) → Begins p n b f e 0
 unfolding nums endLink
-from-head p n b f e = record { made = omega arith; lead = λ m live l H g. record { xs = []; zs = live e; is = refl; link = refl; pass = tt } }
+from-head p n b f e = record { made = omega arith; lead = λ wins live H g. record { xs = []; zs = live e; is = refl; link = refl; pass = tt } }
 
 -- the window of link r is alive, of edge e, and passes
 module _ (tiny b0 : Float) (n : ℕ) (b : Links) (f : List Float) (e r : ℕ) (made : r ≤ n) (some : r ≢ 0) (edge : getD (b .words) (4 * (r - 1) + 0) 0 ≡ e)
@@ -63,11 +64,11 @@ module _ (tiny b0 : Float) (n : ℕ) (b : Links) (f : List Float) (e r : ℕ) (m
   alive-at = alive
 
   pub from-hint : Begins (passes tiny b0) n b f e r
-  from-hint = record { made = made; lead = λ m live l H g. go m live l H g (find (live e) (r - 1) (H e l .complete (r - 1) (omega (arith, made, some)) edge-at alive-at)) } where
-    go : (m : ℕ) (live : ℕ → List Window) → e < m → Holds n m b f live → Leads (passes tiny b0) (live e) → Found (live e) (r - 1) → Lead (passes tiny b0) (live e) r
-    go m live l H g d =
+  from-hint = record { made = made; lead = λ wins live H g. go wins live H g (find (live e) (r - 1) (H .on-edge e .complete (r - 1) (omega (arith, made, some)) edge-at alive-at)) } where
+    go : (wins : List WindowRecord) (live : ℕ → List Window) → Holds n wins b f live → Leads (passes tiny b0) (live e) → Found (live e) (r - 1) → Lead (passes tiny b0) (live e) r
+    go wins live H g d =
         let u = d .it in
-        let a = around n b f e (d .front) u (d .rest) (at-edge n m b f live e (d .front ++ u ∷ d .rest) l H (d .is)) .here in
+        let a = around n b f e (d .front) u (d .rest) (at-edge n wins b f live e (d .front ++ u ∷ d .rest) H (d .is)) .here in
         let y : passes tiny b0 u ≡ true = sym (passes-is (b .words) f u a b0 (b0 ⊖ tiny)) ∙ ap (passesAt b0 (b0 ⊖ tiny) f) (d .number) ∙ pass in
         record {
           xs = d .front ++ (u ∷ []);
@@ -78,25 +79,27 @@ module _ (tiny b0 : Float) (n : ℕ) (b : Links) (f : List Float) (e r : ℕ) (m
         }
 
 -- ---- what the edge remembers is no part of its chain
-hint-holds : (n : ℕ) (b : Links) (e v m : ℕ) (f : List Float) (live : ℕ → List Window) → Holds n m b f live → Holds n m (links (set (b .edges) (6 * e + 5) v) (b .words)) f live
-hint-holds n b e v m f live H x l =
-    let s = H x l in
+hint-stands : (n : ℕ) (b : Links) (e v : ℕ) (f : List Float) (x : ℕ) (us : List Window) → Stands n b f x us → Stands n (links (set (b .edges) (6 * e + 5) v) (b .words)) f x us
+hint-stands n b e v f x us s =
     let head : headOf (set (b .edges) (6 * e + 5) v) x ≡ headOf (b .edges) x = other-fields 6 (b .edges) e x 5 4 v 0 (λ z. omega (arith, z)) (omega arith) (omega arith) in
     record {
-      chain = record { path = subst (λ h. Path (b .words) h (nums (live x))) (sym head) (s .chain .path); belong = s .chain .belong };
+      chain = record { path = subst (λ h. Path (b .words) h (nums us)) (sym head) (s .chain .path); belong = s .chain .belong };
       windows = s .windows;
       complete = s .complete;
     }
+
+pub hint-holds : (n : ℕ) (b : Links) (e v : ℕ) (wins : List WindowRecord) (f : List Float) (live : ℕ → List Window) → Holds n wins b f live → Holds n wins (links (set (b .edges) (6 * e + 5) v) (b .words)) f live
+hint-holds n b e v wins f live H = record { on-edge = λ x. hint-stands n b e v f x (live x) (H .on-edge x); all = H .all; flags = H .flags }
 
 -- the walk from link k ended at link r
 pub fronted : (p : Window → Bool) (n : ℕ) (b : Links) (f : List Float) (edges′ : List ℕ) (e k r : ℕ) → Begins p n b f e k → Walked p n b f e k r → edges′ ≡ set (b .edges) (6 * e + 5) r → Fronted p n b f edges′ e r
 fronted p n b f edges′ e k r s w h = record {
   edges = h;
   made = w .made;
-  holds = λ m g live H. subst (λ es. Holds n m (links es (b .words)) g live) (sym h) (hint-holds n b e r m g live H);
-  last = λ m live l H g. last m live l H (s .lead m live l H g);
+  holds = λ wins g live H. subst (λ es. Holds n wins (links es (b .words)) g live) (sym h) (hint-holds n b e r wins g live H);
+  last = λ wins live H g. last wins live H (s .lead wins live H g);
 } where
-  last : (m : ℕ) (live : ℕ → List Window) → e < m → Holds n m b f live → Lead p (live e) k → r ≡ lastLink (takeWhile p (live e))
-  last m live l H d =
-      w .last m live (d .xs) (d .zs) l H (d .is) (d .link)
+  last : (wins : List WindowRecord) (live : ℕ → List Window) → Holds n wins b f live → Lead p (live e) k → r ≡ lastLink (takeWhile p (live e))
+  last wins live H d =
+      w .last wins live (d .xs) (d .zs) H (d .is) (d .link)
       ∙ ap lastLink (sym (take-all p (d .xs) (d .zs) (d .pass)) ∙ ap (takeWhile p) (sym (d .is)))

@@ -9,7 +9,7 @@ use lib.ListN.{length, getD, set, drop, length-set}
 use lib.Seq.{drop-set-lt}
 use lib.Ieee.{Float}
 use Rattle.windows.specs.declared.WindowRecord.{WindowRecord}
-use Rattle.windows.specs.Windows.{hasFlag, windowAt, flagsWith, reflagged, relinked}
+use Rattle.windows.specs.Windows.{hasFlag, windowAt, flagsWith, reflagged, relinked, dead, adjust}
 use Rattle.windows.proofs.WindowList.{flags-same, flags-other, link-same, link-other}
 use Rattle.chains.proofs.Turns.{link-in}
 use Rattle.nat_laws.proofs.Lists.{all-append}
@@ -17,10 +17,11 @@ use Rattle.chains.specs.Chains.{Links, linkIn, links, headOf, nextOf, withLink,
 use Rattle.chains.proofs.Paths.{path-first, path-set, path-drop}
 use Rattle.chains.proofs.OnEdges.{only-with, head-with, all-set, set-frame, with-frame, flags-frame}
 use Rattle.trim_model.specs.Windows.{Window}
-use Rattle.live_windows.specs.Live.{nums, lastLink, Complete, Stands, bare, winsOf, adjust, dead, Kills}
+use Rattle.live_windows.specs.Live.{nums, lastLink, Complete, Stands, bare, winsOf, Kills}
+use Rattle.live_windows.proofs.Few.{few-with, few-flags, few-zeroed}
 use Rattle.live_windows.proofs.Places.{first-in, point, before-is}
 use Rattle.live_windows.proofs.Stored.{Same, others, Behind, with-bare, wins-adjust}
-use Rattle.live_windows.proofs.Standing.{Around, at-edge, holds-put, stands-both, around, not-there, behind-is, last-out, with-words, with-belongs, not-both, out-more, complete-but, complete-at}
+use Rattle.live_windows.proofs.Standing.{Around, at-edge, stands-put, stands-both, around, not-there, behind-is, last-out, with-words, with-belongs, not-both, out-more, complete-but, complete-at}
 
 -- ---- a window is taken out
 module _ (n : ℕ) (b : Links) (e k i v : ℕ) (q : Bool) (p : 4 * i + 4 ≤ length (b .words)) (r : 6 * e + 6 ≤ length (b .edges)) (kn : k ≤ n) (il : i < n)
@@ -37,11 +38,11 @@ module _ (n : ℕ) (b : Links) (e k i v : ℕ) (q : Bool) (p : 4 * i + 4 ≤ len
   abbrev kb2 : Links
   kb2 = links (kb .edges) kw2
 
-  queued-is : (f : List Float) → q ≡ windowAt (b .words) f i .queued
+  queued-is : (f : List Float) → q ≡ windowAt (b .words) f i .carried .queued
   unfolding windowAt
   queued-is f = flag
 
-  kill-bare : (z z1 : WindowRecord) → bare z1 ≡ bare z → q ≡ z .queued → bare (reflagged (relinked z1 0) false q) ≡ dead (bare z)
+  kill-bare : (z z1 : WindowRecord) → bare z1 ≡ bare z → q ≡ z .carried .queued → bare (reflagged (relinked z1 0) false q) ≡ dead (bare z)
   unfolding bare relinked reflagged
   kill-bare z z1 h g = ap (λ a. relinked (reflagged a false q) 0) h ∙ ap (λ a. relinked (reflagged (bare z) false a) 0) g
 
@@ -131,10 +132,11 @@ module _ (n : ℕ) (b : Links) (e k i v : ℕ) (q : Bool) (p : 4 * i + 4 ≤ len
   kill-core : Kills n b kb2 e k i
   kill-core = record {
     outside = record { edges = head-with b e k v .fields; words = kill-words };
-    holds = λ m f live xs u zs l H d kq g. let s = at-edge n m b f live e (xs ++ u ∷ zs) l H d in (
-      holds-put n m kb2 f live e (xs ++ zs) (kill-stands f xs u zs s kq g) (λ z ne h. kill-other f xs u zs s kq g z (live z) ne (H z h)),
-      kill-wins f xs u zs s kq g,
-    );
+    holds = λ wins f live xs u zs H d kq g. let s = at-edge n wins b f live e (xs ++ u ∷ zs) H d in record {
+      on-edge = stands-put n kb2 f live e (xs ++ zs) (kill-stands f xs u zs s kq g) (λ z ne. kill-other f xs u zs s kq g z (live z) ne (H .on-edge z));
+      all = kill-wins f xs u zs s kq g ∙ ap (adjust i dead) (H .all);
+      flags = few-flags n kw i false q length-kw (few-zeroed n (kb .words) i (few-with n b e k v (H .flags)));
+    };
   }
 
   pub kill-done : (e1 w1 w2 w3 : List ℕ) → links e1 w1 ≡ kb → w2 ≡ set w1 (4 * i + 3) 0 → w3 ≡ flagsWith w2 i false q → Kills n b (links e1 w3) e k i

@@ -5,6 +5,7 @@ pub mod Lists
 pub mod Seats
 pub mod Standing
 pub mod Fronts
+pub mod Few
 pub mod Changed
 pub mod Made
 pub mod Killed

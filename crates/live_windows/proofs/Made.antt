@@ -2,15 +2,14 @@
 use Prim.Native.Nat.{ℕ, suc, _+_, _*_, _≤_}
 use native.Mathlib.Omega.{arith}
 use native.Mathlib.Decide.{ℕ-discrete}
-use mathlib.Core.Bool.{Bool}
 use mathlib.Core.Path.{_≡_, refl, sym, ap, subst, _∙_}
 use mathlib.Core.List.{List, [], _∷_, _++_}
 use mathlib.Core.Logic.{_≢_}
 use lib.ListN.{length, drop}
 use lib.Ieee.{Float}
 use Rattle.buffers.specs.declared.EdgeId.{EdgeId}
-use Rattle.buffers.specs.declared.FaceId.{FaceId}
 use Rattle.source.specs.declared.Win.{Win}
+use Rattle.windows.specs.declared.Carried.{Carried}
 use Rattle.windows.specs.declared.WindowRecord.{WindowRecord}
 use Rattle.windows.specs.Windows.{realsOf, windowAt, wordsWith, realsWith, relinked}
 use Rattle.windows.proofs.WindowList.{length-realsOf, link-is, load-same, load-other}
@@ -24,17 +23,18 @@ use Rattle.trim_model.specs.Windows.{Window}
 use Rattle.live_windows.specs.Live.{liveOf, nums, lastLink, Alive, In, Complete, Stands, bare, winsOf, windowOf, Makes}
 use Rattle.live_windows.proofs.Places.{nums-append, nums-cons, next-is, point, before-is}
 use Rattle.live_windows.proofs.Stored.{Same, others, Behind, with-bare, wins-same}
-use Rattle.live_windows.proofs.Standing.{at-edge, holds-put, chain-both, stands-both, behind-is, last-out, with-words, out-less, in-it, complete-but}
+use Rattle.live_windows.proofs.Standing.{at-edge, stands-put, chain-both, stands-both, behind-is, last-out, with-words, out-less, in-it, complete-but}
+use Rattle.live_windows.proofs.Few.{few-with, few-stored}
 use Rattle.buffers.proofs.Strides.{fill-outside}
 
 -- ---- a window is made
-module _ (n : ℕ) (b : Links) (f : List Float) (e : EdgeId) (k v : ℕ) (into : FaceId) (queued : Bool) (win : Win)
+module _ (n : ℕ) (b : Links) (f : List Float) (e : EdgeId) (k v : ℕ) (carried : Carried) (win : Win)
     (p : 4 * n + 4 ≤ length (b .words)) (q : 6 * n + 6 ≤ length f) (r : 6 * e .0 + 6 ≤ length (b .edges)) (kn : k ≤ n) (read : v ≡ linkIn n (linkAt b (e .0) k)) where
   abbrev x : WindowRecord
-  x = windowOf e into queued v win
+  x = windowOf e carried v win
 
   abbrev y : WindowRecord
-  y = windowOf e into queued 0 win
+  y = windowOf e carried 0 win
 
   abbrev mw : List ℕ
   mw = wordsWith (b .words) n x
@@ -156,10 +156,11 @@ module _ (n : ℕ) (b : Links) (f : List Float) (e : EdgeId) (k v : ℕ) (into :
       (record {
         outside = record { edges = head-with mb (e .0) k (suc n) .fields; words = make-words };
         reals = make-reals;
-        holds = λ m live xs zs l H d kq. let s = at-edge n m b f live (e .0) (xs ++ zs) l H d in (
-          holds-put (suc n) m mb2 mf live (e .0) (xs ++ liveOf y n ∷ zs) (made-stands xs zs s kq) (λ z ne h. made-other xs zs s kq z (live z) ne (H z h)),
-          made-wins xs zs s kq,
-        );
+        holds = λ wins live xs zs H d kq. let s = at-edge n wins b f live (e .0) (xs ++ zs) H d in record {
+          on-edge = stands-put (suc n) mb2 mf live (e .0) (xs ++ liveOf y n ∷ zs) (made-stands xs zs s kq) (λ z ne. made-other xs zs s kq z (live z) ne (H .on-edge z));
+          all = made-wins xs zs s kq ∙ ap (λ l. l ++ (y ∷ [])) (H .all);
+          flags = few-with (suc n) mb (e .0) k (suc n) (few-stored n (b .words) x p (H .flags));
+        };
       }))
 
   -- as the calls leave it

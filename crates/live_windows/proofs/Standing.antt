@@ -12,6 +12,8 @@ use lib.ListN.{drop}
 use lib.Seq.{append-snoc, drop-set-lt}
 use lib.Ieee.{Float}
 use Rattle.nat_laws.proofs.Lists.{all-append, all-left, all-right}
+use Rattle.nat_laws.specs.Lists.{listOf}
+use Rattle.windows.specs.declared.WindowRecord.{WindowRecord}
 use Rattle.windows.specs.Windows.{windowAt, relinked}
 use Rattle.chains.specs.Chains.{Links, headOf, withLink, Path, Out, Belongs, AllBelong, OnEdge}
 use Rattle.chains.proofs.Paths.{front-out}
@@ -19,19 +21,19 @@ use Rattle.chains.proofs.OnEdges.{all-set, elsewhere, no-windows}
 use Rattle.better.specs.Claim.{All}
 use Rattle.trim_model.specs.Windows.{Window}
 use Rattle.trim_state.specs.State.{put}
-use Rattle.live_windows.specs.Live.{nums, endLink, lastLink, Alive, In, Complete, Stands, Holds, bare}
+use Rattle.live_windows.specs.Live.{nums, endLink, lastLink, Alive, In, Complete, Stands, Holds, bare, winsOf}
 use Rattle.live_windows.proofs.Places.{nums-append, nums-cons}
 use Rattle.live_windows.proofs.Stored.{Same, Behind}
 
 -- ---- lists that stand
-pub at-edge : (n m : ℕ) (b : Links) (f : List Float) (live : ℕ → List Window) (e : ℕ) (us : List Window) → e < m → Holds n m b f live → live e ≡ us → Stands n b f e us
-at-edge n m b f live e us l H d = subst (Stands n b f e) d (H e l)
+pub at-edge : (n : ℕ) (wins : List WindowRecord) (b : Links) (f : List Float) (live : ℕ → List Window) (e : ℕ) (us : List Window) → Holds n wins b f live → live e ≡ us → Stands n b f e us
+at-edge n wins b f live e us H d = subst (Stands n b f e) d (H .on-edge e)
 
-pub holds-put : (n m : ℕ) (b : Links) (f : List Float) (live : ℕ → List Window) (e : ℕ) (us : List Window) → Stands n b f e us → ((x : ℕ) → e ≢ x → x < m → Stands n b f x (live x)) → Holds n m b f (put e us live)
-holds-put n m b f live e us s o x l = go (ℕ-discrete x e) where
+pub stands-put : (n : ℕ) (b : Links) (f : List Float) (live : ℕ → List Window) (e : ℕ) (us : List Window) → Stands n b f e us → ((x : ℕ) → e ≢ x → Stands n b f x (live x)) → (x : ℕ) → Stands n b f x (put e us live x)
+stands-put n b f live e us s o x = go (ℕ-discrete x e) where
   go : Dec (x ≡ e) → Stands n b f x (cond (eqb x e) us (live x))
   go (yes d) = rw (eq-eqb x e d) (subst (λ y. Stands n b f y us) (sym d) s)
-  go (no d) = rw (ne-eqb x e d) (o x (λ z. d (sym z)) l)
+  go (no d) = rw (ne-eqb x e d) (o x (λ z. d (sym z)))
 
 pub chain-both : (n : ℕ) (b : Links) (e : ℕ) (xs zs : List Window) → OnEdge n b e (nums (xs ++ zs)) → OnEdge n b e (nums xs ++ nums zs)
 chain-both n b e xs zs = subst (OnEdge n b e) (nums-append xs zs)
@@ -134,6 +136,10 @@ with-belongs n b e zero v i h = h
 with-belongs n b e (suc k) v i h = all-set n (b .words) e (i ∷ []) k v (h, tt) .0
 
 -- ---- at first there is none
-pub no-live : (m : ℕ) (b : Links) (f : List Float) → ((e : ℕ) → e < m → headOf (b .edges) e ≡ 0) → Holds 0 m b f (λ e. [])
-unfolding nums
-no-live m b f h e l = record { chain = no-windows 0 m b h e l; windows = tt; complete = λ i k. absurd (omega arith) }
+pub no-live : (b : Links) (f : List Float) → ((e : ℕ) → headOf (b .edges) e ≡ 0) → Holds 0 [] b f (λ e. [])
+unfolding nums winsOf listOf
+no-live b f h = record {
+  on-edge = λ e. record { chain = no-windows 0 (suc e) b (λ x l. h x) e (omega arith); windows = tt; complete = λ i k. absurd (omega arith) };
+  all = refl;
+  flags = λ i k. absurd (omega arith);
+}

@@ -11,12 +11,12 @@ use lib.Ieee.{Float}
 use Rattle.nat_laws.specs.Lists.{listOf}
 use Rattle.nat_laws.proofs.Lists.{length-listOf, getD-listOf, listOf-same}
 use Rattle.windows.specs.declared.WindowRecord.{WindowRecord}
-use Rattle.windows.specs.Windows.{windowAt, relinked}
+use Rattle.windows.specs.Windows.{windowAt, relinked, adjust}
 use Rattle.windows.proofs.WindowList.{link-same, link-other}
 use Rattle.chains.specs.Chains.{Links, withLink, Out}
 use Rattle.better.specs.Claim.{All}
 use Rattle.trim_model.specs.Windows.{Window}
-use Rattle.live_windows.specs.Live.{liveOf, nums, Alive, bare, winsOf, adjust}
+use Rattle.live_windows.specs.Live.{liveOf, nums, Alive, bare, winsOf}
 
 -- window j is the same, but for a link that its chain says
 abbrev pub Same : List ℕ → List Float → List ℕ → List Float → ℕ → Type 0
@@ -68,13 +68,31 @@ module _ {A : Type 0} (g : A → A) where
   adjust-end (suc k) [] x h = absurd (omega arith)
   adjust-end (suc k) (y ∷ l) x h = ap (λ t. y ∷ t) (adjust-end k l x (omega arith))
 
-  adjust-out : (k : ℕ) (l : List A) → length l ≤ k → adjust k g l ≡ l
+  pub adjust-out : (k : ℕ) (l : List A) → length l ≤ k → adjust k g l ≡ l
   unfolding adjust
   adjust-out k [] h = refl
   adjust-out zero (x ∷ l) h = absurd (omega arith)
   adjust-out (suc k) (x ∷ l) h = ap (λ t. x ∷ t) (adjust-out k l (omega arith))
 
+  -- an element that is not changed
+  pub adjust-same : (k : ℕ) (l : List A) (d : A) → getD l k d ≡ d → g d ≡ d → adjust k g l ≡ l
+  unfolding adjust
+  adjust-same k [] d h c = refl
+  adjust-same zero (x ∷ l) d h c = ap (λ t. t ∷ l) (ap g h ∙ c ∙ sym h)
+  adjust-same (suc k) (x ∷ l) d h c = ap (λ t. x ∷ t) (adjust-same k l d h c)
+
+-- two changes of an element that come to the same
+pub adjust-as : {A : Type 0} (g h : A → A) (k : ℕ) (l : List A) (d : A) → getD l k d ≡ d → g d ≡ h d → adjust k g l ≡ adjust k h l
+unfolding adjust
+adjust-as g h k [] d e c = refl
+adjust-as g h zero (x ∷ l) d e c = ap (λ t. t ∷ l) (ap g e ∙ c ∙ ap h (sym e))
+adjust-as g h (suc k) (x ∷ l) d e c = ap (λ t. x ∷ t) (adjust-as g h k l d e c)
+
 -- ---- the list of all windows
+pub length-wins : (n : ℕ) (w : List ℕ) (f : List Float) → length (winsOf n w f) ≡ n
+unfolding winsOf
+length-wins n w f = length-listOf n (λ i. bare (windowAt w f i))
+
 pub wins-same : (n : ℕ) (w : List ℕ) (f : List Float) (w′ : List ℕ) (f′ : List Float) → ((j : ℕ) → j < n → Same w f w′ f′ j) → winsOf n w′ f′ ≡ winsOf n w f
 unfolding winsOf
 wins-same n w f w′ f′ = listOf-same n (λ i. bare (windowAt w f i)) (λ i. bare (windowAt w′ f′ i))

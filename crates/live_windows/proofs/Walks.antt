@@ -82,7 +82,7 @@ module _ (p : ℕ → Bool) (n : ℕ) (b : Links) (e : ℕ) where
 -- the test reads what the windows of the list have
 module _ (p : ℕ → Bool) (q : Window → Bool) (f : List Float) where
   pub walked : (n : ℕ) (b : Links) (e k r : ℕ) → ((u : Window) → Alive (b .words) f u → p (u .num) ≡ q u) → r ≤ n → r ≡ walkOn p n b e n k → Walked q n b f e k r
-  walked n b e k r t h i = record { made = h; last = λ m live xs zs l H d g. i ∙ go xs zs (subst (Stands n b f e) d (H e l)) g } where
+  walked n b e k r t h i = record { made = h; last = λ wins live xs zs H d g. i ∙ go xs zs (subst (Stands n b f e) d (H .on-edge e)) g } where
     go : (xs zs : List Window) → Stands n b f e (xs ++ zs) → k ≡ lastLink xs → walkOn p n b e n k ≡ lastLink (xs ++ takeWhile q zs)
     go xs zs s g =
         let o : OnEdge n b e (nums xs ++ nums zs) = subst (OnEdge n b e) (nums-append xs zs) (s .chain) in
@@ -139,5 +139,5 @@ follows n b e k r is =
     record {
       is = is;
       made = link-le n (linkAt b e k) r is;
-      first = λ m f live xs zs l H d g. is ∙ next-is n b e k (nums xs) (nums zs) g (subst (OnEdge n b e) (nums-append xs zs) (subst (Stands n b f e) d (H e l) .chain));
+      first = λ wins f live xs zs H d g. is ∙ next-is n b e k (nums xs) (nums zs) g (subst (OnEdge n b e) (nums-append xs zs) (subst (Stands n b f e) d (H .on-edge e) .chain));
     }

@@ -1,5 +1,5 @@
 -- The live windows of each edge, as the reference model has them, standing in the window buffer and its chains. Definitions only.
-use Prim.Native.Nat.{ℕ, zero, suc, _+_, _*_, _≤_, _<_}
+use Prim.Native.Nat.{ℕ, suc, _+_, _*_, _≤_, _<_}
 use mathlib.Core.Bool.{Bool, true, false, cond}
 use mathlib.Core.List.{List, [], _∷_, _++_}
 use mathlib.Core.Logic.{_≢_}
@@ -11,10 +11,10 @@ use Rattle.float64.specs.TotalOrder.{totalLess}
 use Rattle.float64.specs.Notation.{if_then_else_}
 use Rattle.nat_laws.specs.Lists.{listOf}
 use Rattle.buffers.specs.declared.EdgeId.{EdgeId}
-use Rattle.buffers.specs.declared.FaceId.{FaceId}
 use Rattle.source.specs.declared.Win.{Win}
+use Rattle.windows.specs.declared.Carried.{Carried}
 use Rattle.windows.specs.declared.WindowRecord.{WindowRecord}
-use Rattle.windows.specs.Windows.{windowAt, trimmed, reflagged, relinked}
+use Rattle.windows.specs.Windows.{flagsAt, windowAt, trimmed, relinked, dead, popped, adjust}
 use Rattle.chains.specs.Chains.{Links, links, linkIn, linkAt, Out, OnEdge, firstLink}
 use Rattle.better.specs.Claim.{All}
 use Rattle.trim_model.specs.Windows.{Window, unqueued, takeWhile}
@@ -23,7 +23,7 @@ use Rattle.trim_state.specs.State.{put}
 -- ---- what stands
 -- a stored window as the model has it, as number n
 abbrev pub liveOf : WindowRecord → ℕ → Window
-liveOf x n = record { b0 = x .win .b0; b1 = x .win .b1; low = x .win .low; src = x .win .src; into = x .into .0; queued = x .queued; num = n }
+liveOf x n = record { b0 = x .win .b0; b1 = x .win .b1; low = x .win .low; src = x .win .src; carried = x .carried; num = n }
 
 unfoldable pub nums : List Window → List ℕ
 nums [] = []
@@ -57,10 +57,6 @@ pub record Stands (n : ℕ) (b : Links) (f : List Float) (e : ℕ) (us : List Wi
   pub windows : All (Alive (b .words) f) us
   pub complete : Complete n (b .words) f e (nums us)
 
--- the Rust's `on_edge` of m edges
-abbrev pub Holds : ℕ → ℕ → Links → List Float → (ℕ → List Window) → Type 0
-Holds n m b f live = (e : ℕ) → e < m → Stands n b f e (live e)
-
 -- ---- all windows, dead ones too
 -- a window without its link where it is alive: there the chain says it
 unfoldable pub bare : WindowRecord → WindowRecord
@@ -70,25 +66,23 @@ bare x = relinked x (cond (x .alive) 0 (x .link))
 unfoldable pub winsOf : ℕ → List ℕ → List Float → List WindowRecord
 winsOf n w f = listOf n (λ i. bare (windowAt w f i))
 
--- element k changed
-unfoldable pub adjust : {A : Type 0} → ℕ → (A → A) → List A → List A
-adjust k g [] = []
-adjust zero g (x ∷ l) = g x ∷ l
-adjust (suc k) g (x ∷ l) = x ∷ adjust k g l
+-- no flag word has a bit above the three that are read
+abbrev pub FewFlags : ℕ → List ℕ → Type 0
+FewFlags n w = (i : ℕ) → i < n → flagsAt w i < 8
 
--- a window as it is made; taken out; one whose event was popped
-abbrev pub windowOf : EdgeId → FaceId → Bool → ℕ → Win → WindowRecord
-windowOf e into queued link win = record { edge = e; into = into; alive = true; queued = queued; link = link; win = win }
+-- ---- the whole: the Rust's `on_edge` of every edge, and its `wins`, of which there are n
+pub record Holds (n : ℕ) (wins : List WindowRecord) (b : Links) (f : List Float) (live : ℕ → List Window) : Type 0 where
+  pub on-edge : (e : ℕ) → Stands n b f e (live e)
+  pub all : winsOf n (b .words) f ≡ wins
+  pub flags : FewFlags n (b .words)
 
-abbrev pub dead : WindowRecord → WindowRecord
-dead x = relinked (reflagged x false (x .queued)) 0
-
-abbrev pub popped : WindowRecord → WindowRecord
-popped x = reflagged x (x .alive) false
+-- a window as it is made
+abbrev pub windowOf : EdgeId → Carried → ℕ → Win → WindowRecord
+windowOf e carried link win = record { edge = e; carried = carried; alive = true; link = link; win = win }
 
 -- of the model: u with its ends and lowest value changed; the window of number n, if it is there, whose event was popped
 abbrev pub ranged : Window → Float → Float → Float → Window
-ranged u b0 b1 low = record { b0 = b0; b1 = b1; low = low; src = u .src; into = u .into; queued = u .queued; num = u .num }
+ranged u b0 b1 low = record { b0 = b0; b1 = b1; low = low; src = u .src; carried = u .carried; num = u .num }
 
 unfoldable pub unqueuedIn : ℕ → List Window → List Window
 unqueuedIn n [] = []
@@ -108,12 +102,12 @@ pub record Outside (n e : ℕ) (b b′ : Links) : Type 0 where
 pub record Follows (n : ℕ) (b : Links) (e k r : ℕ) : Type 0 where
   pub is : r ≡ linkIn n (linkAt b e k)
   pub made : r ≤ n
-  pub first : (m : ℕ) (f : List Float) (live : ℕ → List Window) (xs zs : List Window) → e < m → Holds n m b f live → live e ≡ xs ++ zs → k ≡ lastLink xs → r ≡ firstLink (nums zs)
+  pub first : (wins : List WindowRecord) (f : List Float) (live : ℕ → List Window) (xs zs : List Window) → Holds n wins b f live → live e ≡ xs ++ zs → k ≡ lastLink xs → r ≡ firstLink (nums zs)
 
 -- r is the last link of those behind k whose windows pass p, as many as stand together, or k
 pub record Walked (p : Window → Bool) (n : ℕ) (b : Links) (f : List Float) (e k r : ℕ) : Type 0 where
   pub made : r ≤ n
-  pub last : (m : ℕ) (live : ℕ → List Window) (xs zs : List Window) → e < m → Holds n m b f live → live e ≡ xs ++ zs → k ≡ lastLink xs → r ≡ lastLink (xs ++ takeWhile p zs)
+  pub last : (wins : List WindowRecord) (live : ℕ → List Window) (xs zs : List Window) → Holds n wins b f live → live e ≡ xs ++ zs → k ≡ lastLink xs → r ≡ lastLink (xs ++ takeWhile p zs)
 
 -- what stands before a window that passes p passes too
 abbrev pub Leads : (Window → Bool) → List Window → Type 0
@@ -130,42 +124,42 @@ pub record Lead (p : Window → Bool) (us : List Window) (r : ℕ) : Type 0 wher
 -- a walk along those of edge e that pass p may start behind link r
 pub record Begins (p : Window → Bool) (n : ℕ) (b : Links) (f : List Float) (e r : ℕ) : Type 0 where
   pub made : r ≤ n
-  pub lead : (m : ℕ) (live : ℕ → List Window) → e < m → Holds n m b f live → Leads p (live e) → Lead p (live e) r
+  pub lead : (wins : List WindowRecord) (live : ℕ → List Window) → Holds n wins b f live → Leads p (live e) → Lead p (live e) r
 
 -- r is the link of the last of those first windows of edge e that pass p, or 0, and the edge remembers it
 pub record Fronted (p : Window → Bool) (n : ℕ) (b : Links) (f : List Float) (edges′ : List ℕ) (e r : ℕ) : Type 0 where
   pub edges : edges′ ≡ set (b .edges) (6 * e + 5) r
   pub made : r ≤ n
-  pub holds : (m : ℕ) (g : List Float) (live : ℕ → List Window) → Holds n m b g live → Holds n m (links edges′ (b .words)) g live
-  pub last : (m : ℕ) (live : ℕ → List Window) → e < m → Holds n m b f live → Leads p (live e) → r ≡ lastLink (takeWhile p (live e))
+  pub holds : (wins : List WindowRecord) (g : List Float) (live : ℕ → List Window) → Holds n wins b g live → Holds n wins (links edges′ (b .words)) g live
+  pub last : (wins : List WindowRecord) (live : ℕ → List Window) → Holds n wins b f live → Leads p (live e) → r ≡ lastLink (takeWhile p (live e))
 
 -- x is the window of number i
 pub record Loads (w : List ℕ) (f : List Float) (i : ℕ) (x : WindowRecord) : Type 0 where
   pub is : x ≡ windowAt w f i
-  pub live : (n m : ℕ) (edges : List ℕ) (e : ℕ) (live : ℕ → List Window) (xs : List Window) (u : Window) (zs : List Window) → e < m → Holds n m (links edges w) f live → live e ≡ xs ++ u ∷ zs → i ≡ u .num
+  pub live : (n : ℕ) (wins : List WindowRecord) (edges : List ℕ) (e : ℕ) (live : ℕ → List Window) (xs : List Window) (u : Window) (zs : List Window) → Holds n wins (links edges w) f live → live e ≡ xs ++ u ∷ zs → i ≡ u .num
       → (liveOf x i ≡ u) × ((x .edge .0 ≡ e) × (x .alive ≡ true))
 
 -- x is made as window n, behind link k of edge e
 pub record Makes (n : ℕ) (b b′ : Links) (f f′ : List Float) (e k : ℕ) (x : WindowRecord) : Type 0 where
   pub outside : Outside (suc n) e b b′
   pub reals : drop (6 * suc n) f′ ≡ drop (6 * suc n) f
-  pub holds : (m : ℕ) (live : ℕ → List Window) (xs zs : List Window) → e < m → Holds n m b f live → live e ≡ xs ++ zs → k ≡ lastLink xs
-      → Holds (suc n) m b′ f′ (put e (xs ++ liveOf x n ∷ zs) live) × (winsOf (suc n) (b′ .words) f′ ≡ winsOf n (b .words) f ++ (x ∷ []))
+  pub holds : (wins : List WindowRecord) (live : ℕ → List Window) (xs zs : List Window) → Holds n wins b f live → live e ≡ xs ++ zs → k ≡ lastLink xs
+      → Holds (suc n) (wins ++ (x ∷ [])) b′ f′ (put e (xs ++ liveOf x n ∷ zs) live)
 
 -- window i has its ends and lowest value changed
 pub record Trims (f f′ : List Float) (i : ℕ) (b0 b1 low : Float) : Type 0 where
   pub reals : (n : ℕ) → i < n → drop (6 * n) f′ ≡ drop (6 * n) f
-  pub holds : (n m : ℕ) (b : Links) (e : ℕ) (live : ℕ → List Window) (xs : List Window) (u : Window) (zs : List Window) → e < m → Holds n m b f live → live e ≡ xs ++ u ∷ zs → i ≡ u .num
-      → Holds n m b f′ (put e (xs ++ ranged u b0 b1 low ∷ zs) live) × (winsOf n (b .words) f′ ≡ adjust i (λ x. trimmed x b0 b1 low) (winsOf n (b .words) f))
+  pub holds : (n : ℕ) (wins : List WindowRecord) (b : Links) (e : ℕ) (live : ℕ → List Window) (xs : List Window) (u : Window) (zs : List Window) → Holds n wins b f live → live e ≡ xs ++ u ∷ zs → i ≡ u .num
+      → Holds n (adjust i (λ x. trimmed x b0 b1 low) wins) b f′ (put e (xs ++ ranged u b0 b1 low ∷ zs) live)
 
 -- window i, behind link k of edge e, is taken out
 pub record Kills (n : ℕ) (b b′ : Links) (e k i : ℕ) : Type 0 where
   pub outside : Outside n e b b′
-  pub holds : (m : ℕ) (f : List Float) (live : ℕ → List Window) (xs : List Window) (u : Window) (zs : List Window) → e < m → Holds n m b f live → live e ≡ xs ++ u ∷ zs → k ≡ lastLink xs → i ≡ u .num
-      → Holds n m b′ f (put e (xs ++ zs) live) × (winsOf n (b′ .words) f ≡ adjust i dead (winsOf n (b .words) f))
+  pub holds : (wins : List WindowRecord) (f : List Float) (live : ℕ → List Window) (xs : List Window) (u : Window) (zs : List Window) → Holds n wins b f live → live e ≡ xs ++ u ∷ zs → k ≡ lastLink xs → i ≡ u .num
+      → Holds n (adjust i dead wins) b′ f (put e (xs ++ zs) live)
 
 -- window i, on whatever edge or on none, is no more queued
 pub record Unqueues (w w′ : List ℕ) (i : ℕ) : Type 0 where
   pub words : (n : ℕ) → i < n → drop (4 * n) w′ ≡ drop (4 * n) w
-  pub holds : (n m : ℕ) (edges : List ℕ) (f : List Float) (live : ℕ → List Window) → Holds n m (links edges w) f live
-      → Holds n m (links edges w′) f (λ e. unqueuedIn i (live e)) × (winsOf n w′ f ≡ adjust i popped (winsOf n w f))
+  pub holds : (n : ℕ) (wins : List WindowRecord) (edges : List ℕ) (f : List Float) (live : ℕ → List Window) → Holds n wins (links edges w) f live
+      → Holds n (adjust i popped wins) (links edges w′) f (λ e. unqueuedIn i (live e))

@@ -2,12 +2,12 @@
 // something stands behind a link, the head of the chain. A link that is read counts only where it leads to one of the first `made`
 // windows, so whatever the buffers hold, no other window is touched.
 use buffers::EdgeId;
-use buffers::FaceId;
 use buffers::WindowId;
 use buffers::read_f64;
 use buffers::read_u32;
 use buffers::write_u32;
 use source::Win;
+use windows::Carried;
 use windows::WindowRecord;
 ghost use mathlib.Core.Path.{_≡_};
 ghost use mathlib.Core.Bool.{_&&_, not};
@@ -19,7 +19,7 @@ ghost use Rattle.buffers.specs.Slots.{slotsOf};
 ghost use Rattle.windows.specs.Windows.{capacityOf};
 ghost use Rattle.chains.specs.Chains.{links};
 ghost use Rattle.trim_model.specs.Add.{passes};
-ghost use Rattle.live_windows.specs.Live.{windowOf, sortsBefore, Follows, Walked, Begins, Fronted, Loads, Makes, Trims, Kills, Unqueues};
+ghost use Rattle.live_windows.specs.Live.{windowOf, sortsBefore, Follows, Walked, Begins, Fronted, Loads, Makes, Trims, Kills};
 
 // The link that follows `before` on the chain of an edge.
 pub fn next_link(
@@ -189,19 +189,17 @@ pub fn make_window(
     made: u32,
     e: EdgeId,
     before: u32,
-    into: FaceId,
-    queued: bool,
+    carried: Carried,
     win: Win,
 )
     requires { ⌜ (made < capacityOf (length (now words)) (length (now reals))) × ((e .0 < slotsOf (length (now edges)) 6) × (before ≤ made)) ⌝ }
-    ensures { λ r. ⌜ Makes made (links (now (edges .entry)) (now (words .entry))) (links (now (edges .exit)) (now (words .exit))) (now (reals .entry)) (now (reals .exit)) (e .0) before (windowOf e into queued 0 win) ⌝ }
+    ensures { λ r. ⌜ Makes made (links (now (edges .entry)) (now (words .entry))) (links (now (edges .exit)) (now (words .exit))) (now (reals .entry)) (now (reals .exit)) (e .0) before (windowOf e carried 0 win) ⌝ }
 {
     let next = next_link(edges, words, reals, made, e, before);
     let x = WindowRecord {
         edge: e,
-        into,
+        carried,
         alive: true,
-        queued,
         link: next,
         win,
     };
@@ -237,14 +235,4 @@ pub fn kill_window(
     chains::set_link(edges, words, reals, made, e, before, next);
     write_u32(words, 4, id.0, 3, 0);
     windows::store_flags(words, reals, id, false, queued);
-}
-
-// A window's event was popped.
-pub fn unqueue(words: &mut [u32], reals: &[f64], id: WindowId)
-    requires { ⌜ id .0 < capacityOf (length (now words)) (length (now reals)) ⌝ }
-    ensures { λ r. ⌜ Unqueues (now (words .entry)) (now (words .exit)) (id .0) ⌝ }
-{
-    let flags = read_u32(words, 4, id.0, 2);
-    let alive = windows::has_flag(flags, 2);
-    windows::store_flags(words, reals, id, alive, false);
 }

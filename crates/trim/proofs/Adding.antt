@@ -6,14 +6,18 @@ use native.Mathlib.Omega.{arith}
 use lib.ListN.{length}
 use lib.Ieee.{Float}
 use borrow.Author.Tests.{le-leb, lt-leb}
+use Rattle.buffers.specs.declared.Lack.{Lack}
+use Rattle.buffers.specs.Lack.{lackNumber}
 use Rattle.float64.specs.Notation.{_⊕_}
 use Rattle.better.specs.Stretches.{Interval, interval, betterOf}
 use Rattle.better.specs.Buffers.{pairs}
 use Rattle.heap.specs.Queue.{Queue}
 use Rattle.chains.specs.Chains.{Links, headOf}
 use Rattle.actions.specs.Actions as actions
-use Rattle.actions.specs.Actions.{Action, list, Stock, Outcome, act, play}
-use Rattle.actions.proofs.Play.{play-go, play-stop, play-go-append, play-stop-append}
+use Rattle.windows.specs.declared.Edge.{Edge}
+use Rattle.windows.specs.declared.WindowRecord.{WindowRecord}
+use Rattle.actions.specs.Actions.{Action, list, winsAfter, Stock, Outcome, act, play}
+use Rattle.actions.proofs.Play.{wins-append, play-go, play-stop, play-go-append, play-stop-append}
 use Rattle.trim_model.specs.Intervals.{tinyOf, wideOf}
 use Rattle.trim_model.specs.Windows.{Window, fresh, takeWhile}
 use Rattle.trim_model.specs.Add.{Walk, startsBefore, passes, start, visits, addTo}
@@ -52,9 +56,12 @@ length-both (x ∷ xs) zs = omega (arith, length-both xs zs)
 part-few : (xs zs us : List Window) (n : ℕ) → xs ++ zs ≡ us → length us ≤ n → length zs ≤ n
 part-few xs zs us n h i = omega (arith, length-both xs zs, ap length h, i)
 
-module _ (cuts windows : ℕ) (limit : Float) (flags : List ℕ) (e : ℕ) (len : Float) (a b : ℕ) (w : Window) (made queued : ℕ) (lk : Links) (f : List Float) (q : Queue) (vertex : List Float) where
+module _ (cuts windows : ℕ) (limit : Float) (flags : List ℕ) (e : Edge) (w : Window) (made queued : ℕ) (lk : Links) (f : List Float) (q : Queue) (vertex : List Float) where
   abbrev t : Float
-  t = tinyOf len
+  t = tinyOf (e .len)
+
+  abbrev id : ℕ
+  id = e .id .0
 
   abbrev stock₀ : Stock
   stock₀ = actions.stock made queued q vertex
@@ -74,58 +81,58 @@ module _ (cuts windows : ℕ) (limit : Float) (flags : List ℕ) (e : ℕ) (len 
       stop : act cuts windows limit flags (list 1) stock₀ ≡ actions.stopped 14
       stop = unfold act in rw (lt-leb 1 cuts (omega (arith, h)))
 
-  module _ (m : ℕ) (live : ℕ → List Window) (there : e < m) (hold : Holds made m lk f live) (t0 : Nonneg t) (W : Wide t w) (tidy : Tidy t (live e)) where
+  module _ (wins : List WindowRecord) (live : ℕ → List Window) (hold : Holds made wins lk f live) (t0 : Nonneg t) (W : Wide t w) (tidy : Tidy t (live id)) where
     abbrev front : List Window
-    front = passed t w (live e) made
+    front = passed t w (live id) made
 
     abbrev rest : List Window
-    rest = reached t w (live e) made
+    rest = reached t w (live id) made
 
     abbrev tail : List Window
-    tail = beyond t w (live e) made
+    tail = beyond t w (live id) made
 
     abbrev walk : Walk
-    walk = walked t w (live e) made
+    walk = walked t w (live id) made
 
     abbrev visiting : List Action
-    visiting = visitings t w (takeWhile (startsBefore (w .b1 ⊕ t)) rest) (start w made)
+    visiting = visitings id t w (takeWhile (startsBefore (w .b1 ⊕ t)) rest) (start w made)
 
     abbrev kept : ℕ → List Interval → List Action
-    kept n ks = keeping len a b w n (wideOf t ks)
+    kept n ks = keeping e w n (wideOf t ks)
 
     abbrev after : ℕ → List Window
-    after e′ = put e (addTo betterOf t w (live e) made .live) live e′
+    after e′ = put id (addTo betterOf t w (live id) made .live) live e′
 
     abbrev result : Result
-    result = finish after (played (adding len a b w (live e) made) stock₀)
+    result = finish (winsAfter (adding e w (live id) made) wins) after (played (adding e w (live id) made) stock₀)
 
-    todo-is : adding len a b w (live e) made ≡ list 1 ∷ (visiting ++ kept (walk .made) (walk .keep))
-    todo-is = adding-is len a b w (live e) made tidy ∙ ap (λ (us : List Window). list 1 ∷ (visiting ++ kept (visits betterOf t w us (start w made) .made) (visits betterOf t w us (start w made) .keep))) (run-is t w (live e) tidy)
+    todo-is : adding e w (live id) made ≡ list 1 ∷ (visiting ++ kept (walk .made) (walk .keep))
+    todo-is = adding-is e w (live id) made tidy ∙ ap (λ (us : List Window). list 1 ∷ (visiting ++ kept (visits betterOf t w us (start w made) .made) (visits betterOf t w us (start w made) .keep))) (run-is t w (live id) tidy)
 
-    stop : (n : ℕ) → played (adding len a b w (live e) made) stock₀ ≡ actions.stopped n → result ≡ state.stopped n
+    stop : (n : ℕ) → played (adding e w (live id) made) stock₀ ≡ actions.stopped n → result ≡ state.stopped n
     unfolding finish
-    stop n h = ap (finish after) h
+    stop n h = ap (finish (winsAfter (adding e w (live id) made) wins) after) h
 
-    leave : (p : Place) → played (adding len a b w (live e) made) stock₀ ≡ actions.went (stockOf p) → Holds (p .made) m (p .links) (p .reals) after → (last : ℕ) → Untouched (λ k. k ≡ e) (place made queued last lk f q vertex) p → Leaves m e (place made queued last lk f q vertex) p result
+    leave : (p : Place) → played (adding e w (live id) made) stock₀ ≡ actions.went (stockOf p) → Holds (p .made) (winsAfter (adding e w (live id) made) wins) (p .links) (p .reals) after → (last : ℕ) → Untouched (λ k. k ≡ id) (place made queued last lk f q vertex) p → Leaves id (place made queued last lk f q vertex) p result
     unfolding finish
-    leave p h k last u = record { live = after; is = ap (finish after) h; holds = k; untouched = u }
+    leave p h k last u = record { wins = winsAfter (adding e w (live id) made) wins; live = after; is = ap (finish (winsAfter (adding e w (live id) made) wins) after) h; holds = k; untouched = u }
 
     pub no-cuts : cuts ≡ 0 → result ≡ state.stopped 14
     no-cuts z = stop 14 (ap (λ (l : List Action). played l stock₀) todo-is ∙ list-stop (visiting ++ kept (walk .made) (walk .keep)) z)
 
-    parts : front ++ rest ≡ live e
-    parts = take-drop (passes t (w .b0)) (live e)
+    parts : front ++ rest ≡ live id
+    parts = take-drop (passes t (w .b0)) (live id)
 
     few : length rest ≤ made
     few =
-        let s = hold e there in
-        part-few front rest (live e) made parts (subst (λ (n : ℕ). n ≤ made) (nums-length (live e)) (short made (lk .words) e (headOf (lk .edges) e) (nums (live e)) (s .chain .path) (s .chain .belong)))
+        let s = hold .on-edge id in
+        part-few front rest (live id) made parts (subst (λ (n : ℕ). n ≤ made) (nums-length (live id)) (short made (lk .words) id (headOf (lk .edges) id) (nums (live id)) (s .chain .path) (s .chain .belong)))
 
-    stand : Holds made m lk f (put e (front ++ rest) live)
-    stand = holds-put made m lk f e (front ++ rest) live (sym parts) hold
+    stand : Holds made wins lk f (put id (front ++ rest) live)
+    stand = holds-put made wins lk f id (front ++ rest) live (sym parts) hold
 
     module _ (some : 0 < cuts) (before : ℕ) (link : before ≡ lastLink front) where
-      played-one : played (adding len a b w (live e) made) stock₀ ≡ played (visiting ++ kept (walk .made) (walk .keep)) stock₀
+      played-one : played (adding e w (live id) made) stock₀ ≡ played (visiting ++ kept (walk .made) (walk .keep)) stock₀
       played-one = ap (λ (l : List Action). played l stock₀) todo-is ∙ list-go (visiting ++ kept (walk .made) (walk .keep)) some
 
       abbrev Few : List Window → Type 0
@@ -137,23 +144,23 @@ module _ (cuts windows : ℕ) (limit : Float) (flags : List ℕ) (e : ℕ) (len 
       abbrev start₀ : Place
       start₀ = place made queued before lk f q vertex
 
-      pub visit-stopped : (n : ℕ) (keep′ : List Float) → VisitsAll cuts windows limit flags e t w Few first start₀ (Stopped n) (stopped n) keep′ → result ≡ state.stopped n
-      visit-stopped n keep′ d = stop n (played-one ∙ play-stop-append cuts windows limit flags visiting (kept (walk .made) (walk .keep)) stock₀ n (d m live front rest there few link stand .0))
+      pub visit-stopped : (n : Lack) (keep′ : List Float) → VisitsAll cuts windows limit flags id t w Few first start₀ (Stopped n) (stopped (lackNumber n)) keep′ → result ≡ state.stopped (lackNumber n)
+      visit-stopped n keep′ d = stop (lackNumber n) (played-one ∙ play-stop-append cuts windows limit flags visiting (kept (walk .made) (walk .keep)) stock₀ (lackNumber n) (d wins live front rest few link stand .0))
 
       module _ (c : Counts) (last k : ℕ) (lk′ : Links) (f′ : List Float) (q′ : Queue) (keep′ : List Float)
-          (d : VisitsAll cuts windows limit flags e t w Few first start₀ (Went c last k) (at (place (c .made) (c .queued) last lk′ f′ q′ vertex)) keep′) where
+          (d : VisitsAll cuts windows limit flags id t w Few first start₀ (Went c last k) (at (place (c .made) (c .queued) last lk′ f′ q′ vertex)) keep′) where
         abbrev there₁ : Place
         there₁ = place (c .made) (c .queued) before lk′ f′ q′ vertex
 
-        ran : Ran cuts windows limit flags e visiting (takeWhile (startsBefore (w .b1 ⊕ t)) rest) (walk .survivors) start₀ (place (c .made) (c .queued) last lk′ f′ q′ vertex)
-        ran = d m live front rest there few link stand .0
+        ran : Ran cuts windows limit flags id visiting (takeWhile (startsBefore (w .b1 ⊕ t)) rest) (walk .survivors) start₀ (place (c .made) (c .queued) last lk′ f′ q′ vertex)
+        ran = d wins live front rest few link stand .0
 
         keeps : Kept cuts (c .made) k keep′ walk
-        keeps = d m live front rest there few link stand .1
+        keeps = d wins live front rest few link stand .1
 
-        held : Holds (c .made) m lk′ f′ (put e (front ++ (walk .survivors ++ tail)) live)
-        held = ran .holds m live front tail there link
-            (holds-equal made m lk f e (front ++ rest) (front ++ (takeWhile (startsBefore (w .b1 ⊕ t)) rest ++ tail)) live (ap (λ (l : List Window). front ++ l) (sym (take-drop (startsBefore (w .b1 ⊕ t)) rest))) stand)
+        held : Holds (c .made) (winsAfter visiting wins) lk′ f′ (put id (front ++ (walk .survivors ++ tail)) live)
+        held = ran .holds wins live front tail link
+            (holds-equal made wins lk f id (front ++ rest) (front ++ (takeWhile (startsBefore (w .b1 ⊕ t)) rest ++ tail)) live (ap (λ (l : List Window). front ++ l) (sym (take-drop (startsBefore (w .b1 ⊕ t)) rest))) stand)
 
         kept-is : kept (c .made) (pairs k keep′) ≡ kept (walk .made) (walk .keep)
         kept-is = ap (λ (n : ℕ). kept n (pairs k keep′)) (keeps .count) ∙ ap (kept (walk .made)) (keeps .keep)
@@ -161,7 +168,7 @@ module _ (cuts windows : ℕ) (limit : Float) (flags : List ℕ) (e : ℕ) (len 
         news-is : fresh w (c .made) (wideOf t (pairs k keep′)) ≡ fresh w (walk .made) (wideOf t (walk .keep))
         news-is = ap (λ (n : ℕ). fresh w n (wideOf t (pairs k keep′))) (keeps .count) ∙ ap (λ (ks : List Interval). fresh w (walk .made) (wideOf t ks)) (keeps .keep)
 
-        played-all : (o : Outcome) → played (kept (c .made) (pairs k keep′)) (stockOf there₁) ≡ o → played (adding len a b w (live e) made) stock₀ ≡ o
+        played-all : (o : Outcome) → played (kept (c .made) (pairs k keep′)) (stockOf there₁) ≡ o → played (adding e w (live id) made) stock₀ ≡ o
         played-all o h =
             played-one
             ∙ play-go-append cuts windows limit flags visiting (kept (walk .made) (walk .keep)) stock₀ (stockOf there₁) (ran .plays)
@@ -169,17 +176,26 @@ module _ (cuts windows : ℕ) (limit : Float) (flags : List ℕ) (e : ℕ) (len 
             ∙ h
 
         -- the walk's last link is of no use any more
-        around : Untouched (λ k. k ≡ e) start₀ there₁
+        around : Untouched (λ k. k ≡ id) start₀ there₁
         around = let u = ran .untouched in record { more = u .more; edges = u .edges; words = u .words; reals = u .reals }
 
-        seated : (end : End) → SeatsAmong cuts windows limit flags e len a b w m live front (walk .survivors ++ tail) (wideOf t (pairs k keep′)) there₁ end → Says m e start₀ end result
+        -- the windows made in both parts
+        wins-all : winsAfter (kept (c .made) (pairs k keep′)) (winsAfter visiting wins) ≡ winsAfter (adding e w (live id) made) wins
+        unfolding winsAfter
+        wins-all =
+            ap (λ (l : List Action). winsAfter l (winsAfter visiting wins)) kept-is
+            ∙ sym (wins-append visiting (kept (walk .made) (walk .keep)) wins)
+            ∙ sym (ap (λ (l : List Action). winsAfter l wins) todo-is)
+
+        seated : (end : End) → SeatsAmong cuts windows limit flags e w (winsAfter visiting wins) live front (walk .survivors ++ tail) (wideOf t (pairs k keep′)) there₁ end → Says id start₀ end result
         seated (stopped n) h = stop n (played-all (actions.stopped n) h)
         seated (at p) h = leave p (played-all (actions.went (stockOf p)) (h .plays))
-            (holds-equal (p .made) m (p .links) (p .reals) e (seatAll (fresh w (c .made) (wideOf t (pairs k keep′))) front (walk .survivors ++ tail)) (addTo betterOf t w (live e) made .live) live
-            (ap (λ (us : List Window). seatAll us front (walk .survivors ++ tail)) news-is ∙ sym (walk-seated t w (live e) made t0 W tidy))
-            (h .holds))
+            (subst (λ (ws : List WindowRecord). Holds (p .made) ws (p .links) (p .reals) after) wins-all
+            (holds-equal (p .made) (winsAfter (kept (c .made) (pairs k keep′)) (winsAfter visiting wins)) (p .links) (p .reals) id (seatAll (fresh w (c .made) (wideOf t (pairs k keep′))) front (walk .survivors ++ tail)) (addTo betterOf t w (live id) made .live) live
+            (ap (λ (us : List Window). seatAll us front (walk .survivors ++ tail)) news-is ∙ sym (walk-seated t w (live id) made t0 W tidy))
+            (h .holds)))
             before
-            (untouched-then (λ k. k ≡ e) start₀ there₁ p around (h .untouched))
+            (untouched-then (λ k. k ≡ id) start₀ there₁ p around (h .untouched))
 
-        pub all-seated : (end : End) → Seats cuts windows limit flags e len a b w (wideOf t (pairs k keep′)) there₁ end → Says m e start₀ end result
-        all-seated end s = seated end (s m live front (walk .survivors ++ tail) there link held)
+        pub all-seated : (end : End) → Seats cuts windows limit flags e w (wideOf t (pairs k keep′)) there₁ end → Says id start₀ end result
+        all-seated end s = seated end (s (winsAfter visiting wins) live front (walk .survivors ++ tail) link held)

@@ -10,13 +10,17 @@ use lib.Dec.{T}
 use lib.ListN.{length, getD}
 use lib.Seq.{getD-set-other}
 use lib.Ieee.{Float, lt, le}
+use Rattle.buffers.specs.declared.Lack.{Lack}
+use Rattle.buffers.specs.Lack.{lackNumber}
 use Rattle.source.specs.Distance.{lowestOf}
 use Rattle.better.specs.Stretches.{Interval, interval, betterOf}
 use Rattle.better.specs.Buffers.{pairs}
 use Rattle.heap.specs.Queue.{queue}
 use Rattle.chains.specs.Chains.{links}
+use Rattle.windows.specs.declared.Edge.{Edge}
+use Rattle.windows.specs.declared.NewWindow.{NewWindow}
 use Rattle.windows.specs.declared.WindowRecord.{WindowRecord}
-use Rattle.actions.specs.Actions.{Stock, play}
+use Rattle.actions.specs.Actions.{winsAfter, Stock, play}
 use Rattle.trim_model.specs.Intervals.{width, tinyOf, wideOf}
 use Rattle.trim_model.specs.Windows.{Window, takeWhile}
 use Rattle.trim_model.specs.Add.{passes, addTo}
@@ -25,7 +29,7 @@ use Rattle.trim_model.proofs.Ranks.{Nonneg}
 use Rattle.trim_model.proofs.Windows.{Wide}
 use Rattle.trim_model.proofs.Order.{Tidy}
 use Rattle.trim_state.specs.State as state
-use Rattle.trim_state.specs.State.{State, Result, Mesh, put, finish, admitOf, addOf}
+use Rattle.trim_state.specs.State.{State, Result, Mesh, edgeIn, put, finish, admitOf, addOf}
 use Rattle.trim_state.specs.Trace.{adding}
 use Rattle.trim_state.proofs.Follows.{follows-tidy}
 use Rattle.trim_state.proofs.Seated.{proper-nonneg, admitted-wide}
@@ -39,143 +43,171 @@ use Rattle.trim_split.proofs.Loops.{Slices, slices, SameLengths, same-windows, 
 use Rattle.trim_visit.specs.declared.Visited.the-variants.{Stopped, Went}
 use Rattle.trim_visit.specs.Visiting.{VisitsAll}
 use Rattle.trim_keep.specs.Keeping.{Seats, Bounded}
-use Rattle.trim.specs.Adding.{candidateOf, Given, Says, Admits, Adds}
+use Rattle.trim.specs.declared.Added.{Added}
+use Rattle.trim.specs.declared.Added.the-variants.{Went as Went₁}
+use Rattle.trim.specs.Adding.{candidateOf, newOf, Given, Says, Admits, Adds, Lists, Skips}
 use Rattle.trim.proofs.Front.{tidy-leads}
 use Rattle.trim.proofs.Adding.{no-cuts, visit-stopped, all-seated}
 
 -- what was done before is no more than what is done
-says-from : (m e : ℕ) (p p1 : Place) (end : End) (r : Result) → Untouched (λ k. k ≡ e) p p1 → Says m e p1 end r → Says m e p end r
-says-from m e p p1 (stopped n) r u h = h
-says-from m e p p1 (at p2) r u h = record { live = h .live; is = h .is; holds = h .holds; untouched = untouched-then (λ k. k ≡ e) p p1 p2 u (h .untouched) }
+says-from : (e : ℕ) (p p1 : Place) (end : End) (r : Result) → Untouched (λ k. k ≡ e) p p1 → Says e p1 end r → Says e p end r
+says-from e p p1 (stopped n) r u h = h
+says-from e p p1 (at p2) r u h = record { wins = h .wins; live = h .live; is = h .is; holds = h .holds; untouched = untouched-then (λ k. k ≡ e) p p1 p2 u (h .untouched) }
 
-module _ (cuts : ℕ) (limit : Float) (flags : List ℕ) (e : ℕ) (len : Float) (a b : ℕ) (x : WindowRecord) (made queued : ℕ) (s : Slices) (vertex : List Float) where
+module _ (cuts : ℕ) (limit : Float) (flags : List ℕ) (e : Edge) (x : WindowRecord) (made queued : ℕ) (s : Slices) (vertex : List Float) where
   abbrev w : Window
   w = liveOf x 0
 
+  abbrev new : NewWindow
+  new = newOf x
+
   abbrev c : Candidate
-  c = candidateOf e x
+  c = candidateOf e new
+
+  abbrev id : ℕ
+  id = e .id .0
 
   abbrev p : Place
   p = placeOf s made queued 0 vertex
 
-  -- of the lists and the stock, what admitOf says of a state
-  abbrev SaysOf : ℕ → (ℕ → List Window) → End → Float → ℕ → ℕ → Window → Stock → Type 0
-  SaysOf m live end l i j u k = Says m e p end (finish (put e (addTo betterOf (tinyOf l) u (live e) (k .made) .live) live) (play cuts (windowsOf s) limit flags (adding l i j u (live e) (k .made)) k))
+  -- of the windows, the lists and the stock, what admitOf says of a state
+  abbrev SaysOf : List WindowRecord → (ℕ → List Window) → End → Edge → Window → Stock → Type 0
+  SaysOf wins live end edge u k =
+      let todo = adding edge u (live id) (k .made) in
+      Says id p end (finish (winsAfter todo wins) (put id (addTo betterOf (tinyOf (edge .len)) u (live id) (k .made) .live) live) (play cuts (windowsOf s) limit flags todo k))
 
   abbrev Core : End → Type 0
-  Core end = (m : ℕ) (live : ℕ → List Window) → e < m → Holds made m (p .links) (p .reals) live → Nonneg (tinyOf len) → Wide (tinyOf len) w → Tidy (tinyOf len) (live e) → SaysOf m live end len a b w (stockOf p)
+  Core end = (wins : List WindowRecord) (live : ℕ → List Window) → Holds made wins (p .links) (p .reals) live → Nonneg (tinyOf (e .len)) → Wide (tinyOf (e .len)) w → Tidy (tinyOf (e .len)) (live id) → SaysOf wins live end e w (stockOf p)
 
   abbrev LowIs : Type 0
   LowIs = x .win .low ≡ lowestOf (x .win .src) (x .win .b0) (x .win .b1)
 
   same-window : LowIs → w ≡ asWindow c
-  same-window h = ap (λ (y : Float). record { b0 = x .win .b0; b1 = x .win .b1; low = y; src = x .win .src; into = x .into .0; queued = x .queued; num = 0 }) h
+  same-window h = ap (λ (y : Float). record { b0 = x .win .b0; b1 = x .win .b1; low = y; src = x .win .src; carried = x .carried; num = 0 }) h
 
-  said : (m : ℕ) (mesh : Mesh) (cs : List Candidate) (k : State) (end : End) → LowIs → Given cuts (windowsOf s) limit flags len a b c m mesh cs k p → SaysOf m (k .live) end len a b w (stockOf p) → Says m (c .edge) p end (admitOf cuts (windowsOf s) limit flags mesh c k)
+  said : (mesh : Mesh) (k : State) (end : End) → LowIs → Given cuts (windowsOf s) limit flags e new mesh k p → SaysOf (k .wins) (k .live) end e w (stockOf p) → Says id p end (admitOf cuts (windowsOf s) limit flags mesh c k)
   unfolding admitOf
-  said m mesh cs k end low g h =
-      subst (λ (st : Stock). SaysOf m (k .live) end (mesh .len e) (mesh .low e) (mesh .high e) (asWindow c) st) (sym (g .same))
-      (subst (λ (l : Float). SaysOf m (k .live) end l (mesh .low e) (mesh .high e) (asWindow c) (stockOf p)) (sym (g .long))
-      (subst (λ (i : ℕ). SaysOf m (k .live) end len i (mesh .high e) (asWindow c) (stockOf p)) (sym (g .low))
-      (subst (λ (j : ℕ). SaysOf m (k .live) end len a j (asWindow c) (stockOf p)) (sym (g .high))
-      (subst (λ (u : Window). SaysOf m (k .live) end len a b u (stockOf p)) (same-window low) h))))
+  said mesh k end low g h =
+      subst (λ (st : Stock). SaysOf (k .wins) (k .live) end (edgeIn mesh id) (asWindow c) st) (sym (g .same))
+      (subst (λ (d : Edge). SaysOf (k .wins) (k .live) end d (asWindow c) (stockOf p)) (sym (g .edge))
+      (subst (λ (u : Window). SaysOf (k .wins) (k .live) end e u (stockOf p)) (same-window low) h))
 
-  admitted : (end : End) → Core end → LowIs → Admits cuts (windowsOf s) limit flags len a b c p end
-  admitted end core low m mesh cs k g y =
-      let wide : Wide (tinyOf len) (asWindow c) = subst (λ (l : Float). Wide (tinyOf l) (asWindow c)) (g .long) (admitted-wide limit (mesh .len) c (g .proper y) y) in
-      said m mesh cs k end low g (core m (k .live) (g .there) (g .holds)
-      (subst (λ (l : Float). Nonneg (tinyOf l)) (g .long) (proper-nonneg c (g .proper y)))
-      (subst (λ (u : Window). Wide (tinyOf len) u) (sym (same-window low)) wide)
-      (subst (λ (l : Float). Tidy (tinyOf l) (k .live e)) (g .long) (follows-tidy (g .follows) e)))
+  admitted : (end : End) → Core end → LowIs → Admits cuts (windowsOf s) limit flags e new p end
+  admitted end core low mesh k g y =
+      let long : mesh .len id ≡ e .len = ap (λ (d : Edge). d .len) (g .edge) in
+      let wide : Wide (tinyOf (e .len)) (asWindow c) = subst (λ (l : Float). Wide (tinyOf l) (asWindow c)) long (admitted-wide limit (mesh .len) c (g .proper y) y) in
+      said mesh k end low g (core (k .wins) (k .live) (g .holds)
+      (subst (λ (l : Float). Nonneg (tinyOf l)) long (proper-nonneg c (g .proper y)))
+      (subst (λ (u : Window). Wide (tinyOf (e .len)) u) (sym (same-window low)) wide)
+      (subst (λ (l : Float). Tidy (tinyOf l) (k .live id)) long (follows-tidy (g .follows) id)))
 
   -- there is no room for a list of one
-  pub admit-full : (tiny : Float) → cuts ≡ 0 → LowIs → tiny ≡ tinyOf len → Admits cuts (windowsOf s) limit flags len a b c p (stopped 14)
-  admit-full tiny z low is = admitted (stopped 14) (λ m live i h n W t. no-cuts cuts (windowsOf s) limit flags e len a b w made queued (p .links) (p .reals) (p .queue) vertex m live i h n W t z) low
+  pub admit-full : (tiny : Float) → cuts ≡ 0 → LowIs → tiny ≡ tinyOf (e .len) → Admits cuts (windowsOf s) limit flags e new p (stopped 14)
+  admit-full tiny z low is = admitted (stopped 14) (λ wins live h n W t. no-cuts cuts (windowsOf s) limit flags e w made queued (p .links) (p .reals) (p .queue) vertex wins live h n W t z) low
 
   -- the walk along the front leaves s₁, where the edge remembers its end
-  module _ (tiny : Float) (some : cuts ≢ 0) (before : ℕ) (edges₁ : List ℕ) (fronted : Fronted (passes tiny (x .win .b0)) made (p .links) (p .reals) edges₁ e before) (keep : List Float) (one : pairs 1 keep ≡ interval (x .win .b0) (x .win .b1) ∷ []) where
+  module _ (tiny : Float) (some : cuts ≢ 0) (before : ℕ) (edges₁ : List ℕ) (fronted : Fronted (passes tiny (x .win .b0)) made (p .links) (p .reals) edges₁ id before) (keep : List Float) (one : pairs 1 keep ≡ interval (x .win .b0) (x .win .b1) ∷ []) where
     abbrev s₁ : Slices
     s₁ = slices edges₁ (s .words) (s .reals) (s .keys) (s .events)
 
     above : 0 < cuts
     above = omega (arith, some)
 
-    module _ (m : ℕ) (live : ℕ → List Window) (there : e < m) (hold : Holds made m (p .links) (p .reals) live) where
-      held : Holds made m (links edges₁ (s .words)) (s .reals) live
-      held = fronted .holds m (s .reals) live hold
+    module _ (wins : List WindowRecord) (live : ℕ → List Window) (hold : Holds made wins (p .links) (p .reals) live) where
+      held : Holds made wins (links edges₁ (s .words)) (s .reals) live
+      held = fronted .holds wins (s .reals) live hold
 
-      link : tiny ≡ tinyOf len → Tidy (tinyOf len) (live e) → before ≡ lastLink (takeWhile (passes (tinyOf len) (x .win .b0)) (live e))
-      link is t = subst (λ (y : Float). before ≡ lastLink (takeWhile (passes y (x .win .b0)) (live e))) is
-          (fronted .last m live there hold (tidy-leads tiny (x .win .b0) (live e) (subst (λ (y : Float). Tidy y (live e)) (sym is) t)))
+      link : tiny ≡ tinyOf (e .len) → Tidy (tinyOf (e .len)) (live id) → before ≡ lastLink (takeWhile (passes (tinyOf (e .len)) (x .win .b0)) (live id))
+      link is t = subst (λ (y : Float). before ≡ lastLink (takeWhile (passes y (x .win .b0)) (live id))) is
+          (fronted .last wins live hold (tidy-leads tiny (x .win .b0) (live id) (subst (λ (y : Float). Tidy y (live id)) (sym is) t)))
 
-    front-untouched : Untouched (λ k. k ≡ e) p (placeOf s₁ made queued before vertex)
-    front-untouched = record { more = omega arith; edges = λ i h. ap (λ (l : List ℕ). getD l i 0) (fronted .edges) ∙ getD-set-other (s .edges) (6 * e + 5) i before 0 (h e refl .1); words = refl; reals = refl }
+    front-untouched : Untouched (λ k. k ≡ id) p (placeOf s₁ made queued before vertex)
+    front-untouched = record { more = omega arith; edges = λ i h. ap (λ (l : List ℕ). getD l i 0) (fronted .edges) ∙ getD-set-other (s .edges) (6 * id + 5) i before 0 (h id refl .1); words = refl; reals = refl }
 
     abbrev Few : List Window → Type 0
     Few zs = length zs ≤ made
 
     -- a visit is stopped
-    pub admit-stopped : (n : ℕ) (keep′ : List Float) → ((limit : Float) (flags : List ℕ) (vertex : List Float) → VisitsAll cuts (windowsOf s) limit flags e tiny w Few (pairs 1 keep) (placeOf s₁ made queued before vertex) (Stopped n) (stopped n) keep′)
-        → LowIs → tiny ≡ tinyOf len → Admits cuts (windowsOf s) limit flags len a b c p (stopped n)
-    admit-stopped n keep′ d low is = admitted (stopped n)
-        (λ m live i h n0 W t. visit-stopped cuts (windowsOf s) limit flags e len a b w made queued (links edges₁ (s .words)) (p .reals) (p .queue) vertex m live i (held m live i h) n0 W t above before (link m live i h is t) n keep′
-        (subst (λ (y : Float). VisitsAll cuts (windowsOf s) limit flags e y w Few (interval (x .win .b0) (x .win .b1) ∷ []) (placeOf s₁ made queued before vertex) (Stopped n) (stopped n) keep′) is
-        (subst (λ (ks : List Interval). VisitsAll cuts (windowsOf s) limit flags e tiny w Few ks (placeOf s₁ made queued before vertex) (Stopped n) (stopped n) keep′) one
+    pub admit-stopped : (n : Lack) (keep′ : List Float) → ((limit : Float) (flags : List ℕ) (vertex : List Float) → VisitsAll cuts (windowsOf s) limit flags id tiny w Few (pairs 1 keep) (placeOf s₁ made queued before vertex) (Stopped n) (stopped (lackNumber n)) keep′)
+        → LowIs → tiny ≡ tinyOf (e .len) → Admits cuts (windowsOf s) limit flags e new p (stopped (lackNumber n))
+    admit-stopped n keep′ d low is = admitted (stopped (lackNumber n))
+        (λ wins live h n0 W t. visit-stopped cuts (windowsOf s) limit flags e w made queued (links edges₁ (s .words)) (p .reals) (p .queue) vertex wins live (held wins live h) n0 W t above before (link wins live h is t) n keep′
+        (subst (λ (y : Float). VisitsAll cuts (windowsOf s) limit flags id y w Few (interval (x .win .b0) (x .win .b1) ∷ []) (placeOf s₁ made queued before vertex) (Stopped n) (stopped (lackNumber n)) keep′) is
+        (subst (λ (ks : List Interval). VisitsAll cuts (windowsOf s) limit flags id tiny w Few ks (placeOf s₁ made queued before vertex) (Stopped n) (stopped (lackNumber n)) keep′) one
         (d limit flags vertex))))
         low
 
     -- the windows that are kept are seated, or that is stopped
     module _ (n : Counts) (last k : ℕ) (s′ : Slices) (keep′ : List Float) (same : SameLengths s s′)
-        (d : (limit : Float) (flags : List ℕ) (vertex : List Float) → VisitsAll cuts (windowsOf s) limit flags e tiny w Few (pairs 1 keep) (placeOf s₁ made queued before vertex) (Went n last k) (at (placeOf s′ (n .made) (n .queued) last vertex)) keep′) where
-      pub admit-seated : (end : End) → ((cuts j : ℕ) → Seats cuts (windowsOf s′) limit flags e len a b (liveOf x j) (wideOf tiny (pairs k keep′)) (placeOf s′ (n .made) (n .queued) before vertex) end)
-          → LowIs → tiny ≡ tinyOf len → Admits cuts (windowsOf s) limit flags len a b c p end
+        (d : (limit : Float) (flags : List ℕ) (vertex : List Float) → VisitsAll cuts (windowsOf s) limit flags id tiny w Few (pairs 1 keep) (placeOf s₁ made queued before vertex) (Went n last k) (at (placeOf s′ (n .made) (n .queued) last vertex)) keep′) where
+      pub admit-seated : (end : End) → ((cuts j : ℕ) → Seats cuts (windowsOf s′) limit flags e (liveOf x j) (wideOf tiny (pairs k keep′)) (placeOf s′ (n .made) (n .queued) before vertex) end)
+          → LowIs → tiny ≡ tinyOf (e .len) → Admits cuts (windowsOf s) limit flags e new p end
       admit-seated end seats low is = admitted end
-          (λ m live i h n0 W t. says-from m e p (placeOf s₁ made queued before vertex) end _ front-untouched (all-seated cuts (windowsOf s) limit flags e len a b w made queued (links edges₁ (s .words)) (p .reals) (p .queue) vertex m live i (held m live i h) n0 W t above before (link m live i h is t) n last k (links (s′ .edges) (s′ .words)) (s′ .reals) (queue (s′ .keys) (s′ .events)) keep′
-          (subst (λ (y : Float). VisitsAll cuts (windowsOf s) limit flags e y w Few (interval (x .win .b0) (x .win .b1) ∷ []) (placeOf s₁ made queued before vertex) (Went n last k) (at (placeOf s′ (n .made) (n .queued) last vertex)) keep′) is
-          (subst (λ (ks : List Interval). VisitsAll cuts (windowsOf s) limit flags e tiny w Few ks (placeOf s₁ made queued before vertex) (Went n last k) (at (placeOf s′ (n .made) (n .queued) last vertex)) keep′) one
+          (λ wins live h n0 W t. says-from id p (placeOf s₁ made queued before vertex) end _ front-untouched (all-seated cuts (windowsOf s) limit flags e w made queued (links edges₁ (s .words)) (p .reals) (p .queue) vertex wins live (held wins live h) n0 W t above before (link wins live h is t) n last k (links (s′ .edges) (s′ .words)) (s′ .reals) (queue (s′ .keys) (s′ .events)) keep′
+          (subst (λ (y : Float). VisitsAll cuts (windowsOf s) limit flags id y w Few (interval (x .win .b0) (x .win .b1) ∷ []) (placeOf s₁ made queued before vertex) (Went n last k) (at (placeOf s′ (n .made) (n .queued) last vertex)) keep′) is
+          (subst (λ (ks : List Interval). VisitsAll cuts (windowsOf s) limit flags id tiny w Few ks (placeOf s₁ made queued before vertex) (Went n last k) (at (placeOf s′ (n .made) (n .queued) last vertex)) keep′) one
           (d limit flags vertex)))
           end
-          (subst (λ (y : Float). Seats cuts (windowsOf s) limit flags e len a b w (wideOf y (pairs k keep′)) (placeOf s′ (n .made) (n .queued) before vertex) end) is
-          (subst (λ (j : ℕ). Seats cuts j limit flags e len a b w (wideOf tiny (pairs k keep′)) (placeOf s′ (n .made) (n .queued) before vertex) end) (same-windows s s′ same)
+          (subst (λ (y : Float). Seats cuts (windowsOf s) limit flags e w (wideOf y (pairs k keep′)) (placeOf s′ (n .made) (n .queued) before vertex) end) is
+          (subst (λ (j : ℕ). Seats cuts j limit flags e w (wideOf tiny (pairs k keep′)) (placeOf s′ (n .made) (n .queued) before vertex) end) (same-windows s s′ same)
           (seats cuts 0)))))
           low
 
 -- ---- whether it is admitted
-module _ (cuts windows : ℕ) (limit : Float) (flags : List ℕ) (len : Float) (a b : ℕ) (c : Candidate) (p : Place) where
+module _ (cuts windows : ℕ) (limit : Float) (flags : List ℕ) (e : Edge) (new : NewWindow) (p : Place) where
+  abbrev c₁ : Candidate
+  c₁ = candidateOf e new
+
   abbrev narrow : Float → Bool
-  narrow l = le (width (c .b0) (c .b1)) (tinyOf l)
+  narrow l = le (width (new .b0) (new .b1)) (tinyOf l)
 
   abbrev far : Bool
-  far = lt limit (lowestOf (c .src) (c .b0) (c .b1))
+  far = lt limit (lowestOf (new .src) (new .b0) (new .b1))
 
-  skipped : (m : ℕ) (mesh : Mesh) (cs : List Candidate) (s : State) → Given cuts windows limit flags len a b c m mesh cs s p → (last : ℕ) → admits limit (mesh .len) c ≡ false → Says m (c .edge) p (at (record { made = p .made; queued = p .queued; last = last; links = p .links; reals = p .reals; queue = p .queue; vertex = p .vertex })) (addOf cuts windows limit flags mesh c s)
+  -- the mesh has the edge's length
+  as-mesh : (mesh : Mesh) (s : State) → Given cuts windows limit flags e new mesh s p → admits limit (mesh .len) c₁ ≡ not (narrow (e .len) || far)
+  as-mesh mesh s g = ap (λ (d : Edge). not (narrow (d .len) || far)) (g .edge)
+
+  skipped : (mesh : Mesh) (s : State) → Given cuts windows limit flags e new mesh s p → (last : ℕ) → admits limit (mesh .len) c₁ ≡ false → Says (e .id .0) p (at (record { made = p .made; queued = p .queued; last = last; links = p .links; reals = p .reals; queue = p .queue; vertex = p .vertex })) (addOf cuts windows limit flags mesh c₁ s)
   unfolding addOf
-  skipped m mesh cs s g last h = record {
+  skipped mesh s g last h = record {
+    wins = s .wins;
     live = s .live;
-    is = ap (λ (d : Bool). cond d (admitOf cuts windows limit flags mesh c s) (state.went s)) h ∙ ap (λ (k : Stock). state.went (record { live = s .live; stock = k })) (g .same);
+    is = ap (λ (d : Bool). cond d (admitOf cuts windows limit flags mesh c₁ s) (state.went s)) h ∙ ap (λ (k : Stock). state.went (record { wins = s .wins; live = s .live; stock = k })) (g .same);
     holds = g .holds;
-    untouched = untouched-same (λ k. k ≡ c .edge) p (p .queued) last (p .queue) (p .vertex);
+    untouched = untouched-same (λ k. k ≡ e .id .0) p (p .queued) last (p .queue) (p .vertex);
   }
 
   -- it is too narrow
-  pub add-narrow : narrow len ≡ true → Adds cuts windows limit flags len a b c p (at p)
-  add-narrow h m mesh cs s g = skipped m mesh cs s g (p .last) (ap (λ (l : Float). not (narrow l || far)) (g .long) ∙ ap (λ (d : Bool). not (d || far)) h)
+  pub add-narrow : narrow (e .len) ≡ true → Adds cuts windows limit flags e new p (at p)
+  add-narrow h mesh s g = skipped mesh s g (p .last) (as-mesh mesh s g ∙ ap (λ (d : Bool). not (d || far)) h)
 
-  -- it is too far
-  pub add-far : (low : Float) → low ≡ lowestOf (c .src) (c .b0) (c .b1) → narrow len ≡ false → lt limit low ≡ true → Adds cuts windows limit flags len a b c p (at p)
-  add-far low is n h m mesh cs s g = skipped m mesh cs s g (p .last)
-      (ap (λ (l : Float). not (narrow l || far)) (g .long) ∙ ap (λ (d : Bool). not (d || far)) n ∙ ap not (ap (lt limit) (sym is) ∙ h))
+  module _ (low : Float) (is : low ≡ lowestOf (new .src) (new .b0) (new .b1)) (n : narrow (e .len) ≡ false) where
+    passed : (b : Bool) → lt limit low ≡ b → not (narrow (e .len) || far) ≡ not b
+    passed b h = ap (λ (d : Bool). not (d || far)) n ∙ ap not (ap (lt limit) (sym is) ∙ h)
 
-  -- it is admitted
-  pub add-admitted : (low : Float) → low ≡ lowestOf (c .src) (c .b0) (c .b1) → narrow len ≡ false → lt limit low ≡ false → (end : End) → Admits cuts windows limit flags len a b c p end → Adds cuts windows limit flags len a b c p end
-  unfolding addOf
-  add-admitted low is n h end d m mesh cs s g =
-      let y : admits limit (mesh .len) c ≡ true = ap (λ (l : Float). not (narrow l || far)) (g .long) ∙ ap (λ (d : Bool). not (d || far)) n ∙ ap not (ap (lt limit) (sym is) ∙ h) in
-      subst (λ (z : Bool). Says m (c .edge) p end (cond z (admitOf cuts windows limit flags mesh c s) (state.went s))) (sym y) (d m mesh cs s g (subst T (sym y) tt))
+    -- it is too far
+    pub add-far : lt limit low ≡ true → Adds cuts windows limit flags e new p (at p)
+    add-far h mesh s g = skipped mesh s g (p .last) (as-mesh mesh s g ∙ passed true h)
+
+    -- it is admitted
+    pub add-admitted : lt limit low ≡ false → (end : End) → Admits cuts windows limit flags e new p end → Adds cuts windows limit flags e new p end
+    unfolding addOf
+    add-admitted h end d mesh s g =
+        let y : admits limit (mesh .len) c₁ ≡ true = as-mesh mesh s g ∙ passed false h in
+        subst (λ (z : Bool). Says (e .id .0) p end (cond z (admitOf cuts windows limit flags mesh c₁ s) (state.went s))) (sym y) (d mesh s g (subst T (sym y) tt))
+
+    -- so it is not one that changes nothing
+    pub add-not-skipped : lt limit low ≡ false → (counts : Counts) (b : Lists) (r : Added) (b′ : Lists) → Skips limit e new counts b r b′
+    add-not-skipped h counts b r b′ z = absurd (subst (λ (d : Bool). T (not d)) (passed false h) z)
 
   -- the link where it ended is of no use any more
-  pub add-went : (made queued last : ℕ) (s : Slices) (vertex : List Float) → Adds cuts windows limit flags len a b c p (at (placeOf s made queued last vertex)) → Adds cuts windows limit flags len a b c p (at (placeOf s made queued 0 vertex))
-  add-went made queued last s vertex d m mesh cs k g = let l = d m mesh cs k g in let u = l .untouched in record { live = l .live; is = l .is; holds = l .holds; untouched = record { more = u .more; edges = u .edges; words = u .words; reals = u .reals } }
+  pub add-went : (made queued last : ℕ) (s : Slices) (vertex : List Float) → Adds cuts windows limit flags e new p (at (placeOf s made queued last vertex)) → Adds cuts windows limit flags e new p (at (placeOf s made queued 0 vertex))
+  add-went made queued last s vertex d mesh k g = let l = d mesh k g in let u = l .untouched in record { wins = l .wins; live = l .live; is = l .is; holds = l .holds; untouched = record { more = u .more; edges = u .edges; words = u .words; reals = u .reals } }
+
+-- nothing is changed
+pub unchanged : (limit : Float) (e : Edge) (new : NewWindow) (counts : Counts) (b : Lists) → Skips limit e new counts b (Went₁ counts) b
+unchanged limit e new counts b z = record { answer = refl; lists = refl }
 
 -- ---- what the parts require
 

@@ -1,35 +1,39 @@
 -- What an addition does to the buffers, as the state of window trimming has it. Definitions only.
-use Prim.Native.Nat.{ℕ, _≤_, _<_}
-use mathlib.Core.Bool.{Bool}
+use Prim.Native.Nat.{ℕ, _≤_}
+use mathlib.Core.Bool.{not}
 use mathlib.Core.List.{List}
 use mathlib.Core.Path.{_≡_}
 use lib.Dec.{T}
 use lib.Ieee.{Float}
-use Rattle.source.specs.declared.Src.{Src}
+use Rattle.buffers.specs.Lack.{lackNumber}
 use Rattle.heap.specs.Queue.{Queue}
+use Rattle.windows.specs.declared.Edge.{Edge}
+use Rattle.windows.specs.declared.NewWindow.{NewWindow}
 use Rattle.windows.specs.declared.WindowRecord.{WindowRecord}
 use Rattle.chains.specs.Chains.{Links}
 use Rattle.trim_model.specs.Windows.{Window}
 use Rattle.trim_model.specs.Model.{Candidate, admits}
-use Rattle.trim_model.specs.Claim.{Proper}
+use Rattle.trim_model.specs.Claim.{AdmittedProper}
 use Rattle.trim_state.specs.State as state
-use Rattle.trim_state.specs.State.{State, Result, Mesh, admitOf, addOf}
+use Rattle.trim_state.specs.State.{State, Result, Mesh, edgeIn, admitOf, addOf}
 use Rattle.trim_state.specs.Follows.{Follows}
 use Rattle.live_windows.specs.Live.{Holds}
 use Rattle.trim_split.specs.Running.{Place, place, stockOf, End, stopped, at, Untouched}
+use Rattle.trim_split.specs.declared.Counts.{Counts}
 use Rattle.trim.specs.declared.Added.{Added}
 use Rattle.trim.specs.declared.Added.the-variants.{Stopped, Went}
 
-abbrev pub candidate : ℕ → Float → Float → Src → ℕ → Bool → Candidate
-candidate e b0 b1 src into queued = record { edge = e; b0 = b0; b1 = b1; src = src; into = into; queued = queued }
+-- a window that is to be added to an edge, as the model has it
+abbrev pub candidateOf : Edge → NewWindow → Candidate
+candidateOf e w = record { edge = e .id .0; b0 = w .b0; b1 = w .b1; src = w .src; carried = w .carried }
 
--- the candidate that a window of edge e was
-abbrev pub candidateOf : ℕ → WindowRecord → Candidate
-candidateOf e x = candidate e (x .win .b0) (x .win .b1) (x .win .src) (x .into .0) (x .queued)
+-- the one that a window of the edge is
+abbrev pub newOf : WindowRecord → NewWindow
+newOf x = record { b0 = x .win .b0; b1 = x .win .b1; src = x .win .src; carried = x .carried }
 
 -- what an answer says, with what the buffers hold then
 abbrev pub endOf : Added → Links → List Float → Queue → List Float → End
-endOf (Stopped n) b f q vertex = stopped n
+endOf (Stopped lack) b f q vertex = stopped (lackNumber lack)
 endOf (Went c) b f q vertex = at (place (c .made) (c .queued) 0 b f q vertex)
 
 -- if it was not stopped, the windows are within the buffer
@@ -37,34 +41,61 @@ abbrev pub Bounded : ℕ → Added → Type 0
 Bounded windows (Stopped n) = Unit {0}
 Bounded windows (Went c) = c .made ≤ windows
 
--- a result is what the buffers hold: the counts, the queue and the vertex distances, and the live windows of m edges; from p₀ to p only edge e was at work
-pub record Leaves (m e : ℕ) (p₀ p : Place) (r : Result) : Type 0 where
+-- a result is what the buffers hold: the counts, the queue and the vertex distances, all windows made and the live windows of every edge; from p₀ to p only edge e was at work
+pub record Leaves (e : ℕ) (p₀ p : Place) (r : Result) : Type 0 where
+  pub wins : List WindowRecord
   pub live : ℕ → List Window
-  pub is : r ≡ state.went (record { live = live; stock = stockOf p })
-  pub holds : Holds (p .made) m (p .links) (p .reals) live
+  pub is : r ≡ state.went (record { wins = wins; live = live; stock = stockOf p })
+  pub holds : Holds (p .made) wins (p .links) (p .reals) live
   pub untouched : Untouched (λ k. k ≡ e) p₀ p
 
-abbrev pub Says : ℕ → ℕ → Place → End → Result → Type 0
-Says m e p₀ (stopped n) r = r ≡ state.stopped n
-Says m e p₀ (at p) r = Leaves m e p₀ p r
+abbrev pub Says : ℕ → Place → End → Result → Type 0
+Says e p₀ (stopped n) r = r ≡ state.stopped n
+Says e p₀ (at p) r = Leaves e p₀ p r
 
--- the counts of the cut buffer and the window buffer, the limit, the flags of the vertices; the length and the ends of the candidate's edge; and the candidate
-module _ (cuts windows : ℕ) (limit : Float) (flags : List ℕ) (len : Float) (a b : ℕ) (c : Candidate) where
-  -- the buffers hold state s of a mesh of m edges, which follows the model, and c is proper where it is admitted
-  pub record Given (m : ℕ) (mesh : Mesh) (cs : List Candidate) (s : State) (p : Place) : Type 0 where
-    pub there : c .edge < m
-    pub long : mesh .len (c .edge) ≡ len
-    pub low : mesh .low (c .edge) ≡ a
-    pub high : mesh .high (c .edge) ≡ b
-    pub holds : Holds (p .made) m (p .links) (p .reals) (s .live)
+-- the counts of the cut buffer and the window buffer, the limit, the flags of the vertices; the edge and the window that is to be added to it
+module _ (cuts windows : ℕ) (limit : Float) (flags : List ℕ) (e : Edge) (w : NewWindow) where
+  abbrev c : Candidate
+  c = candidateOf e w
+
+  -- the buffers hold state s, which follows the model, the edge is that of the mesh, and the candidate is proper where it is admitted
+  pub record Given (mesh : Mesh) (s : State) (p : Place) : Type 0 where
+    pub edge : edgeIn mesh (e .id .0) ≡ e
+    pub holds : Holds (p .made) (s .wins) (p .links) (p .reals) (s .live)
     pub same : s .stock ≡ stockOf p
-    pub follows : Follows limit (mesh .len) cs (s .stock .made) (s .live)
-    pub proper : T (admits limit (mesh .len) c) → Proper (mesh .len) c
+    pub candidates : List Candidate
+    pub follows : Follows limit (mesh .len) candidates (s .stock .made) (s .live)
+    pub proper : AdmittedProper limit (mesh .len) c
 
-  -- from p, c is added
+  -- from p, the window is added
   abbrev pub Adds : Place → End → Type 0
-  Adds p end = (m : ℕ) (mesh : Mesh) (cs : List Candidate) (s : State) → Given m mesh cs s p → Says m (c .edge) p end (addOf cuts windows limit flags mesh c s)
+  Adds p end = (mesh : Mesh) (s : State) → Given mesh s p → Says (e .id .0) p end (addOf cuts windows limit flags mesh c s)
 
   -- one that is admitted
   abbrev pub Admits : Place → End → Type 0
-  Admits p end = (m : ℕ) (mesh : Mesh) (cs : List Candidate) (s : State) → Given m mesh cs s p → T (admits limit (mesh .len) c) → Says m (c .edge) p end (admitOf cuts windows limit flags mesh c s)
+  Admits p end = (mesh : Mesh) (s : State) → Given mesh s p → T (admits limit (mesh .len) c) → Says (e .id .0) p end (admitOf cuts windows limit flags mesh c s)
+
+-- ---- one that is not admitted changes nothing
+-- what the slices hold
+pub record Lists : Type 0 where
+  pub edges : List ℕ
+  pub words : List ℕ
+  pub reals : List Float
+  pub keys : List Float
+  pub events : List ℕ
+  pub vertex : List Float
+  pub pts : List Float
+  pub keep : List Float
+  pub out : List Float
+  pub next : List Float
+
+abbrev pub lists : List ℕ → List ℕ → List Float → List Float → List ℕ → List Float → List Float → List Float → List Float → List Float → Lists
+lists edges words reals keys events vertex pts keep out next =
+    record { edges = edges; words = words; reals = reals; keys = keys; events = events; vertex = vertex; pts = pts; keep = keep; out = out; next = next }
+
+pub record Unchanged (counts : Counts) (b : Lists) (r : Added) (b′ : Lists) : Type 0 where
+  pub answer : r ≡ Went counts
+  pub lists : b′ ≡ b
+
+abbrev pub Skips : Float → Edge → NewWindow → Counts → Lists → Added → Lists → Type 0
+Skips limit e w counts b r b′ = T (not (admits limit (λ k. e .len) (candidateOf e w))) → Unchanged counts b r b′

@@ -1,12 +1,11 @@
 // Window trimming: a candidate window is added to its edge.
-use buffers::EdgeId;
-use buffers::FaceId;
-use buffers::VertexId;
-use source::Src;
+use buffers::Lack;
 use source::Win;
 use trim_split::Counts;
 use trim_split::Made;
 use trim_visit::Visited;
+use windows::Edge;
+use windows::NewWindow;
 use windows::WindowRecord;
 ghost use Prim.Native.Nat.{_≤_};
 ghost use mathlib.Core.Path.{_≡_};
@@ -22,11 +21,11 @@ ghost use Rattle.trim_model.specs.Intervals.{tinyOf};
 ghost use Rattle.trim_cut.specs.Cut.{Sizes};
 ghost use Rattle.trim_split.specs.Running.{Ready, place, endOf};
 ghost use Rattle.trim_keep.specs.Keeping.{Bounded};
-ghost use Rattle.trim.specs.Adding.{candidate, candidateOf, endOf as Adding·endOf, Bounded as Adding·Bounded, Admits, Adds};
+ghost use Rattle.trim.specs.Adding.{newOf, endOf as Adding·endOf, Bounded as Adding·Bounded, Admits, Adds, Skips, lists};
 
-// A refusal by its number in 01; or how many windows and events there are now.
+// What there is no slot for; or how many windows and events there are now.
 pub enum Added {
-    Stopped(u32),
+    Stopped(Lack),
     Went(Counts),
 }
 
@@ -53,23 +52,20 @@ fn admit(
     out: &mut [f64],
     next: &mut [f64],
     counts: Counts,
-    e: EdgeId,
+    e: Edge,
     w: WindowRecord,
     tiny: f64,
-    len: f64,
-    a: VertexId,
-    b: VertexId,
     limit: f64,
 ) -> Made
-    requires { ⌜ Ready (e .0) (counts .made) 0 (now edges) (now words) (now reals) × Sizes (length (now pts)) (now keep) (now out) (now next) ⌝ }
-    ensures { λ r. ⌜ Bounded (capacityOf (length (now (words .entry))) (length (now (reals .entry)))) r × (w .win .low ≡ lowestOf (w .win .src) (w .win .b0) (w .win .b1) → tiny ≡ tinyOf len → Admits (length (now (pts .entry))) (capacityOf (length (now (words .entry))) (length (now (reals .entry)))) limit (now («vertex_words» .entry)) len (a .0) (b .0) (candidateOf (e .0) w) (place (counts .made) (counts .queued) 0 (links (now (edges .entry)) (now (words .entry))) (now (reals .entry)) (queue (now (keys .entry)) (now (events .entry))) (now (vertex .entry))) (endOf r (links (now (edges .exit)) (now (words .exit))) (now (reals .exit)) (queue (now (keys .exit)) (now (events .exit))) (now (vertex .exit)))) ⌝ }
+    requires { ⌜ Ready (e .id .0) (counts .made) 0 (now edges) (now words) (now reals) × Sizes (length (now pts)) (now keep) (now out) (now next) ⌝ }
+    ensures { λ r. ⌜ Bounded (capacityOf (length (now (words .entry))) (length (now (reals .entry)))) r × (w .win .low ≡ lowestOf (w .win .src) (w .win .b0) (w .win .b1) → tiny ≡ tinyOf (e .len) → Admits (length (now (pts .entry))) (capacityOf (length (now (words .entry))) (length (now (reals .entry)))) limit (now («vertex_words» .entry)) e (newOf w) (place (counts .made) (counts .queued) 0 (links (now (edges .entry)) (now (words .entry))) (now (reals .entry)) (queue (now (keys .entry)) (now (events .entry))) (now (vertex .entry))) (endOf r (links (now (edges .exit)) (now (words .exit))) (now (reals .exit)) (queue (now (keys .exit)) (now (events .exit))) (now (vertex .exit)))) ⌝ }
 {
     if pts.len() == 0 {
-        return Made::Stopped(14);
+        return Made::Stopped(Lack::Cuts);
     }
     let win = w.win;
     whole(keep, win.b0, win.b1);
-    let before = live_windows::pass_front(edges, words, reals, counts.made, e, win.b0, tiny);
+    let before = live_windows::pass_front(edges, words, reals, counts.made, e.id, win.b0, tiny);
     let visited = trim_visit::visits(
         edges,
         words,
@@ -81,14 +77,14 @@ fn admit(
         out,
         next,
         counts,
-        e,
+        e.id,
         before,
         1,
         w,
         tiny,
     );
     match visited {
-        Visited::Stopped(n) => Made::Stopped(n),
+        Visited::Stopped(lack) => Made::Stopped(lack),
         Visited::Went(c, _, k) => trim_keep::keep_parts(
             edges,
             words,
@@ -105,14 +101,11 @@ fn admit(
             w,
             tiny,
             limit,
-            len,
-            a,
-            b,
         ),
     }
 }
 
-// The Rust's `add`: the window from b0 to b1 of edge e, of length len with ends a and b, is added, if it is wide enough and not all beyond the limit.
+// The Rust's `add`: the window w is added to edge e, if it is wide enough and not all beyond the limit.
 pub fn add(
     edges: &mut [u32],
     words: &mut [u32],
@@ -126,21 +119,22 @@ pub fn add(
     out: &mut [f64],
     next: &mut [f64],
     counts: Counts,
-    e: EdgeId,
-    into: FaceId,
-    queued: bool,
-    b0: f64,
-    b1: f64,
-    src: Src,
-    len: f64,
-    a: VertexId,
-    b: VertexId,
+    e: Edge,
+    w: NewWindow,
     limit: f64,
 ) -> Added
-    requires { ⌜ Ready (e .0) (counts .made) 0 (now edges) (now words) (now reals) × Sizes (length (now pts)) (now keep) (now out) (now next) ⌝ }
-    ensures { λ r. ⌜ Adding·Bounded (capacityOf (length (now (words .entry))) (length (now (reals .entry)))) r × Adds (length (now (pts .entry))) (capacityOf (length (now (words .entry))) (length (now (reals .entry)))) limit (now («vertex_words» .entry)) len (a .0) (b .0) (candidate (e .0) b0 b1 src (into .0) queued) (place (counts .made) (counts .queued) 0 (links (now (edges .entry)) (now (words .entry))) (now (reals .entry)) (queue (now (keys .entry)) (now (events .entry))) (now (vertex .entry))) (Adding·endOf r (links (now (edges .exit)) (now (words .exit))) (now (reals .exit)) (queue (now (keys .exit)) (now (events .exit))) (now (vertex .exit))) ⌝ }
+    requires { ⌜ Ready (e .id .0) (counts .made) 0 (now edges) (now words) (now reals) × Sizes (length (now pts)) (now keep) (now out) (now next) ⌝ }
+    ensures { λ r. ⌜ Adding·Bounded (capacityOf (length (now (words .entry))) (length (now (reals .entry)))) r × (Adds (length (now (pts .entry))) (capacityOf (length (now (words .entry))) (length (now (reals .entry)))) limit (now («vertex_words» .entry)) e w (place (counts .made) (counts .queued) 0 (links (now (edges .entry)) (now (words .entry))) (now (reals .entry)) (queue (now (keys .entry)) (now (events .entry))) (now (vertex .entry))) (Adding·endOf r (links (now (edges .exit)) (now (words .exit))) (now (reals .exit)) (queue (now (keys .exit)) (now (events .exit))) (now (vertex .exit)))
+        × Skips limit e w counts
+        (lists (now (edges .entry)) (now (words .entry)) (now (reals .entry)) (now (keys .entry)) (now (events .entry)) (now (vertex .entry)) (now (pts .entry)) (now (keep .entry)) (now (out .entry)) (now (next .entry))) r
+        (lists (now (edges .exit)) (now (words .exit)) (now (reals .exit)) (now (keys .exit)) (now (events .exit)) (now (vertex .exit)) (now (pts .exit)) (now (keep .exit)) (now (out .exit)) (now (next .exit)))) ⌝ }
 {
-    let tiny = 1e-11 * len;
+    let tiny = 1e-11 * e.len;
+    let b0 = w.b0;
+    let b1 = w.b1;
+    let src = w.src;
+    let carried = w.carried;
+    let id = e.id;
     if b1 - b0 <= tiny {
         return Added::Went(counts);
     }
@@ -149,11 +143,10 @@ pub fn add(
         return Added::Went(counts);
     }
     let win = Win { b0, b1, low, src };
-    let w = WindowRecord {
-        edge: e,
-        into,
+    let x = WindowRecord {
+        edge: id,
+        carried,
         alive: true,
-        queued,
         link: 0,
         win,
     };
@@ -171,15 +164,12 @@ pub fn add(
         next,
         counts,
         e,
-        w,
+        x,
         tiny,
-        len,
-        a,
-        b,
         limit,
     );
     match admitted {
-        Made::Stopped(n) => Added::Stopped(n),
+        Made::Stopped(lack) => Added::Stopped(lack),
         Made::Went(c, _) => Added::Went(c),
     }
 }

@@ -8,6 +8,7 @@ use Rattle.float64.specs.Scalar.{zero}
 use Rattle.float64.specs.Notation.{_⊖_, _⊗_}
 use Rattle.source.specs.declared.Win.{Win}
 use Rattle.source.specs.Distance.{evalOf}
+use Rattle.windows.specs.declared.Edge.{Edge}
 use Rattle.windows.specs.declared.WindowRecord.{WindowRecord}
 use Rattle.heap.specs.declared.Pushed.{Pushed}
 use Rattle.heap.specs.declared.Pushed.the-variants.{Full, Queued}
@@ -58,20 +59,20 @@ module _ (cuts windows : ℕ) (limit : Float) (flags : List ℕ) where
   ends-on us vs s made n vertex q h o k = play-go-append cuts windows limit flags us vs s (stock made n q vertex) (h ∙ queue-more made n vertex q) ∙ k
 
 -- the new window is a part of x
-module _ (cuts windows : ℕ) (limit : Float) (flags : List ℕ) (len : Float) (a b : ℕ) (x : WindowRecord) (b0 b1 : Float) (win : Win) (isWin : win ≡ trimmedTo (x .win) b0 b1) (k j : ℕ) where
+module _ (cuts windows : ℕ) (limit : Float) (flags : List ℕ) (e : Edge) (x : WindowRecord) (b0 b1 : Float) (win : Win) (isWin : win ≡ trimmedTo (x .win) b0 b1) (k j : ℕ) where
   abbrev firstEnd : Win → List Action
-  firstEnd w = pushIf (le (w .b0) (near ⊗ len)) (touch a (evalOf w zero zero))
+  firstEnd w = pushIf (le (w .b0) (near ⊗ e .len)) (touch (e .a .0) (evalOf w zero zero))
 
   abbrev otherEnd : Win → List Action
-  otherEnd w = pushIf (le (len ⊖ near ⊗ len) (w .b1)) (touch b (evalOf w len zero))
+  otherEnd w = pushIf (le (e .len ⊖ near ⊗ e .len) (w .b1)) (touch (e .b .0) (evalOf w (e .len) zero))
 
-  touching-is : touching len a b (part (liveOf x k) b0 b1 j) ≡ firstEnd win ++ otherEnd win
+  touching-is : touching e (part (liveOf x k) b0 b1 j) ≡ firstEnd win ++ otherEnd win
   unfolding touching
   touching-is = ap (λ (w : Win). firstEnd w ++ otherEnd w) (sym isWin)
 
   module _ (made n : ℕ) (q : Queue) (vertex : List Float) where
-    pub touching-full : (vertex′ : List Float) (q′ : Queue) → play cuts windows limit flags (firstEnd win) (stock made n q vertex) ≡ queueing made vertex′ (Full, q′) → play cuts windows limit flags (touching len a b (part (liveOf x k) b0 b1 j)) (stock made n q vertex) ≡ queueing made vertex′ (Full, q′)
+    pub touching-full : (vertex′ : List Float) (q′ : Queue) → play cuts windows limit flags (firstEnd win) (stock made n q vertex) ≡ queueing made vertex′ (Full, q′) → play cuts windows limit flags (touching e (part (liveOf x k) b0 b1 j)) (stock made n q vertex) ≡ queueing made vertex′ (Full, q′)
     touching-full vertex′ q′ h = ap (λ (l : List Action). play cuts windows limit flags l (stock made n q vertex)) touching-is ∙ ends-full cuts windows limit flags (firstEnd win) (otherEnd win) (stock made n q vertex) made vertex′ q′ vertex′ q′ h
 
-    pub touching-on : (m : ℕ) (vertex′ : List Float) (q′ : Queue) → play cuts windows limit flags (firstEnd win) (stock made n q vertex) ≡ queueing made vertex′ (Queued m, q′) → (o : actions.Outcome) → play cuts windows limit flags (otherEnd win) (stock made m q′ vertex′) ≡ o → play cuts windows limit flags (touching len a b (part (liveOf x k) b0 b1 j)) (stock made n q vertex) ≡ o
+    pub touching-on : (m : ℕ) (vertex′ : List Float) (q′ : Queue) → play cuts windows limit flags (firstEnd win) (stock made n q vertex) ≡ queueing made vertex′ (Queued m, q′) → (o : actions.Outcome) → play cuts windows limit flags (otherEnd win) (stock made m q′ vertex′) ≡ o → play cuts windows limit flags (touching e (part (liveOf x k) b0 b1 j)) (stock made n q vertex) ≡ o
     touching-on m vertex′ q′ h o g = ap (λ (l : List Action). play cuts windows limit flags l (stock made n q vertex)) touching-is ∙ ends-on cuts windows limit flags (firstEnd win) (otherEnd win) (stock made n q vertex) made m vertex′ q′ h o g

@@ -4,8 +4,10 @@ use mathlib.Core.List.{List, _∷_, _++_}
 use mathlib.Core.Path.{_≡_}
 use lib.Ieee.{Float}
 use Rattle.better.specs.Stretches.{Interval}
+use Rattle.windows.specs.declared.Edge.{Edge}
+use Rattle.windows.specs.declared.WindowRecord.{WindowRecord}
 use Rattle.actions.specs.Actions as actions
-use Rattle.actions.specs.Actions.{play}
+use Rattle.actions.specs.Actions.{winsAfter, play}
 use Rattle.trim_model.specs.Windows.{Window, fresh}
 use Rattle.trim_model.proofs.Seat.{seatAll}
 use Rattle.trim_state.specs.State.{put}
@@ -20,21 +22,21 @@ abbrev pub Bounded : ℕ → Made → Type 0
 Bounded windows (Stopped n) = Unit {0}
 Bounded windows (Went c last) = (c .made ≤ windows) × (last ≤ c .made)
 
--- the counts of the cut buffer and the window buffer, the limit, the flags of the vertices; the edge, its length and its ends; and the new window
-module _ (cuts windows : ℕ) (limit : Float) (flags : List ℕ) (e : ℕ) (len : Float) (a b : ℕ) (w : Window) where
+-- the counts of the cut buffer and the window buffer, the limit, the flags of the vertices; the edge; and the new window
+module _ (cuts windows : ℕ) (limit : Float) (flags : List ℕ) (e : Edge) (w : Window) where
   -- from p to p′ the intervals became windows, seated behind xs among zs
-  pub record Seated (m : ℕ) (live : ℕ → List Window) (xs zs : List Window) (ks : List Interval) (p p′ : Place) : Type 0 where
-    pub plays : play cuts windows limit flags (keeping len a b w (p .made) ks) (stockOf p) ≡ actions.went (stockOf p′)
-    pub untouched : Untouched (λ k. k ≡ e) p p′
-    pub holds : Holds (p′ .made) m (p′ .links) (p′ .reals) (put e (seatAll (fresh w (p .made) ks) xs zs) live)
+  pub record Seated (wins : List WindowRecord) (live : ℕ → List Window) (xs zs : List Window) (ks : List Interval) (p p′ : Place) : Type 0 where
+    pub plays : play cuts windows limit flags (keeping e w (p .made) ks) (stockOf p) ≡ actions.went (stockOf p′)
+    pub untouched : Untouched (λ k. k ≡ e .id .0) p p′
+    pub holds : Holds (p′ .made) (winsAfter (keeping e w (p .made) ks) wins) (p′ .links) (p′ .reals) (put (e .id .0) (seatAll (fresh w (p .made) ks) xs zs) live)
 
-  abbrev pub SeatsAmong : (m : ℕ) (live : ℕ → List Window) (xs zs : List Window) → List Interval → Place → End → Type 0
-  SeatsAmong m live xs zs ks p (stopped n) = play cuts windows limit flags (keeping len a b w (p .made) ks) (stockOf p) ≡ actions.stopped n
-  SeatsAmong m live xs zs ks p (at p′) = Seated m live xs zs ks p p′
+  abbrev pub SeatsAmong : (wins : List WindowRecord) (live : ℕ → List Window) (xs zs : List Window) → List Interval → Place → End → Type 0
+  SeatsAmong wins live xs zs ks p (stopped n) = play cuts windows limit flags (keeping e w (p .made) ks) (stockOf p) ≡ actions.stopped n
+  SeatsAmong wins live xs zs ks p (at p′) = Seated wins live xs zs ks p p′
 
   -- behind the link of p, whatever stands there
   abbrev pub Seats : List Interval → Place → End → Type 0
-  Seats ks p end = (m : ℕ) (live : ℕ → List Window) (xs zs : List Window) → e < m → p .last ≡ lastLink xs → Holds (p .made) m (p .links) (p .reals) (put e (xs ++ zs) live) → SeatsAmong m live xs zs ks p end
+  Seats ks p end = (wins : List WindowRecord) (live : ℕ → List Window) (xs zs : List Window) → p .last ≡ lastLink xs → Holds (p .made) wins (p .links) (p .reals) (put (e .id .0) (xs ++ zs) live) → SeatsAmong wins live xs zs ks p end
 
   -- one interval: it is stopped, or what the others do from there all do from p
   abbrev pub KeptOne : Interval → Place → End → Type 0

@@ -1,10 +1,10 @@
 // The intervals that a new window keeps become windows, and the ends of the edge that they reach are touched.
-use buffers::EdgeId;
-use buffers::VertexId;
+use buffers::Lack;
 use heap::Pushed;
 use source::Win;
 use trim_split::Counts;
 use trim_split::Made;
+use windows::Edge;
 use windows::WindowRecord;
 ghost use mathlib.Core.Path.{_≡_};
 ghost use mathlib.Core.List.{List, [], _∷_};
@@ -27,7 +27,7 @@ ghost use Rattle.live_windows.specs.Live.{liveOf};
 ghost use Rattle.trim_split.specs.Running.{Ready, place, endOf};
 ghost use Rattle.trim_keep.specs.Keeping.{Bounded, Seats, KeptOne};
 
-// The first end of an edge of length len, a, is touched if the window reaches it.
+// The first end of an edge is touched if the window reaches it.
 fn touch_low(
     vertex: &mut [f64],
     vertex_words: &[u32],
@@ -35,20 +35,19 @@ fn touch_low(
     events: &mut [u32],
     n: u32,
     limit: f64,
-    len: f64,
-    a: VertexId,
+    e: Edge,
     win: Win,
 ) -> Pushed
-    ensures { λ r. ⌜ ((cuts windows made : ℕ) → play cuts windows limit (now («vertex_words» .entry)) (pushIf (le (win .b0) (near ⊗ len)) (touch (a .0) (evalOf win zero64 zero64))) (stock made n (queue (now (keys .entry)) (now (events .entry))) (now (vertex .entry))) ≡ queueing made (now (vertex .exit)) (r, queue (now (keys .exit)) (now (events .exit)))) ⌝ }
+    ensures { λ r. ⌜ ((cuts windows made : ℕ) → play cuts windows limit (now («vertex_words» .entry)) (pushIf (le (win .b0) (near ⊗ e .len)) (touch (e .a .0) (evalOf win zero64 zero64))) (stock made n (queue (now (keys .entry)) (now (events .entry))) (now (vertex .entry))) ≡ queueing made (now (vertex .exit)) (r, queue (now (keys .exit)) (now (events .exit)))) ⌝ }
 {
-    if win.b0 <= 1e-9 * len {
+    if win.b0 <= 1e-9 * e.len {
         let d = source::eval(win, 0.0, 0.0);
-        return actions::touch(vertex, vertex_words, keys, events, n, limit, a, d);
+        return actions::touch(vertex, vertex_words, keys, events, n, limit, e.a, d);
     }
     Pushed::Queued(n)
 }
 
-// The other end, b.
+// The other end.
 fn touch_high(
     vertex: &mut [f64],
     vertex_words: &[u32],
@@ -56,15 +55,14 @@ fn touch_high(
     events: &mut [u32],
     n: u32,
     limit: f64,
-    len: f64,
-    b: VertexId,
+    e: Edge,
     win: Win,
 ) -> Pushed
-    ensures { λ r. ⌜ ((cuts windows made : ℕ) → play cuts windows limit (now («vertex_words» .entry)) (pushIf (le (len ⊖ near ⊗ len) (win .b1)) (touch (b .0) (evalOf win len zero64))) (stock made n (queue (now (keys .entry)) (now (events .entry))) (now (vertex .entry))) ≡ queueing made (now (vertex .exit)) (r, queue (now (keys .exit)) (now (events .exit)))) ⌝ }
+    ensures { λ r. ⌜ ((cuts windows made : ℕ) → play cuts windows limit (now («vertex_words» .entry)) (pushIf (le (e .len ⊖ near ⊗ e .len) (win .b1)) (touch (e .b .0) (evalOf win (e .len) zero64))) (stock made n (queue (now (keys .entry)) (now (events .entry))) (now (vertex .entry))) ≡ queueing made (now (vertex .exit)) (r, queue (now (keys .exit)) (now (events .exit)))) ⌝ }
 {
-    if win.b1 >= len - 1e-9 * len {
-        let d = source::eval(win, len, 0.0);
-        return actions::touch(vertex, vertex_words, keys, events, n, limit, b, d);
+    if win.b1 >= e.len - 1e-9 * e.len {
+        let d = source::eval(win, e.len, 0.0);
+        return actions::touch(vertex, vertex_words, keys, events, n, limit, e.b, d);
     }
     Pushed::Queued(n)
 }
@@ -77,22 +75,20 @@ fn touch_ends(
     events: &mut [u32],
     n: u32,
     limit: f64,
-    len: f64,
-    a: VertexId,
-    b: VertexId,
+    e: Edge,
     x: WindowRecord,
     b0: f64,
     b1: f64,
 ) -> Pushed
-    ensures { λ r. ⌜ ((cuts windows made k j : ℕ) → play cuts windows limit (now («vertex_words» .entry)) (touching len (a .0) (b .0) (part (liveOf x k) b0 b1 j)) (stock made n (queue (now (keys .entry)) (now (events .entry))) (now (vertex .entry))) ≡ queueing made (now (vertex .exit)) (r, queue (now (keys .exit)) (now (events .exit)))) ⌝ }
+    ensures { λ r. ⌜ ((cuts windows made k j : ℕ) → play cuts windows limit (now («vertex_words» .entry)) (touching e (part (liveOf x k) b0 b1 j)) (stock made n (queue (now (keys .entry)) (now (events .entry))) (now (vertex .entry))) ≡ queueing made (now (vertex .exit)) (r, queue (now (keys .exit)) (now (events .exit)))) ⌝ }
 {
     let old = x.win;
     let win = trim_split::trimmed(old, b0, b1);
-    let first = touch_low(vertex, vertex_words, keys, events, n, limit, len, a, win);
+    let first = touch_low(vertex, vertex_words, keys, events, n, limit, e, win);
     let Pushed::Queued(m) = first else {
         return Pushed::Full;
     };
-    touch_high(vertex, vertex_words, keys, events, m, limit, len, b, win)
+    touch_high(vertex, vertex_words, keys, events, m, limit, e, win)
 }
 
 // The part of window x from b0 to b1 becomes a window of edge e, seated by its start behind a link.
@@ -105,20 +101,17 @@ fn keep_part(
     vertex: &mut [f64],
     vertex_words: &[u32],
     counts: Counts,
-    e: EdgeId,
+    e: Edge,
     before: u32,
     x: WindowRecord,
     b0: f64,
     b1: f64,
     limit: f64,
-    len: f64,
-    a: VertexId,
-    b: VertexId,
 ) -> Made
-    requires { ⌜ Ready (e .0) (counts .made) before (now edges) (now words) (now reals) ⌝ }
-    ensures { λ r. ⌜ Bounded (capacityOf (length (now (words .entry))) (length (now (reals .entry)))) r × ((cuts k : ℕ) → KeptOne cuts (capacityOf (length (now (words .entry))) (length (now (reals .entry)))) limit (now («vertex_words» .entry)) (e .0) len (a .0) (b .0) (liveOf x k) (interval b0 b1) (place (counts .made) (counts .queued) before (links (now (edges .entry)) (now (words .entry))) (now (reals .entry)) (queue (now (keys .entry)) (now (events .entry))) (now (vertex .entry))) (endOf r (links (now (edges .exit)) (now (words .exit))) (now (reals .exit)) (queue (now (keys .exit)) (now (events .exit))) (now (vertex .exit)))) ⌝ }
+    requires { ⌜ Ready (e .id .0) (counts .made) before (now edges) (now words) (now reals) ⌝ }
+    ensures { λ r. ⌜ Bounded (capacityOf (length (now (words .entry))) (length (now (reals .entry)))) r × ((cuts k : ℕ) → KeptOne cuts (capacityOf (length (now (words .entry))) (length (now (reals .entry)))) limit (now («vertex_words» .entry)) e (liveOf x k) (interval b0 b1) (place (counts .made) (counts .queued) before (links (now (edges .entry)) (now (words .entry))) (now (reals .entry)) (queue (now (keys .entry)) (now (events .entry))) (now (vertex .entry))) (endOf r (links (now (edges .exit)) (now (words .exit))) (now (reals .exit)) (queue (now (keys .exit)) (now (events .exit))) (now (vertex .exit)))) ⌝ }
 {
-    let seat = live_windows::seat_from(edges, words, reals, counts.made, e, before, b0);
+    let seat = live_windows::seat_from(edges, words, reals, counts.made, e.id, before, b0);
     let part = trim_split::make_part(
         edges,
         words,
@@ -126,14 +119,14 @@ fn keep_part(
         keys,
         events,
         counts,
-        e,
+        e.id,
         seat,
         x,
         b0,
         b1,
     );
     match part {
-        Made::Stopped(n) => Made::Stopped(n),
+        Made::Stopped(lack) => Made::Stopped(lack),
         Made::Went(c, last) => {
             let touched = touch_ends(
                 vertex,
@@ -142,15 +135,13 @@ fn keep_part(
                 events,
                 c.queued,
                 limit,
-                len,
-                a,
-                b,
+                e,
                 x,
                 b0,
                 b1,
             );
             let Pushed::Queued(m) = touched else {
-                return Made::Stopped(13);
+                return Made::Stopped(Lack::Events);
             };
             Made::Went(
                 Counts {
@@ -175,17 +166,14 @@ pub fn keep_parts(
     keep: &[f64],
     k: usize,
     counts: Counts,
-    e: EdgeId,
+    e: Edge,
     before: u32,
     x: WindowRecord,
     tiny: f64,
     limit: f64,
-    len: f64,
-    a: VertexId,
-    b: VertexId,
 ) -> Made
-    requires { ⌜ Ready (e .0) (counts .made) before (now edges) (now words) (now reals) × (k + k ≤ length (now keep)) ⌝ }
-    ensures { λ r. ⌜ Bounded (capacityOf (length (now (words .entry))) (length (now (reals .entry)))) r × ((cuts j : ℕ) → Seats cuts (capacityOf (length (now (words .entry))) (length (now (reals .entry)))) limit (now («vertex_words» .entry)) (e .0) len (a .0) (b .0) (liveOf x j) (wideOf tiny (pairs k (now (keep .entry)))) (place (counts .made) (counts .queued) before (links (now (edges .entry)) (now (words .entry))) (now (reals .entry)) (queue (now (keys .entry)) (now (events .entry))) (now (vertex .entry))) (endOf r (links (now (edges .exit)) (now (words .exit))) (now (reals .exit)) (queue (now (keys .exit)) (now (events .exit))) (now (vertex .exit)))) ⌝ }
+    requires { ⌜ Ready (e .id .0) (counts .made) before (now edges) (now words) (now reals) × (k + k ≤ length (now keep)) ⌝ }
+    ensures { λ r. ⌜ Bounded (capacityOf (length (now (words .entry))) (length (now (reals .entry)))) r × ((cuts j : ℕ) → Seats cuts (capacityOf (length (now (words .entry))) (length (now (reals .entry)))) limit (now («vertex_words» .entry)) e (liveOf x j) (wideOf tiny (pairs k (now (keep .entry)))) (place (counts .made) (counts .queued) before (links (now (edges .entry)) (now (words .entry))) (now (reals .entry)) (queue (now (keys .entry)) (now (events .entry))) (now (vertex .entry))) (endOf r (links (now (edges .exit)) (now (words .exit))) (now (reals .exit)) (queue (now (keys .exit)) (now (events .exit))) (now (vertex .exit)))) ⌝ }
 {
     let mut now = counts;
     let mut last = before;
@@ -211,12 +199,9 @@ pub fn keep_parts(
                 b0,
                 b1,
                 limit,
-                len,
-                a,
-                b,
             );
             match part {
-                Made::Stopped(n) => return Made::Stopped(n),
+                Made::Stopped(lack) => return Made::Stopped(lack),
                 Made::Went(c, l) => {
                     now = c;
                     last = l;

@@ -10,7 +10,11 @@ use lib.ListN.{length, getD}
 use lib.Ieee.{Float, nan, binary64, fits}
 use lib.Ieee.Fits.{and-l, and-r}
 use Rattle.buffers.specs.Slots.{slotsOf}
-use Rattle.windows.specs.Windows.{capacityOf}
+use Rattle.buffers.specs.declared.EdgeId.{EdgeId}
+use Rattle.buffers.specs.declared.Lack.{Lack}
+use Rattle.buffers.specs.Lack.{lackNumber}
+use Rattle.windows.specs.declared.Edge.{Edge}
+use Rattle.windows.specs.declared.NewWindow.{NewWindow}
 use Rattle.heap.specs.Queue.{queue}
 use Rattle.chains.specs.Chains.{links}
 use Rattle.trim_model.specs.Model.{Candidate}
@@ -23,7 +27,7 @@ use Rattle.trim_split.specs.declared.Counts.{Counts}
 use Rattle.trim.specs.declared.Added.{Added}
 use Rattle.trim.specs.declared.Added.the-variants.{Stopped as Added·Stopped, Went as Added·Went}
 use Rattle.trim.specs.Adding.{Given, Adds, Bounded, endOf}
-use Rattle.trim_run.specs.Operations.{add, Doubles}
+use Rattle.trim_run.specs.Operations.{add, asCandidate, Doubles}
 use Rattle.trim_run.specs.Run.{hasLength, isOnEdge, refusalOf, tryAdd, operate}
 use Rattle.trim_run.specs.Represents.{Checked}
 use Rattle.trim_run.proofs.Follow.{proper}
@@ -31,27 +35,30 @@ use Rattle.trim_list.specs.declared.Step.the-variants.{Stopped, Went}
 use Rattle.trim_list.specs.Lists.{Slices, Cuts, Setting, settingOf, Ready, Stands, placeIn, Says, Operated}
 
 -- ---- by the answers of two tests
-refused : (a b : Bool) (n : ℕ) (r : Result) → n ≡ cond a (cond b 0 42) 41 → n ≢ 0 → cond a (cond b r (stopped 42)) (stopped 41) ≡ stopped n
+refused : (a b : Bool) (n : ℕ) (r : Result) → n ≡ cond a (cond b 0 72) 71 → n ≢ 0 → cond a (cond b r (stopped 72)) (stopped 71) ≡ stopped n
 refused true true n r h k = absurd (k h)
 refused true false n r h k = ap stopped (sym h)
 refused false b n r h k = ap stopped (sym h)
 
-passed-first : (a b : Bool) → _≡_ {A = ℕ} 0 (cond a (cond b 0 42) 41) → T a
+passed-first : (a b : Bool) → _≡_ {A = ℕ} 0 (cond a (cond b 0 72) 71) → T a
 passed-first true b h = tt
 passed-first false b h = absurd (let z : ⊥ = omega (arith, h) in z)
 
-passed-second : (a b : Bool) → _≡_ {A = ℕ} 0 (cond a (cond b 0 42) 41) → T b
+passed-second : (a b : Bool) → _≡_ {A = ℕ} 0 (cond a (cond b 0 72) 71) → T b
 passed-second true true h = tt
 passed-second true false h = absurd (let z : ⊥ = omega (arith, h) in z)
 passed-second false b h = absurd (let z : ⊥ = omega (arith, h) in z)
 
-passed-both : (a b : Bool) (r : Result) → _≡_ {A = ℕ} 0 (cond a (cond b 0 42) 41) → cond a (cond b r (stopped 42)) (stopped 41) ≡ r
+passed-both : (a b : Bool) (r : Result) → _≡_ {A = ℕ} 0 (cond a (cond b 0 72) 71) → cond a (cond b r (stopped 72)) (stopped 71) ≡ r
 passed-both true true r h = refl
 passed-both true false r h = absurd (let z : ⊥ = omega (arith, h) in z)
 passed-both false b r h = absurd (let z : ⊥ = omega (arith, h) in z)
 
 -- ---- the candidate c, of an edge whose length is l
-module _ (limit : Float) (flags ends : List ℕ) (lens : List Float) (m : ℕ) (b : Slices) (x : Cuts) (made queued : ℕ) (c : Candidate) (l : Float) (long : l ≡ getD lens (1 * c .edge + 0) nan) where
+module _ (limit : Float) (flags ends : List ℕ) (lens : List Float) (m : ℕ) (b : Slices) (x : Cuts) (made queued : ℕ) (id : EdgeId) (new : NewWindow) (l : Float) (long : l ≡ getD lens (1 * id .0 + 0) nan) where
+  abbrev c : Candidate
+  c = asCandidate (id .0) new
+
   abbrev g : Setting
   g = settingOf x b limit flags ends lens m
 
@@ -68,16 +75,16 @@ module _ (limit : Float) (flags ends : List ℕ) (lens : List Float) (m : ℕ) (
   doubles number h = record { start = h .start; end = h .end; length = subst (λ (z : Float). T (fits binary64 z)) long (h .length) }
 
   -- by the tests on the length that was read
-  trying-is : (s : State) → operate (g .cuts) (g .windows) limit flags (g .mesh) m (g .vertices) (add c) s ≡ cond first (cond second (added s) (stopped 42)) (stopped 41)
+  trying-is : (s : State) → operate (g .cuts) (g .windows) limit flags (g .mesh) m (g .vertices) (add c) s ≡ cond first (cond second (added s) (stopped 72)) (stopped 71)
   unfolding operate tryAdd
-  trying-is s = ap (λ (z : Float). cond (ltb (c .edge) m && hasLength z) (cond (isOnEdge z (c .b0) && isOnEdge z (c .b1)) (added s) (stopped 42)) (stopped 41)) (sym long)
+  trying-is s = ap (λ (z : Float). cond (ltb (c .edge) m && hasLength z) (cond (isOnEdge z (c .b0) && isOnEdge z (c .b1)) (added s) (stopped 72)) (stopped 71)) (sym long)
 
   pub candidate-refused : (number : ℕ) → Checked m (c .edge) l (c .b0) (c .b1) number → number ≢ 0 → Operated g (add c) made queued b (Stopped number) b
   candidate-refused number h k = record { doubles = doubles number h; fits = tt; says = λ s cs S F. trying-is s ∙ refused first second number (added s) (h .number) k }
 
   -- it is refused by no number
   module _ (number : ℕ) (checked : Checked m (c .edge) l (c .b0) (c .b1) number) (none : number ≡ 0) where
-    is : _≡_ {A = ℕ} 0 (cond first (cond second 0 42) 41)
+    is : _≡_ {A = ℕ} 0 (cond first (cond second 0 72) 71)
     is = sym none ∙ checked .number
 
     pub candidate-there : c .edge < m
@@ -85,15 +92,15 @@ module _ (limit : Float) (flags ends : List ℕ) (lens : List Float) (m : ℕ) (
 
     -- of the ends that were read
     module _ (low high : ℕ) (isLow : low ≡ getD ends (2 * c .edge + 0) 0) (isHigh : high ≡ getD ends (2 * c .edge + 1) 0) where
-      given : (s : State) (cs : List Candidate) → Stands m made queued b s → Follows limit (g .mesh .len) cs (s .stock .made) (s .live)
-          → Given (g .cuts) (g .windows) limit flags l low high c m (g .mesh) cs s (placeIn made queued b)
+      abbrev edge : Edge
+      edge = record { id = id; len = l; a = record { 0 = low }; b = record { 0 = high } }
+
+      given : (s : State) (cs : List Candidate) → Stands made queued b s → Follows limit (g .mesh .len) cs (s .stock .made) (s .live) → Given (g .cuts) (g .windows) limit flags edge new (g .mesh) s (placeIn made queued b)
       given s cs S F = record {
-        there = candidate-there;
-        long = sym long;
-        low = sym isLow;
-        high = sym isHigh;
+        edge = λ t. record { id = id; len = sym long t; a = record { 0 = sym isLow t }; b = record { 0 = sym isHigh t } };
         holds = S .holds;
         same = S .stock;
+        candidates = cs;
         follows = F;
         proper = λ y.
             let d = doubles number checked in
@@ -106,22 +113,27 @@ module _ (limit : Float) (flags ends : List ℕ) (lens : List Float) (m : ℕ) (
 
       -- what `add` ensures of its answer
       abbrev AddsTo : Added → Slices → Type 0
-      AddsTo r b′ = Adds (g .cuts) (g .windows) limit flags l low high c (placeIn made queued b)
+      AddsTo r b′ = Adds (g .cuts) (g .windows) limit flags edge new (placeIn made queued b)
           (endOf r (links (b′ .edges) (b′ .words)) (b′ .reals) (queue (b′ .keys) (b′ .events)) (b′ .vertex))
 
       adds : (s : State) → operate (g .cuts) (g .windows) limit flags (g .mesh) m (g .vertices) (add c) s ≡ added s
       adds s = trying-is s ∙ passed-both first second (added s) is
 
-      pub candidate-stopped : (n : ℕ) (b′ : Slices) → AddsTo (Added·Stopped n) b′ → Operated g (add c) made queued b (Stopped n) b′
-      candidate-stopped n b′ h = record { doubles = doubles number checked; fits = tt; says = λ s cs S F. adds s ∙ h m (g .mesh) cs s (given s cs S F) }
+      pub candidate-stopped : (lack : Lack) (n : ℕ) → n ≡ lackNumber lack → (b′ : Slices) → AddsTo (Added·Stopped lack) b′ → Operated g (add c) made queued b (Stopped n) b′
+      candidate-stopped lack n e b′ h = record { doubles = doubles number checked; fits = tt; says = λ s cs S F. adds s ∙ h (g .mesh) s (given s cs S F) ∙ ap stopped (sym e) }
 
       pub candidate-went : (now : Counts) (b′ : Slices) → Bounded (g .windows) (Added·Went now) → AddsTo (Added·Went now) b′ → Operated g (add c) made queued b (Went (now .made) (now .queued)) b′
       candidate-went now b′ fits h = record {
         doubles = doubles number checked;
         fits = fits;
         says = λ s cs S F.
-            let r = h m (g .mesh) cs s (given s cs S F) in
-            record { state = record { live = r .live; stock = _ }; is = adds s ∙ r .is; stands = record { holds = r .holds; stock = refl }; untouched = untouched-wider (λ k. k ≡ c .edge) (λ e. e < m) (λ e h. subst (λ (k : ℕ). k < m) (sym h) candidate-there) (placeIn made queued b) (placeIn (now .made) (now .queued) b′) (r .untouched) };
+            let r = h (g .mesh) s (given s cs S F) in
+            record {
+              state = record { wins = r .wins; live = r .live; stock = _ };
+              is = adds s ∙ r .is;
+              stands = record { holds = r .holds; stock = refl };
+              untouched = untouched-wider (λ k. k ≡ c .edge) (λ e. e < m) (λ e h. subst (λ (k : ℕ). k < m) (sym h) candidate-there) (placeIn made queued b) (placeIn (now .made) (now .queued) b′) (r .untouched);
+            };
       }
 
     -- what `add` requires

@@ -1,3 +1,4 @@
+pub mod Pops
 pub mod Steps
 pub mod Candidates
 pub mod Loop

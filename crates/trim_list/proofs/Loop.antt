@@ -26,13 +26,28 @@ use Rattle.trim_run.proofs.Follow.{operate-follows, demand3-follows}
 use Rattle.trim_list.specs.declared.Step.{Step}
 use Rattle.trim_list.specs.declared.Step.the-variants.{Stopped, Went}
 use Rattle.trim_list.specs.declared.Ran.the-variants.{Done, Ended}
-use Rattle.trim_list.specs.Lists.{Slices, Cuts, meshOf, Setting, settingOf, Ready, Stands, Goes, Operated, wholeRun, Finishes, Ends, Runs, placeIn}
+use Rattle.trim_list.specs.Lists.{Slices, Cuts, meshOf, Setting, settingOf, Ready, Stands, Goes, Operated, runOf, Finishes, Ends, Runs, placeIn}
 
 -- ---- lists of operations
 candidates-last : (os : List Operation) (o : Operation) → candidates (os ++ (o ∷ [])) ≡ candidates os ++ candidateOf o
 unfolding candidates
 candidates-last [] o = append-nil (candidateOf o)
 candidates-last (x ∷ os) o = ap (λ (l : List Candidate). candidateOf x ++ l) (candidates-last os o) ∙ sym (append-assoc (candidateOf x) (candidates os) (candidateOf o))
+
+-- a run that went is no run that ended
+ran-same : (s t : State) → Run·ran s ≡ Run·ran t → s ≡ t
+ran-same s t h = ap (from s) h where
+  from : State → Run → State
+  from d (Run·ended k n x) = d
+  from d (Run·ran x) = x
+
+HasEnded : Run → Type 0
+HasEnded (Run·ended k n s) = Unit {0}
+HasEnded (Run·ran s) = ⊥
+
+never-ran : (k n : ℕ) (s t : State) → Run·ended k n s ≡ Run·ran t → ⊥
+unfolding HasEnded
+never-ran k n s t h = subst HasEnded h tt
 
 module _ (ops : List ℕ) (args : List Float) where
   -- j operations from number k on
@@ -70,10 +85,11 @@ module _ (g : Setting) (ops : List ℕ) (args : List Float) (n : ℕ) (p : Place
     pub state : State
     pub left : ℕ
     pub count : k + left ≡ n
-    pub stands : Stands (g .edges) made queued b state
+    pub stands : Stands made queued b state
     pub untouched : Untouched (λ e. e < g .edges) p (placeIn made queued b)
     pub follows : Follows (g .limit) (g .mesh .len) (candidates (operations ops args k)) (state .stock .made) (state .live)
-    pub same : wholeRun g ops args n p ≡ runOn k (rest ops args k left) state
+    pub same : runOf g ops args n p n ≡ runOn k (rest ops args k left) state
+    pub so-far : runOf g ops args n p k ≡ Run·ran state
 
   turn : (k j : ℕ) (s t : State) → result k s ≡ went t → runOn k (rest ops args k (suc j)) s ≡ runOn (suc k) (rest ops args (suc k) j) t
   unfolding runFrom onward rest
@@ -82,6 +98,16 @@ module _ (g : Setting) (ops : List ℕ) (args : List Float) (n : ℕ) (p : Place
   halt : (k j number : ℕ) (s : State) → result k s ≡ stopped number → runOn k (rest ops args k (suc j)) s ≡ Run·ended k number s
   unfolding runFrom onward rest
   halt k j number s h = ap (λ (r : Result). onward (g .cuts) (g .windows) (g .limit) (g .flags) (g .mesh) (g .edges) (g .vertices) k s r (runOn (suc k) (rest ops args (suc k) j))) h
+
+  -- one operation more
+  run-snoc : (k : ℕ) (os : List Operation) (o : Operation) (s t u : State) → runOn k os s ≡ Run·ran t → operate (g .cuts) (g .windows) (g .limit) (g .flags) (g .mesh) (g .edges) (g .vertices) o t ≡ went u → runOn k (os ++ (o ∷ [])) s ≡ Run·ran u
+  unfolding runFrom onward
+  run-snoc k [] o s t u h d = ap (λ (r : Result). onward (g .cuts) (g .windows) (g .limit) (g .flags) (g .mesh) (g .edges) (g .vertices) k s r (runOn (suc k) [])) (ap (operate (g .cuts) (g .windows) (g .limit) (g .flags) (g .mesh) (g .edges) (g .vertices) o) (ran-same s t h) ∙ d)
+  run-snoc k (x ∷ os) o s t u h d = step (operate (g .cuts) (g .windows) (g .limit) (g .flags) (g .mesh) (g .edges) (g .vertices) x s) (λ v i. run-snoc (suc k) os o v t u i d) h where
+    step : (r : Result) → ((v : State) → runOn (suc k) os v ≡ Run·ran t → runOn (suc k) (os ++ (o ∷ [])) v ≡ Run·ran u)
+        → onward (g .cuts) (g .windows) (g .limit) (g .flags) (g .mesh) (g .edges) (g .vertices) k s r (runOn (suc k) os) ≡ Run·ran t → onward (g .cuts) (g .windows) (g .limit) (g .flags) (g .mesh) (g .edges) (g .vertices) k s r (runOn (suc k) (os ++ (o ∷ []))) ≡ Run·ran u
+    step (stopped n) ih h = absurd (never-ran k n s t h)
+    step (went v) ih h = ih v h
 
   over : (k : ℕ) (s : State) → runOn k (rest ops args k 0) s ≡ Run·ran s
   unfolding runFrom rest
@@ -93,26 +119,31 @@ module _ (g : Setting) (ops : List ℕ) (args : List Float) (n : ℕ) (p : Place
         subst (λ (cs : List Candidate). Follows (g .limit) (g .mesh .len) cs (t .stock .made) (t .live)) (sym (candidates-next ops args k))
         (operate-follows (g .cuts) (g .windows) (g .limit) (g .flags) (g .mesh) (g .edges) (g .vertices) (candidates (operations ops args k)) (A .state) (A .follows) (operationAt ops args k) d t h)
 
+    more : (t : State) → result k (A .state) ≡ went t → runOf g ops args n p (suc k) ≡ Run·ran t
+    unfolding operations
+    more t h = run-snoc 0 (operations ops args k) (operationAt ops args k) (start (p .queue) (p .vertex)) (A .state) t (A .so-far) h
+
     module _ (before : k < n) where
       along-next : (made′ queued′ : ℕ) (b′ : Slices) → DoublesOf (g .mesh .len) (operationAt ops args k) → Goes (g .edges) (placeIn made queued b) made′ queued′ b′ (result k (A .state)) → Along (suc k) made′ queued′ b′
       along-next made′ queued′ b′ d G = go (A .left) (A .count) (A .same) where
-        go : (left : ℕ) → k + left ≡ n → wholeRun g ops args n p ≡ runOn k (rest ops args k left) (A .state) → Along (suc k) made′ queued′ b′
+        go : (left : ℕ) → k + left ≡ n → runOf g ops args n p n ≡ runOn k (rest ops args k left) (A .state) → Along (suc k) made′ queued′ b′
         go zero h e = absurd (omega (arith, h, before))
-        go (suc j) h e = record { state = G .state; left = j; count = omega (arith, h); stands = G .stands; untouched = untouched-then (λ e. e < g .edges) p (placeIn made queued b) (placeIn made′ queued′ b′) (A .untouched) (G .untouched); follows = next-follows d (G .state) (G .is); same = e ∙ turn k j (A .state) (G .state) (G .is) }
+        go (suc j) h e = record { state = G .state; left = j; count = omega (arith, h); stands = G .stands; untouched = untouched-then (λ e. e < g .edges) p (placeIn made queued b) (placeIn made′ queued′ b′) (A .untouched) (G .untouched); follows = next-follows d (G .state) (G .is); same = e ∙ turn k j (A .state) (G .state) (G .is); so-far = more (G .state) (G .is) }
 
       along-ends : (number : ℕ) → result k (A .state) ≡ stopped number → Ends g ops args n p k number
-      along-ends number r = record { state = A .state; is = go (A .left) (A .count) (A .same); demand3 = demand3-follows (A .follows) } where
-        go : (left : ℕ) → k + left ≡ n → wholeRun g ops args n p ≡ runOn k (rest ops args k left) (A .state) → wholeRun g ops args n p ≡ Run·ended k number (A .state)
+      along-ends number r = record { state = A .state; is = go (A .left) (A .count) (A .same); shorter = A .so-far; demand3 = demand3-follows (A .follows) } where
+        go : (left : ℕ) → k + left ≡ n → runOf g ops args n p n ≡ runOn k (rest ops args k left) (A .state) → runOf g ops args n p n ≡ Run·ended k number (A .state)
         go zero h e = absurd (omega (arith, h, before))
         go (suc j) h e = e ∙ halt k j number (A .state) r
 
-    along-done : n ≤ k → Finishes g ops args n p made queued b
-    along-done h =
+    along-done : n ≤ k → made ≤ g .windows → Finishes g ops args n p made queued b
+    along-done h room =
         let z : A .left ≡ 0 = omega (arith, A .count, h) in
         let e : k ≡ n = omega (arith, A .count, h) in
         record {
           state = A .state;
           is = A .same ∙ ap (λ (j : ℕ). runOn k (rest ops args k j) (A .state)) z ∙ over k (A .state);
+          fits = room;
           stands = A .stands;
           untouched = A .untouched;
           demand3 = subst (λ (j : ℕ). (e : ℕ) → Demand3 (g .limit) (g .mesh .len) (candidates (operations ops args j)) e (A .state .live e)) e (demand3-follows (A .follows));
@@ -151,17 +182,18 @@ module _ (limit : Float) (flags ends : List ℕ) (lens : List Float) (m : ℕ) w
       pub same : SameLengths b b₀
       pub same-cuts : SameCuts c c₀
 
-    pub inv-start : Ready m 0 b₀ c₀ → ((e : ℕ) → e < m → headOf (b₀ .edges) e ≡ 0) → Inv 0 0 0 b₀ c₀
-    unfolding operations candidates
+    pub inv-start : Ready m 0 b₀ c₀ → ((e : ℕ) → headOf (b₀ .edges) e ≡ 0) → Inv 0 0 0 b₀ c₀
+    unfolding operations candidates runFrom
     inv-start r h = record {
       along = record {
         state = start (queue (b₀ .keys) (b₀ .events)) (b₀ .vertex);
         left = n;
         count = omega arith;
-        stands = record { holds = no-live m (links (b₀ .edges) (b₀ .words)) (b₀ .reals) h; stock = refl };
+        stands = record { holds = no-live (links (b₀ .edges) (b₀ .words)) (b₀ .reals) h; stock = refl };
         untouched = untouched-same (λ e. e < m) (placeIn 0 0 b₀) 0 0 (queue (b₀ .keys) (b₀ .events)) (b₀ .vertex);
         follows = follows-empty;
         same = ap (λ (os : List Operation). runFrom (setting .cuts) (setting .windows) limit flags (setting .mesh) m (setting .vertices) 0 os (start (queue (b₀ .keys) (b₀ .events)) (b₀ .vertex))) (rest-all ops args n);
+        so-far = refl;
       };
       fits = omega arith;
       same = record { edges = refl; words = refl; reals = refl; keys = refl; events = refl; vertex = refl };
@@ -201,4 +233,4 @@ module _ (limit : Float) (flags ends : List ℕ) (lens : List Float) (m : ℕ) w
             })
 
       pub inv-done : n ≤ k → Runs setting ops args n (placeIn 0 0 b₀) (Done made queued) b
-      inv-done h = along-done setting ops args n (placeIn 0 0 b₀) k made queued b (I .along) h
+      inv-done h = along-done setting ops args n (placeIn 0 0 b₀) k made queued b (I .along) h (I .fits)

@@ -1,30 +1,32 @@
 -- One operation, by its kind and its answer. Assumes nothing.
-use Prim.Native.Nat.{ℕ, _*_, _≤_, _<_}
+use Prim.Native.Nat.{ℕ, _≤_, _<_}
 use native.Mathlib.Omega.{arith}
 use mathlib.Core.List.{List}
 use mathlib.Core.Path.{_≡_, refl, sym, ap, subst, _∙_}
 use borrow.Author.Tests.{le-ltb, lt-ltb}
-use lib.ListN.{length, drop}
+use lib.ListN.{length}
 use lib.Ieee.{Float}
 use Rattle.buffers.specs.Slots.{slotsOf}
+use Rattle.windows.specs.Windows.{capacityOf}
 use Rattle.heap.specs.declared.Pushed.{Pushed}
 use Rattle.heap.specs.declared.Pushed.the-variants.{Full, Queued}
 use Rattle.heap.specs.Queue.{queue, popping}
 use Rattle.actions.specs.Actions as actions
 use Rattle.actions.specs.Actions.{queueing, act}
-use Rattle.trim_state.specs.State.{State, finish}
+use Rattle.trim_state.specs.State.{finish}
 use Rattle.trim_split.proofs.Untouched.{untouched-same}
 use Rattle.trim_run.specs.declared.Op.{Op}
 use Rattle.trim_run.specs.Operations.{touch, pop, unknown, asOperation}
-use Rattle.trim_run.specs.Run.{popped, operate}
-use Rattle.trim_run.specs.Represents.{Represents}
+use Rattle.pop.specs.State.{afterPop}
+use Rattle.trim_run.specs.Run.{operate}
 use Rattle.trim_list.specs.declared.Step.{Step}
 use Rattle.trim_list.specs.declared.Step.the-variants.{Stopped, Went}
-use Rattle.trim_list.specs.Lists.{Slices, slices, Setting, Within, placeIn, Touches, Operated}
+use Rattle.trim_list.proofs.Pops.{after-pop}
+use Rattle.trim_list.specs.Lists.{Slices, slices, Setting, Within, placeIn, Touches, PopsFirst, Operated}
 
 -- ---- a touch
 module _ (v : ℕ) (d limit : Float) (flags : List ℕ) (made queued : ℕ) (keys : List Float) (events : List ℕ) (vertex : List Float) where
-  pub touch-missing : slotsOf (length vertex) 2 ≤ v → Touches v d limit flags made queued keys events vertex (Stopped 43) keys events vertex
+  pub touch-missing : slotsOf (length vertex) 2 ≤ v → Touches v d limit flags made queued keys events vertex (Stopped 73) keys events vertex
   unfolding operate
   touch-missing h = record { fits = tt; says = λ cuts windows mesh m edges words reals s R. rw (le-ltb v (slotsOf (length vertex) 2) h) }
 
@@ -39,7 +41,7 @@ module _ (v : ℕ) (d limit : Float) (flags : List ℕ) (made queued : ℕ) (key
       fits = tt;
       says = λ cuts windows mesh m edges words reals s R.
           rw (lt-ltb v (slotsOf (length vertex) 2) there)
-          (ap (finish (s .live)) (ap (act cuts windows limit flags (actions.touch v d)) (R .stock) ∙ h cuts windows made));
+          (ap (finish (s .wins) (s .live)) (ap (act cuts windows limit flags (actions.touch v d)) (R .stock) ∙ h cuts windows made));
     }
 
     pub touch-queued : (n : ℕ) → Answers (Queued n) → Touches v d limit flags made queued keys events vertex (Went made n) keys′ events′ vertex′
@@ -47,10 +49,10 @@ module _ (v : ℕ) (d limit : Float) (flags : List ℕ) (made queued : ℕ) (key
     touch-queued n h = record {
       fits = omega arith;
       says = λ cuts windows mesh m edges words reals s R. record {
-        state = record { live = s .live; stock = actions.stock made n (queue keys′ events′) vertex′ };
+        state = record { wins = s .wins; live = s .live; stock = actions.stock made n (queue keys′ events′) vertex′ };
         is =
             rw (lt-ltb v (slotsOf (length vertex) 2) there)
-            (ap (finish (s .live)) (ap (act cuts windows limit flags (actions.touch v d)) (R .stock) ∙ h cuts windows made));
+            (ap (finish (s .wins) (s .live)) (ap (act cuts windows limit flags (actions.touch v d)) (R .stock) ∙ h cuts windows made));
         stands = record { holds = R .holds; stock = refl };
         untouched = untouched-same (λ e. e < m) (placeIn made queued (slices edges words reals keys events vertex)) n 0 (queue keys′ events′) vertex′;
       };
@@ -65,19 +67,20 @@ module _ (g : Setting) (made queued : ℕ) where
   pub of-op : (op o : Op) → op ≡ o → (b : Slices) (r : Step) (b′ : Slices) → Operated g (asOperation o) made queued b r b′ → Operated g (asOperation op) made queued b r b′
   of-op op o h b r b′ k = subst (λ (z : Op). Operated g (asOperation z) made queued b r b′) (sym h) k
 
-  pub op-unknown : (b : Slices) → Operated g unknown made queued b (Stopped 40) b
+  pub op-unknown : (b : Slices) → Operated g unknown made queued b (Stopped 70) b
   unfolding operate
   op-unknown b = record { doubles = tt; fits = tt; says = λ s cs S F. refl }
 
   module _ (fits : made ≤ g .windows) (edges words : List ℕ) (reals keys : List Float) (events : List ℕ) (vertex : List Float) where
-    pub op-pop : (words′ : List ℕ) (keys′ : List Float) (events′ : List ℕ) (n : ℕ)
-        → (drop (4 * made) words′ ≡ drop (4 * made) words) × ((m : ℕ) (edges : List ℕ) (vertex : List Float) (s : State) → Represents m made queued edges words reals keys events vertex s → Represents m made n edges words′ reals keys′ events′ vertex (popped s (popping (s .stock .queue) (s .stock .queued))))
+    pub op-pop : made ≤ capacityOf (length words) (length reals) → (words′ : List ℕ) (keys′ : List Float) (events′ : List ℕ) (n : ℕ) → PopsFirst made queued words keys events n words′ keys′ events′
         → Operated g pop made queued (slices edges words reals keys events vertex) (Went made n) (slices edges words′ reals keys′ events′ vertex)
     unfolding operate
-    op-pop words′ keys′ events′ n h = record {
+    op-pop room words′ keys′ events′ n h = record {
       doubles = tt;
       fits = fits;
-      says = λ s cs S F. record { state = popped s (popping (s .stock .queue) (s .stock .queued)); is = refl; stands = h .1 (g .edges) edges vertex s S; untouched = record { more = omega arith; edges = λ i z. refl; words = h .0; reals = refl } };
+      says = λ s cs S F.
+          let a = after-pop made queued edges words reals keys events vertex words′ keys′ events′ s S room n h in
+          record { state = afterPop s (popping (s .stock .queue) (s .stock .queued)); is = refl; stands = a .1; untouched = record { more = omega arith; edges = λ i z. refl; words = a .0; reals = refl } };
     }
 
     pub op-touch : (v : ℕ) (d : Float) → g .vertices ≡ slotsOf (length vertex) 2 → (r : Step) (keys′ : List Float) (events′ : List ℕ) (vertex′ : List Float)

@@ -1,9 +1,9 @@
 -- Whole slices as they are lent: their counts, the parts that are used, and zeros. Assumes nothing.
-use Prim.Native.Nat.{ℕ, zero, suc, _+_, _*_, _≤_, _<_, min}
+use Prim.Native.Nat.{ℕ, zero, suc, _+_, _*_, _-_, _≤_, _<_, min}
 use native.Mathlib.Omega.{arith}
 use mathlib.Core.List.{List, [], _∷_}
 use mathlib.Core.Path.{_≡_, refl, sym, ap, subst, _∙_}
-use lib.ListN.{length, getD, take, replicate, length-replicate}
+use lib.ListN.{length, getD, take, drop, replicate, length-replicate}
 use lib.Seq.{length-take-le}
 use lib.Ieee.{Float}
 use Rattle.float64.specs.Scalar.{zero as zero64}
@@ -12,9 +12,12 @@ use Rattle.buffers.specs.Slots.{slotsOf}
 use Rattle.buffers.proofs.Zeroing.{zero-at}
 use Rattle.chains.specs.Chains.{headOf}
 use Rattle.trim_split.specs.Running.{Place}
+use Rattle.contents.specs.Contents.{headsIn, wordsOf, realsOfAll, forgotten}
+use Rattle.contents.proofs.Held.{words-are, reals-are-all}
+use Rattle.contents.proofs.Forgotten.{heads-only}
 use Rattle.trim_list.specs.declared.Ran.{Ran}
 use Rattle.trim_list.specs.declared.Ran.the-variants.{Done, Ended}
-use Rattle.trim_list.specs.Lists.{Slices, slices, Cuts, cuts, meshOf, Setting, settingOf, Ready, Runs, placeIn, edgeCount, operationCount, cutCount, lentSetting, cleared, ZeroSlices, ZeroCuts, RunWhole}
+use Rattle.trim_list.specs.Lists.{Slices, slices, Cuts, cuts, meshOf, Setting, settingOf, Ready, Finishes, Ends, Runs, placeIn, edgeCount, operationCount, cutCount, lentSetting, cleared, ZeroSlices, ZeroCuts, RunWhole}
 use Rattle.trim_list.proofs.Loop.{SameLengths, SameCuts}
 
 -- ---- counts
@@ -119,6 +122,16 @@ zeroed-slices b b₁ b′ s z = record {
 pub zeros-stay : (edges zeroed : List ℕ) → zeroed ≡ replicate (length edges) 0 → zeroed ≡ replicate (length zeroed) 0
 zeros-stay edges zeroed h = h ∙ ap (λ (n : ℕ). replicate n 0) (sym (ap (λ (l : List ℕ). length l) h ∙ length-replicate (length edges) 0))
 
+-- zeros from an element on
+drop-zeros : {A : Type 0} (z : A) (n m : ℕ) → drop n (replicate m z) ≡ replicate (m - n) z
+drop-zeros z zero m = let e : m ≡ m - zero = omega arith in ap (λ (k : ℕ). replicate k z) e
+drop-zeros z (suc n) zero = let e : zero ≡ zero - suc n = omega arith in ap (λ (k : ℕ). replicate k z) e
+drop-zeros z (suc n) (suc m) = let e : m - n ≡ suc m - suc n = omega arith in drop-zeros z n m ∙ ap (λ (k : ℕ). replicate k z) e
+
+-- windows that fit have their slots
+counted : (made m n : ℕ) → made ≤ capacityOf m n → (4 * made ≤ m) × (6 * made ≤ n)
+counted made m n h = (omega (arith, h), omega (arith, h))
+
 -- ---- the whole: edges and windows are zeroed, the run leaves b₂ and c₁, and the cut buffers are zeroed to c′
 module _ (limit : Float) (flags ends : List ℕ) (lens : List Float) (ops : List ℕ) (args : List Float) (b : Slices) (c : Cuts) where
   abbrev settingFor : ℕ → ℕ → ℕ → Setting
@@ -141,16 +154,40 @@ module _ (limit : Float) (flags ends : List ℕ) (lens : List Float) (ops : List
         subst (λ (g : Setting). WholeRuns g (cleared b) r b₂) same-lent
         (subst (λ (z : Slices). WholeRuns (lentSetting c z limit flags ends lens) z r b₂) (λ t. with (isEdges t) (isWords t) (isReals t)) runs)
 
-    pub whole-done : (made queued : ℕ) → r ≡ Done made queued → RunWhole limit flags ends lens ops args b c (Done made queued) b₂ c′
-    whole-done made queued h = record {
-      runs = subst (λ (z : Ran). WholeRuns (lentSetting c b limit flags ends lens) (cleared b) z b₂) h whole-runs;
-      cuts = zeroed-cuts c c₁ c′ same zeros;
-      cleared = tt;
-    }
+    -- the slices keep their lengths, and the edges forget their links
+    pub whole-done : (made queued : ℕ) → r ≡ Done made queued → SameLengths b₂ b → (edges′ : List ℕ) → edges′ ≡ forgotten (slotsOf (length (b₂ .edges)) 6) (b₂ .edges)
+        → RunWhole limit flags ends lens ops args b c (Done made queued) (slices edges′ (b₂ .words) (b₂ .reals) (b₂ .keys) (b₂ .events) (b₂ .vertex)) c′
+    whole-done made queued h s edges′ forget =
+        let F : Finishes (lentSetting c b limit flags ends lens) ops args (operationCount ops args) (placeIn 0 0 (cleared b)) made queued b₂ = subst (λ (z : Ran). WholeRuns (lentSetting c b limit flags ends lens) (cleared b) z b₂) h whole-runs in
+        let m = edgeCount ends lens (b .edges) in
+        let H = F .stands .holds in
+        let room = counted made (length (b₂ .words)) (length (b₂ .reals)) (rw (s .words, s .reals) (F .fits)) in
+        let wins = F .state .wins in
+        let live = F .state .live in
+        record {
+          whole = record {
+            state = F .state;
+            is = F .is;
+            demand3 = F .demand3;
+            edges = forget ∙ heads-only m (slotsOf (length (b₂ .edges)) 6) made wins (b₂ .edges) (b₂ .words) (b₂ .reals) live H
+                (rw (s .edges) (least-last (min (slotsOf (length ends) 2) (slotsOf (length lens) 1)) (slotsOf (length (b .edges)) 6) m refl))
+                (λ p q. F .untouched .edges p q ∙ zero-at 0 (length (b .edges)) p)
+                ∙ ap (headsIn live) (s .edges);
+            words = words-are made wins (b₂ .edges) (b₂ .words) (b₂ .reals) live H (room .0) (room .1)
+                (F .untouched .words ∙ drop-zeros 0 (4 * made) (length (b .words)) ∙ ap (λ (n : ℕ). replicate (n - 4 * made) 0) (sym (s .words)))
+                ∙ ap (λ (n : ℕ). wordsOf n wins live) (s .words);
+            reals = reals-are-all made wins (b₂ .edges) (b₂ .words) (b₂ .reals) live H (room .0) (room .1)
+                (F .untouched .reals ∙ drop-zeros zero64 (6 * made) (length (b .reals)) ∙ ap (λ (n : ℕ). replicate (n - 6 * made) zero64) (sym (s .reals)))
+                ∙ ap (λ (n : ℕ). realsOfAll n wins) (s .reals);
+            rest = F .stands .stock;
+          };
+          cuts = zeroed-cuts c c₁ c′ same zeros;
+        }
 
     pub whole-ended : (k number : ℕ) → r ≡ Ended k number → (b′ : Slices) → SameLengths b₂ b → ZeroSlices b₂ b′ → RunWhole limit flags ends lens ops args b c (Ended k number) b′ c′
-    whole-ended k number h b′ s z = record {
-      runs = subst (λ (y : Ran). WholeRuns (lentSetting c b limit flags ends lens) (cleared b) y b₂) h whole-runs;
-      cuts = zeroed-cuts c c₁ c′ same zeros;
-      cleared = zeroed-slices b b₂ b′ s z;
-    }
+    whole-ended k number h b′ s z =
+        let E : Ends (lentSetting c b limit flags ends lens) ops args (operationCount ops args) (placeIn 0 0 (cleared b)) k number = subst (λ (y : Ran). WholeRuns (lentSetting c b limit flags ends lens) (cleared b) y b₂) h whole-runs in
+        record {
+          whole = record { before = record { state = E .state; is = E .is; shorter = E .shorter; demand3 = E .demand3 }; zeros = zeroed-slices b b₂ b′ s z };
+          cuts = zeroed-cuts c c₁ c′ same zeros;
+        }

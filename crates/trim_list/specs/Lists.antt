@@ -7,15 +7,20 @@ use lib.Ieee.{Float, nan}
 use Rattle.float64.specs.Scalar.{zero}
 use Rattle.buffers.specs.Slots.{slotsOf}
 use Rattle.windows.specs.Windows.{capacityOf}
-use Rattle.heap.specs.Queue.{queue}
+use Rattle.heap.specs.declared.Popped.{Popped}
+use Rattle.heap.specs.declared.Popped.the-variants.{Empty, First}
+use Rattle.heap.specs.Queue.{queue, popping}
+use Rattle.pop.specs.Words.{wordsAfter}
 use Rattle.trim_model.specs.Model.{Candidate}
 use Rattle.chains.specs.Chains.{links}
+use Rattle.actions.specs.Actions as actions
 use Rattle.trim_state.specs.State.{State, Result, stopped, went, Mesh}
 use Rattle.trim_state.specs.Follows.{Follows}
 use Rattle.trim_split.specs.Running.{Place, place, Untouched}
 use Rattle.trim_run.specs.Operations.{Operation, touch, operations, candidates, DoublesOf}
 use Rattle.trim_run.specs.Run.{operate, Run, ran, ended, runFrom, start}
 use Rattle.trim_run.specs.Demand3.{Demand3}
+use Rattle.contents.specs.Contents.{headsIn, wordsOf, realsOfAll}
 use Rattle.trim_run.specs.Represents.{Represents}
 use Rattle.trim_list.specs.declared.Step.{Step}
 use Rattle.trim_list.specs.declared.Step.the-variants.{Stopped, Went}
@@ -78,8 +83,8 @@ pub record Ready (m made : ℕ) (b : Slices) (c : Cuts) : Type 0 where
   pub nexts : length (c .next) ≡ length (c .pts) + length (c .pts)
 
 -- ---- an operation
-abbrev pub Stands : ℕ → ℕ → ℕ → Slices → State → Type 0
-Stands m made queued b s = Represents m made queued (b .edges) (b .words) (b .reals) (b .keys) (b .events) (b .vertex) s
+abbrev pub Stands : ℕ → ℕ → Slices → State → Type 0
+Stands made queued b s = Represents made queued (b .edges) (b .words) (b .reals) (b .keys) (b .events) (b .vertex) s
 
 -- with so many windows made and events queued
 abbrev pub placeIn : ℕ → ℕ → Slices → Place
@@ -89,7 +94,7 @@ placeIn made queued b = place made queued 0 (links (b .edges) (b .words)) (b .re
 pub record Goes (m : ℕ) (p : Place) (made queued : ℕ) (b : Slices) (result : Result) : Type 0 where
   pub state : State
   pub is : result ≡ went state
-  pub stands : Stands m made queued b state
+  pub stands : Stands made queued b state
   pub untouched : Untouched (λ e. e < m) p (placeIn made queued b)
 
 -- an answer says what the result is, and what there is then stands in the buffers
@@ -101,39 +106,53 @@ abbrev pub Within : ℕ → Step → Type 0
 Within windows (Stopped n) = Unit {0}
 Within windows (Went made queued) = made ≤ windows
 
+-- how many events a pop leaves of so many
+unfoldable pub leftOf : ℕ → Popped → ℕ
+leftOf queued Empty = queued
+leftOf queued (First x n) = n
+
+pub record PopsFirst (made queued : ℕ) (words : List ℕ) (keys : List Float) (events : List ℕ) (r : ℕ) (words′ : List ℕ) (keys′ : List Float) (events′ : List ℕ) : Type 0 where
+  pub left : r ≡ leftOf queued (popping (queue keys events) queued .0)
+  pub claims : words′ ≡ wordsAfter made words (popping (queue keys events) queued .0)
+  pub rest : queue keys′ events′ ≡ popping (queue keys events) queued .1
+
 -- a vertex is reached at a distance, whatever stands in the other buffers
 pub record Touches (v : ℕ) (d limit : Float) (flags : List ℕ) (made queued : ℕ) (keys : List Float) (events : List ℕ) (vertex : List Float) (r : Step) (keys′ : List Float) (events′ : List ℕ) (vertex′ : List Float) : Type 0 where
   pub fits : Within made r
-  pub says : (cuts windows : ℕ) (mesh : Mesh) (m : ℕ) (edges words : List ℕ) (reals : List Float) (s : State) → Represents m made queued edges words reals keys events vertex s
+  pub says : (cuts windows : ℕ) (mesh : Mesh) (m : ℕ) (edges words : List ℕ) (reals : List Float) (s : State) → Represents made queued edges words reals keys events vertex s
       → Says m (placeIn made queued (slices edges words reals keys events vertex)) r (slices edges words reals keys′ events′ vertex′) (operate cuts windows limit flags mesh m (slotsOf (length vertex) 2) (touch v d) s)
 
 -- from buffers b to b′, whatever state they stand for that follows the reference model
 pub record Operated (g : Setting) (o : Operation) (made queued : ℕ) (b : Slices) (r : Step) (b′ : Slices) : Type 0 where
   pub doubles : DoublesOf (g .mesh .len) o
   pub fits : Within (g .windows) r
-  pub says : (s : State) (cs : List Candidate) → Stands (g .edges) made queued b s → Follows (g .limit) (g .mesh .len) cs (s .stock .made) (s .live)
+  pub says : (s : State) (cs : List Candidate) → Stands made queued b s → Follows (g .limit) (g .mesh .len) cs (s .stock .made) (s .live)
       → Says (g .edges) (placeIn made queued b) r b′ (operate (g .cuts) (g .windows) (g .limit) (g .flags) (g .mesh) (g .edges) (g .vertices) o s)
 
 -- ---- a list of n operations, on empty edges, from p on
 module _ (g : Setting) (ops : List ℕ) (args : List Float) (n : ℕ) (p : Place) where
-  abbrev pub wholeRun : Run
-  wholeRun = runFrom (g .cuts) (g .windows) (g .limit) (g .flags) (g .mesh) (g .edges) (g .vertices) 0 (operations ops args n) (start (p .queue) (p .vertex))
+  -- what the first k of them come to
+  abbrev pub runOf : ℕ → Run
+  runOf k = runFrom (g .cuts) (g .windows) (g .limit) (g .flags) (g .mesh) (g .edges) (g .vertices) 0 (operations ops args k) (start (p .queue) (p .vertex))
 
   -- demand 3 for the first k operations
   abbrev pub Claim : ℕ → State → Type 0
   Claim k s = (e : ℕ) → Demand3 (g .limit) (g .mesh .len) (candidates (operations ops args k)) e (s .live e)
 
+  -- they all go through, and the state stands in the buffers
   pub record Finishes (made queued : ℕ) (b : Slices) : Type 0 where
     pub state : State
-    pub is : wholeRun ≡ ran state
-    pub stands : Stands (g .edges) made queued b state
+    pub is : runOf n ≡ ran state
+    pub fits : made ≤ g .windows
+    pub stands : Stands made queued b state
     pub untouched : Untouched (λ e. e < g .edges) p (placeIn made queued b)
     pub demand3 : Claim n state
 
-  -- the list ends before operation k, which is refused by a number; the state before it, of which demand 3 is said, stands in no buffer any more: they are zeroed
+  -- the list ends before operation k, which is refused by a number; the state before it, of which demand 3 is said, is that of the shorter list
   pub record Ends (k number : ℕ) : Type 0 where
     pub state : State
-    pub is : wholeRun ≡ ended k number state
+    pub is : runOf n ≡ ended k number state
+    pub shorter : runOf k ≡ ran state
     pub demand3 : Claim k state
 
   abbrev pub Runs : Ran → Slices → Type 0
@@ -179,13 +198,36 @@ pub record ZeroCuts (c c′ : Cuts) : Type 0 where
 abbrev pub cleared : Slices → Slices
 cleared b = slices (replicate (length (b .edges)) 0) (replicate (length (b .words)) 0) (replicate (length (b .reals)) zero) (b .keys) (b .events) (b .vertex)
 
--- a list that ends before its last operation leaves zeros
-abbrev pub Cleared : Ran → Slices → Slices → Type 0
-Cleared (Done made queued) b b′ = Unit {0}
-Cleared (Ended k number) b b′ = ZeroSlices b b′
+-- ---- the whole: buffers b and c at entry, b′ and c′ at exit
+module _ (limit : Float) (flags ends : List ℕ) (lens : List Float) (ops : List ℕ) (args : List Float) (b : Slices) (c : Cuts) where
+  abbrev pub lentSettingOf : Setting
+  lentSettingOf = lentSetting c b limit flags ends lens
 
--- the whole: buffers b and c at entry, b′ and c′ at exit
-pub record RunWhole (limit : Float) (flags ends : List ℕ) (lens : List Float) (ops : List ℕ) (args : List Float) (b : Slices) (c : Cuts) (r : Ran) (b′ : Slices) (c′ : Cuts) : Type 0 where
-  pub runs : Runs (lentSetting c b limit flags ends lens) ops args (operationCount ops args) (placeIn 0 0 (cleared b)) r b′
-  pub cuts : ZeroCuts c c′
-  pub cleared : Cleared r b b′
+  abbrev pub count : ℕ
+  count = operationCount ops args
+
+  abbrev pub lentRunOf : ℕ → Run
+  lentRunOf k = runOf lentSettingOf ops args count (placeIn 0 0 b) k
+
+  -- all operations went: each slice is a function of the state
+  pub record WholeDone (made queued : ℕ) (b′ : Slices) : Type 0 where
+    pub state : State
+    pub is : lentRunOf count ≡ ran state
+    pub demand3 : Claim lentSettingOf ops args count (placeIn 0 0 b) count state
+    pub edges : b′ .edges ≡ headsIn (state .live) (length (b .edges))
+    pub words : b′ .words ≡ wordsOf (length (b .words)) (state .wins) (state .live)
+    pub reals : b′ .reals ≡ realsOfAll (length (b .reals)) (state .wins)
+    pub rest : state .stock ≡ actions.stock made queued (queue (b′ .keys) (b′ .events)) (b′ .vertex)
+
+  -- the list ends before operation k: the slices are zeroed
+  pub record WholeEnded (k number : ℕ) (b′ : Slices) : Type 0 where
+    pub before : Ends lentSettingOf ops args count (placeIn 0 0 b) k number
+    pub zeros : ZeroSlices b b′
+
+  abbrev pub Whole : Ran → Slices → Type 0
+  Whole (Done made queued) b′ = WholeDone made queued b′
+  Whole (Ended k number) b′ = WholeEnded k number b′
+
+  pub record RunWhole (r : Ran) (b′ : Slices) (c′ : Cuts) : Type 0 where
+    pub whole : Whole r b′
+    pub cuts : ZeroCuts c c′

@@ -1,19 +1,23 @@
 // A list of candidates, pops and touches is run over lent buffers, from empty edges on.
+use buffers::EdgeId;
 use buffers::VertexId;
 use buffers::read_f64;
 use buffers::read_u32;
 use heap::Pushed;
+use pop::Taken;
 use trim::Added;
-use trim_run::CandidateWindow;
 use trim_run::Op;
 use trim_split::Counts;
-ghost use Prim.Native.Nat.{ℕ, _*_, _≤_, _<_};
+use windows::Edge;
+use windows::NewWindow;
+ghost use Prim.Native.Nat.{ℕ, _*_, _≤_};
 ghost use mathlib.Core.Path.{_≡_};
 ghost use lib.ListN.{length};
+ghost use Rattle.windows.specs.Windows.{capacityOf};
 ghost use Rattle.chains.specs.Chains.{headOf};
 ghost use Rattle.trim_run.specs.Operations.{asCandidate, asOperation};
 ghost use Rattle.trim_run.specs.Operations.{add as Operations·add};
-ghost use Rattle.trim_list.specs.Lists.{slices, cuts, settingOf, Ready, Operated, Runs, placeIn, Touches, edgeCount, cutCount, operationCount, lentSetting, ZeroSlices, ZeroCuts, RunWhole};
+ghost use Rattle.trim_list.specs.Lists.{slices, cuts, settingOf, Ready, Operated, Runs, placeIn, Touches, PopsFirst, edgeCount, cutCount, operationCount, lentSetting, ZeroSlices, ZeroCuts, RunWhole};
 
 // An operation is refused by its number; or so many windows are made and so many events queued.
 pub enum Step {
@@ -42,12 +46,31 @@ fn touch(
     ensures { λ r. ⌜ Touches (v .0) d limit (now («vertex_words» .entry)) made queued (now (keys .entry)) (now (events .entry)) (now (vertex .entry)) r (now (keys .exit)) (now (events .exit)) (now (vertex .exit)) ⌝ }
 {
     if buffers::slots(vertex.len(), 2) <= v.0 {
-        return Step::Stopped(43);
+        return Step::Stopped(73);
     }
     let touched = actions::touch(vertex, vertex_words, keys, events, queued, limit, v, d);
     match touched {
         Pushed::Full => Step::Stopped(13),
         Pushed::Queued(n) => Step::Went { made, queued: n },
+    }
+}
+
+// The first event is taken out, if there is one. The answer is how many are left.
+fn pop_first(
+    words: &mut [u32],
+    reals: &[f64],
+    keys: &mut [f64],
+    events: &mut [u32],
+    made: u32,
+    queued: u32,
+) -> u32
+    requires { ⌜ made ≤ capacityOf (length (now words)) (length (now reals)) ⌝ }
+    ensures { λ r. ⌜ PopsFirst made queued (now (words .entry)) (now (keys .entry)) (now (events .entry)) r (now (words .exit)) (now (keys .exit)) (now (events .exit)) ⌝ }
+{
+    let taken = pop::pop(words, reals, keys, events, made, queued);
+    match taken {
+        Taken::Empty => queued,
+        Taken::First(_, n, _) => n,
     }
 }
 
@@ -105,7 +128,8 @@ fn zero_slices(
 // A candidate is refused by its number, or added to its edge.
 fn add_candidate(
     m: u32,
-    c: CandidateWindow,
+    id: EdgeId,
+    w: NewWindow,
     limit: f64,
     ends: &[u32],
     lens: &[f64],
@@ -124,16 +148,21 @@ fn add_candidate(
     queued: u32,
 ) -> Step
     requires { ⌜ Ready m made (slices (now edges) (now words) (now reals) (now keys) (now events) (now vertex)) (cuts (now pts) (now out) (now keep) (now next)) ⌝ }
-    ensures { λ r. ⌜ Operated (settingOf (cuts (now (pts .entry)) (now (out .entry)) (now (keep .entry)) (now (next .entry))) (slices (now (edges .entry)) (now (words .entry)) (now (reals .entry)) (now (keys .entry)) (now (events .entry)) (now (vertex .entry))) limit (now («vertex_words» .entry)) (now (ends .entry)) (now (lens .entry)) m) (Operations·add (asCandidate c)) made queued (slices (now (edges .entry)) (now (words .entry)) (now (reals .entry)) (now (keys .entry)) (now (events .entry)) (now (vertex .entry))) r (slices (now (edges .exit)) (now (words .exit)) (now (reals .exit)) (now (keys .exit)) (now (events .exit)) (now (vertex .exit))) ⌝ }
+    ensures { λ r. ⌜ Operated (settingOf (cuts (now (pts .entry)) (now (out .entry)) (now (keep .entry)) (now (next .entry))) (slices (now (edges .entry)) (now (words .entry)) (now (reals .entry)) (now (keys .entry)) (now (events .entry)) (now (vertex .entry))) limit (now («vertex_words» .entry)) (now (ends .entry)) (now (lens .entry)) m) (Operations·add (asCandidate (id .0) w)) made queued (slices (now (edges .entry)) (now (words .entry)) (now (reals .entry)) (now (keys .entry)) (now (events .entry)) (now (vertex .entry))) r (slices (now (edges .exit)) (now (words .exit)) (now (reals .exit)) (now (keys .exit)) (now (events .exit)) (now (vertex .exit))) ⌝ }
 {
-    let src = c.src;
-    let l = read_f64(lens, 1, c.edge.0, 0);
-    let number = trim_run::refusal(m, c.edge, l, c.b0, c.b1);
+    let len = read_f64(lens, 1, id.0, 0);
+    let number = trim_run::refusal(m, id, len, w.b0, w.b1);
     if number != 0 {
         return Step::Stopped(number);
     }
-    let low = read_u32(ends, 2, c.edge.0, 0);
-    let high = read_u32(ends, 2, c.edge.0, 1);
+    let low = read_u32(ends, 2, id.0, 0);
+    let high = read_u32(ends, 2, id.0, 1);
+    let e = Edge {
+        id,
+        len,
+        a: VertexId(low),
+        b: VertexId(high),
+    };
     let added = trim::add(
         edges,
         words,
@@ -147,19 +176,12 @@ fn add_candidate(
         out,
         next,
         Counts { made, queued },
-        c.edge,
-        c.into,
-        c.queued,
-        c.b0,
-        c.b1,
-        src,
-        l,
-        VertexId(low),
-        VertexId(high),
+        e,
+        w,
         limit,
     );
     match added {
-        Added::Stopped(n) => Step::Stopped(n),
+        Added::Stopped(lack) => Step::Stopped(buffers::lack_number(lack)),
         Added::Went(now) => Step::Went {
             made: now.made,
             queued: now.queued,
@@ -192,9 +214,10 @@ fn operate(
     ensures { λ r. ⌜ Operated (settingOf (cuts (now (pts .entry)) (now (out .entry)) (now (keep .entry)) (now (next .entry))) (slices (now (edges .entry)) (now (words .entry)) (now (reals .entry)) (now (keys .entry)) (now (events .entry)) (now (vertex .entry))) limit (now («vertex_words» .entry)) (now (ends .entry)) (now (lens .entry)) m) (asOperation op) made queued (slices (now (edges .entry)) (now (words .entry)) (now (reals .entry)) (now (keys .entry)) (now (events .entry)) (now (vertex .entry))) r (slices (now (edges .exit)) (now (words .exit)) (now (reals .exit)) (now (keys .exit)) (now (events .exit)) (now (vertex .exit))) ⌝ }
 {
     match op {
-        Op::Add(c) => add_candidate(
+        Op::Add(id, w) => add_candidate(
             m,
-            c,
+            id,
+            w,
             limit,
             ends,
             lens,
@@ -213,7 +236,7 @@ fn operate(
             queued,
         ),
         Op::Pop => {
-            let n = trim_run::pop(words, reals, keys, events, made, queued);
+            let n = pop_first(words, reals, keys, events, made, queued);
             Step::Went { made, queued: n }
         }
         Op::Touch(v, d) => touch(
@@ -227,7 +250,7 @@ fn operate(
             made,
             queued,
         ),
-        Op::Unknown => Step::Stopped(40),
+        Op::Unknown => Step::Stopped(70),
     }
 }
 
@@ -252,7 +275,7 @@ fn run_all(
     keep: &mut [f64],
     next: &mut [f64],
 ) -> Ran
-    requires { ⌜ Ready m 0 (slices (now edges) (now words) (now reals) (now keys) (now events) (now vertex)) (cuts (now pts) (now out) (now keep) (now next)) × ((e : ℕ) → e < m → headOf (now edges) e ≡ 0) ⌝ }
+    requires { ⌜ Ready m 0 (slices (now edges) (now words) (now reals) (now keys) (now events) (now vertex)) (cuts (now pts) (now out) (now keep) (now next)) × ((e : ℕ) → headOf (now edges) e ≡ 0) ⌝ }
     ensures { λ r. ⌜ Runs (settingOf (cuts (now (pts .entry)) (now (out .entry)) (now (keep .entry)) (now (next .entry))) (slices (now (edges .entry)) (now (words .entry)) (now (reals .entry)) (now (keys .entry)) (now (events .entry)) (now (vertex .entry))) limit (now («vertex_words» .entry)) (now (ends .entry)) (now (lens .entry)) m) (now (ops .entry)) (now (args .entry)) n (placeIn 0 0 (slices (now (edges .entry)) (now (words .entry)) (now (reals .entry)) (now (keys .entry)) (now (events .entry)) (now (vertex .entry)))) r (slices (now (edges .exit)) (now (words .exit)) (now (reals .exit)) (now (keys .exit)) (now (events .exit)) (now (vertex .exit))) ⌝ }
 {
     let mut made = 0;
@@ -392,7 +415,10 @@ pub fn run(
     );
     zero_cuts(pts, out, keep, next);
     match r {
-        Ran::Done { made, queued } => Ran::Done { made, queued },
+        Ran::Done { made, queued } => {
+            contents::forget(edges);
+            Ran::Done { made, queued }
+        }
         Ran::Ended { at, number } => {
             zero_slices(edges, words, reals, keys, events, vertex);
             Ran::Ended { at, number }

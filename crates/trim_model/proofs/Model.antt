@@ -16,7 +16,7 @@ use Rattle.trim_model.specs.Windows.{Window}
 use Rattle.trim_model.specs.Add.{Better, Added, addTo, addBound}
 use Rattle.trim_model.specs.Model.{Candidate, EdgeState, Model, empty, asWindow, admits, updated, admit, step, steps, stepBound, stepsBound}
 use Rattle.better.specs.Claim.{All, Point}
-use Rattle.trim_model.specs.Claim.{Any, Proper}
+use Rattle.trim_model.specs.Claim.{Any, Proper, AdmittedProper}
 use Rattle.trim_model.proofs.Ranks.{Nonneg, wide-no, tiny-nonneg, by-cases}
 use Rattle.trim_model.proofs.Lists.{all-append, any-left, any-right, any-split}
 use Rattle.trim_model.proofs.Windows.{wcount, Wide}
@@ -85,15 +85,15 @@ module _ {better : Better} (B : Stretches better) (limit : Float) (len : ℕ →
       (λ q f. ok-more (b e + 0) (omega arith) (h e))
       (eqb→eq e (c .edge))
 
-  step-ok : (c : Candidate) → Proper len c → (b : ℕ → ℕ) (m : Model) → Ok b m → Ok (λ (e : ℕ). b e + stepBound better limit len e c m) (step better limit len c m)
+  step-ok : (c : Candidate) → AdmittedProper limit len c → (b : ℕ → ℕ) (m : Model) → Ok b m → Ok (λ (e : ℕ). b e + stepBound better limit len e c m) (step better limit len c m)
   unfolding step stepBound
   step-ok c p b m h e =
       by-cases (λ (q : Bool). (T q → T (admits limit len c)) → EdgeOk (tinyOf (len e)) (b e + cond (q && eqb e (c .edge)) (addBound better (tinyOf (len (c .edge))) (asWindow c) (m .edge e .live)) 0) ((cond q (admit better limit len c m) m) .edge e)) (admits limit len c)
-      (λ q f. admit-ok c p (f tt) b m h e)
+      (λ q f. admit-ok c (p (f tt)) (f tt) b m h e)
       (λ q f. ok-more (b e + 0) (omega arith) (h e))
       (λ z. z)
 
-  steps-ok : (cs : List Candidate) → All (Proper len) cs → (b : ℕ → ℕ) (m : Model) → Ok b m → Ok (λ (e : ℕ). b e + stepsBound better limit len e cs m) (steps better limit len cs m)
+  steps-ok : (cs : List Candidate) → All (AdmittedProper limit len) cs → (b : ℕ → ℕ) (m : Model) → Ok b m → Ok (λ (e : ℕ). b e + stepsBound better limit len e cs m) (steps better limit len cs m)
   unfolding steps stepsBound
   steps-ok [] p b m h e = ok-more (b e + 0) (omega arith) (h e)
   steps-ok (c ∷ cs) p b m h e = ok-more (b e + (stepBound better limit len e c m + stepsBound better limit len e cs (step better limit len c m))) (omega arith) (steps-ok cs (p .1) (λ (i : ℕ). b i + stepBound better limit len i c m) (step better limit len c m) (step-ok c (p .0) b m h) e)
@@ -102,5 +102,5 @@ module _ {better : Better} (B : Stretches better) (limit : Float) (len : ℕ →
   unfolding wcount
   empty-ok e = record { tidy = record { wides = tt; ordered = tt; lone = λ x y gx gy w. zero-le }; cover = λ X a. absurd a; ranges = tt; narrow = tt; few = zero-le }
 
-  pub model-ok : (cs : List Candidate) → All (Proper len) cs → (e : ℕ) → EdgeOk (tinyOf (len e)) (stepsBound better limit len e cs empty) (steps better limit len cs empty .edge e)
+  pub model-ok : (cs : List Candidate) → All (AdmittedProper limit len) cs → (e : ℕ) → EdgeOk (tinyOf (len e)) (stepsBound better limit len e cs empty) (steps better limit len cs empty .edge e)
   model-ok cs p e = ok-more (stepsBound better limit len e cs empty) (omega arith) (steps-ok cs p (λ (i : ℕ). 0) empty empty-ok e)

@@ -56,11 +56,11 @@ small = round binary64 false 1 1099511627776
 
 -- edge 0 has the length 4, and the limit is 10
 candidate : Float → Float → Float → Candidate
-candidate a b c = record { edge = 0; b0 = a; b1 = b; src = level c; into = 7; queued = true }
+candidate a b c = record { edge = 0; b0 = a; b1 = b; src = level c; carried = record { into = record { 0 = 7 }; queued = true } }
 
 -- a part of such a candidate, with its number
 abbrev window : Float → Float → Float → ℕ → Window
-window a b c k = record { b0 = a; b1 = b; low = lowestOf (level c) a b; src = level c; into = 7; queued = true; num = k }
+window a b c k = record { b0 = a; b1 = b; low = lowestOf (level c) a b; src = level c; carried = record { into = record { 0 = 7 }; queued = true }; num = k }
 
 after : List Candidate → Model
 after cs = steps lower (n 10) (λ (e : ℕ). n 4) cs empty

@@ -11,7 +11,7 @@ use Rattle.better.specs.Stretches.{Interval}
 use Rattle.trim_model.specs.Intervals.{width, tinyOf}
 use Rattle.trim_model.specs.Windows.{Window}
 use Rattle.trim_model.specs.Add.{Better}
-use Rattle.trim_model.specs.Model.{Candidate, EdgeState, Model, empty, steps, stepsBound}
+use Rattle.trim_model.specs.Model.{Candidate, EdgeState, Model, empty, admits, steps, stepsBound}
 use Rattle.better.specs.Claim.{All, Pairs, Point}
 
 -- some element of a list
@@ -49,11 +49,15 @@ pub record Proper (len : ℕ → Float) (c : Candidate) : Type 0 where
   pub length : Point (len (c .edge))
   pub positive : T (lt zero (len (c .edge)))
 
+-- asked of those that are admitted only: one that is not changes nothing, whatever its ends
+abbrev pub AdmittedProper : Float → (ℕ → Float) → Candidate → Type 0
+AdmittedProper limit len c = T (admits limit len c) → Proper len c
+
 -- "For every list of offers .., in any order and number, those not admitted among them, all edges empty and no window made at first ..: after the list, on every edge".
 -- "the live windows are exactly those of 01's book" is said of the program, by the contract that names `steps`.
 abbrev pub Demand3 : Better → Float → (ℕ → Float) → Type 0
 Demand3 better limit len =
-    (cs : List Candidate) → All (Proper len) cs → (e : ℕ)
+    (cs : List Candidate) → All (AdmittedProper limit len) cs → (e : ℕ)
     → Trimmed (tinyOf (len e)) (stepsBound better limit len e cs empty) (steps better limit len cs empty .edge e)
 
 -- ---- the numbers of live windows, for any list at all

@@ -6,6 +6,7 @@ use mathlib.Core.List.{List, [], _∷_, _++_}
 use lib.Dec.{eqb}
 use lib.Ieee.{Float, lt, le}
 use Rattle.source.specs.declared.Src.{Src}
+use Rattle.windows.specs.declared.Carried.{Carried}
 use Rattle.source.specs.Distance.{lowestOf}
 use Rattle.better.specs.Stretches.{Interval, interval}
 use Rattle.trim_model.specs.Intervals.{width, tinyOf}
@@ -18,8 +19,7 @@ pub record Candidate : Type 0 where
   pub b0 : Float
   pub b1 : Float
   pub src : Src
-  pub into : ℕ
-  pub queued : Bool
+  pub carried : Carried
 
 -- of an edge: its live windows, the ranges of the candidates admitted to it, and the slivers that they dropped
 pub record EdgeState : Type 0 where
@@ -38,7 +38,7 @@ empty = record { edge = λ (e : ℕ). record { live = []; admitted = []; slivers
 
 -- the candidate as the window that `add` is given: its number is not used
 abbrev pub asWindow : Candidate → Window
-asWindow c = record { b0 = c .b0; b1 = c .b1; low = lowestOf (c .src) (c .b0) (c .b1); src = c .src; into = c .into; queued = c .queued; num = 0 }
+asWindow c = record { b0 = c .b0; b1 = c .b1; low = lowestOf (c .src) (c .b0) (c .b1); src = c .src; carried = c .carried; num = 0 }
 
 -- not where its width is at most tiny, or its lowest value above the limit
 abbrev pub admits : Float → (ℕ → Float) → Candidate → Bool

@@ -6,23 +6,23 @@ use lib.Ieee.{Float}
 use Rattle.nat_laws.specs.Lists.{insertBy, sortBy}
 use Rattle.float64.specs.TotalOrder.{totalLess}
 use Rattle.source.specs.declared.Src.{Src}
+use Rattle.windows.specs.declared.Carried.{Carried}
 use Rattle.source.specs.Distance.{lowestOf}
 use Rattle.better.specs.Stretches.{Interval}
 use Rattle.float64.specs.Notation.{if_then_else_}
 
--- what demand 3 compares of a live window, its ends, lowest value, source and number; and the Rust's `into`, the face that it goes into, and `queued`
+-- what demand 3 compares of a live window, its ends, lowest value, source and number; and what it carries along: the Rust's `into`, the face that it goes into, and `queued`
 pub record Window : Type 0 where
   pub b0 : Float
   pub b1 : Float
   pub low : Float
   pub src : Src
-  pub into : ℕ
-  pub queued : Bool
+  pub carried : Carried
   pub num : ℕ
 
 -- the Rust's `Win { b0, b1, ..u }`, as number n, with its lowest value, which the Rust sets when a field is done
 abbrev pub part : Window → Float → Float → ℕ → Window
-part u b0 b1 n = record { b0 = b0; b1 = b1; low = lowestOf (u .src) b0 b1; src = u .src; into = u .into; queued = u .queued; num = n }
+part u b0 b1 n = record { b0 = b0; b1 = b1; low = lowestOf (u .src) b0 b1; src = u .src; carried = u .carried; num = n }
 
 -- intervals as parts of u, numbered from n on
 unfoldable pub fresh : Window → ℕ → List Interval → List Window
@@ -35,9 +35,12 @@ unfolding fresh
 split u n [] = []
 split u n (p ∷ rest) = part u (p .from) (p .to) (u .num) ∷ fresh u n rest
 
+abbrev pub unqueuedCarried : Carried → Carried
+unqueuedCarried c = record { into = c .into; queued = false }
+
 -- a window whose event was popped: nothing else of it changes
 abbrev pub unqueued : Window → Window
-unqueued u = record { b0 = u .b0; b1 = u .b1; low = u .low; src = u .src; into = u .into; queued = false; num = u .num }
+unqueued u = record { b0 = u .b0; b1 = u .b1; low = u .low; src = u .src; carried = unqueuedCarried (u .carried); num = u .num }
 
 -- `sort_by` of the starts with `total_cmp`, which is stable
 abbrev pub insert : Window → List Window → List Window

@@ -10,7 +10,6 @@ use lib.Ieee.Fits.{and-l, and-r}
 use lib.Ieee.Scale.{finite}
 use Rattle.float64.specs.Scalar.{zero}
 use Rattle.float_laws.proofs.Order.{finite-between, zero-finite}
-use Rattle.heap.specs.declared.Event.{Event}
 use Rattle.heap.specs.declared.Item.{Item}
 use Rattle.heap.specs.declared.Item.the-variants.{Window as Item·Window, Vertex as Item·Vertex}
 use Rattle.heap.specs.declared.Popped.{Popped}
@@ -29,8 +28,9 @@ use Rattle.trim_state.specs.Follows.{Follows}
 use Rattle.trim_state.proofs.Follows.{follows-unqueue, follows-demand3}
 use Rattle.trim_state.proofs.Made.{Made, act-made, After, finish-after, add-after}
 use Rattle.live_windows.specs.Live.{unqueuedIn}
+use Rattle.pop.specs.State.{winsClaimed, liveClaimed, afterPop}
 use Rattle.trim_run.specs.Operations.{Operation, add, pop, touch, unknown, candidateOf, candidates, Doubles, DoublesOf}
-use Rattle.trim_run.specs.Run.{takenOf, taken, popped, hasLength, isOnEdge, tryAdd, operate}
+use Rattle.trim_run.specs.Run.{hasLength, isOnEdge, tryAdd, operate}
 use Rattle.trim_run.specs.Demand3.{Demand3}
 
 -- a candidate that is not refused
@@ -54,14 +54,10 @@ unfolding unqueuedIn
 unqueued-in n [] = refl
 unqueued-in n (u ∷ us) = by-cases (λ (b : Bool). unqueued (cond b (unqueued u) u) ∷ map unqueued (unqueuedIn n us) ≡ unqueued u ∷ map unqueued us) (eqb (u .num) n) (λ y. ap (λ (l : List Window). unqueued u ∷ l) (unqueued-in n us)) (λ z. ap (λ (l : List Window). unqueued u ∷ l) (unqueued-in n us))
 
-taken-of : (i : Item) (us : List Window) → map unqueued (takenOf i us) ≡ map unqueued us
-unfolding takenOf
-taken-of (Item·Window w) us = unqueued-in (w .0) us
-taken-of (Item·Vertex v) us = refl
-
-taken-same : (x : Event) (live : ℕ → List Window) (e : ℕ) → map unqueued (taken x live e) ≡ map unqueued (live e)
-unfolding taken
-taken-same x live e = taken-of (x .item) (live e)
+live-claimed : (i : Item) (us : List Window) → map unqueued (liveClaimed i us) ≡ map unqueued us
+unfolding liveClaimed
+live-claimed (Item·Window w) us = unqueued-in (w .0) us
+live-claimed (Item·Vertex v) us = refl
 
 module _ (cuts windows : ℕ) (limit : Float) (flags : List ℕ) (mesh : Mesh) (edges vertices : ℕ) (cs : List Candidate) (s : State) (F : Follows limit (mesh .len) cs (s .stock .made) (s .live)) where
   -- the state follows the model with more candidates
@@ -71,10 +67,12 @@ module _ (cuts windows : ℕ) (limit : Float) (flags : List ℕ) (mesh : Mesh) (
   same-list : (t : State) → Follows limit (mesh .len) cs (t .stock .made) (t .live) → Next [] t
   same-list t k = subst (λ (l : List Candidate). Follows limit (mesh .len) l (t .stock .made) (t .live)) (sym (append-nil cs)) k
 
-  pop-after : (x : Popped × Queue) → Next [] (popped s x)
-  unfolding popped
+  pop-after : (x : Popped × Queue) → Next [] (afterPop s x)
+  unfolding afterPop
   pop-after (Empty, q) = same-list s F
-  pop-after (First x n, q) = same-list (record { live = taken x (s .live); stock = actions.stock (s .stock .made) n q (s .stock .vertex) }) (follows-unqueue F (taken x (s .live)) (taken-same x (s .live)))
+  pop-after (First x n, q) =
+      same-list (record { wins = winsClaimed (x .item) (s .wins); live = λ (e : ℕ). liveClaimed (x .item) (s .live e); stock = actions.stock (s .stock .made) n q (s .stock .vertex) })
+      (follows-unqueue F (λ (e : ℕ). liveClaimed (x .item) (s .live e)) (λ e. live-claimed (x .item) (s .live e)))
 
   abbrev Go : (State → Type 0) → Result → Type 0
   Go P r = After cuts windows limit flags P r
@@ -83,23 +81,23 @@ module _ (cuts windows : ℕ) (limit : Float) (flags : List ℕ) (mesh : Mesh) (
   unfolding tryAdd
   candidate-after c d =
       let l = mesh .len (c .edge) in
-      by-cases (λ (b : Bool). (T b → T (ltb (c .edge) edges && hasLength l)) → Go (Next (c ∷ [])) (cond b (cond (isOnEdge l (c .b0) && isOnEdge l (c .b1)) (state.addOf cuts windows limit flags mesh c s) (state.stopped 42)) (state.stopped 41))) (ltb (c .edge) edges && hasLength l)
-      (λ y f. by-cases (λ (b : Bool). (T b → T (isOnEdge l (c .b0) && isOnEdge l (c .b1))) → Go (Next (c ∷ [])) (cond b (state.addOf cuts windows limit flags mesh c s) (state.stopped 42))) (isOnEdge l (c .b0) && isOnEdge l (c .b1))
-      (λ z g. add-after cuts windows limit flags mesh c s (proper (mesh .len) c d (and-r (ltb (c .edge) edges) (hasLength l) (f tt)) (and-l (isOnEdge l (c .b0)) (isOnEdge l (c .b1)) (g tt)) (and-r (isOnEdge l (c .b0)) (isOnEdge l (c .b1)) (g tt))) F)
+      by-cases (λ (b : Bool). (T b → T (ltb (c .edge) edges && hasLength l)) → Go (Next (c ∷ [])) (cond b (cond (isOnEdge l (c .b0) && isOnEdge l (c .b1)) (state.addOf cuts windows limit flags mesh c s) (state.stopped 72)) (state.stopped 71))) (ltb (c .edge) edges && hasLength l)
+      (λ y f. by-cases (λ (b : Bool). (T b → T (isOnEdge l (c .b0) && isOnEdge l (c .b1))) → Go (Next (c ∷ [])) (cond b (state.addOf cuts windows limit flags mesh c s) (state.stopped 72))) (isOnEdge l (c .b0) && isOnEdge l (c .b1))
+      (λ z g. add-after cuts windows limit flags mesh c s (λ ok. proper (mesh .len) c d (and-r (ltb (c .edge) edges) (hasLength l) (f tt)) (and-l (isOnEdge l (c .b0)) (isOnEdge l (c .b1)) (g tt)) (and-r (isOnEdge l (c .b0)) (isOnEdge l (c .b1)) (g tt))) F)
       (λ z g. tt) (λ z. z))
       (λ y f. tt) (λ z. z)
 
-  touch-after : (v : ℕ) (d : Float) → Go (Next []) (finish (s .live) (act cuts windows limit flags (actions.touch v d) (s .stock)))
+  touch-after : (v : ℕ) (d : Float) → Go (Next []) (finish (s .wins) (s .live) (act cuts windows limit flags (actions.touch v d) (s .stock)))
   touch-after v d =
-      finish-after cuts windows limit flags (Next []) (s .live) (s .stock .made) (act cuts windows limit flags (actions.touch v d) (s .stock))
+      finish-after cuts windows limit flags (Next []) (s .wins) (s .live) (s .stock .made) (act cuts windows limit flags (actions.touch v d) (s .stock))
       (subst (λ (n : ℕ). Made n (act cuts windows limit flags (actions.touch v d) (s .stock))) (omega arith) (act-made cuts windows limit flags (actions.touch v d) (s .stock)))
-      (λ k i. same-list (record { live = s .live; stock = k }) (subst (λ (n : ℕ). Follows limit (mesh .len) cs n (s .live)) (sym i) F))
+      (λ k i. same-list (record { wins = s .wins; live = s .live; stock = k }) (subst (λ (n : ℕ). Follows limit (mesh .len) cs n (s .live)) (sym i) F))
 
   operate-after : (o : Operation) → DoublesOf (mesh .len) o → Go (Next (candidateOf o)) (operate cuts windows limit flags mesh edges vertices o s)
   unfolding operate candidateOf
   operate-after (add c) d = candidate-after c d
   operate-after pop d = pop-after (popping (s .stock .queue) (s .stock .queued))
-  operate-after (touch v d) k = by-cases (λ (b : Bool). Go (Next []) (cond b (finish (s .live) (act cuts windows limit flags (actions.touch v d) (s .stock))) (state.stopped 43))) (ltb v vertices) (λ y. touch-after v d) (λ y. tt)
+  operate-after (touch v d) k = by-cases (λ (b : Bool). Go (Next []) (cond b (finish (s .wins) (s .live) (act cuts windows limit flags (actions.touch v d) (s .stock))) (state.stopped 73))) (ltb v vertices) (λ y. touch-after v d) (λ y. tt)
   operate-after unknown d = tt
 
   -- an operation that goes through leaves lists that follow the model with its candidate

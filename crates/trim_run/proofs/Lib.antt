@@ -1,4 +1,3 @@
 pub mod Follow
-pub mod Popping
 pub mod Tests
 pub mod Reading

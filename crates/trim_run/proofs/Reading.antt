@@ -7,8 +7,14 @@ use mathlib.Core.Path.{_≡_, sym, ap, _∙_}
 use borrow.Author.Tests.{eq-eqb, ne-eqb}
 use lib.Dec.{eqb}
 use lib.Ieee.{Float}
+use Rattle.source.specs.declared.Src.{Src}
+use Rattle.windows.specs.declared.NewWindow.{NewWindow}
 use Rattle.trim_model.specs.Model.{Candidate}
-use Rattle.trim_run.specs.Operations.{add, pop, touch, unknown, wordAt, realAt, candidateAt, sourceAt, operationAt}
+use Rattle.trim_run.specs.Operations.{add, pop, touch, unknown, wordAt, realAt, asCandidate, newWindowAt, candidateAt, sourceAt, operationAt}
+
+-- an edge and a window that were read
+pub read-candidate : (words : List ℕ) (reals : List Float) (k e : ℕ) (w : NewWindow) (src : Src) → e ≡ wordAt words k 1 → w ≡ newWindowAt words reals k src → asCandidate e w ≡ candidateAt words reals k src
+read-candidate words reals k e w src h d = ap (λ n. asCandidate n w) h ∙ ap (asCandidate (wordAt words k 1)) d
 
 module _ (words : List ℕ) (reals : List Float) (k kind : ℕ) (is : kind ≡ wordAt words k 0) where
   -- the tests of the kind, in their order

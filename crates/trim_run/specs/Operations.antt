@@ -12,7 +12,7 @@ use Rattle.source.specs.declared.Src.{Src}
 use Rattle.source.specs.declared.Src.the-variants.{Point, Line}
 use Rattle.windows.specs.Windows.{srcOf}
 use Rattle.trim_model.specs.Model.{Candidate}
-use Rattle.trim_run.specs.declared.CandidateWindow.{CandidateWindow}
+use Rattle.windows.specs.declared.NewWindow.{NewWindow}
 use Rattle.trim_run.specs.declared.Op.{Op}
 use Rattle.trim_run.specs.declared.Op.the-variants.{Add, Pop, Touch, Unknown}
 
@@ -21,6 +21,10 @@ pub data Operation : Type 0 where
   pop : Operation  -- kind 2
   touch : ℕ → Float → Operation  -- kind 3
   unknown : Operation  -- any other
+
+-- a window to be added to edge e, as the model has it
+abbrev pub asCandidate : ℕ → NewWindow → Candidate
+asCandidate e w = record { edge = e; b0 = w .b0; b1 = w .b1; src = w .src; carried = w .carried }
 
 abbrev pub wordAt : List ℕ → ℕ → ℕ → ℕ
 wordAt words k a = getD words (4 * k + a) 0
@@ -38,8 +42,11 @@ module _ (words : List ℕ) (reals : List Float) where
   abbrev real : ℕ → ℕ → Float
   real = realAt reals
 
+  abbrev pub newWindowAt : ℕ → Src → NewWindow
+  newWindowAt k s = record { b0 = real k 0; b1 = real k 1; src = s; carried = record { into = record { 0 = word k 2 }; queued = isQueued words k } }
+
   abbrev pub candidateAt : ℕ → Src → Candidate
-  candidateAt k s = record { edge = word k 1; b0 = real k 0; b1 = real k 1; src = s; into = word k 2; queued = isQueued words k }
+  candidateAt k s = asCandidate (word k 1) (newWindowAt k s)
 
   unfoldable pub operationAt : ℕ → Operation
   operationAt k =
@@ -72,11 +79,8 @@ candidates (o ∷ ops) = candidateOf o ++ candidates ops
 abbrev pub sourceAt : List Float → ℕ → Bool → Src
 sourceAt reals k line = srcOf line (realAt reals k 2) (realAt reals k 3) (realAt reals k 4)
 
-abbrev pub asCandidate : CandidateWindow → Candidate
-asCandidate c = record { edge = c .edge .0; b0 = c .b0; b1 = c .b1; src = c .src; into = c .into .0; queued = c .queued }
-
 abbrev pub asOperation : Op → Operation
-asOperation (Add c) = add (asCandidate c)
+asOperation (Add e w) = add (asCandidate (e .0) w)
 asOperation Pop = pop
 asOperation (Touch v d) = touch (v .0) d
 asOperation Unknown = unknown

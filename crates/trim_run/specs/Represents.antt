@@ -11,9 +11,9 @@ use Rattle.trim_state.specs.State.{State}
 use Rattle.live_windows.specs.Live.{Holds}
 use Rattle.trim_run.specs.Run.{refusalOf}
 
--- so many windows are made and so many events queued; the live windows of m edges stand in the window buffer and its chains, and the queue and the vertex distances are the lists
-pub record Represents (m made queued : ℕ) (edges words : List ℕ) (reals keys : List Float) (events : List ℕ) (vertex : List Float) (s : State) : Type 0 where
-  pub holds : Holds made m (links edges words) reals (s .live)
+-- so many windows are made and so many events queued; all windows made and the live windows of every edge stand in the window buffer and its chains, and the queue and the vertex distances are the lists
+pub record Represents (made queued : ℕ) (edges words : List ℕ) (reals keys : List Float) (events : List ℕ) (vertex : List Float) (s : State) : Type 0 where
+  pub holds : Holds made (s .wins) (links edges words) reals (s .live)
   pub stock : s .stock ≡ actions.stock made queued (queue keys events) vertex
 
 -- r is the number of a candidate's refusal, of edge e with length l, and the numbers are doubles

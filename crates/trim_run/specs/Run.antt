@@ -6,37 +6,17 @@ use lib.Dec.{ltb}
 use lib.Ieee.{Float, lt, le}
 use lib.Ieee.Scale.{finite}
 use Rattle.float64.specs.Scalar.{zero}
-use Rattle.heap.specs.declared.Event.{Event}
-use Rattle.heap.specs.declared.Item.{Item}
-use Rattle.heap.specs.declared.Item.the-variants.{Window as Item·Window, Vertex as Item·Vertex}
-use Rattle.heap.specs.declared.Popped.{Popped}
-use Rattle.heap.specs.declared.Popped.the-variants.{Empty, First}
 use Rattle.heap.specs.Queue.{Queue, popping}
 use Rattle.actions.specs.Actions as actions
 use Rattle.actions.specs.Actions.{stock, act}
 use Rattle.trim_model.specs.Windows.{Window}
 use Rattle.trim_model.specs.Model.{Candidate}
 use Rattle.trim_state.specs.State.{State, Result, stopped, went, finish, Mesh, addOf}
-use Rattle.live_windows.specs.Live.{unqueuedIn}
+use Rattle.pop.specs.State.{afterPop}
 use Rattle.trim_run.specs.Operations.{Operation, add, pop, touch, unknown}
 
--- ---- a pop: the first event is taken out, and a live window that it names is no longer queued
-unfoldable pub takenOf : Item → List Window → List Window
-unfolding unqueuedIn
-takenOf (Item·Window w) live = unqueuedIn (w .0) live
-takenOf (Item·Vertex v) live = live
-
-unfoldable pub taken : Event → (ℕ → List Window) → ℕ → List Window
-unfolding takenOf
-taken x live e = takenOf (x .item) (live e)
-
-unfoldable pub popped : State → Popped × Queue → State
-unfolding taken
-popped s (Empty, q) = s
-popped s (First x n, q) = record { live = taken x (s .live); stock = stock (s .stock .made) n q (s .stock .vertex) }
-
--- ---- which operations are refused, and by which numbers: 40 for an unknown kind; 41 for a candidate whose edge is missing or has no finite length above zero; 42 for one whose
--- ends are no numbers from 0 to the length; 43 for a vertex that is missing
+-- ---- which operations are refused, and by which numbers: 70 for an unknown kind; 71 for a candidate whose edge is missing or has no finite length above zero; 72 for one whose
+-- ends are no numbers from 0 to the length; 73 for a vertex that is missing
 abbrev pub hasLength : Float → Bool
 hasLength l = lt zero l && finite l
 
@@ -45,7 +25,7 @@ isOnEdge l x = le zero x && le x l
 
 -- the number of a candidate's refusal, where there are so many edges; 0 is none
 abbrev pub refusalOf : ℕ → ℕ → Float → Float → Float → ℕ
-refusalOf edges e l b0 b1 = cond (ltb e edges && hasLength l) (cond (isOnEdge l b0 && isOnEdge l b1) 0 42) 41
+refusalOf edges e l b0 b1 = cond (ltb e edges && hasLength l) (cond (isOnEdge l b0 && isOnEdge l b1) 0 72) 71
 
 module _ (cuts windows : ℕ) (limit : Float) (flags : List ℕ) (mesh : Mesh) (edges vertices : ℕ) where
   unfoldable pub tryAdd : Candidate → State → Result
@@ -53,15 +33,15 @@ module _ (cuts windows : ℕ) (limit : Float) (flags : List ℕ) (mesh : Mesh) (
   tryAdd c s =
       let l = mesh .len (c .edge) in
       cond (ltb (c .edge) edges && hasLength l)
-      (cond (isOnEdge l (c .b0) && isOnEdge l (c .b1)) (addOf cuts windows limit flags mesh c s) (stopped 42))
-      (stopped 41)
+      (cond (isOnEdge l (c .b0) && isOnEdge l (c .b1)) (addOf cuts windows limit flags mesh c s) (stopped 72))
+      (stopped 71)
 
   unfoldable pub operate : Operation → State → Result
-  unfolding tryAdd popped
+  unfolding tryAdd afterPop
   operate (add c) s = tryAdd c s
-  operate pop s = went (popped s (popping (s .stock .queue) (s .stock .queued)))
-  operate (touch v d) s = cond (ltb v vertices) (finish (s .live) (act cuts windows limit flags (actions.touch v d) (s .stock))) (stopped 43)
-  operate unknown s = stopped 40
+  operate pop s = went (afterPop s (popping (s .stock .queue) (s .stock .queued)))
+  operate (touch v d) s = cond (ltb v vertices) (finish (s .wins) (s .live) (act cuts windows limit flags (actions.touch v d) (s .stock))) (stopped 73)
+  operate unknown s = stopped 70
 
 -- a list ends before the operation that is stopped, and its place in the list and the number are told
 pub data Run : Type 0 where
@@ -81,4 +61,4 @@ module _ (cuts windows : ℕ) (limit : Float) (flags : List ℕ) (mesh : Mesh) (
 
 -- at first there are no windows and no events
 abbrev pub start : Queue → List Float → State
-start queue vertex = record { live = λ (e : ℕ). []; stock = stock 0 0 queue vertex }
+start queue vertex = record { wins = []; live = λ (e : ℕ). []; stock = stock 0 0 queue vertex }

@@ -3,10 +3,12 @@ use Prim.Native.Nat.{ℕ, _≤_, _<_}
 use mathlib.Core.List.{List, [], _++_, append-assoc, append-nil}
 use mathlib.Core.Path.{_≡_, sym, ap, _∙_, subst}
 use lib.Ieee.{Float}
-use Rattle.actions.specs.Actions.{Action}
-use Rattle.actions.proofs.Play.{play-nil, play-stop-append, play-go-append}
+use Rattle.windows.specs.declared.WindowRecord.{WindowRecord}
+use Rattle.actions.specs.Actions.{Action, winsAfter}
+use Rattle.actions.proofs.Play.{wins-none, wins-append, play-nil, play-stop-append, play-go-append}
 use Rattle.trim_model.specs.Windows.{Window}
-use Rattle.live_windows.specs.Live.{lastLink}
+use Rattle.trim_state.specs.State.{put}
+use Rattle.live_windows.specs.Live.{Holds, lastLink}
 use Rattle.trim_split.specs.Running.{Place, stockOf, End, stopped, at, Ran, Does}
 use Rattle.trim_split.proofs.Edges.{holds-equal}
 use Rattle.trim_split.proofs.Untouched.{untouched-same, untouched-then}
@@ -25,7 +27,7 @@ module _ (cuts windows : ℕ) (limit : Float) (flags : List ℕ) (e : ℕ) where
     fits = i;
     linked = l;
     plays = play-nil cuts windows limit flags (stockOf p);
-    holds = λ m live xs zs j k h. h;
+    holds = λ wins live xs zs k h. subst (λ (ws : List WindowRecord). Holds (p .made) ws (p .links) (p .reals) (put e (xs ++ zs) live)) (sym (wins-none wins)) h;
     untouched = untouched-same (λ k. k ≡ e) p (p .queued) (p .last) (p .queue) (p .vertex);
     after = λ xs k. k ∙ ap lastLink (sym (append-nil xs));
   }
@@ -36,11 +38,12 @@ module _ (cuts windows : ℕ) (limit : Float) (flags : List ℕ) (e : ℕ) where
       fits = second .fits;
       linked = second .linked;
       plays = play-go-append cuts windows limit flags us vs (stockOf p) (stockOf p1) (first .plays) ∙ second .plays;
-      holds = λ m live xs zs j k h.
-          let a = holds-equal (p .made) m (p .links) (p .reals) e (xs ++ ((o1 ++ o2) ++ zs)) (xs ++ (o1 ++ (o2 ++ zs))) live (ap (λ (l : List Window). xs ++ l) (append-assoc o1 o2 zs)) h in
-          let b = holds-equal (p1 .made) m (p1 .links) (p1 .reals) e (xs ++ (n1 ++ (o2 ++ zs))) ((xs ++ n1) ++ (o2 ++ zs)) live (regroup xs n1 o2 zs) (first .holds m live xs (o2 ++ zs) j k a) in
-          holds-equal (p2 .made) m (p2 .links) (p2 .reals) e ((xs ++ n1) ++ (n2 ++ zs)) (xs ++ ((n1 ++ n2) ++ zs)) live (append-assoc xs n1 (n2 ++ zs) ∙ ap (λ (l : List Window). xs ++ l) (sym (append-assoc n1 n2 zs)))
-          (second .holds m live (xs ++ n1) zs j (first .after xs k) b);
+      holds = λ wins live xs zs k h.
+          let a = holds-equal (p .made) wins (p .links) (p .reals) e (xs ++ ((o1 ++ o2) ++ zs)) (xs ++ (o1 ++ (o2 ++ zs))) live (ap (λ (l : List Window). xs ++ l) (append-assoc o1 o2 zs)) h in
+          let b = holds-equal (p1 .made) (winsAfter us wins) (p1 .links) (p1 .reals) e (xs ++ (n1 ++ (o2 ++ zs))) ((xs ++ n1) ++ (o2 ++ zs)) live (regroup xs n1 o2 zs) (first .holds wins live xs (o2 ++ zs) k a) in
+          subst (λ (ws : List WindowRecord). Holds (p2 .made) ws (p2 .links) (p2 .reals) (put e (xs ++ ((n1 ++ n2) ++ zs)) live)) (sym (wins-append us vs wins))
+          (holds-equal (p2 .made) (winsAfter vs (winsAfter us wins)) (p2 .links) (p2 .reals) e ((xs ++ n1) ++ (n2 ++ zs)) (xs ++ ((n1 ++ n2) ++ zs)) live (append-assoc xs n1 (n2 ++ zs) ∙ ap (λ (l : List Window). xs ++ l) (sym (append-assoc n1 n2 zs)))
+          (second .holds (winsAfter us wins) live (xs ++ n1) zs (first .after xs k) b));
       untouched = untouched-then (λ k. k ≡ e) p p1 p2 (first .untouched) (second .untouched);
       after = λ xs k. second .after (xs ++ n1) (first .after xs k) ∙ ap lastLink (append-assoc xs n1 n2);
     }

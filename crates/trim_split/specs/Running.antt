@@ -5,12 +5,14 @@ use mathlib.Core.Logic.{_≢_}
 use mathlib.Core.Path.{_≡_}
 use lib.ListN.{length, getD, drop}
 use lib.Ieee.{Float}
+use Rattle.buffers.specs.Lack.{lackNumber}
 use Rattle.buffers.specs.Slots.{slotsOf}
+use Rattle.windows.specs.declared.WindowRecord.{WindowRecord}
 use Rattle.windows.specs.Windows.{capacityOf}
 use Rattle.heap.specs.Queue.{Queue}
 use Rattle.chains.specs.Chains.{Links}
 use Rattle.actions.specs.Actions as actions
-use Rattle.actions.specs.Actions.{Action, Stock, play}
+use Rattle.actions.specs.Actions.{Action, Stock, winsAfter, play}
 use Rattle.trim_model.specs.Windows.{Window}
 use Rattle.trim_state.specs.State.{put}
 use Rattle.live_windows.specs.Live.{Holds, lastLink}
@@ -40,7 +42,7 @@ pub data End : Type 0 where
 
 -- what an answer says, with what the buffers hold then
 abbrev pub endOf : Made → Links → List Float → Queue → List Float → End
-endOf (Stopped n) b f q vertex = stopped n
+endOf (Stopped lack) b f q vertex = stopped (lackNumber lack)
 endOf (Went c last) b f q vertex = at (place (c .made) (c .queued) last b f q vertex)
 
 -- so many windows are made, if it was not stopped
@@ -63,12 +65,12 @@ pub record Untouched (AtWork : ℕ → Type 0) (p p′ : Place) : Type 0 where
 
 -- the counts of the cut buffer and the window buffer, the limit, the flags of the vertices, and the edge
 module _ (cuts windows : ℕ) (limit : Float) (flags : List ℕ) (e : ℕ) where
-  -- from p to p′ the actions are done, and behind p's link the windows `new` stand for `old`
+  -- from p to p′ the actions are done, behind p's link the windows `new` stand for `old`, and all windows made are those that the actions leave
   pub record Ran (todo : List Action) (old new : List Window) (p p′ : Place) : Type 0 where
     pub fits : p′ .made ≤ windows
     pub linked : p′ .last ≤ p′ .made
     pub plays : play cuts windows limit flags todo (stockOf p) ≡ actions.went (stockOf p′)
-    pub holds : (m : ℕ) (live : ℕ → List Window) (xs zs : List Window) → e < m → p .last ≡ lastLink xs → Holds (p .made) m (p .links) (p .reals) (put e (xs ++ (old ++ zs)) live) → Holds (p′ .made) m (p′ .links) (p′ .reals) (put e (xs ++ (new ++ zs)) live)
+    pub holds : (wins : List WindowRecord) (live : ℕ → List Window) (xs zs : List Window) → p .last ≡ lastLink xs → Holds (p .made) wins (p .links) (p .reals) (put e (xs ++ (old ++ zs)) live) → Holds (p′ .made) (winsAfter todo wins) (p′ .links) (p′ .reals) (put e (xs ++ (new ++ zs)) live)
     pub untouched : Untouched (λ k. k ≡ e) p p′
     pub after : (xs : List Window) → p .last ≡ lastLink xs → p′ .last ≡ lastLink (xs ++ new)
 

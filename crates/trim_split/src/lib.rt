@@ -1,5 +1,6 @@
 // An existing window is split into pieces, which are made windows and queued.
 use buffers::EdgeId;
+use buffers::Lack;
 use buffers::WindowId;
 use heap::Pushed;
 use source::Win;
@@ -27,9 +28,9 @@ pub struct Counts {
     pub queued: u32,
 }
 
-// A refusal by its number in 01; or how many there are now, and the link of the last window that was put on the chain.
+// What there is no slot for; or how many there are now, and the link of the last window that was put on the chain.
 pub enum Made {
-    Stopped(u32),
+    Stopped(Lack),
     Went(Counts, u32),
 }
 
@@ -57,21 +58,22 @@ pub fn make_part(
     b1: f64,
 ) -> Made
     requires { ⌜ Ready (e .0) (counts .made) before (now edges) (now words) (now reals) ⌝ }
-    ensures { λ r. ⌜ Counted r (suc (counts .made)) × ((cuts : ℕ) (limit : Float) (flags : List ℕ) (vertex : List Float) (k : ℕ) → Does cuts (capacityOf (length (now (words .entry))) (length (now (reals .entry)))) limit flags (e .0) (making (liveOf x k) (counts .made) (interval b0 b1)) [] (part (liveOf x k) b0 b1 (counts .made) ∷ []) (place (counts .made) (counts .queued) before (links (now (edges .entry)) (now (words .entry))) (now (reals .entry)) (queue (now (keys .entry)) (now (events .entry))) vertex) (endOf r (links (now (edges .exit)) (now (words .exit))) (now (reals .exit)) (queue (now (keys .exit)) (now (events .exit))) vertex)) ⌝ }
+    ensures { λ r. ⌜ Counted r (suc (counts .made)) × ((cuts : ℕ) (limit : Float) (flags : List ℕ) (vertex : List Float) (k : ℕ) → Does cuts (capacityOf (length (now (words .entry))) (length (now (reals .entry)))) limit flags (e .0) (making (e .0) (liveOf x k) (counts .made) (interval b0 b1)) [] (part (liveOf x k) b0 b1 (counts .made) ∷ []) (place (counts .made) (counts .queued) before (links (now (edges .entry)) (now (words .entry))) (now (reals .entry)) (queue (now (keys .entry)) (now (events .entry))) vertex) (endOf r (links (now (edges .exit)) (now (words .exit))) (now (reals .exit)) (queue (now (keys .exit)) (now (events .exit))) vertex)) ⌝ }
 {
     let made = counts.made;
     let queued = counts.queued;
     let old = x.win;
+    let carried = x.carried;
     if windows::capacity(words, reals) <= made {
-        return Made::Stopped(12);
+        return Made::Stopped(Lack::Windows);
     }
     let win = trimmed(old, b0, b1);
-    live_windows::make_window(edges, words, reals, made, e, before, x.into, x.queued, win);
-    if x.queued {
+    live_windows::make_window(edges, words, reals, made, e, before, carried, win);
+    if carried.queued {
         let event = heap::window_event(win.low, WindowId(made));
         let pushed = heap::push(keys, events, queued, event);
         let Pushed::Queued(n) = pushed else {
-            return Made::Stopped(13);
+            return Made::Stopped(Lack::Events);
         };
         return Made::Went(
             Counts {
@@ -105,7 +107,7 @@ fn make_parts(
     n: usize,
 ) -> Made
     requires { ⌜ Ready (e .0) (counts .made) before (now edges) (now words) (now reals) × (n + n ≤ length (now pieces)) ⌝ }
-    ensures { λ r. ⌜ Counted r (counts .made + length (drop 1 (pairs n (now (pieces .entry))))) × ((cuts : ℕ) (limit : Float) (flags : List ℕ) (vertex : List Float) (k : ℕ) → Does cuts (capacityOf (length (now (words .entry))) (length (now (reals .entry)))) limit flags (e .0) (makings (liveOf x k) (counts .made) (drop 1 (pairs n (now (pieces .entry))))) [] (fresh (liveOf x k) (counts .made) (drop 1 (pairs n (now (pieces .entry))))) (place (counts .made) (counts .queued) before (links (now (edges .entry)) (now (words .entry))) (now (reals .entry)) (queue (now (keys .entry)) (now (events .entry))) vertex) (endOf r (links (now (edges .exit)) (now (words .exit))) (now (reals .exit)) (queue (now (keys .exit)) (now (events .exit))) vertex)) ⌝ }
+    ensures { λ r. ⌜ Counted r (counts .made + length (drop 1 (pairs n (now (pieces .entry))))) × ((cuts : ℕ) (limit : Float) (flags : List ℕ) (vertex : List Float) (k : ℕ) → Does cuts (capacityOf (length (now (words .entry))) (length (now (reals .entry)))) limit flags (e .0) (makings (e .0) (liveOf x k) (counts .made) (drop 1 (pairs n (now (pieces .entry))))) [] (fresh (liveOf x k) (counts .made) (drop 1 (pairs n (now (pieces .entry))))) (place (counts .made) (counts .queued) before (links (now (edges .entry)) (now (words .entry))) (now (reals .entry)) (queue (now (keys .entry)) (now (events .entry))) vertex) (endOf r (links (now (edges .exit)) (now (words .exit))) (now (reals .exit)) (queue (now (keys .exit)) (now (events .exit))) vertex)) ⌝ }
 {
     let mut now = counts;
     let mut last = before;
@@ -115,7 +117,7 @@ fn make_parts(
         let b1 = cut_lists::to_of(pieces, i);
         let part = make_part(edges, words, reals, keys, events, now, e, last, x, b0, b1);
         match part {
-            Made::Stopped(code) => return Made::Stopped(code),
+            Made::Stopped(lack) => return Made::Stopped(lack),
             Made::Went(c, l) => {
                 now = c;
                 last = l;
@@ -142,7 +144,7 @@ pub fn split_window(
     n: usize,
 ) -> Made
     requires { ⌜ Ready (e .0) (counts .made) before (now edges) (now words) (now reals) × ((id .0 < counts .made) × (n + n ≤ length (now pieces))) ⌝ }
-    ensures { λ r. ⌜ Counted r (counts .made + pred (length (pairs n (now (pieces .entry))))) × ((cuts : ℕ) (limit : Float) (flags : List ℕ) (vertex : List Float) → Does cuts (capacityOf (length (now (words .entry))) (length (now (reals .entry)))) limit flags (e .0) (splitting (liveOf x (id .0)) (counts .made) (pairs n (now (pieces .entry)))) (liveOf x (id .0) ∷ []) (split (liveOf x (id .0)) (counts .made) (pairs n (now (pieces .entry)))) (place (counts .made) (counts .queued) before (links (now (edges .entry)) (now (words .entry))) (now (reals .entry)) (queue (now (keys .entry)) (now (events .entry))) vertex) (endOf r (links (now (edges .exit)) (now (words .exit))) (now (reals .exit)) (queue (now (keys .exit)) (now (events .exit))) vertex)) ⌝ }
+    ensures { λ r. ⌜ Counted r (counts .made + pred (length (pairs n (now (pieces .entry))))) × ((cuts : ℕ) (limit : Float) (flags : List ℕ) (vertex : List Float) → Does cuts (capacityOf (length (now (words .entry))) (length (now (reals .entry)))) limit flags (e .0) (splitting (e .0) (liveOf x (id .0)) (counts .made) (pairs n (now (pieces .entry)))) (liveOf x (id .0) ∷ []) (split (liveOf x (id .0)) (counts .made) (pairs n (now (pieces .entry)))) (place (counts .made) (counts .queued) before (links (now (edges .entry)) (now (words .entry))) (now (reals .entry)) (queue (now (keys .entry)) (now (events .entry))) vertex) (endOf r (links (now (edges .exit)) (now (words .exit))) (now (reals .exit)) (queue (now (keys .exit)) (now (events .exit))) vertex)) ⌝ }
 {
     let made = counts.made;
     let old = x.win;

@@ -1,6 +1,6 @@
 -- The live lists follow the reference model through additions and pops, and so have what demand 3 and the laws of numbers say of it. Assumes nothing.
 use Prim.Native.Nat.{ℕ, _<_}
-use mathlib.Core.Bool.{Bool, not, cond}
+use mathlib.Core.Bool.{Bool, true, false, not, cond}
 use mathlib.Core.List.{List, [], _∷_, _++_, map}
 use mathlib.Core.Path.{_≡_, refl, sym, ap, _∙_, subst}
 use lib.Dec.{T, eqb}
@@ -12,7 +12,7 @@ use Rattle.trim_model.specs.Intervals.{tinyOf}
 use Rattle.trim_model.specs.Windows.{Window, unqueued}
 use Rattle.trim_model.specs.Add.{addTo}
 use Rattle.trim_model.specs.Model.{Candidate, Model, empty, asWindow, admits, updated, admit, step, steps, stepsBound}
-use Rattle.trim_model.specs.Claim.{Proper, Trimmed}
+use Rattle.trim_model.specs.Claim.{Proper, AdmittedProper, Trimmed}
 use Rattle.trim_model.proofs.Ranks.{by-cases}
 use Rattle.trim_model.proofs.Lists.{all-append}
 use Rattle.trim_model.proofs.Order.{Tidy}
@@ -24,6 +24,10 @@ use Rattle.trim_model.proofs.Low.{LowRight, low-right}
 use Rattle.trim_model.proofs.Flags.{add-same-live, add-same-made, all-same, pairs-same, cross-same, tidy-same, trimmed-same}
 use Rattle.trim_state.specs.State.{put}
 use Rattle.trim_state.specs.Follows.{Follows}
+
+never : (b : Bool) → T b → T (not b) → ⊥
+never true y n = n
+never false y n = y
 
 -- one candidate more
 steps-one : (limit : Float) (len : ℕ → Float) (cs : List Candidate) (c : Candidate) → steps betterOf limit len (cs ++ (c ∷ [])) empty ≡ step betterOf limit len c (steps betterOf limit len cs empty)
@@ -68,7 +72,7 @@ module _ {limit : Float} {len : ℕ → Float} where
     follows-add c p y =
         let e1 = steps-one limit len cs c ∙ step-admitted betterOf limit len c now y in
         record {
-          proper = all-append (Proper len) cs (c ∷ []) (F .proper) (p, tt);
+          proper = all-append (AdmittedProper limit len) cs (c ∷ []) (F .proper) ((λ z. p), tt);
           same = λ e.
               ap (λ (n : ℕ). map unqueued (put (c .edge) (addTo betterOf (tinyOf (len (c .edge))) (asWindow c) (live (c .edge)) n .live) live e)) (F .count)
               ∙ admit-same limit len c now live (F .same) e
@@ -80,11 +84,11 @@ module _ {limit : Float} {len : ℕ → Float} where
         }
 
     -- a candidate that is not admitted changes nothing
-    pub follows-skip : (c : Candidate) → Proper len c → T (not (admits limit len c)) → Follows limit len (cs ++ (c ∷ [])) made live
-    follows-skip c p y =
+    pub follows-skip : (c : Candidate) → T (not (admits limit len c)) → Follows limit len (cs ++ (c ∷ [])) made live
+    follows-skip c y =
         let e1 = steps-one limit len cs c ∙ step-not betterOf limit len c now y in
         record {
-          proper = all-append (Proper len) cs (c ∷ []) (F .proper) (p, tt);
+          proper = all-append (AdmittedProper limit len) cs (c ∷ []) (F .proper) ((λ z. absurd (never (admits limit len c) z y)), tt);
           same = λ e. F .same e ∙ ap (λ (m : Model). map unqueued (m .edge e .live)) (sym e1);
           count = F .count ∙ ap (λ (m : Model). m .made) (sym e1);
         }

@@ -15,8 +15,9 @@ use Rattle.better.specs.Stretches.{Interval, betterOf}
 use Rattle.better.specs.Buffers.{pairs}
 use Rattle.better.specs.Claim.{All}
 use Rattle.actions.specs.Actions as actions
-use Rattle.actions.specs.Actions.{Action, list, Stock, act, play}
-use Rattle.actions.proofs.Play.{play-nil, play-stop, play-go}
+use Rattle.windows.specs.declared.WindowRecord.{WindowRecord}
+use Rattle.actions.specs.Actions.{Action, list, winsAfter, Stock, act, play}
+use Rattle.actions.proofs.Play.{wins-none, play-nil, play-stop, play-go}
 use Rattle.trim_model.specs.Intervals.{width, next, pieces}
 use Rattle.trim_model.specs.Windows.{Window, split}
 use Rattle.trim_model.specs.Add.{Walk, sharedLo, sharedHi, meet, visit}
@@ -65,15 +66,21 @@ module _ (cuts windows : ℕ) (limit : Float) (flags : List ℕ) (s : Stock) whe
     | no i ↦ list-stop n (lists ns ++ rest) (omega arith)
   ]
 
--- what is done to u where there are stretches
-unfoldable lost : Window → ℕ → Float → List Interval → List Action
-lost u n t [] = []
-lost u n t (g ∷ gs) = splitting u n (pieces t (u .b0) (u .b1) (g ∷ gs))
+-- lists that grow change no window
+lists-wins : (ns : List ℕ) (rest : List Action) (wins : List WindowRecord) → winsAfter (lists ns ++ rest) wins ≡ winsAfter rest wins
+unfolding winsAfter
+lists-wins [] rest wins = refl
+lists-wins (n ∷ ns) rest wins = lists-wins ns rest wins
 
-losing-lists : (t : Float) (u : Window) (n : ℕ) (gs : List Interval) → losing t u n gs ≡ lists (lossLengths (u .b0) (u .b1) t gs) ++ lost u n t gs
+-- what is done to u where there are stretches
+unfoldable lost : ℕ → Window → ℕ → Float → List Interval → List Action
+lost e u n t [] = []
+lost e u n t (g ∷ gs) = splitting e u n (pieces t (u .b0) (u .b1) (g ∷ gs))
+
+losing-lists : (e : ℕ) (t : Float) (u : Window) (n : ℕ) (gs : List Interval) → losing e t u n gs ≡ lists (lossLengths (u .b0) (u .b1) t gs) ++ lost e u n t gs
 unfolding lossLengths lost
-losing-lists t u n [] = losing-none t u n
-losing-lists t u n (g ∷ gs) = losing-some t u n g gs
+losing-lists e t u n [] = losing-none e t u n
+losing-lists e t u n (g ∷ gs) = losing-some e t u n g gs
 
 -- u is cut, or it is not, by whether there are stretches
 abbrev leftOf : Window → ℕ → Float → List Interval → List Window
@@ -115,19 +122,19 @@ module _ (cuts windows : ℕ) (limit : Float) (flags : List ℕ) (e : ℕ) (p : 
   abbrev passed : Place
   passed = record { made = p .made; queued = p .queued; last = suc (u .num); links = p .links; reals = p .reals; queue = p .queue; vertex = p .vertex }
 
-  pub pass-ran : (todo : List Action) → play cuts windows limit flags todo (stockOf p) ≡ actions.went (stockOf p) → Ran cuts windows limit flags e todo (u ∷ []) (u ∷ []) p passed
-  pass-ran todo h = record {
+  pub pass-ran : (todo : List Action) → play cuts windows limit flags todo (stockOf p) ≡ actions.went (stockOf p) → ((wins : List WindowRecord) → winsAfter todo wins ≡ wins) → Ran cuts windows limit flags e todo (u ∷ []) (u ∷ []) p passed
+  pass-ran todo h same = record {
     fits = fits;
     linked = inside;
     plays = h;
-    holds = λ m live xs zs i l k. k;
+    holds = λ wins live xs zs l k. subst (λ (ws : List WindowRecord). Holds (p .made) ws (p .links) (p .reals) (put e (xs ++ (u ∷ zs)) live)) (sym (same wins)) k;
     untouched = untouched-same (λ k. k ≡ e) p (p .queued) (suc (u .num)) (p .queue) (p .vertex);
     after = λ xs l. sym (last-snoc xs u);
   }
 
 module _ (cuts windows : ℕ) (limit : Float) (flags : List ℕ) (e : ℕ) (t : Float) (w u : Window) (keep : List Interval) (p : Place) where
   abbrev Turn : End → Type 0
-  Turn = Does cuts windows limit flags e (visiting t w u (from keep (p .made))) (u ∷ []) (visit betterOf t w u (from keep (p .made)) .survivors) p
+  Turn = Does cuts windows limit flags e (visiting e t w u (from keep (p .made))) (u ∷ []) (visit betterOf t w u (from keep (p .made)) .survivors) p
 
   abbrev lo : Float
   lo = sharedLo w u
@@ -145,9 +152,9 @@ module _ (cuts windows : ℕ) (limit : Float) (flags : List ℕ) (e : ℕ) (t : 
   module _ (h : le (width lo hi) t ≡ true) where
     pub turn-untouched : (inside : u .num < p .made) (fits : p .made ≤ windows) → Turn (at (passed cuts windows limit flags e p u inside fits))
     turn-untouched inside fits =
-        subst (λ (l : List Action). Does cuts windows limit flags e l (u ∷ []) (visit betterOf t w u (from keep (p .made)) .survivors) p (at (passed cuts windows limit flags e p u inside fits))) (sym (visiting-untouched t w u (from keep (p .made)) h))
+        subst (λ (l : List Action). Does cuts windows limit flags e l (u ∷ []) (visit betterOf t w u (from keep (p .made)) .survivors) p (at (passed cuts windows limit flags e p u inside fits))) (sym (visiting-untouched e t w u (from keep (p .made)) h))
         (subst (λ (l : List Window). Does cuts windows limit flags e [] (u ∷ []) l p (at (passed cuts windows limit flags e p u inside fits))) (sym (ap (λ (s : Walk). s .survivors) (visit-untouched betterOf t w u (from keep (p .made)) h)))
-        (pass-ran cuts windows limit flags e p u inside fits [] (play-nil cuts windows limit flags (stockOf p))))
+        (pass-ran cuts windows limit flags e p u inside fits [] (play-nil cuts windows limit flags (stockOf p)) wins-none))
 
     pub kept-untouched : (k : ℕ) (l : List Float) → k ≤ cuts → pairs k l ≡ keep → Kept cuts (p .made) k l (visit betterOf t w u (from keep (p .made)))
     kept-untouched k l i j =
@@ -156,9 +163,9 @@ module _ (cuts windows : ℕ) (limit : Float) (flags : List ℕ) (e : ℕ) (t : 
 
   -- it is wider
   module _ (h : le (width lo hi) t ≡ false) where
-    met-actions : visiting t w u (from keep (p .made)) ≡ lists counts ++ lost u (p .made) t gs
+    met-actions : visiting e t w u (from keep (p .made)) ≡ lists counts ++ lost e u (p .made) t gs
     unfolding lengths
-    met-actions = visiting-met t w u (from keep (p .made)) h ∙ ap (λ (l : List Action). list (length (walkOf (w .src) (u .src) (ptsOf (w .src) (u .src) lo hi))) ∷ list (length gs) ∷ list (length (next lo hi gs keep)) ∷ l) (losing-lists t u (p .made) gs)
+    met-actions = visiting-met e t w u (from keep (p .made)) h ∙ ap (λ (l : List Action). list (length (walkOf (w .src) (u .src) (ptsOf (w .src) (u .src) lo hi))) ∷ list (length gs) ∷ list (length (next lo hi gs keep)) ∷ l) (losing-lists e t u (p .made) gs)
 
     met-is : visit betterOf t w u (from keep (p .made)) ≡ meet t u lo hi gs (from keep (p .made))
     met-is = visit-meet betterOf t w u (from keep (p .made)) h
@@ -174,23 +181,26 @@ module _ (cuts windows : ℕ) (limit : Float) (flags : List ℕ) (e : ℕ) (t : 
 
     -- a list outgrew its buffer
     pub turn-full : Any (λ (n : ℕ). cuts < n) counts → Turn (stopped 14)
-    turn-full a = ap (λ (l : List Action). play cuts windows limit flags l (stockOf p)) met-actions ∙ lists-stop cuts windows limit flags (stockOf p) counts (lost u (p .made) t gs) a
+    turn-full a = ap (λ (l : List Action). play cuts windows limit flags l (stockOf p)) met-actions ∙ lists-stop cuts windows limit flags (stockOf p) counts (lost e u (p .made) t gs) a
 
     module _ (fit : All (λ (n : ℕ). n ≤ cuts) counts) where
-      played-rest : play cuts windows limit flags (visiting t w u (from keep (p .made))) (stockOf p) ≡ play cuts windows limit flags (lost u (p .made) t gs) (stockOf p)
-      played-rest = ap (λ (l : List Action). play cuts windows limit flags l (stockOf p)) met-actions ∙ lists-go cuts windows limit flags (stockOf p) counts (lost u (p .made) t gs) fit
+      played-rest : play cuts windows limit flags (visiting e t w u (from keep (p .made))) (stockOf p) ≡ play cuts windows limit flags (lost e u (p .made) t gs) (stockOf p)
+      played-rest = ap (λ (l : List Action). play cuts windows limit flags l (stockOf p)) met-actions ∙ lists-go cuts windows limit flags (stockOf p) counts (lost e u (p .made) t gs) fit
+
+      wins-rest : (wins : List WindowRecord) → winsAfter (visiting e t w u (from keep (p .made))) wins ≡ winsAfter (lost e u (p .made) t gs) wins
+      wins-rest wins = ap (λ (l : List Action). winsAfter l wins) met-actions ∙ lists-wins counts (lost e u (p .made) t gs) wins
 
       -- the new window is nowhere shorter
       pub turn-none : length gs ≡ 0 → (inside : u .num < p .made) (fits : p .made ≤ windows) → Turn (at (passed cuts windows limit flags e p u inside fits))
       turn-none z inside fits =
-          subst (λ (l : List Window). Does cuts windows limit flags e (visiting t w u (from keep (p .made))) (u ∷ []) l p (at (passed cuts windows limit flags e p u inside fits))) (sym (met-left ∙ whole gs z))
-          (pass-ran cuts windows limit flags e p u inside fits (visiting t w u (from keep (p .made))) (played-rest ∙ ap (λ (l : List Action). play cuts windows limit flags l (stockOf p)) (nothing gs z) ∙ play-nil cuts windows limit flags (stockOf p)))
+          subst (λ (l : List Window). Does cuts windows limit flags e (visiting e t w u (from keep (p .made))) (u ∷ []) l p (at (passed cuts windows limit flags e p u inside fits))) (sym (met-left ∙ whole gs z))
+          (pass-ran cuts windows limit flags e p u inside fits (visiting e t w u (from keep (p .made))) (played-rest ∙ ap (λ (l : List Action). play cuts windows limit flags l (stockOf p)) (nothing gs z) ∙ play-nil cuts windows limit flags (stockOf p)) (λ wins. wins-rest wins ∙ ap (λ (l : List Action). winsAfter l wins) (nothing gs z) ∙ wins-none wins))
         where
           whole : (l : List Interval) → length l ≡ 0 → leftOf u (p .made) t l ≡ u ∷ []
           whole [] y = refl
           whole (g ∷ l) y = let c : ⊥ = omega arith in absurd c
 
-          nothing : (l : List Interval) → length l ≡ 0 → lost u (p .made) t l ≡ []
+          nothing : (l : List Interval) → length l ≡ 0 → lost e u (p .made) t l ≡ []
           nothing [] y = unfold lost in refl
           nothing (g ∷ l) y = let c : ⊥ = omega arith in absurd c
 
@@ -202,18 +212,21 @@ module _ (cuts windows : ℕ) (limit : Float) (flags : List ℕ) (e : ℕ) (t : 
           same (g ∷ l) y = let c : ⊥ = omega arith in absurd c
 
       -- it is: u is split
-      lost-some : (l : List Interval) → 0 < length l → lost u (p .made) t l ≡ splitting u (p .made) (pieces t (u .b0) (u .b1) l)
+      lost-some : (l : List Interval) → 0 < length l → lost e u (p .made) t l ≡ splitting e u (p .made) (pieces t (u .b0) (u .b1) l)
       unfolding lost
       lost-some [] y = let c : ⊥ = omega arith in absurd c
       lost-some (g ∷ l) y = refl
 
-      pub turn-split : (ps : List Interval) → ps ≡ pieces t (u .b0) (u .b1) gs → 0 < length gs → (end : End) → Does cuts windows limit flags e (splitting u (p .made) ps) (u ∷ []) (split u (p .made) ps) p end → Turn end
-      turn-split ps is z (stopped n) d = played-rest ∙ ap (λ (l : List Action). play cuts windows limit flags l (stockOf p)) (lost-some gs z ∙ ap (splitting u (p .made)) (sym is)) ∙ d
+      pub turn-split : (ps : List Interval) → ps ≡ pieces t (u .b0) (u .b1) gs → 0 < length gs → (end : End) → Does cuts windows limit flags e (splitting e u (p .made) ps) (u ∷ []) (split u (p .made) ps) p end → Turn end
+      turn-split ps is z (stopped n) d = played-rest ∙ ap (λ (l : List Action). play cuts windows limit flags l (stockOf p)) (lost-some gs z ∙ ap (splitting e u (p .made)) (sym is)) ∙ d
       turn-split ps is z (at p′) d = record {
         fits = d .fits;
         linked = d .linked;
-        plays = played-rest ∙ ap (λ (l : List Action). play cuts windows limit flags l (stockOf p)) (lost-some gs z ∙ ap (splitting u (p .made)) (sym is)) ∙ d .plays;
-        holds = λ m live xs zs i l k. subst (λ (ys : List Window). Holds (p′ .made) m (p′ .links) (p′ .reals) (put e (xs ++ (ys ++ zs)) live)) (sym same) (d .holds m live xs zs i l k);
+        plays = played-rest ∙ ap (λ (l : List Action). play cuts windows limit flags l (stockOf p)) (lost-some gs z ∙ ap (splitting e u (p .made)) (sym is)) ∙ d .plays;
+        holds = λ wins live xs zs l k.
+            let ws : winsAfter (visiting e t w u (from keep (p .made))) wins ≡ winsAfter (splitting e u (p .made) ps) wins = wins-rest wins ∙ ap (λ (l : List Action). winsAfter l wins) (lost-some gs z ∙ ap (splitting e u (p .made)) (sym is)) in
+            subst (λ (vs : List WindowRecord). Holds (p′ .made) vs (p′ .links) (p′ .reals) (put e (xs ++ (visit betterOf t w u (from keep (p .made)) .survivors ++ zs)) live)) (sym ws)
+            (subst (λ (ys : List Window). Holds (p′ .made) (winsAfter (splitting e u (p .made) ps) wins) (p′ .links) (p′ .reals) (put e (xs ++ (ys ++ zs)) live)) (sym same) (d .holds wins live xs zs l k));
         untouched = d .untouched;
         after = λ xs l. d .after xs l ∙ ap (λ (ys : List Window). lastLink (xs ++ ys)) (sym same);
       }

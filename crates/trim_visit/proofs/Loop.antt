@@ -7,6 +7,8 @@ use native.Mathlib.Nat.{le-refl, le-trans}
 use native.Mathlib.Omega.{arith}
 use lib.ListN.{length}
 use lib.Ieee.{Float, lt}
+use Rattle.buffers.specs.declared.Lack.{Lack}
+use Rattle.buffers.specs.Lack.{lackNumber}
 use Rattle.buffers.specs.Slots.{slotsOf}
 use Rattle.float64.specs.Notation.{_⊕_}
 use Rattle.better.specs.Stretches.{betterOf}
@@ -131,9 +133,9 @@ module _ (e : ℕ) (t : Float) (w : Window) (s₀ : Slices) (c₀ : Cuts) (made�
               subst (λ (n : ℕ). Visits1 n (windowsOf s₀) limit flags e t w (pairs k (c .keep)) (liveOf x i) (placeOf s made queued last vertex) (end vertex)) (inv .same-cuts .pts)
               (subst (λ (n : ℕ). Visits1 (length (c .pts)) n limit flags e t w (pairs k (c .keep)) (liveOf x i) (placeOf s made queued last vertex) (end vertex)) (same-windows s₀ s (inv .same)) (d limit flags vertex))
 
-          pub visits-stopped : (n : ℕ) (keep′ : List Float) → OneDoes (λ vertex. stopped n) → (limit : Float) (flags : List ℕ) (vertex : List Float) → All made₀ s₀ c₀ made₀ queued₀ last₀ k₀ limit flags vertex (Stopped n) (stopped n) keep′
-          visits-stopped n keep′ d limit flags vertex = inv .goal limit flags vertex (Stopped n) (stopped n) keep′
-              (all-stop size (windowsOf s₀) limit flags e t w (pairs k (c .keep)) (placeOf s made queued last vertex) left link follows i is x loads b n keep′ (in-first (λ vertex. stopped n) d limit flags vertex))
+          pub visits-stopped : (n : Lack) (keep′ : List Float) → OneDoes (λ vertex. stopped (lackNumber n)) → (limit : Float) (flags : List ℕ) (vertex : List Float) → All made₀ s₀ c₀ made₀ queued₀ last₀ k₀ limit flags vertex (Stopped n) (stopped (lackNumber n)) keep′
+          visits-stopped n keep′ d limit flags vertex = inv .goal limit flags vertex (Stopped n) (stopped (lackNumber n)) keep′
+              (all-stop size (windowsOf s₀) limit flags e t w (pairs k (c .keep)) (placeOf s made queued last vertex) left link follows i is x loads b n keep′ (in-first (λ vertex. stopped (lackNumber n)) d limit flags vertex))
 
           pub visits-next : (s′ : Slices) (c′ : Cuts) (now′ : Counts) (last′ k′ left′ : ℕ) → SameLengths s s′ → SameCuts c c′ → 0 < left → left′ ≡ left - 1
               → Kept (length (c .pts)) (now′ .made) k′ (c′ .keep) (visit betterOf t w (liveOf x i) (from (pairs k (c .keep)) made))

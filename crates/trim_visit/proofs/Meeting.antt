@@ -92,7 +92,7 @@ module _ (e : ℕ) (t : Float) (w x : WindowRecord) (id made queued last k : ℕ
             fit i j = omega (arith, i, j)
 
         pub visit-split : (m ≡ 0 → ⊥) → (end : List Float → End)
-            → ((cuts : ℕ) (limit : Float) (flags : List ℕ) (vertex : List Float) → Does cuts (windowsOf s) limit flags e (splitting old made (pairs n next′)) (old ∷ []) (split old made (pairs n next′)) (placeOf s made queued last vertex) (end vertex))
+            → ((cuts : ℕ) (limit : Float) (flags : List ℕ) (vertex : List Float) → Does cuts (windowsOf s) limit flags e (splitting e old made (pairs n next′)) (old ∷ []) (split old made (pairs n next′)) (placeOf s made queued last vertex) (end vertex))
             → VisitDoes end
         visit-split z end d limit flags vertex = turn-split size (windowsOf s) limit flags e t new old kept (placeOf s made queued last vertex) wide (leaves .fits) (pairs n next′) (leaves .rest (some z) .1) (lost (some z)) (end vertex) (d size limit flags vertex)
 

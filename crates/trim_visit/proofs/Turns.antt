@@ -6,12 +6,14 @@ use mathlib.Core.Path.{_≡_, refl, sym, ap, _∙_, subst}
 use native.Mathlib.Omega.{arith}
 use lib.ListN.{length}
 use lib.Ieee.{Float}
+use Rattle.buffers.specs.declared.Lack.{Lack}
+use Rattle.buffers.specs.Lack.{lackNumber}
 use Rattle.float64.specs.Notation.{_⊕_}
 use Rattle.better.specs.Stretches.{Interval, betterOf}
 use Rattle.better.specs.Buffers.{pairs}
 use Rattle.windows.specs.declared.WindowRecord.{WindowRecord}
 use Rattle.chains.specs.Chains.{firstLink}
-use Rattle.actions.specs.Actions.{Action, play}
+use Rattle.actions.specs.Actions.{Action, winsAfter, play}
 use Rattle.actions.proofs.Play.{play-stop-append}
 use Rattle.trim_model.specs.Windows.{Window}
 use Rattle.trim_model.specs.Add.{Walk, startsBefore, visit, visits}
@@ -44,32 +46,32 @@ no-last i h = omega arith
 
 module _ (cuts windows : ℕ) (limit : Float) (flags : List ℕ) (e : ℕ) (t : Float) (w : Window) (keep : List Interval) (p : Place) where
   abbrev Goal : List Window → Visited → End → List Float → Type 0
-  Goal zs r end keep′ = Does cuts windows limit flags e (visitings t w (run t w zs) (from keep (p .made))) (run t w zs) (walked t w keep (p .made) zs .survivors) p end × Keeps cuts r keep′ (walked t w keep (p .made) zs)
+  Goal zs r end keep′ = Does cuts windows limit flags e (visitings e t w (run t w zs) (from keep (p .made))) (run t w zs) (walked t w keep (p .made) zs .survivors) p end × Keeps cuts r keep′ (walked t w keep (p .made) zs)
 
   -- nothing is left to visit
   module _ (c : Counts) (k : ℕ) (keep′ : List Float) (isKeep : pairs k keep′ ≡ keep) (few : k ≤ cuts) (isMade : c .made ≡ p .made) (fits : p .made ≤ windows) (linked : p .last ≤ p .made) where
     done : (zs : List Window) → run t w zs ≡ [] → Goal zs (Went c (p .last) k) (at p) keep′
     done zs h =
-        subst (λ (l : List Window). Does cuts windows limit flags e (visitings t w l (from keep (p .made))) l (visits betterOf t w l (from keep (p .made)) .survivors) p (at p) × Kept cuts (c .made) k keep′ (visits betterOf t w l (from keep (p .made)))) (sym h) nothing
+        subst (λ (l : List Window). Does cuts windows limit flags e (visitings e t w l (from keep (p .made))) l (visits betterOf t w l (from keep (p .made)) .survivors) p (at p) × Kept cuts (c .made) k keep′ (visits betterOf t w l (from keep (p .made)))) (sym h) nothing
       where
-        nothing : Does cuts windows limit flags e (visitings t w [] (from keep (p .made))) [] (visits betterOf t w [] (from keep (p .made)) .survivors) p (at p) × Kept cuts (c .made) k keep′ (visits betterOf t w [] (from keep (p .made)))
+        nothing : Does cuts windows limit flags e (visitings e t w [] (from keep (p .made))) [] (visits betterOf t w [] (from keep (p .made)) .survivors) p (at p) × Kept cuts (c .made) k keep′ (visits betterOf t w [] (from keep (p .made)))
         nothing = unfold visitings visits in (ran-none cuts windows limit flags e p fits linked, record { count = isMade; keep = isKeep; few = few })
 
     pub all-spent : VisitsAll cuts windows limit flags e t w (λ zs. length zs ≤ 0) keep p (Went c (p .last) k) (at p) keep′
-    all-spent m live xs [] i n l h = done [] (take-nil (startsBefore (w .b1 ⊕ t)))
-    all-spent m live xs (u ∷ us) i n l h = let z : ⊥ = omega arith in absurd z
+    all-spent wins live xs [] n l h = done [] (take-nil (startsBefore (w .b1 ⊕ t)))
+    all-spent wins live xs (u ∷ us) n l h = let z : ⊥ = omega arith in absurd z
 
     module _ (left r : ℕ) (follows : Follows (p .made) (p .links) e (p .last) r) where
       pub all-end : r ≡ 0 → VisitsAll cuts windows limit flags e t w (λ zs. length zs ≤ left) keep p (Went c (p .last) k) (at p) keep′
-      all-end z m live xs [] i n l h = done [] (take-nil (startsBefore (w .b1 ⊕ t)))
-      all-end z m live xs (u ∷ us) i n l h = absurd (no-first u us (sym z ∙ follows .first m (p .reals) (put e (xs ++ (u ∷ us)) live) xs (u ∷ us) i h (put-here e (xs ++ (u ∷ us)) live) l))
+      all-end z wins live xs [] n l h = done [] (take-nil (startsBefore (w .b1 ⊕ t)))
+      all-end z wins live xs (u ∷ us) n l h = absurd (no-first u us (sym z ∙ follows .first wins (p .reals) (put e (xs ++ (u ∷ us)) live) xs (u ∷ us) h (put-here e (xs ++ (u ∷ us)) live) l))
 
       -- the next window starts behind the new one's end
       pub all-over : (i : ℕ) → r ≡ suc i → (x : WindowRecord) → Loads (p .links .words) (p .reals) i x → startsBefore (w .b1 ⊕ t) (liveOf x i) ≡ false → VisitsAll cuts windows limit flags e t w (λ zs. length zs ≤ left) keep p (Went c (p .last) k) (at p) keep′
-      all-over i z x loads b m live xs [] j n l h = absurd (no-last i (sym z ∙ follows .first m (p .reals) (put e (xs ++ []) live) xs [] j h (put-here e (xs ++ []) live) l))
-      all-over i z x loads b m live xs (u ∷ us) j n l h =
-          let f = first-num i u us (sym z ∙ follows .first m (p .reals) (put e (xs ++ (u ∷ us)) live) xs (u ∷ us) j h (put-here e (xs ++ (u ∷ us)) live) l) in
-          let v = loads .live (p .made) m (p .links .edges) e (put e (xs ++ (u ∷ us)) live) xs u us j h (put-here e (xs ++ (u ∷ us)) live) f .0 in
+      all-over i z x loads b wins live xs [] n l h = absurd (no-last i (sym z ∙ follows .first wins (p .reals) (put e (xs ++ []) live) xs [] h (put-here e (xs ++ []) live) l))
+      all-over i z x loads b wins live xs (u ∷ us) n l h =
+          let f = first-num i u us (sym z ∙ follows .first wins (p .reals) (put e (xs ++ (u ∷ us)) live) xs (u ∷ us) h (put-here e (xs ++ (u ∷ us)) live) l) in
+          let v = loads .live (p .made) wins (p .links .edges) e (put e (xs ++ (u ∷ us)) live) xs u us h (put-here e (xs ++ (u ∷ us)) live) f .0 in
           done (u ∷ us) (take-no (startsBefore (w .b1 ⊕ t)) u us (subst (λ (y : Window). startsBefore (w .b1 ⊕ t) y ≡ false) v b))
 
   -- a window is visited
@@ -81,29 +83,29 @@ module _ (cuts windows : ℕ) (limit : Float) (flags : List ℕ) (e : ℕ) (t : 
     turned = visit betterOf t w u (from keep (p .made))
 
     -- what is known of the list, and so of what stands there
-    module _ (r′ : Visited) (end : End) (keep′ : List Float) (each : (m : ℕ) (live : ℕ → List Window) (xs zs : List Window) → e < m → length (u ∷ zs) ≤ left → p .last ≡ lastLink xs → Holds (p .made) m (p .links) (p .reals) (put e (xs ++ (u ∷ zs)) live) → Goal (u ∷ zs) r′ end keep′) where
+    module _ (r′ : Visited) (end : End) (keep′ : List Float) (each : (wins : List WindowRecord) (live : ℕ → List Window) (xs zs : List Window) → length (u ∷ zs) ≤ left → p .last ≡ lastLink xs → Holds (p .made) wins (p .links) (p .reals) (put e (xs ++ (u ∷ zs)) live) → Goal (u ∷ zs) r′ end keep′) where
       pub all-there : VisitsAll cuts windows limit flags e t w (λ zs. length zs ≤ left) keep p r′ end keep′
-      all-there m live xs [] j n l h = absurd (no-last i (sym z ∙ follows .first m (p .reals) (put e (xs ++ []) live) xs [] j h (put-here e (xs ++ []) live) l))
-      all-there m live xs (v ∷ zs) j n l h =
-          let f = first-num i v zs (sym z ∙ follows .first m (p .reals) (put e (xs ++ (v ∷ zs)) live) xs (v ∷ zs) j h (put-here e (xs ++ (v ∷ zs)) live) l) in
-          let s = loads .live (p .made) m (p .links .edges) e (put e (xs ++ (v ∷ zs)) live) xs v zs j h (put-here e (xs ++ (v ∷ zs)) live) f .0 in
+      all-there wins live xs [] n l h = absurd (no-last i (sym z ∙ follows .first wins (p .reals) (put e (xs ++ []) live) xs [] h (put-here e (xs ++ []) live) l))
+      all-there wins live xs (v ∷ zs) n l h =
+          let f = first-num i v zs (sym z ∙ follows .first wins (p .reals) (put e (xs ++ (v ∷ zs)) live) xs (v ∷ zs) h (put-here e (xs ++ (v ∷ zs)) live) l) in
+          let s = loads .live (p .made) wins (p .links .edges) e (put e (xs ++ (v ∷ zs)) live) xs v zs h (put-here e (xs ++ (v ∷ zs)) live) f .0 in
           subst (λ (y : Window). Goal (y ∷ zs) r′ end keep′) s
-          (each m live xs zs j n l (subst (λ (y : Window). Holds (p .made) m (p .links) (p .reals) (put e (xs ++ (y ∷ zs)) live)) (sym s) h))
+          (each wins live xs zs n l (subst (λ (y : Window). Holds (p .made) wins (p .links) (p .reals) (put e (xs ++ (y ∷ zs)) live)) (sym s) h))
 
     first-of : (zs : List Window) → run t w (u ∷ zs) ≡ u ∷ run t w zs
     first-of zs = take-yes (startsBefore (w .b1 ⊕ t)) u zs b
 
     -- it is stopped there
-    pub all-stop : (n : ℕ) (keep′ : List Float) → Visits1 cuts windows limit flags e t w keep u p (stopped n) → VisitsAll cuts windows limit flags e t w (λ zs. length zs ≤ left) keep p (Stopped n) (stopped n) keep′
-    all-stop n keep′ d = all-there (Stopped n) (stopped n) keep′
-        (λ m live xs zs j q l h. (ap (λ (ys : List Window). play cuts windows limit flags (visitings t w ys (from keep (p .made))) (stockOf p)) (first-of zs) ∙ ap (λ (ys : List Action). play cuts windows limit flags ys (stockOf p)) (turn-actions t w u (run t w zs) keep (p .made)) ∙ play-stop-append cuts windows limit flags (visiting t w u (from keep (p .made))) (visitings t w (run t w zs) (from (turned .keep) (turned .made))) (stockOf p) n d, tt))
+    pub all-stop : (n : Lack) (keep′ : List Float) → Visits1 cuts windows limit flags e t w keep u p (stopped (lackNumber n)) → VisitsAll cuts windows limit flags e t w (λ zs. length zs ≤ left) keep p (Stopped n) (stopped (lackNumber n)) keep′
+    all-stop n keep′ d = all-there (Stopped n) (stopped (lackNumber n)) keep′
+        (λ wins live xs zs q l h. (ap (λ (ys : List Window). play cuts windows limit flags (visitings e t w ys (from keep (p .made))) (stockOf p)) (first-of zs) ∙ ap (λ (ys : List Action). play cuts windows limit flags ys (stockOf p)) (turn-actions e t w u (run t w zs) keep (p .made)) ∙ play-stop-append cuts windows limit flags (visiting e t w u (from keep (p .made))) (visitings e t w (run t w zs) (from (turned .keep) (turned .made))) (stockOf p) (lackNumber n) d, tt))
 
     -- it goes on from there
-    module _ (p1 : Place) (ran : Ran cuts windows limit flags e (visiting t w u (from keep (p .made))) (u ∷ []) (turned .survivors) p p1) (isMade : p1 .made ≡ turned .made) (keep1 : List Interval) (isKeep : keep1 ≡ turned .keep)
+    module _ (p1 : Place) (ran : Ran cuts windows limit flags e (visiting e t w u (from keep (p .made))) (u ∷ []) (turned .survivors) p p1) (isMade : p1 .made ≡ turned .made) (keep1 : List Interval) (isKeep : keep1 ≡ turned .keep)
         (left1 : ℕ) (less : left ≡ suc left1) (r′ : Visited) (end : End) (keep′ : List Float) (rest : VisitsAll cuts windows limit flags e t w (λ zs. length zs ≤ left1) keep1 p1 r′ end keep′) where
-      restart : (zs : List Window) → Does cuts windows limit flags e (visitings t w (run t w zs) (from keep1 (p1 .made))) (run t w zs) (walked t w keep1 (p1 .made) zs .survivors) p1 end × Keeps cuts r′ keep′ (walked t w keep1 (p1 .made) zs)
-          → Does cuts windows limit flags e (visitings t w (run t w zs) (from (turned .keep) (turned .made))) (run t w zs) (walked t w (turned .keep) (turned .made) zs .survivors) p1 end × Keeps cuts r′ keep′ (walked t w (turned .keep) (turned .made) zs)
-      restart zs = subst (λ (s : Walk). Does cuts windows limit flags e (visitings t w (run t w zs) (from keep1 (p1 .made))) (run t w zs) (walked t w keep1 (p1 .made) zs .survivors) p1 end × Keeps cuts r′ keep′ (walked t w keep1 (p1 .made) zs) → Does cuts windows limit flags e (visitings t w (run t w zs) s) (run t w zs) (visits betterOf t w (run t w zs) s .survivors) p1 end × Keeps cuts r′ keep′ (visits betterOf t w (run t w zs) s)) same (λ d. d)
+      restart : (zs : List Window) → Does cuts windows limit flags e (visitings e t w (run t w zs) (from keep1 (p1 .made))) (run t w zs) (walked t w keep1 (p1 .made) zs .survivors) p1 end × Keeps cuts r′ keep′ (walked t w keep1 (p1 .made) zs)
+          → Does cuts windows limit flags e (visitings e t w (run t w zs) (from (turned .keep) (turned .made))) (run t w zs) (walked t w (turned .keep) (turned .made) zs .survivors) p1 end × Keeps cuts r′ keep′ (walked t w (turned .keep) (turned .made) zs)
+      restart zs = subst (λ (s : Walk). Does cuts windows limit flags e (visitings e t w (run t w zs) (from keep1 (p1 .made))) (run t w zs) (walked t w keep1 (p1 .made) zs .survivors) p1 end × Keeps cuts r′ keep′ (walked t w keep1 (p1 .made) zs) → Does cuts windows limit flags e (visitings e t w (run t w zs) s) (run t w zs) (visits betterOf t w (run t w zs) s .survivors) p1 end × Keeps cuts r′ keep′ (visits betterOf t w (run t w zs) s)) same (λ d. d)
         where
           same : from keep1 (p1 .made) ≡ from (turned .keep) (turned .made)
           same = rw (isKeep, isMade)
@@ -113,18 +115,18 @@ module _ (cuts windows : ℕ) (limit : Float) (flags : List ℕ) (e : ℕ) (t : 
         where
           on : (v : Visited) → Keeps cuts v keep′ (visits betterOf t w us (from (turned .keep) (turned .made))) → Keeps cuts v keep′ (visits betterOf t w (u ∷ us) (from keep (p .made)))
           on (Stopped n) d = tt
-          on (Went c last k) d = record { count = d .count ∙ sym (turn-made t w u us keep (p .made)); keep = d .keep ∙ sym (turn-keep t w u us keep (p .made)); few = d .few }
+          on (Went c last k) d = record { count = d .count ∙ sym (turn-made e t w u us keep (p .made)); keep = d .keep ∙ sym (turn-keep e t w u us keep (p .made)); few = d .few }
 
-      joined : (zs : List Window) → Does cuts windows limit flags e (visitings t w (run t w zs) (from (turned .keep) (turned .made))) (run t w zs) (walked t w (turned .keep) (turned .made) zs .survivors) p1 end × Keeps cuts r′ keep′ (walked t w (turned .keep) (turned .made) zs) → Goal (u ∷ zs) r′ end keep′
+      joined : (zs : List Window) → Does cuts windows limit flags e (visitings e t w (run t w zs) (from (turned .keep) (turned .made))) (run t w zs) (walked t w (turned .keep) (turned .made) zs .survivors) p1 end × Keeps cuts r′ keep′ (walked t w (turned .keep) (turned .made) zs) → Goal (u ∷ zs) r′ end keep′
       joined zs d =
           let us = run t w zs in
-          subst (λ (l : List Window). Does cuts windows limit flags e (visitings t w l (from keep (p .made))) l (visits betterOf t w l (from keep (p .made)) .survivors) p end × Keeps cuts r′ keep′ (visits betterOf t w l (from keep (p .made)))) (sym (first-of zs)) (
-            does-as cuts windows limit flags e p end (sym (turn-actions t w u us keep (p .made))) refl (sym (turn-survivors t w u us keep (p .made)))
-                (does-then cuts windows limit flags e (visiting t w u (from keep (p .made))) (visitings t w us (from (turned .keep) (turned .made))) (u ∷ []) us (turned .survivors) (walked t w (turned .keep) (turned .made) zs .survivors) p p1 ran end (d .0)),
+          subst (λ (l : List Window). Does cuts windows limit flags e (visitings e t w l (from keep (p .made))) l (visits betterOf t w l (from keep (p .made)) .survivors) p end × Keeps cuts r′ keep′ (visits betterOf t w l (from keep (p .made)))) (sym (first-of zs)) (
+            does-as cuts windows limit flags e p end (sym (turn-actions e t w u us keep (p .made))) refl (sym (turn-survivors e t w u us keep (p .made)))
+                (does-then cuts windows limit flags e (visiting e t w u (from keep (p .made))) (visitings e t w us (from (turned .keep) (turned .made))) (u ∷ []) us (turned .survivors) (walked t w (turned .keep) (turned .made) zs .survivors) p p1 ran end (d .0)),
             keeps-on us (d .1),
           )
 
       pub all-turn : VisitsAll cuts windows limit flags e t w (λ zs. length zs ≤ left) keep p r′ end keep′
       all-turn = all-there r′ end keep′
-          (λ m live xs zs j n l h. joined zs (restart zs (rest m live (xs ++ turned .survivors) zs j (omega arith) (ran .after xs l)
-          (holds-equal (p1 .made) m (p1 .links) (p1 .reals) e (xs ++ (turned .survivors ++ zs)) ((xs ++ turned .survivors) ++ zs) live (sym (append-assoc xs (turned .survivors) zs)) (ran .holds m live xs zs j l h)))))
+          (λ wins live xs zs n l h. joined zs (restart zs (rest (winsAfter (visiting e t w u (from keep (p .made))) wins) live (xs ++ turned .survivors) zs (omega arith) (ran .after xs l)
+          (holds-equal (p1 .made) (winsAfter (visiting e t w u (from keep (p .made))) wins) (p1 .links) (p1 .reals) e (xs ++ (turned .survivors ++ zs)) ((xs ++ turned .survivors) ++ zs) live (sym (append-assoc xs (turned .survivors) zs)) (ran .holds wins live xs zs l h)))))

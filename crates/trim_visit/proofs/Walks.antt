@@ -20,7 +20,7 @@ behind a g s = record { survivors = a ++ s .survivors; keep = s .keep; made = s 
 walk-of : (a a′ : List Window) (keep : List Interval) (made : ℕ) (g g′ : List Interval) → a ≡ a′ → g ≡ g′ → _≡_ {A = Walk} (record { survivors = a; keep = keep; made = made; slivers = g }) (record { survivors = a′; keep = keep; made = made; slivers = g′ })
 walk-of a a′ keep made g g′ h k = rw (h, k)
 
-module _ (t : Float) (w : Window) (a : List Window) (g : List Interval) where
+module _ (e : ℕ) (t : Float) (w : Window) (a : List Window) (g : List Interval) where
   meet-behind : (u : Window) (lo hi : Float) (gs : List Interval) (s : Walk) → meet t u lo hi gs (behind a g s) ≡ behind a g (meet t u lo hi gs s)
   unfolding meet
   meet-behind u lo hi [] s = walk-of ((a ++ s .survivors) ++ (u ∷ [])) (a ++ (s .survivors ++ (u ∷ []))) (next lo hi [] (s .keep)) (s .made) (g ++ s .slivers) (g ++ s .slivers) (append-assoc a (s .survivors) (u ∷ [])) refl
@@ -43,23 +43,23 @@ module _ (t : Float) (w : Window) (a : List Window) (g : List Interval) where
   visits-behind [] s = refl
   visits-behind (u ∷ us) s = ap (visits betterOf t w us) (visit-behind u s) ∙ visits-behind us (visit betterOf t w u s)
 
-  visiting-behind : (u : Window) (s : Walk) → visiting t w u (behind a g s) ≡ visiting t w u s
+  visiting-behind : (u : Window) (s : Walk) → visiting e t w u (behind a g s) ≡ visiting e t w u s
   unfolding visiting
   visiting-behind u s = refl
 
-  visitings-behind : (us : List Window) (s : Walk) → visitings t w us (behind a g s) ≡ visitings t w us s
+  visitings-behind : (us : List Window) (s : Walk) → visitings e t w us (behind a g s) ≡ visitings e t w us s
   unfolding visitings
   visitings-behind [] s = refl
   visitings-behind (u ∷ us) s =
-      ap (λ (l : List Action). l ++ visitings t w us (visit betterOf t w u (behind a g s))) (visiting-behind u s)
-      ∙ ap (λ (z : Walk). visiting t w u s ++ visitings t w us z) (visit-behind u s)
-      ∙ ap (λ (l : List Action). visiting t w u s ++ l) (visitings-behind us (visit betterOf t w u s))
+      ap (λ (l : List Action). l ++ visitings e t w us (visit betterOf t w u (behind a g s))) (visiting-behind u s)
+      ∙ ap (λ (z : Walk). visiting e t w u s ++ visitings e t w us z) (visit-behind u s)
+      ∙ ap (λ (l : List Action). visiting e t w u s ++ l) (visitings-behind us (visit betterOf t w u s))
 
 restart : (s : Walk) → s ≡ behind (s .survivors) (s .slivers) (from (s .keep) (s .made))
 restart s = walk-of (s .survivors) (s .survivors ++ []) (s .keep) (s .made) (s .slivers) (s .slivers ++ []) (sym (append-nil (s .survivors))) (sym (append-nil (s .slivers)))
 
 -- a turn, and then the others from there
-module _ (t : Float) (w u : Window) (us : List Window) (keep : List Interval) (made : ℕ) where
+module _ (e : ℕ) (t : Float) (w u : Window) (us : List Window) (keep : List Interval) (made : ℕ) where
   abbrev turned : Walk
   turned = visit betterOf t w u (from keep made)
 
@@ -68,7 +68,7 @@ module _ (t : Float) (w u : Window) (us : List Window) (keep : List Interval) (m
 
   whole : visits betterOf t w (u ∷ us) (from keep made) ≡ behind (turned .survivors) (turned .slivers) rest
   unfolding visits
-  whole = ap (visits betterOf t w us) (restart turned) ∙ visits-behind t w (turned .survivors) (turned .slivers) us (from (turned .keep) (turned .made))
+  whole = ap (visits betterOf t w us) (restart turned) ∙ visits-behind e t w (turned .survivors) (turned .slivers) us (from (turned .keep) (turned .made))
 
   pub turn-survivors : visits betterOf t w (u ∷ us) (from keep made) .survivors ≡ turned .survivors ++ rest .survivors
   turn-survivors = ap (λ (s : Walk). s .survivors) whole
@@ -79,6 +79,6 @@ module _ (t : Float) (w u : Window) (us : List Window) (keep : List Interval) (m
   pub turn-made : visits betterOf t w (u ∷ us) (from keep made) .made ≡ rest .made
   turn-made = ap (λ (s : Walk). s .made) whole
 
-  pub turn-actions : visitings t w (u ∷ us) (from keep made) ≡ visiting t w u (from keep made) ++ visitings t w us (from (turned .keep) (turned .made))
+  pub turn-actions : visitings e t w (u ∷ us) (from keep made) ≡ visiting e t w u (from keep made) ++ visitings e t w us (from (turned .keep) (turned .made))
   unfolding visitings
-  turn-actions = ap (λ (l : List Action). visiting t w u (from keep made) ++ l) (ap (visitings t w us) (restart turned) ∙ visitings-behind t w (turned .survivors) (turned .slivers) us (from (turned .keep) (turned .made)))
+  turn-actions = ap (λ (l : List Action). visiting e t w u (from keep made) ++ l) (ap (visitings e t w us) (restart turned) ∙ visitings-behind e t w (turned .survivors) (turned .slivers) us (from (turned .keep) (turned .made)))

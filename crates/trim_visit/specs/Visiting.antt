@@ -3,10 +3,12 @@ use Prim.Native.Nat.{ℕ, _≤_, _<_}
 use mathlib.Core.List.{List, [], _∷_, _++_}
 use mathlib.Core.Path.{_≡_}
 use lib.Ieee.{Float}
+use Rattle.buffers.specs.Lack.{lackNumber}
 use Rattle.float64.specs.Notation.{_⊕_}
 use Rattle.better.specs.Stretches.{Interval, betterOf}
 use Rattle.better.specs.Buffers.{pairs}
 use Rattle.heap.specs.Queue.{Queue}
+use Rattle.windows.specs.declared.WindowRecord.{WindowRecord}
 use Rattle.chains.specs.Chains.{Links}
 use Rattle.trim_model.specs.Windows.{Window, takeWhile}
 use Rattle.trim_model.specs.Add.{Walk, startsBefore, visit, visits}
@@ -23,7 +25,7 @@ from keep made = record { survivors = []; keep = keep; made = made; slivers = []
 
 -- what an answer says, with what the buffers hold then
 abbrev pub endOf : Visited → Links → List Float → Queue → List Float → End
-endOf (Stopped n) b f q vertex = stopped n
+endOf (Stopped lack) b f q vertex = stopped (lackNumber lack)
 endOf (Went c last k) b f q vertex = at (place (c .made) (c .queued) last b f q vertex)
 
 -- if it was not stopped, the counts are within the buffers, and no window is lost
@@ -52,9 +54,9 @@ walked tiny w keep made zs = visits betterOf tiny w (run tiny w zs) (from keep m
 module _ (cuts windows : ℕ) (limit : Float) (flags : List ℕ) (e : ℕ) (tiny : Float) (w : Window) where
   -- one turn: window u becomes what survives of it
   abbrev pub Visits1 : List Interval → Window → Place → End → Type 0
-  Visits1 keep u p = Does cuts windows limit flags e (visiting tiny w u (from keep (p .made))) (u ∷ []) (visit betterOf tiny w u (from keep (p .made)) .survivors) p
+  Visits1 keep u p = Does cuts windows limit flags e (visiting e tiny w u (from keep (p .made))) (u ∷ []) (visit betterOf tiny w u (from keep (p .made)) .survivors) p
 
   -- all turns, from the link of p on, behind which few windows stand
   abbrev pub VisitsAll : (List Window → Type 0) → List Interval → Place → Visited → End → List Float → Type 0
-  VisitsAll Few keep p r end keep′ = (m : ℕ) (live : ℕ → List Window) (xs zs : List Window) → e < m → Few zs → p .last ≡ lastLink xs → Holds (p .made) m (p .links) (p .reals) (put e (xs ++ zs) live)
-      → Does cuts windows limit flags e (visitings tiny w (run tiny w zs) (from keep (p .made))) (run tiny w zs) (walked tiny w keep (p .made) zs .survivors) p end × Keeps cuts r keep′ (walked tiny w keep (p .made) zs)
+  VisitsAll Few keep p r end keep′ = (wins : List WindowRecord) (live : ℕ → List Window) (xs zs : List Window) → Few zs → p .last ≡ lastLink xs → Holds (p .made) wins (p .links) (p .reals) (put e (xs ++ zs) live)
+      → Does cuts windows limit flags e (visitings e tiny w (run tiny w zs) (from keep (p .made))) (run tiny w zs) (walked tiny w keep (p .made) zs .survivors) p end × Keeps cuts r keep′ (walked tiny w keep (p .made) zs)

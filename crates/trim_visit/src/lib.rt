@@ -1,5 +1,6 @@
 // The windows that a new one meets, visited one after the other along the chain of their edge.
 use buffers::EdgeId;
+use buffers::Lack;
 use buffers::WindowId;
 use trim_cut::Met;
 use trim_split::Counts;
@@ -21,10 +22,10 @@ ghost use Rattle.trim_cut.specs.Cut.{Sizes};
 ghost use Rattle.trim_split.specs.Running.{Ready, place};
 ghost use Rattle.trim_visit.specs.Visiting.{from, endOf, Keeps, Bounded, Visits1, VisitsAll};
 
-// A refusal by its number in 01; or how many windows and events there are now, the link of the last window that survived, and how many intervals the new
+// What there is no slot for; or how many windows and events there are now, the link of the last window that survived, and how many intervals the new
 // window keeps.
 pub enum Visited {
-    Stopped(u32),
+    Stopped(Lack),
     Went(Counts, u32, usize),
 }
 
@@ -62,7 +63,7 @@ fn visit(
     let q = old.src;
     let met = trim_cut::cut(p, q, lo, hi, old.b0, old.b1, tiny, keep, k, pts, out, next);
     let Met::Left { kept, lost, pieces } = met else {
-        return Visited::Stopped(14);
+        return Visited::Stopped(Lack::Cuts);
     };
     if lost == 0 {
         return Visited::Went(counts, id.0 + 1, kept);
@@ -82,7 +83,7 @@ fn visit(
         pieces,
     );
     match left {
-        Made::Stopped(n) => Visited::Stopped(n),
+        Made::Stopped(lack) => Visited::Stopped(lack),
         Made::Went(c, last) => Visited::Went(c, last, kept),
     }
 }
@@ -143,7 +144,7 @@ pub fn visits(
                 tiny,
             );
             match visited {
-                Visited::Stopped(n) => return Visited::Stopped(n),
+                Visited::Stopped(lack) => return Visited::Stopped(lack),
                 Visited::Went(c, l, j) => {
                     now = c;
                     last = l;

@@ -48,9 +48,8 @@ decodeWin line f = record {
 unfoldable decode : List ℕ → List Float → WindowRecord
 decode w f = record {
   edge = record { 0 = getD w 0 0 };
-  into = record { 0 = getD w 1 0 };
+  carried = record { into = record { 0 = getD w 1 0 }; queued = hasFlag (getD w 2 0) 4 };
   alive = hasFlag (getD w 2 0) 2;
-  queued = hasFlag (getD w 2 0) 4;
   link = getD w 3 0;
   win = decodeWin (hasFlag (getD w 2 0) 1) f;
 }
@@ -72,9 +71,8 @@ by-slots w f k =
     let word : (a : ℕ) → a < 4 → getD w (4 * k + a) 0 ≡ getD (slot 4 w k) a 0 = λ a h. sym (slot-at 4 w k a 0 h) in
     λ t. record {
       edge = record { 0 = word 0 (omega arith) t };
-      into = record { 0 = word 1 (omega arith) t };
+      carried = record { into = record { 0 = word 1 (omega arith) t }; queued = hasFlag (word 2 (omega arith) t) 4 };
       alive = hasFlag (word 2 (omega arith) t) 2;
-      queued = hasFlag (word 2 (omega arith) t) 4;
       link = word 3 (omega arith) t;
       win = win-by-slot (hasFlag (word 2 (omega arith) t) 1) f k t;
     }
@@ -131,18 +129,17 @@ module _ (w : List ℕ) (f : List Float) (k : ℕ) (x : WindowRecord) where
   pub load-same : 4 * k + 4 ≤ length w → 6 * k + 6 ≤ length f → windowAt (wordsWith w k x) (realsWith f k (x .win)) k ≡ x
   unfolding wordsWith realsWith decode decodeWin
   load-same p q =
-      let d = decoded (isLine (x .win .src)) (x .alive) (x .queued) in
+      let d = decoded (isLine (x .win .src)) (x .alive) (x .carried .queued) in
       let r = realsOf (x .win .src) in
       let line = ap (λ b. srcOf b (getD r 0 nan) (getD r 1 nan) (getD r 2 nan)) (d .0) ∙ source-same (x .win .src) in
       by-slots (wordsWith w k x) (realsWith f k (x .win)) k
       ∙ ap (λ s. decode s (slot 6 (realsWith f k (x .win)) k)) (fill-same 4 w k _ refl p)
-      ∙ ap (decode (x .edge .0 ∷ x .into .0 ∷ flagsOf (isLine (x .win .src)) (x .alive) (x .queued) ∷ x .link ∷ []))
+      ∙ ap (decode (x .edge .0 ∷ x .carried .into .0 ∷ flagsOf (isLine (x .win .src)) (x .alive) (x .carried .queued) ∷ x .link ∷ []))
       (fill-same 6 f k _ (ap (λ n. suc (suc (suc n))) (length-realsOf (x .win .src))) q)
       ∙ (λ t. record {
         edge = x .edge;
-        into = x .into;
+        carried = record { into = x .carried .into; queued = d .1 .1 t };
         alive = d .1 .0 t;
-        queued = d .1 .1 t;
         link = x .link;
         win = record { b0 = x .win .b0; b1 = x .win .b1; low = x .win .low; src = line t };
       })
@@ -187,9 +184,8 @@ decode-flags (x ∷ y ∷ z ∷ p) f alive queued h =
     let d = decoded (hasFlag z 1) alive queued in
     λ t. record {
       edge = record { 0 = x };
-      into = record { 0 = y };
+      carried = record { into = record { 0 = y }; queued = d .1 .1 t };
       alive = d .1 .0 t;
-      queued = d .1 .1 t;
       link = getD p 0 0;
       win = decodeWin (d .0 t) f;
     }

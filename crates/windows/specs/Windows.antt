@@ -1,5 +1,5 @@
 -- The window buffer as a list of windows. Its u32 slots are edge, into, flags, link; its f64 slots b0, b1, low and three of the source.
-use Prim.Native.Nat.{ℕ, _+_, _*_, _/_, _%_, min}
+use Prim.Native.Nat.{ℕ, zero, suc, _+_, _*_, _/_, _%_, min}
 use mathlib.Core.Bool.{Bool, true, false, cond}
 use mathlib.Core.List.{List, [], _∷_}
 use lib.Dec.{eqb}
@@ -61,9 +61,8 @@ winAt line f k = record {
 unfoldable pub windowAt : List ℕ → List Float → ℕ → WindowRecord
 windowAt w f k = record {
   edge = record { 0 = edgeOf w k };
-  into = record { 0 = intoOf w k };
+  carried = record { into = record { 0 = intoOf w k }; queued = hasFlag (flagsAt w k) 4 };
   alive = hasFlag (flagsAt w k) 2;
-  queued = hasFlag (flagsAt w k) 4;
   link = linkOf w k;
   win = winAt (hasFlag (flagsAt w k) 1) f k;
 }
@@ -71,7 +70,7 @@ windowAt w f k = record {
 -- the two slices with window k stored
 unfoldable pub wordsWith : List ℕ → ℕ → WindowRecord → List ℕ
 wordsWith w k x =
-    fill 4 w k 0 (x .edge .0 ∷ x .into .0 ∷ flagsOf (isLine (x .win .src)) (x .alive) (x .queued) ∷ x .link ∷ [])
+    fill 4 w k 0 (x .edge .0 ∷ x .carried .into .0 ∷ flagsOf (isLine (x .win .src)) (x .alive) (x .carried .queued) ∷ x .link ∷ [])
 
 unfoldable pub realsWith : List Float → ℕ → Win → List Float
 realsWith f k x = fill 6 f k 0 (x .b0 ∷ x .b1 ∷ x .low ∷ realsOf (x .src))
@@ -95,9 +94,8 @@ trimmedWin x b0 b1 low = record { b0 = b0; b1 = b1; low = low; src = x .src }
 unfoldable pub trimmed : WindowRecord → Float → Float → Float → WindowRecord
 trimmed x b0 b1 low = record {
   edge = x .edge;
-  into = x .into;
+  carried = x .carried;
   alive = x .alive;
-  queued = x .queued;
   link = x .link;
   win = trimmedWin (x .win) b0 b1 low;
 }
@@ -106,9 +104,8 @@ trimmed x b0 b1 low = record {
 unfoldable pub reflagged : WindowRecord → Bool → Bool → WindowRecord
 reflagged x alive queued = record {
   edge = x .edge;
-  into = x .into;
+  carried = record { into = x .carried .into; queued = queued };
   alive = alive;
-  queued = queued;
   link = x .link;
   win = x .win;
 }
@@ -116,12 +113,25 @@ reflagged x alive queued = record {
 unfoldable pub relinked : WindowRecord → ℕ → WindowRecord
 relinked x link = record {
   edge = x .edge;
-  into = x .into;
+  carried = x .carried;
   alive = x .alive;
-  queued = x .queued;
   link = link;
   win = x .win;
 }
+
+-- a window that is taken out: it keeps no link
+abbrev pub dead : WindowRecord → WindowRecord
+dead x = relinked (reflagged x false (x .carried .queued)) 0
+
+-- one whose event was popped
+abbrev pub popped : WindowRecord → WindowRecord
+popped x = reflagged x (x .alive) false
+
+-- element k of a list changed
+unfoldable pub adjust : {A : Type 0} → ℕ → (A → A) → List A → List A
+adjust k g [] = []
+adjust zero g (x ∷ l) = g x ∷ l
+adjust (suc k) g (x ∷ l) = x ∷ adjust k g l
 
 -- the Rust's `wins`: the first n windows
 unfoldable pub windows : ℕ → List ℕ → List Float → List WindowRecord

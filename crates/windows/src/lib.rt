@@ -2,6 +2,7 @@
 // its least value, the three numbers of its source).
 use buffers::EdgeId;
 use buffers::FaceId;
+use buffers::VertexId;
 use buffers::WindowId;
 use buffers::read_u32;
 use buffers::write_f64;
@@ -16,12 +17,33 @@ ghost use lib.ListN.{length};
 ghost use Rattle.buffers.specs.Slots.{fill};
 ghost use Rattle.windows.specs.Windows.{isLine, srcOf, realsOf, winAt, windowAt, wordsWith, realsWith, rangeWith, flagsWith, flagsOf, hasFlag, capacityOf};
 
+// What a window only carries along: the face it goes into, and whether it is queued.
+pub struct Carried {
+    pub into: FaceId,
+    pub queued: bool,
+}
+
+// An edge: its number, its length and its two ends.
+pub struct Edge {
+    pub id: EdgeId,
+    pub len: f64,
+    pub a: VertexId,
+    pub b: VertexId,
+}
+
+// A window that is to be added to an edge.
+pub struct NewWindow {
+    pub b0: f64,
+    pub b1: f64,
+    pub src: Src,
+    pub carried: Carried,
+}
+
 // A window with what the buffer keeps beside it.
 pub struct WindowRecord {
     pub edge: EdgeId,
-    pub into: FaceId,
+    pub carried: Carried,
     pub alive: bool,
-    pub queued: bool,
     // The next window of its edge's chain, as its number plus one; 0 is none.
     pub link: u32,
     pub win: Win,
@@ -109,11 +131,14 @@ pub fn load(words: &[u32], reals: &[f64], id: WindowId) -> WindowRecord
     let i = 4 * (id.0 as usize);
     let flags = words[i + 2];
     let win = load_win(reals, id, has_flag(flags, 1));
+    let carried = Carried {
+        into: FaceId(words[i + 1]),
+        queued: has_flag(flags, 4),
+    };
     WindowRecord {
         edge: EdgeId(words[i]),
-        into: FaceId(words[i + 1]),
+        carried,
         alive: has_flag(flags, 2),
-        queued: has_flag(flags, 4),
         link: words[i + 3],
         win,
     }
@@ -124,11 +149,12 @@ fn store_words(words: &mut [u32], id: WindowId, x: WindowRecord)
 {
     let k = id.0;
     let edge = x.edge;
-    let into = x.into;
+    let carried = x.carried;
+    let into = carried.into;
     let win = x.win;
     let src = win.src;
     let line = is_line(src);
-    let flags = flags(line, x.alive, x.queued);
+    let flags = flags(line, x.alive, carried.queued);
     write_u32(words, 4, k, 0, edge.0);
     write_u32(words, 4, k, 1, into.0);
     write_u32(words, 4, k, 2, flags);

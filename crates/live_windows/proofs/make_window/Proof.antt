@@ -37,7 +37,7 @@ returns c =
     let s = read .before .before .before .before .before .before .before in
     let a = s .args in
     let fits = counted (a .made) (length (a .words .now)) (length (a .reals .now)) (s .pre .0) in
-    make-after (a .made) (links (a .edges .now) (a .words .now)) (a .reals .now) (a .e) (a .before) (read .next-link .result) (a .into) (a .queued) (a .win)
+    make-after (a .made) (links (a .edges .now) (a .words .now)) (a .reals .now) (a .e) (a .before) (read .next-link .result) (a .carried) (a .win)
     (fits .0) (fits .1) (in-slots (length (a .edges .now)) 6 (a .e .0) (s .pre .1 .0)) (s .pre .1 .1) (read .next-link .ensures .is)
     _ _ _ _ (stored .store .ensures .0) (add-one (a .made)) (set .set-link .ensures) (stored .store .ensures .1)
 

@@ -1,6 +1,7 @@
 -- `trim_keep::keep_part` meets its contract. Assumes nothing.
 use mathlib.Core.List.{[]}
 use mathlib.Core.Path.{_∙_}
+use Rattle.buffers.specs.Lack.{lackNumber}
 use Rattle.better.specs.Stretches.{interval}
 use Rattle.heap.specs.Queue.{queue}
 use Rattle.live_windows.specs.Live.{liveOf}
@@ -53,7 +54,7 @@ same-length-6 c = search needs
 returns : tie.Need-returns
 returns c =
     let a = c .before .before .before .before .before .before .before .before .before .before .before .before .before .before .before .before .before .before .before .before .before .before .before .before .before .before .before .before .before .before .before .before .before .before .before .before .before .before .before .before .before .before .args in
-    (tt, λ cuts k ks. seats-stop cuts (windowsOf (slices (a .edges .now) (a .words .now) (a .reals .now) (a .keys .now) (a .events .now))) (a .limit) (a .vertex-words .now) (a .e .0) (a .len) (a .a .0) (a .b .0) (liveOf (a .x) k) (interval (a .b0) (a .b1)) ks (placeOf (slices (a .edges .now) (a .words .now) (a .reals .now) (a .keys .now) (a .events .now)) (a .counts .made) (a .counts .queued) (a .before) (a .vertex .now)) (c .before .before .before .before .before .before .before .before .before .before .before .before .before .before .before .before .before .before .before .before .before .before .before .before .before .before .before .before .before .before .before .seat-from .result) (c .before .before .before .before .before .before .before .before .before .before .before .before .before .before .before .before .before .before .before .before .before .before .before .before .before .before .before .before .before .before .before .seat-from .ensures) (placeOf (slices (c .before .before .before .before .before .before .before .before .before .before .before .before .before .before .before .before .before .before .before .before .before .before .before .before .before .make-part .last .0) (c .before .before .before .before .before .before .before .before .before .before .before .before .before .before .before .before .before .before .before .before .before .before .before .before .before .make-part .last .1 .0) (c .before .before .before .before .before .before .before .before .before .before .before .before .before .before .before .before .before .before .before .before .before .before .before .before .before .make-part .last .1 .1 .0) (c .before .before .before .before .before .before .before .before .before .before .before .before .before .before .before .before .before .before .before .before .before .before .before .before .before .make-part .last .1 .1 .1 .0) (c .before .before .before .before .before .before .before .before .before .before .before .before .before .before .before .before .before .before .before .before .before .before .before .before .before .make-part .last .1 .1 .1 .1 .0)) ((c .before .before .before .before .before .before .before .before .before .before .before .before .before .part2 .given .0 .0) .made) ((c .before .before .before .before .before .before .before .before .before .before .before .before .before .part2 .given .0 .0) .queued) (c .before .before .before .before .before .before .before .before .before .before .before .before .before .part2 .given .0 .1 .0) (a .vertex .now)) ((rw (c .before .before .before .before .before .before .before .before .before .before .before .before .before .part2 .given .1) at (c .before .before .before .before .before .before .before .before .before .before .before .before .before .before .before .before .before .before .before .before .before .before .before .before .before .make-part .ensures .1)) cuts (a .limit) (a .vertex-words .now) (a .vertex .now) k) 13 (((rw (c .enum-told .given .1) at (c .before .before .before .before .before .before .before .before .touch-ends .ensures)) cuts (windowsOf (slices (a .edges .now) (a .words .now) (a .reals .now) (a .keys .now) (a .events .now))) ((c .before .before .before .before .before .before .before .before .before .before .before .before .before .part2 .given .0 .0) .made) k (a .counts .made)) ∙ queue-full ((c .before .before .before .before .before .before .before .before .before .before .before .before .before .part2 .given .0 .0) .made) (c .before .before .before .before .before .before .before .before .touch-ends .last .0) (queue (c .before .before .before .before .before .before .before .before .touch-ends .last .1 .1 .0) (c .before .before .before .before .before .before .before .before .touch-ends .last .1 .1 .1 .0))))
+    (tt, λ cuts k ks. seats-stop cuts (windowsOf (slices (a .edges .now) (a .words .now) (a .reals .now) (a .keys .now) (a .events .now))) (a .limit) (a .vertex-words .now) (a .e) (liveOf (a .x) k) (interval (a .b0) (a .b1)) ks (placeOf (slices (a .edges .now) (a .words .now) (a .reals .now) (a .keys .now) (a .events .now)) (a .counts .made) (a .counts .queued) (a .before) (a .vertex .now)) (c .before .before .before .before .before .before .before .before .before .before .before .before .before .before .before .before .before .before .before .before .before .before .before .before .before .before .before .before .before .before .before .seat-from .result) (c .before .before .before .before .before .before .before .before .before .before .before .before .before .before .before .before .before .before .before .before .before .before .before .before .before .before .before .before .before .before .before .seat-from .ensures) (placeOf (slices (c .before .before .before .before .before .before .before .before .before .before .before .before .before .before .before .before .before .before .before .before .before .before .before .before .before .make-part .last .0) (c .before .before .before .before .before .before .before .before .before .before .before .before .before .before .before .before .before .before .before .before .before .before .before .before .before .make-part .last .1 .0) (c .before .before .before .before .before .before .before .before .before .before .before .before .before .before .before .before .before .before .before .before .before .before .before .before .before .make-part .last .1 .1 .0) (c .before .before .before .before .before .before .before .before .before .before .before .before .before .before .before .before .before .before .before .before .before .before .before .before .before .make-part .last .1 .1 .1 .0) (c .before .before .before .before .before .before .before .before .before .before .before .before .before .before .before .before .before .before .before .before .before .before .before .before .before .make-part .last .1 .1 .1 .1 .0)) ((c .before .before .before .before .before .before .before .before .before .before .before .before .before .part2 .given .0 .0) .made) ((c .before .before .before .before .before .before .before .before .before .before .before .before .before .part2 .given .0 .0) .queued) (c .before .before .before .before .before .before .before .before .before .before .before .before .before .part2 .given .0 .1 .0) (a .vertex .now)) ((rw (c .before .before .before .before .before .before .before .before .before .before .before .before .before .part2 .given .1) at (c .before .before .before .before .before .before .before .before .before .before .before .before .before .before .before .before .before .before .before .before .before .before .before .before .before .make-part .ensures .1)) cuts (a .limit) (a .vertex-words .now) (a .vertex .now) k) 13 (((rw (c .enum-told .given .1) at (c .before .before .before .before .before .before .before .before .touch-ends .ensures)) cuts (windowsOf (slices (a .edges .now) (a .words .now) (a .reals .now) (a .keys .now) (a .events .now))) ((c .before .before .before .before .before .before .before .before .before .before .before .before .before .part2 .given .0 .0) .made) k (a .counts .made)) ∙ queue-full ((c .before .before .before .before .before .before .before .before .before .before .before .before .before .part2 .given .0 .0) .made) (c .before .before .before .before .before .before .before .before .touch-ends .last .0) (queue (c .before .before .before .before .before .before .before .before .touch-ends .last .1 .1 .0) (c .before .before .before .before .before .before .before .before .touch-ends .last .1 .1 .1 .0))))
 
 same-length-7 : tie.Need-same-length-7
 same-length-7 c = search needs
@@ -73,7 +74,7 @@ same-length-11 c = search needs
 returns-2 : tie.Need-returns-2
 returns-2 c =
     let a = c .before .before .before .before .before .before .before .before .before .before .before .before .before .before .before .before .before .before .before .before .before .before .before .before .before .before .before .before .before .before .args in
-    (tt, λ cuts k ks. seats-full cuts (windowsOf (slices (a .edges .now) (a .words .now) (a .reals .now) (a .keys .now) (a .events .now))) (a .limit) (a .vertex-words .now) (a .e .0) (a .len) (a .a .0) (a .b .0) (liveOf (a .x) k) (interval (a .b0) (a .b1)) ks (placeOf (slices (a .edges .now) (a .words .now) (a .reals .now) (a .keys .now) (a .events .now)) (a .counts .made) (a .counts .queued) (a .before) (a .vertex .now)) (c .before .part .given .0 .0) ((rw (c .before .part .given .1) at (c .before .before .before .before .before .before .before .before .before .before .before .before .before .make-part .ensures .1)) cuts (a .limit) (a .vertex-words .now) (a .vertex .now) k))
+    (tt, λ cuts k ks. seats-full cuts (windowsOf (slices (a .edges .now) (a .words .now) (a .reals .now) (a .keys .now) (a .events .now))) (a .limit) (a .vertex-words .now) (a .e) (liveOf (a .x) k) (interval (a .b0) (a .b1)) ks (placeOf (slices (a .edges .now) (a .words .now) (a .reals .now) (a .keys .now) (a .events .now)) (a .counts .made) (a .counts .queued) (a .before) (a .vertex .now)) (lackNumber (c .before .part .given .0 .0)) ((rw (c .before .part .given .1) at (c .before .before .before .before .before .before .before .before .before .before .before .before .before .make-part .ensures .1)) cuts (a .limit) (a .vertex-words .now) (a .vertex .now) k))
 
 same-length-12 : tie.Need-same-length-12
 same-length-12 c = search needs
@@ -97,7 +98,7 @@ returns-3 : tie.Need-returns-3
 returns-3 c =
     let a = c .before .before .before .before .before .before .before .before .before .before .before .before .before .before .before .before .before .before .before .before .before .before .before .before .before .before .before .before .before .before .before .before .before .before .before .before .before .before .before .before .before .before .before .args in
     let r = (rw (c .before .before .before .before .before .before .before .before .before .before .before .before .before .before .part2 .given .1) at (c .before .before .before .before .before .before .before .before .before .before .before .before .before .before .before .before .before .before .before .before .before .before .before .before .before .before .make-part .ensures .1)) 0 (a .limit) (a .vertex-words .now) (a .vertex .now) 0 in
-    ((r .fits, r .linked), λ cuts k ks end d. seats-turn cuts (windowsOf (slices (a .edges .now) (a .words .now) (a .reals .now) (a .keys .now) (a .events .now))) (a .limit) (a .vertex-words .now) (a .e .0) (a .len) (a .a .0) (a .b .0) (liveOf (a .x) k) (interval (a .b0) (a .b1)) ks (placeOf (slices (a .edges .now) (a .words .now) (a .reals .now) (a .keys .now) (a .events .now)) (a .counts .made) (a .counts .queued) (a .before) (a .vertex .now)) (c .before .before .before .before .before .before .before .before .before .before .before .before .before .before .before .before .before .before .before .before .before .before .before .before .before .before .before .before .before .before .before .before .seat-from .result) (c .before .before .before .before .before .before .before .before .before .before .before .before .before .before .before .before .before .before .before .before .before .before .before .before .before .before .before .before .before .before .before .before .seat-from .ensures) (placeOf (slices (c .before .before .before .before .before .before .before .before .before .before .before .before .before .before .before .before .before .before .before .before .before .before .before .before .before .before .make-part .last .0) (c .before .before .before .before .before .before .before .before .before .before .before .before .before .before .before .before .before .before .before .before .before .before .before .before .before .before .make-part .last .1 .0) (c .before .before .before .before .before .before .before .before .before .before .before .before .before .before .before .before .before .before .before .before .before .before .before .before .before .before .make-part .last .1 .1 .0) (c .before .before .before .before .before .before .before .before .before .before .before .before .before .before .before .before .before .before .before .before .before .before .before .before .before .before .make-part .last .1 .1 .1 .0) (c .before .before .before .before .before .before .before .before .before .before .before .before .before .before .before .before .before .before .before .before .before .before .before .before .before .before .make-part .last .1 .1 .1 .1 .0)) ((c .before .before .before .before .before .before .before .before .before .before .before .before .before .before .part2 .given .0 .0) .made) ((c .before .before .before .before .before .before .before .before .before .before .before .before .before .before .part2 .given .0 .0) .queued) (c .before .before .before .before .before .before .before .before .before .before .before .before .before .before .part2 .given .0 .1 .0) (a .vertex .now)) ((rw (c .before .before .before .before .before .before .before .before .before .before .before .before .before .before .part2 .given .1) at (c .before .before .before .before .before .before .before .before .before .before .before .before .before .before .before .before .before .before .before .before .before .before .before .before .before .before .make-part .ensures .1)) cuts (a .limit) (a .vertex-words .now) (a .vertex .now) k) (c .before .touched .given .0 .0) (queue (c .before .before .before .before .before .before .before .before .before .touch-ends .last .1 .1 .0) (c .before .before .before .before .before .before .before .before .before .touch-ends .last .1 .1 .1 .0)) (c .before .before .before .before .before .before .before .before .before .touch-ends .last .0) (((rw (c .before .touched .given .1) at (c .before .before .before .before .before .before .before .before .before .touch-ends .ensures)) cuts (windowsOf (slices (a .edges .now) (a .words .now) (a .reals .now) (a .keys .now) (a .events .now))) ((c .before .before .before .before .before .before .before .before .before .before .before .before .before .before .part2 .given .0 .0) .made) k (a .counts .made)) ∙ queue-more ((c .before .before .before .before .before .before .before .before .before .before .before .before .before .before .part2 .given .0 .0) .made) (c .before .touched .given .0 .0) (c .before .before .before .before .before .before .before .before .before .touch-ends .last .0) (queue (c .before .before .before .before .before .before .before .before .before .touch-ends .last .1 .1 .0) (c .before .before .before .before .before .before .before .before .before .touch-ends .last .1 .1 .1 .0))) (rw (c .before .before .before .before .before .before .before .before .before .before .before .before .before .before .part2 .given .1) at (c .before .before .before .before .before .before .before .before .before .before .before .before .before .before .before .before .before .before .before .before .before .before .before .before .before .before .make-part .ensures .0)) end d)
+    ((r .fits, r .linked), λ cuts k ks end d. seats-turn cuts (windowsOf (slices (a .edges .now) (a .words .now) (a .reals .now) (a .keys .now) (a .events .now))) (a .limit) (a .vertex-words .now) (a .e) (liveOf (a .x) k) (interval (a .b0) (a .b1)) ks (placeOf (slices (a .edges .now) (a .words .now) (a .reals .now) (a .keys .now) (a .events .now)) (a .counts .made) (a .counts .queued) (a .before) (a .vertex .now)) (c .before .before .before .before .before .before .before .before .before .before .before .before .before .before .before .before .before .before .before .before .before .before .before .before .before .before .before .before .before .before .before .before .seat-from .result) (c .before .before .before .before .before .before .before .before .before .before .before .before .before .before .before .before .before .before .before .before .before .before .before .before .before .before .before .before .before .before .before .before .seat-from .ensures) (placeOf (slices (c .before .before .before .before .before .before .before .before .before .before .before .before .before .before .before .before .before .before .before .before .before .before .before .before .before .before .make-part .last .0) (c .before .before .before .before .before .before .before .before .before .before .before .before .before .before .before .before .before .before .before .before .before .before .before .before .before .before .make-part .last .1 .0) (c .before .before .before .before .before .before .before .before .before .before .before .before .before .before .before .before .before .before .before .before .before .before .before .before .before .before .make-part .last .1 .1 .0) (c .before .before .before .before .before .before .before .before .before .before .before .before .before .before .before .before .before .before .before .before .before .before .before .before .before .before .make-part .last .1 .1 .1 .0) (c .before .before .before .before .before .before .before .before .before .before .before .before .before .before .before .before .before .before .before .before .before .before .before .before .before .before .make-part .last .1 .1 .1 .1 .0)) ((c .before .before .before .before .before .before .before .before .before .before .before .before .before .before .part2 .given .0 .0) .made) ((c .before .before .before .before .before .before .before .before .before .before .before .before .before .before .part2 .given .0 .0) .queued) (c .before .before .before .before .before .before .before .before .before .before .before .before .before .before .part2 .given .0 .1 .0) (a .vertex .now)) ((rw (c .before .before .before .before .before .before .before .before .before .before .before .before .before .before .part2 .given .1) at (c .before .before .before .before .before .before .before .before .before .before .before .before .before .before .before .before .before .before .before .before .before .before .before .before .before .before .make-part .ensures .1)) cuts (a .limit) (a .vertex-words .now) (a .vertex .now) k) (c .before .touched .given .0 .0) (queue (c .before .before .before .before .before .before .before .before .before .touch-ends .last .1 .1 .0) (c .before .before .before .before .before .before .before .before .before .touch-ends .last .1 .1 .1 .0)) (c .before .before .before .before .before .before .before .before .before .touch-ends .last .0) (((rw (c .before .touched .given .1) at (c .before .before .before .before .before .before .before .before .before .touch-ends .ensures)) cuts (windowsOf (slices (a .edges .now) (a .words .now) (a .reals .now) (a .keys .now) (a .events .now))) ((c .before .before .before .before .before .before .before .before .before .before .before .before .before .before .part2 .given .0 .0) .made) k (a .counts .made)) ∙ queue-more ((c .before .before .before .before .before .before .before .before .before .before .before .before .before .before .part2 .given .0 .0) .made) (c .before .touched .given .0 .0) (c .before .before .before .before .before .before .before .before .before .touch-ends .last .0) (queue (c .before .before .before .before .before .before .before .before .before .touch-ends .last .1 .1 .0) (c .before .before .before .before .before .before .before .before .before .touch-ends .last .1 .1 .1 .0))) (rw (c .before .before .before .before .before .before .before .before .before .before .before .before .before .before .part2 .given .1) at (c .before .before .before .before .before .before .before .before .before .before .before .before .before .before .before .before .before .before .before .before .before .before .before .before .before .before .make-part .ensures .0)) end d)
 
 pub keep-part-spec : {M : Type 1} → statement M
 keep-part-spec =

@@ -4,6 +4,7 @@ use mathlib.Core.Path.{_∙_}
 use native.Mathlib.Omega.{arith}
 use lib.ListN.{drop, getD}
 use lib.Ieee.{nan}
+use Rattle.buffers.specs.Lack.{lackNumber}
 use Rattle.better.specs.Buffers.{pairs}
 use Rattle.cut_lists.proofs.Entries.{pairs-from, pairs-past}
 use Rattle.trim_split.proofs.Loops.{slices, here-is}
@@ -13,15 +14,15 @@ use Rattle.trim_keep.proofs.keep_parts.Statement.{statement}
 use Rattle.trim_keep.proofs.keep_parts.Tie as tie
 
 abbrev Inv-loop : tie.InvT-loop
-Inv-loop edges₀ words₀ reals₀ keys₀ events₀ vertex₀ flags keep k e before x tiny limit len a b now₀ last₀ i₀ edges words reals keys events vertex now last i = KeepInv limit flags (e .0) len (a .0) (b .0) x tiny (pairs k keep) (slices edges₀ words₀ reals₀ keys₀ events₀) vertex₀ (now₀ .made) (now₀ .queued) last₀ (slices edges words reals keys events) vertex (now .made) (now .queued) last i
+Inv-loop edges₀ words₀ reals₀ keys₀ events₀ vertex₀ flags keep k e before x tiny limit now₀ last₀ i₀ edges words reals keys events vertex now last i = KeepInv limit flags e x tiny (pairs k keep) (slices edges₀ words₀ reals₀ keys₀ events₀) vertex₀ (now₀ .made) (now₀ .queued) last₀ (slices edges words reals keys events) vertex (now .made) (now .queued) last i
 
 abbrev μ-loop : tie.MeasureT-loop
-μ-loop edges₀ words₀ reals₀ keys₀ events₀ vertex₀ flags keep k e before x tiny limit len a b now₀ last₀ i₀ edges words reals keys events vertex now last i = k - i
+μ-loop edges₀ words₀ reals₀ keys₀ events₀ vertex₀ flags keep k e before x tiny limit now₀ last₀ i₀ edges words reals keys events vertex now last i = k - i
 
 loop-holds : tie.Need-loop-holds Inv-loop μ-loop
 loop-holds c =
     let a = c .before .before .before .before .before .before .before .before .args in
-    keep-start (a .limit) (a .vertex-words .now) (a .e .0) (a .len) (a .a .0) (a .b .0) (a .x) (a .tiny) (pairs (a .k) (a .keep .now)) (slices (a .edges .now) (a .words .now) (a .reals .now) (a .keys .now) (a .events .now)) (a .vertex .now) (a .counts .made) (a .counts .queued) (a .before) (c .before .before .before .before .before .before .before .before .pre .0)
+    keep-start (a .limit) (a .vertex-words .now) (a .e) (a .x) (a .tiny) (pairs (a .k) (a .keep .now)) (slices (a .edges .now) (a .words .now) (a .reals .now) (a .keys .now) (a .events .now)) (a .vertex .now) (a .counts .made) (a .counts .queued) (a .before) (c .before .before .before .before .before .before .before .before .pre .0)
 
 from-of-requires : tie.Need-from-of-requires Inv-loop μ-loop
 from-of-requires c κs = omega (arith, c .before .before .before .before .before .before .before .before .before .before .pre .1, c .loop-test .taken)
@@ -38,12 +39,12 @@ loop-less c = omega (arith, c .before .before .before .loop-test .taken)
 loop-again : tie.Need-loop-again Inv-loop μ-loop
 loop-again c =
     let a = c .before .before .before .before .before .before .before .before .before .before .before .before .before .args in
-    keep-skip (a .limit) (a .vertex-words .now) (a .e .0) (a .len) (a .a .0) (a .b .0) (a .x) (a .tiny) (pairs (a .k) (a .keep .now)) (slices (a .edges .now) (a .words .now) (a .reals .now) (a .keys .now) (a .events .now)) (a .vertex .now) (a .counts .made) (a .counts .queued) (a .before) (slices (c .before .before .before .before .loop .edges) (c .before .before .before .before .loop .words) (c .before .before .before .before .loop .reals) (c .before .before .before .before .loop .keys) (c .before .before .before .before .loop .events)) (c .before .before .before .before .loop .vertex) (c .before .before .before .before .loop .now .made) (c .before .before .before .before .loop .now .queued) (c .before .before .before .before .loop .last) (c .before .before .before .before .loop .i) (c .before .before .before .before .loop .inv) (c .before .before .from-of .result) (c .before .to-of .result) (here-is (drop (c .before .before .before .before .loop .i) (pairs (a .k) (a .keep .now))) (drop (suc (c .before .before .before .before .loop .i)) (pairs (a .k) (a .keep .now))) (c .before .before .from-of .result) (c .before .to-of .result) (getD (a .keep .now) (c .before .before .before .before .loop .i + c .before .before .before .before .loop .i) nan) (getD (a .keep .now) (suc (c .before .before .before .before .loop .i + c .before .before .before .before .loop .i)) nan) (pairs-from (a .keep .now) (a .k) (c .before .before .before .before .loop .i) (c .before .before .before .loop-test .taken)) (c .before .before .from-of .ensures) (c .before .to-of .ensures)) (c .if1 .taken)
+    keep-skip (a .limit) (a .vertex-words .now) (a .e) (a .x) (a .tiny) (pairs (a .k) (a .keep .now)) (slices (a .edges .now) (a .words .now) (a .reals .now) (a .keys .now) (a .events .now)) (a .vertex .now) (a .counts .made) (a .counts .queued) (a .before) (slices (c .before .before .before .before .loop .edges) (c .before .before .before .before .loop .words) (c .before .before .before .before .loop .reals) (c .before .before .before .before .loop .keys) (c .before .before .before .before .loop .events)) (c .before .before .before .before .loop .vertex) (c .before .before .before .before .loop .now .made) (c .before .before .before .before .loop .now .queued) (c .before .before .before .before .loop .last) (c .before .before .before .before .loop .i) (c .before .before .before .before .loop .inv) (c .before .before .from-of .result) (c .before .to-of .result) (here-is (drop (c .before .before .before .before .loop .i) (pairs (a .k) (a .keep .now))) (drop (suc (c .before .before .before .before .loop .i)) (pairs (a .k) (a .keep .now))) (c .before .before .from-of .result) (c .before .to-of .result) (getD (a .keep .now) (c .before .before .before .before .loop .i + c .before .before .before .before .loop .i) nan) (getD (a .keep .now) (suc (c .before .before .before .before .loop .i + c .before .before .before .before .loop .i)) nan) (pairs-from (a .keep .now) (a .k) (c .before .before .before .before .loop .i) (c .before .before .before .loop-test .taken)) (c .before .before .from-of .ensures) (c .before .to-of .ensures)) (c .if1 .taken)
 
 keep-part-requires : tie.Need-keep-part-requires Inv-loop μ-loop
 keep-part-requires c κs =
     let a = c .before .before .before .before .before .before .before .before .before .before .before .before .before .before .before .before .before .before .before .args in
-    keep-ready (a .limit) (a .vertex-words .now) (a .e .0) (a .len) (a .a .0) (a .b .0) (a .x) (a .tiny) (pairs (a .k) (a .keep .now)) (slices (a .edges .now) (a .words .now) (a .reals .now) (a .keys .now) (a .events .now)) (a .vertex .now) (a .counts .made) (a .counts .queued) (a .before) (slices (c .before .before .before .before .before .before .before .before .before .before .loop .edges) (c .before .before .before .before .before .before .before .before .before .before .loop .words) (c .before .before .before .before .before .before .before .before .before .before .loop .reals) (c .before .before .before .before .before .before .before .before .before .before .loop .keys) (c .before .before .before .before .before .before .before .before .before .before .loop .events)) (c .before .before .before .before .before .before .before .before .before .before .loop .vertex) (c .before .before .before .before .before .before .before .before .before .before .loop .now .made) (c .before .before .before .before .before .before .before .before .before .before .loop .now .queued) (c .before .before .before .before .before .before .before .before .before .before .loop .last) (c .before .before .before .before .before .before .before .before .before .before .loop .i) (c .before .before .before .before .before .before .before .before .before .before .loop .inv)
+    keep-ready (a .limit) (a .vertex-words .now) (a .e) (a .x) (a .tiny) (pairs (a .k) (a .keep .now)) (slices (a .edges .now) (a .words .now) (a .reals .now) (a .keys .now) (a .events .now)) (a .vertex .now) (a .counts .made) (a .counts .queued) (a .before) (slices (c .before .before .before .before .before .before .before .before .before .before .loop .edges) (c .before .before .before .before .before .before .before .before .before .before .loop .words) (c .before .before .before .before .before .before .before .before .before .before .loop .reals) (c .before .before .before .before .before .before .before .before .before .before .loop .keys) (c .before .before .before .before .before .before .before .before .before .before .loop .events)) (c .before .before .before .before .before .before .before .before .before .before .loop .vertex) (c .before .before .before .before .before .before .before .before .before .before .loop .now .made) (c .before .before .before .before .before .before .before .before .before .before .loop .now .queued) (c .before .before .before .before .before .before .before .before .before .before .loop .last) (c .before .before .before .before .before .before .before .before .before .before .loop .i) (c .before .before .before .before .before .before .before .before .before .before .loop .inv)
 
 enum-known-part : tie.Need-enum-known-part Inv-loop μ-loop
 enum-known-part c = search needs
@@ -69,7 +70,7 @@ same-length-6 c = c .before .before .before .before .before .before .before .bef
 returns : tie.Need-returns Inv-loop μ-loop
 returns c =
     let a = c .before .before .before .before .before .before .before .before .before .before .before .before .before .before .before .before .before .before .before .before .before .before .before .before .before .before .before .before .before .before .before .before .before .before .before .args in
-    (tt, keep-stopped (a .limit) (a .vertex-words .now) (a .e .0) (a .len) (a .a .0) (a .b .0) (a .x) (a .tiny) (pairs (a .k) (a .keep .now)) (slices (a .edges .now) (a .words .now) (a .reals .now) (a .keys .now) (a .events .now)) (a .vertex .now) (a .counts .made) (a .counts .queued) (a .before) (slices (c .before .before .before .before .before .before .before .before .before .before .before .before .before .before .before .before .before .before .before .before .before .before .before .before .before .before .loop .edges) (c .before .before .before .before .before .before .before .before .before .before .before .before .before .before .before .before .before .before .before .before .before .before .before .before .before .before .loop .words) (c .before .before .before .before .before .before .before .before .before .before .before .before .before .before .before .before .before .before .before .before .before .before .before .before .before .before .loop .reals) (c .before .before .before .before .before .before .before .before .before .before .before .before .before .before .before .before .before .before .before .before .before .before .before .before .before .before .loop .keys) (c .before .before .before .before .before .before .before .before .before .before .before .before .before .before .before .before .before .before .before .before .before .before .before .before .before .before .loop .events)) (c .before .before .before .before .before .before .before .before .before .before .before .before .before .before .before .before .before .before .before .before .before .before .before .before .before .before .loop .vertex) (c .before .before .before .before .before .before .before .before .before .before .before .before .before .before .before .before .before .before .before .before .before .before .before .before .before .before .loop .now .made) (c .before .before .before .before .before .before .before .before .before .before .before .before .before .before .before .before .before .before .before .before .before .before .before .before .before .before .loop .now .queued) (c .before .before .before .before .before .before .before .before .before .before .before .before .before .before .before .before .before .before .before .before .before .before .before .before .before .before .loop .last) (c .before .before .before .before .before .before .before .before .before .before .before .before .before .before .before .before .before .before .before .before .before .before .before .before .before .before .loop .i) (c .before .before .before .before .before .before .before .before .before .before .before .before .before .before .before .before .before .before .before .before .before .before .before .before .before .before .loop .inv) (c .before .before .before .before .before .before .before .before .before .before .before .before .before .before .before .before .before .before .before .before .before .before .before .before .from-of .result) (c .before .before .before .before .before .before .before .before .before .before .before .before .before .before .before .before .before .before .before .before .before .before .before .to-of .result) (here-is (drop (c .before .before .before .before .before .before .before .before .before .before .before .before .before .before .before .before .before .before .before .before .before .before .before .before .before .before .loop .i) (pairs (a .k) (a .keep .now))) (drop (suc (c .before .before .before .before .before .before .before .before .before .before .before .before .before .before .before .before .before .before .before .before .before .before .before .before .before .before .loop .i)) (pairs (a .k) (a .keep .now))) (c .before .before .before .before .before .before .before .before .before .before .before .before .before .before .before .before .before .before .before .before .before .before .before .before .from-of .result) (c .before .before .before .before .before .before .before .before .before .before .before .before .before .before .before .before .before .before .before .before .before .before .before .to-of .result) (getD (a .keep .now) (c .before .before .before .before .before .before .before .before .before .before .before .before .before .before .before .before .before .before .before .before .before .before .before .before .before .before .loop .i + c .before .before .before .before .before .before .before .before .before .before .before .before .before .before .before .before .before .before .before .before .before .before .before .before .before .before .loop .i) nan) (getD (a .keep .now) (suc (c .before .before .before .before .before .before .before .before .before .before .before .before .before .before .before .before .before .before .before .before .before .before .before .before .before .before .loop .i + c .before .before .before .before .before .before .before .before .before .before .before .before .before .before .before .before .before .before .before .before .before .before .before .before .before .before .loop .i)) nan) (pairs-from (a .keep .now) (a .k) (c .before .before .before .before .before .before .before .before .before .before .before .before .before .before .before .before .before .before .before .before .before .before .before .before .before .before .loop .i) (c .before .before .before .before .before .before .before .before .before .before .before .before .before .before .before .before .before .before .before .before .before .before .before .before .before .loop-test .taken)) (c .before .before .before .before .before .before .before .before .before .before .before .before .before .before .before .before .before .before .before .before .before .before .before .before .from-of .ensures) (c .before .before .before .before .before .before .before .before .before .before .before .before .before .before .before .before .before .before .before .before .before .before .before .to-of .ensures)) (c .before .before .before .before .before .before .before .before .before .before .before .before .before .before .before .before .before .before .before .before .before .before .if1 .left) (c .before .part .given .0 .0) (rw (c .before .part .given .1) at (c .before .before .before .before .before .before .before .before .before .before .before .before .before .before .before .keep-part .ensures .1)))
+    (tt, keep-stopped (a .limit) (a .vertex-words .now) (a .e) (a .x) (a .tiny) (pairs (a .k) (a .keep .now)) (slices (a .edges .now) (a .words .now) (a .reals .now) (a .keys .now) (a .events .now)) (a .vertex .now) (a .counts .made) (a .counts .queued) (a .before) (slices (c .before .before .before .before .before .before .before .before .before .before .before .before .before .before .before .before .before .before .before .before .before .before .before .before .before .before .loop .edges) (c .before .before .before .before .before .before .before .before .before .before .before .before .before .before .before .before .before .before .before .before .before .before .before .before .before .before .loop .words) (c .before .before .before .before .before .before .before .before .before .before .before .before .before .before .before .before .before .before .before .before .before .before .before .before .before .before .loop .reals) (c .before .before .before .before .before .before .before .before .before .before .before .before .before .before .before .before .before .before .before .before .before .before .before .before .before .before .loop .keys) (c .before .before .before .before .before .before .before .before .before .before .before .before .before .before .before .before .before .before .before .before .before .before .before .before .before .before .loop .events)) (c .before .before .before .before .before .before .before .before .before .before .before .before .before .before .before .before .before .before .before .before .before .before .before .before .before .before .loop .vertex) (c .before .before .before .before .before .before .before .before .before .before .before .before .before .before .before .before .before .before .before .before .before .before .before .before .before .before .loop .now .made) (c .before .before .before .before .before .before .before .before .before .before .before .before .before .before .before .before .before .before .before .before .before .before .before .before .before .before .loop .now .queued) (c .before .before .before .before .before .before .before .before .before .before .before .before .before .before .before .before .before .before .before .before .before .before .before .before .before .before .loop .last) (c .before .before .before .before .before .before .before .before .before .before .before .before .before .before .before .before .before .before .before .before .before .before .before .before .before .before .loop .i) (c .before .before .before .before .before .before .before .before .before .before .before .before .before .before .before .before .before .before .before .before .before .before .before .before .before .before .loop .inv) (c .before .before .before .before .before .before .before .before .before .before .before .before .before .before .before .before .before .before .before .before .before .before .before .before .from-of .result) (c .before .before .before .before .before .before .before .before .before .before .before .before .before .before .before .before .before .before .before .before .before .before .before .to-of .result) (here-is (drop (c .before .before .before .before .before .before .before .before .before .before .before .before .before .before .before .before .before .before .before .before .before .before .before .before .before .before .loop .i) (pairs (a .k) (a .keep .now))) (drop (suc (c .before .before .before .before .before .before .before .before .before .before .before .before .before .before .before .before .before .before .before .before .before .before .before .before .before .before .loop .i)) (pairs (a .k) (a .keep .now))) (c .before .before .before .before .before .before .before .before .before .before .before .before .before .before .before .before .before .before .before .before .before .before .before .before .from-of .result) (c .before .before .before .before .before .before .before .before .before .before .before .before .before .before .before .before .before .before .before .before .before .before .before .to-of .result) (getD (a .keep .now) (c .before .before .before .before .before .before .before .before .before .before .before .before .before .before .before .before .before .before .before .before .before .before .before .before .before .before .loop .i + c .before .before .before .before .before .before .before .before .before .before .before .before .before .before .before .before .before .before .before .before .before .before .before .before .before .before .loop .i) nan) (getD (a .keep .now) (suc (c .before .before .before .before .before .before .before .before .before .before .before .before .before .before .before .before .before .before .before .before .before .before .before .before .before .before .loop .i + c .before .before .before .before .before .before .before .before .before .before .before .before .before .before .before .before .before .before .before .before .before .before .before .before .before .before .loop .i)) nan) (pairs-from (a .keep .now) (a .k) (c .before .before .before .before .before .before .before .before .before .before .before .before .before .before .before .before .before .before .before .before .before .before .before .before .before .before .loop .i) (c .before .before .before .before .before .before .before .before .before .before .before .before .before .before .before .before .before .before .before .before .before .before .before .before .before .loop-test .taken)) (c .before .before .before .before .before .before .before .before .before .before .before .before .before .before .before .before .before .before .before .before .before .before .before .before .from-of .ensures) (c .before .before .before .before .before .before .before .before .before .before .before .before .before .before .before .before .before .before .before .before .before .before .before .to-of .ensures)) (c .before .before .before .before .before .before .before .before .before .before .before .before .before .before .before .before .before .before .before .before .before .before .if1 .left) (lackNumber (c .before .part .given .0 .0)) (rw (c .before .part .given .1) at (c .before .before .before .before .before .before .before .before .before .before .before .before .before .before .before .keep-part .ensures .1)))
 
 enum-known-part-2 : tie.Need-enum-known-part-2 Inv-loop μ-loop
 enum-known-part-2 c = search needs
@@ -83,7 +84,7 @@ loop-less-2 c = omega (arith, c .before .before .before .before .before .before 
 loop-again-2 : tie.Need-loop-again-2 Inv-loop μ-loop
 loop-again-2 c =
     let a = c .before .before .before .before .before .before .before .before .before .before .before .before .before .before .before .before .before .before .before .before .before .before .before .before .before .before .before .before .before .before .before .before .before .before .before .args in
-    keep-next (a .limit) (a .vertex-words .now) (a .e .0) (a .len) (a .a .0) (a .b .0) (a .x) (a .tiny) (pairs (a .k) (a .keep .now)) (slices (a .edges .now) (a .words .now) (a .reals .now) (a .keys .now) (a .events .now)) (a .vertex .now) (a .counts .made) (a .counts .queued) (a .before) (slices (c .before .before .before .before .before .before .before .before .before .before .before .before .before .before .before .before .before .before .before .before .before .before .before .before .before .before .loop .edges) (c .before .before .before .before .before .before .before .before .before .before .before .before .before .before .before .before .before .before .before .before .before .before .before .before .before .before .loop .words) (c .before .before .before .before .before .before .before .before .before .before .before .before .before .before .before .before .before .before .before .before .before .before .before .before .before .before .loop .reals) (c .before .before .before .before .before .before .before .before .before .before .before .before .before .before .before .before .before .before .before .before .before .before .before .before .before .before .loop .keys) (c .before .before .before .before .before .before .before .before .before .before .before .before .before .before .before .before .before .before .before .before .before .before .before .before .before .before .loop .events)) (c .before .before .before .before .before .before .before .before .before .before .before .before .before .before .before .before .before .before .before .before .before .before .before .before .before .before .loop .vertex) (c .before .before .before .before .before .before .before .before .before .before .before .before .before .before .before .before .before .before .before .before .before .before .before .before .before .before .loop .now .made) (c .before .before .before .before .before .before .before .before .before .before .before .before .before .before .before .before .before .before .before .before .before .before .before .before .before .before .loop .now .queued) (c .before .before .before .before .before .before .before .before .before .before .before .before .before .before .before .before .before .before .before .before .before .before .before .before .before .before .loop .last) (c .before .before .before .before .before .before .before .before .before .before .before .before .before .before .before .before .before .before .before .before .before .before .before .before .before .before .loop .i) (c .before .before .before .before .before .before .before .before .before .before .before .before .before .before .before .before .before .before .before .before .before .before .before .before .before .before .loop .inv) (c .before .before .before .before .before .before .before .before .before .before .before .before .before .before .before .before .before .before .before .before .before .before .before .before .from-of .result) (c .before .before .before .before .before .before .before .before .before .before .before .before .before .before .before .before .before .before .before .before .before .before .before .to-of .result) (here-is (drop (c .before .before .before .before .before .before .before .before .before .before .before .before .before .before .before .before .before .before .before .before .before .before .before .before .before .before .loop .i) (pairs (a .k) (a .keep .now))) (drop (suc (c .before .before .before .before .before .before .before .before .before .before .before .before .before .before .before .before .before .before .before .before .before .before .before .before .before .before .loop .i)) (pairs (a .k) (a .keep .now))) (c .before .before .before .before .before .before .before .before .before .before .before .before .before .before .before .before .before .before .before .before .before .before .before .before .from-of .result) (c .before .before .before .before .before .before .before .before .before .before .before .before .before .before .before .before .before .before .before .before .before .before .before .to-of .result) (getD (a .keep .now) (c .before .before .before .before .before .before .before .before .before .before .before .before .before .before .before .before .before .before .before .before .before .before .before .before .before .before .loop .i + c .before .before .before .before .before .before .before .before .before .before .before .before .before .before .before .before .before .before .before .before .before .before .before .before .before .before .loop .i) nan) (getD (a .keep .now) (suc (c .before .before .before .before .before .before .before .before .before .before .before .before .before .before .before .before .before .before .before .before .before .before .before .before .before .before .loop .i + c .before .before .before .before .before .before .before .before .before .before .before .before .before .before .before .before .before .before .before .before .before .before .before .before .before .before .loop .i)) nan) (pairs-from (a .keep .now) (a .k) (c .before .before .before .before .before .before .before .before .before .before .before .before .before .before .before .before .before .before .before .before .before .before .before .before .before .before .loop .i) (c .before .before .before .before .before .before .before .before .before .before .before .before .before .before .before .before .before .before .before .before .before .before .before .before .before .loop-test .taken)) (c .before .before .before .before .before .before .before .before .before .before .before .before .before .before .before .before .before .before .before .before .before .before .before .before .from-of .ensures) (c .before .before .before .before .before .before .before .before .before .before .before .before .before .before .before .before .before .before .before .before .before .before .before .to-of .ensures)) (c .before .before .before .before .before .before .before .before .before .before .before .before .before .before .before .before .before .before .before .before .before .before .if1 .left) (slices (c .before .before .before .before .before .before .before .before .before .before .before .before .before .before .before .keep-part .last .0) (c .before .before .before .before .before .before .before .before .before .before .before .before .before .before .before .keep-part .last .1 .0) (c .before .before .before .before .before .before .before .before .before .before .before .before .before .before .before .keep-part .last .1 .1 .0) (c .before .before .before .before .before .before .before .before .before .before .before .before .before .before .before .keep-part .last .1 .1 .1 .0) (c .before .before .before .before .before .before .before .before .before .before .before .before .before .before .before .keep-part .last .1 .1 .1 .1 .0)) (c .before .before .before .before .before .before .before .before .before .before .before .before .before .before .before .keep-part .last .1 .1 .1 .1 .1 .0) (c .before .part2 .given .0 .0 .made) (c .before .part2 .given .0 .0 .queued) (c .before .part2 .given .0 .1 .0) (record { edges = c .before .before .before .before .before .before .before .before .before .before .before .before .before .before .before .keep-part .kept .0; words = c .before .before .before .before .before .before .before .before .before .before .before .before .before .before .before .keep-part .kept .1 .0; reals = c .before .before .before .before .before .before .before .before .before .before .before .before .before .before .before .keep-part .kept .1 .1 .0; keys = c .before .before .before .before .before .before .before .before .before .before .before .before .before .before .before .keep-part .kept .1 .1 .1 .0; events = c .before .before .before .before .before .before .before .before .before .before .before .before .before .before .before .keep-part .kept .1 .1 .1 .1 .0 }) (c .before .before .before .before .before .before .before .before .before .before .before .before .before .before .before .keep-part .kept .1 .1 .1 .1 .1 .0) (rw (c .before .part2 .given .1) at (c .before .before .before .before .before .before .before .before .before .before .before .before .before .before .before .keep-part .ensures .0)) (rw (c .before .part2 .given .1) at (c .before .before .before .before .before .before .before .before .before .before .before .before .before .before .before .keep-part .ensures .1))
+    keep-next (a .limit) (a .vertex-words .now) (a .e) (a .x) (a .tiny) (pairs (a .k) (a .keep .now)) (slices (a .edges .now) (a .words .now) (a .reals .now) (a .keys .now) (a .events .now)) (a .vertex .now) (a .counts .made) (a .counts .queued) (a .before) (slices (c .before .before .before .before .before .before .before .before .before .before .before .before .before .before .before .before .before .before .before .before .before .before .before .before .before .before .loop .edges) (c .before .before .before .before .before .before .before .before .before .before .before .before .before .before .before .before .before .before .before .before .before .before .before .before .before .before .loop .words) (c .before .before .before .before .before .before .before .before .before .before .before .before .before .before .before .before .before .before .before .before .before .before .before .before .before .before .loop .reals) (c .before .before .before .before .before .before .before .before .before .before .before .before .before .before .before .before .before .before .before .before .before .before .before .before .before .before .loop .keys) (c .before .before .before .before .before .before .before .before .before .before .before .before .before .before .before .before .before .before .before .before .before .before .before .before .before .before .loop .events)) (c .before .before .before .before .before .before .before .before .before .before .before .before .before .before .before .before .before .before .before .before .before .before .before .before .before .before .loop .vertex) (c .before .before .before .before .before .before .before .before .before .before .before .before .before .before .before .before .before .before .before .before .before .before .before .before .before .before .loop .now .made) (c .before .before .before .before .before .before .before .before .before .before .before .before .before .before .before .before .before .before .before .before .before .before .before .before .before .before .loop .now .queued) (c .before .before .before .before .before .before .before .before .before .before .before .before .before .before .before .before .before .before .before .before .before .before .before .before .before .before .loop .last) (c .before .before .before .before .before .before .before .before .before .before .before .before .before .before .before .before .before .before .before .before .before .before .before .before .before .before .loop .i) (c .before .before .before .before .before .before .before .before .before .before .before .before .before .before .before .before .before .before .before .before .before .before .before .before .before .before .loop .inv) (c .before .before .before .before .before .before .before .before .before .before .before .before .before .before .before .before .before .before .before .before .before .before .before .before .from-of .result) (c .before .before .before .before .before .before .before .before .before .before .before .before .before .before .before .before .before .before .before .before .before .before .before .to-of .result) (here-is (drop (c .before .before .before .before .before .before .before .before .before .before .before .before .before .before .before .before .before .before .before .before .before .before .before .before .before .before .loop .i) (pairs (a .k) (a .keep .now))) (drop (suc (c .before .before .before .before .before .before .before .before .before .before .before .before .before .before .before .before .before .before .before .before .before .before .before .before .before .before .loop .i)) (pairs (a .k) (a .keep .now))) (c .before .before .before .before .before .before .before .before .before .before .before .before .before .before .before .before .before .before .before .before .before .before .before .before .from-of .result) (c .before .before .before .before .before .before .before .before .before .before .before .before .before .before .before .before .before .before .before .before .before .before .before .to-of .result) (getD (a .keep .now) (c .before .before .before .before .before .before .before .before .before .before .before .before .before .before .before .before .before .before .before .before .before .before .before .before .before .before .loop .i + c .before .before .before .before .before .before .before .before .before .before .before .before .before .before .before .before .before .before .before .before .before .before .before .before .before .before .loop .i) nan) (getD (a .keep .now) (suc (c .before .before .before .before .before .before .before .before .before .before .before .before .before .before .before .before .before .before .before .before .before .before .before .before .before .before .loop .i + c .before .before .before .before .before .before .before .before .before .before .before .before .before .before .before .before .before .before .before .before .before .before .before .before .before .before .loop .i)) nan) (pairs-from (a .keep .now) (a .k) (c .before .before .before .before .before .before .before .before .before .before .before .before .before .before .before .before .before .before .before .before .before .before .before .before .before .before .loop .i) (c .before .before .before .before .before .before .before .before .before .before .before .before .before .before .before .before .before .before .before .before .before .before .before .before .before .loop-test .taken)) (c .before .before .before .before .before .before .before .before .before .before .before .before .before .before .before .before .before .before .before .before .before .before .before .before .from-of .ensures) (c .before .before .before .before .before .before .before .before .before .before .before .before .before .before .before .before .before .before .before .before .before .before .before .to-of .ensures)) (c .before .before .before .before .before .before .before .before .before .before .before .before .before .before .before .before .before .before .before .before .before .before .if1 .left) (slices (c .before .before .before .before .before .before .before .before .before .before .before .before .before .before .before .keep-part .last .0) (c .before .before .before .before .before .before .before .before .before .before .before .before .before .before .before .keep-part .last .1 .0) (c .before .before .before .before .before .before .before .before .before .before .before .before .before .before .before .keep-part .last .1 .1 .0) (c .before .before .before .before .before .before .before .before .before .before .before .before .before .before .before .keep-part .last .1 .1 .1 .0) (c .before .before .before .before .before .before .before .before .before .before .before .before .before .before .before .keep-part .last .1 .1 .1 .1 .0)) (c .before .before .before .before .before .before .before .before .before .before .before .before .before .before .before .keep-part .last .1 .1 .1 .1 .1 .0) (c .before .part2 .given .0 .0 .made) (c .before .part2 .given .0 .0 .queued) (c .before .part2 .given .0 .1 .0) (record { edges = c .before .before .before .before .before .before .before .before .before .before .before .before .before .before .before .keep-part .kept .0; words = c .before .before .before .before .before .before .before .before .before .before .before .before .before .before .before .keep-part .kept .1 .0; reals = c .before .before .before .before .before .before .before .before .before .before .before .before .before .before .before .keep-part .kept .1 .1 .0; keys = c .before .before .before .before .before .before .before .before .before .before .before .before .before .before .before .keep-part .kept .1 .1 .1 .0; events = c .before .before .before .before .before .before .before .before .before .before .before .before .before .before .before .keep-part .kept .1 .1 .1 .1 .0 }) (c .before .before .before .before .before .before .before .before .before .before .before .before .before .before .before .keep-part .kept .1 .1 .1 .1 .1 .0) (rw (c .before .part2 .given .1) at (c .before .before .before .before .before .before .before .before .before .before .before .before .before .before .before .keep-part .ensures .0)) (rw (c .before .part2 .given .1) at (c .before .before .before .before .before .before .before .before .before .before .before .before .before .before .before .keep-part .ensures .1))
 
 same-length-7 : tie.Need-same-length-7 Inv-loop μ-loop
 same-length-7 c = c .before .loop .inv .same .edges
@@ -106,7 +107,7 @@ same-length-12 c = c .before .loop .inv .same-vertex
 returns-2 : tie.Need-returns-2 Inv-loop μ-loop
 returns-2 c =
     let a = c .before .before .before .before .before .before .before .before .before .before .args in
-    ((c .before .loop .inv .fits, c .before .loop .inv .linked), keep-over (a .limit) (a .vertex-words .now) (a .e .0) (a .len) (a .a .0) (a .b .0) (a .x) (a .tiny) (pairs (a .k) (a .keep .now)) (slices (a .edges .now) (a .words .now) (a .reals .now) (a .keys .now) (a .events .now)) (a .vertex .now) (a .counts .made) (a .counts .queued) (a .before) (slices (c .before .loop .edges) (c .before .loop .words) (c .before .loop .reals) (c .before .loop .keys) (c .before .loop .events)) (c .before .loop .vertex) (c .before .loop .now .made) (c .before .loop .now .queued) (c .before .loop .last) (c .before .loop .i) (c .before .loop .inv) (pairs-past (a .keep .now) (a .k) (c .before .loop .i) (c .loop-test .left)))
+    ((c .before .loop .inv .fits, c .before .loop .inv .linked), keep-over (a .limit) (a .vertex-words .now) (a .e) (a .x) (a .tiny) (pairs (a .k) (a .keep .now)) (slices (a .edges .now) (a .words .now) (a .reals .now) (a .keys .now) (a .events .now)) (a .vertex .now) (a .counts .made) (a .counts .queued) (a .before) (slices (c .before .loop .edges) (c .before .loop .words) (c .before .loop .reals) (c .before .loop .keys) (c .before .loop .events)) (c .before .loop .vertex) (c .before .loop .now .made) (c .before .loop .now .queued) (c .before .loop .last) (c .before .loop .i) (c .before .loop .inv) (pairs-past (a .keep .now) (a .k) (c .before .loop .i) (c .loop-test .left)))
 
 pub keep-parts-spec : {M : Type 1} → statement M
 keep-parts-spec =

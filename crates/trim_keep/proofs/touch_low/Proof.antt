@@ -28,13 +28,13 @@ same-length-3 c = search needs
 
 returns : tie.Need-returns
 returns c = λ cuts windows made.
-    let a = c .before .before .before .before .before .before .before .before .before .before .before .before .before .before .before .before .before .args in
-    touched-yes cuts windows (a .limit) (a .vertex-words .now) (le (a .win .b0) (near ⊗ a .len)) (c .before .before .before .before .before .before .before .before .before .before .before .if1 .taken) (a .a .0) (evalOf (a .win) zero zero) (stock made (a .n) (queue (a .keys .now) (a .events .now)) (a .vertex .now)) made (c .before .before .before .before .before .before .touch .last .0) (c .before .before .before .before .before .before .touch .result, queue (c .before .before .before .before .before .before .touch .last .1 .1 .0) (c .before .before .before .before .before .before .touch .last .1 .1 .1 .0)) (rw (c .before .before .before .before .before .before .before .before .before .before .eval .ensures) at (c .before .before .before .before .before .before .touch .ensures cuts windows made))
+    let a = c .before .before .before .before .before .before .before .before .before .before .before .before .before .before .before .before .before .before .args in
+    touched-yes cuts windows (a .limit) (a .vertex-words .now) (le (a .win .b0) (near ⊗ a .e .len)) (c .before .before .before .before .before .before .before .before .before .before .before .if1 .taken) (a .e .a .0) (evalOf (a .win) zero zero) (stock made (a .n) (queue (a .keys .now) (a .events .now)) (a .vertex .now)) made (c .before .before .before .before .before .before .touch .last .0) (c .before .before .before .before .before .before .touch .result, queue (c .before .before .before .before .before .before .touch .last .1 .1 .0) (c .before .before .before .before .before .before .touch .last .1 .1 .1 .0)) (rw (c .before .before .before .before .before .before .before .before .before .before .eval .ensures) at (c .before .before .before .before .before .before .touch .ensures cuts windows made))
 
 returns-2 : tie.Need-returns-2
 returns-2 c = λ cuts windows made.
-    let a = c .before .before .before .before .before .before .args in
-    touched-no cuts windows (a .limit) (a .vertex-words .now) (le (a .win .b0) (near ⊗ a .len)) (c .if1 .left) (a .a .0) (evalOf (a .win) zero zero) made (a .n) (queue (a .keys .now) (a .events .now)) (a .vertex .now)
+    let a = c .before .before .before .before .before .before .before .args in
+    touched-no cuts windows (a .limit) (a .vertex-words .now) (le (a .win .b0) (near ⊗ a .e .len)) (c .if1 .left) (a .e .a .0) (evalOf (a .win) zero zero) made (a .n) (queue (a .keys .now) (a .events .now)) (a .vertex .now)
 
 pub touch-low-spec : {M : Type 1} → statement M
 touch-low-spec =

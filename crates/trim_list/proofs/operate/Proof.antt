@@ -17,8 +17,8 @@ add-candidate-requires c κs = search needs
 enum-told : tie.Need-enum-told
 enum-told c = search needs
 
-pop-requires : tie.Need-pop-requires
-pop-requires c κs = search needs
+pop-first-requires : tie.Need-pop-first-requires
+pop-first-requires c κs = search needs
 
 enum-known-op-2 : tie.Need-enum-known-op-2
 enum-known-op-2 c = search needs
@@ -62,7 +62,7 @@ same-length-10 c = search needs
 returns : tie.Need-returns
 returns c =
     let a = c .before .before .before .before .before .before .before .before .before .before .before .before .before .before .before .before .before .before .before .before .before .before .before .before .before .before .before .before .before .before .before .before .before .before .before .before .before .before .before .before .before .before .before .before .before .before .before .args in
-    of-op (settingOf (cuts (a .pts .now) (a .out .now) (a .keep .now) (a .next .now)) (slices (a .edges .now) (a .words .now) (a .reals .now) (a .keys .now) (a .events .now) (a .vertex .now)) (a .limit) (a .vertex-words .now) (a .ends .now) (a .lens .now) (a .m)) (a .made) (a .queued) (a .op) (Add (c .before .before .before .before .before .before .before .before .before .before .before .before .before .before .before .before .before .before .before .before .before .before .before .before .before .before .before .before .before .before .before .before .op .given .0 .0)) (c .before .before .before .before .before .before .before .before .before .before .before .before .before .before .before .before .before .before .before .before .before .before .before .before .before .before .before .before .before .before .before .before .op .given .1) (slices (a .edges .now) (a .words .now) (a .reals .now) (a .keys .now) (a .events .now) (a .vertex .now)) (c .before .before .before .before .before .before .before .before .before .before .before .before .before .before .before .before .before .before .before .before .add-candidate .result) (slices (c .before .before .before .before .before .before .before .before .before .before .before .before .before .before .before .before .before .before .before .before .add-candidate .last .1 .1 .1 .1 .1 .1 .0) (c .before .before .before .before .before .before .before .before .before .before .before .before .before .before .before .before .before .before .before .before .add-candidate .last .1 .1 .1 .1 .1 .1 .1 .0) (c .before .before .before .before .before .before .before .before .before .before .before .before .before .before .before .before .before .before .before .before .add-candidate .last .1 .1 .1 .1 .1 .1 .1 .1 .0) (c .before .before .before .before .before .before .before .before .before .before .before .before .before .before .before .before .before .before .before .before .add-candidate .last .1 .1 .1 .1 .1 .1 .1 .1 .1 .0) (c .before .before .before .before .before .before .before .before .before .before .before .before .before .before .before .before .before .before .before .before .add-candidate .last .1 .1 .1 .1 .1 .1 .1 .1 .1 .1 .0) (c .before .before .before .before .before .before .before .before .before .before .before .before .before .before .before .before .before .before .before .before .add-candidate .last .1 .1 .1 .1 .1 .1 .1 .1 .1 .1 .1 .0)) (c .before .before .before .before .before .before .before .before .before .before .before .before .before .before .before .before .before .before .before .before .add-candidate .ensures)
+    of-op (settingOf (cuts (a .pts .now) (a .out .now) (a .keep .now) (a .next .now)) (slices (a .edges .now) (a .words .now) (a .reals .now) (a .keys .now) (a .events .now) (a .vertex .now)) (a .limit) (a .vertex-words .now) (a .ends .now) (a .lens .now) (a .m)) (a .made) (a .queued) (a .op) (Add (c .before .before .before .before .before .before .before .before .before .before .before .before .before .before .before .before .before .before .before .before .before .before .before .before .before .before .before .before .before .before .before .before .op .given .0 .0) (c .before .before .before .before .before .before .before .before .before .before .before .before .before .before .before .before .before .before .before .before .before .before .before .before .before .before .before .before .before .before .before .before .op .given .0 .1 .0)) (c .before .before .before .before .before .before .before .before .before .before .before .before .before .before .before .before .before .before .before .before .before .before .before .before .before .before .before .before .before .before .before .before .op .given .1) (slices (a .edges .now) (a .words .now) (a .reals .now) (a .keys .now) (a .events .now) (a .vertex .now)) (c .before .before .before .before .before .before .before .before .before .before .before .before .before .before .before .before .before .before .before .before .add-candidate .result) (slices (c .before .before .before .before .before .before .before .before .before .before .before .before .before .before .before .before .before .before .before .before .add-candidate .last .1 .1 .1 .1 .1 .1 .1 .0) (c .before .before .before .before .before .before .before .before .before .before .before .before .before .before .before .before .before .before .before .before .add-candidate .last .1 .1 .1 .1 .1 .1 .1 .1 .0) (c .before .before .before .before .before .before .before .before .before .before .before .before .before .before .before .before .before .before .before .before .add-candidate .last .1 .1 .1 .1 .1 .1 .1 .1 .1 .0) (c .before .before .before .before .before .before .before .before .before .before .before .before .before .before .before .before .before .before .before .before .add-candidate .last .1 .1 .1 .1 .1 .1 .1 .1 .1 .1 .0) (c .before .before .before .before .before .before .before .before .before .before .before .before .before .before .before .before .before .before .before .before .add-candidate .last .1 .1 .1 .1 .1 .1 .1 .1 .1 .1 .1 .0) (c .before .before .before .before .before .before .before .before .before .before .before .before .before .before .before .before .before .before .before .before .add-candidate .last .1 .1 .1 .1 .1 .1 .1 .1 .1 .1 .1 .1 .0)) (c .before .before .before .before .before .before .before .before .before .before .before .before .before .before .before .before .before .before .before .before .add-candidate .ensures)
 
 same-length-11 : tie.Need-same-length-11
 same-length-11 c = search needs
@@ -79,7 +79,7 @@ same-length-14 c = search needs
 returns-2 : tie.Need-returns-2
 returns-2 c =
     let a = c .before .before .before .before .before .before .before .before .before .before .before .before .before .before .before .before .before .before .before .before .before .before .before .before .before .before .args in
-    of-op (settingOf (cuts (a .pts .now) (a .out .now) (a .keep .now) (a .next .now)) (slices (a .edges .now) (a .words .now) (a .reals .now) (a .keys .now) (a .events .now) (a .vertex .now)) (a .limit) (a .vertex-words .now) (a .ends .now) (a .lens .now) (a .m)) (a .made) (a .queued) (a .op) Pop (c .before .before .before .before .before .before .before .before .before .before .before .enum-told .given .1) (slices (a .edges .now) (a .words .now) (a .reals .now) (a .keys .now) (a .events .now) (a .vertex .now)) (Went (a .made) (c .before .before .before .before .before .before .pop .result)) (slices (a .edges .now) (c .before .before .before .before .before .before .pop .last .0) (a .reals .now) (c .before .before .before .before .before .before .pop .last .1 .1 .0) (c .before .before .before .before .before .before .pop .last .1 .1 .1 .0) (a .vertex .now)) (op-pop (settingOf (cuts (a .pts .now) (a .out .now) (a .keep .now) (a .next .now)) (slices (a .edges .now) (a .words .now) (a .reals .now) (a .keys .now) (a .events .now) (a .vertex .now)) (a .limit) (a .vertex-words .now) (a .ends .now) (a .lens .now) (a .m)) (a .made) (a .queued) (c .before .before .before .before .before .before .before .before .before .before .before .before .before .before .before .before .before .before .before .before .before .before .before .before .before .before .pre .fits) (a .edges .now) (a .words .now) (a .reals .now) (a .keys .now) (a .events .now) (a .vertex .now) (c .before .before .before .before .before .before .pop .last .0) (c .before .before .before .before .before .before .pop .last .1 .1 .0) (c .before .before .before .before .before .before .pop .last .1 .1 .1 .0) (c .before .before .before .before .before .before .pop .result) (c .before .before .before .before .before .before .pop .ensures))
+    of-op (settingOf (cuts (a .pts .now) (a .out .now) (a .keep .now) (a .next .now)) (slices (a .edges .now) (a .words .now) (a .reals .now) (a .keys .now) (a .events .now) (a .vertex .now)) (a .limit) (a .vertex-words .now) (a .ends .now) (a .lens .now) (a .m)) (a .made) (a .queued) (a .op) Pop (c .before .before .before .before .before .before .before .before .before .before .before .enum-told .given .1) (slices (a .edges .now) (a .words .now) (a .reals .now) (a .keys .now) (a .events .now) (a .vertex .now)) (Went (a .made) (c .before .before .before .before .before .before .pop-first .result)) (slices (a .edges .now) (c .before .before .before .before .before .before .pop-first .last .0) (a .reals .now) (c .before .before .before .before .before .before .pop-first .last .1 .1 .0) (c .before .before .before .before .before .before .pop-first .last .1 .1 .1 .0) (a .vertex .now)) (op-pop (settingOf (cuts (a .pts .now) (a .out .now) (a .keep .now) (a .next .now)) (slices (a .edges .now) (a .words .now) (a .reals .now) (a .keys .now) (a .events .now) (a .vertex .now)) (a .limit) (a .vertex-words .now) (a .ends .now) (a .lens .now) (a .m)) (a .made) (a .queued) (c .before .before .before .before .before .before .before .before .before .before .before .before .before .before .before .before .before .before .before .before .before .before .before .before .before .before .pre .fits) (a .edges .now) (a .words .now) (a .reals .now) (a .keys .now) (a .events .now) (a .vertex .now) (c .before .before .before .before .before .before .before .before .before .before .before .before .before .before .before .before .before .before .before .before .before .before .before .before .before .before .pre .fits) (c .before .before .before .before .before .before .pop-first .last .0) (c .before .before .before .before .before .before .pop-first .last .1 .1 .0) (c .before .before .before .before .before .before .pop-first .last .1 .1 .1 .0) (c .before .before .before .before .before .before .pop-first .result) (c .before .before .before .before .before .before .pop-first .ensures))
 
 same-length-15 : tie.Need-same-length-15
 same-length-15 c = search needs
@@ -98,7 +98,7 @@ returns-3 c =
 returns-4 : tie.Need-returns-4
 returns-4 c =
     let a = c .before .before .before .before .before .before .before .before .before .before .before .before .before .before .before .args in
-    of-op (settingOf (cuts (a .pts .now) (a .out .now) (a .keep .now) (a .next .now)) (slices (a .edges .now) (a .words .now) (a .reals .now) (a .keys .now) (a .events .now) (a .vertex .now)) (a .limit) (a .vertex-words .now) (a .ends .now) (a .lens .now) (a .m)) (a .made) (a .queued) (a .op) Unknown (c .enum-told2 .given .1) (slices (a .edges .now) (a .words .now) (a .reals .now) (a .keys .now) (a .events .now) (a .vertex .now)) (Stopped 40) (slices (a .edges .now) (a .words .now) (a .reals .now) (a .keys .now) (a .events .now) (a .vertex .now)) (op-unknown (settingOf (cuts (a .pts .now) (a .out .now) (a .keep .now) (a .next .now)) (slices (a .edges .now) (a .words .now) (a .reals .now) (a .keys .now) (a .events .now) (a .vertex .now)) (a .limit) (a .vertex-words .now) (a .ends .now) (a .lens .now) (a .m)) (a .made) (a .queued) (slices (a .edges .now) (a .words .now) (a .reals .now) (a .keys .now) (a .events .now) (a .vertex .now)))
+    of-op (settingOf (cuts (a .pts .now) (a .out .now) (a .keep .now) (a .next .now)) (slices (a .edges .now) (a .words .now) (a .reals .now) (a .keys .now) (a .events .now) (a .vertex .now)) (a .limit) (a .vertex-words .now) (a .ends .now) (a .lens .now) (a .m)) (a .made) (a .queued) (a .op) Unknown (c .enum-told2 .given .1) (slices (a .edges .now) (a .words .now) (a .reals .now) (a .keys .now) (a .events .now) (a .vertex .now)) (Stopped 70) (slices (a .edges .now) (a .words .now) (a .reals .now) (a .keys .now) (a .events .now) (a .vertex .now)) (op-unknown (settingOf (cuts (a .pts .now) (a .out .now) (a .keep .now) (a .next .now)) (slices (a .edges .now) (a .words .now) (a .reals .now) (a .keys .now) (a .events .now) (a .vertex .now)) (a .limit) (a .vertex-words .now) (a .ends .now) (a .lens .now) (a .m)) (a .made) (a .queued) (slices (a .edges .now) (a .words .now) (a .reals .now) (a .keys .now) (a .events .now) (a .vertex .now)))
 
 pub operate-spec : {M : Type 1} → statement M
 operate-spec =
@@ -107,7 +107,7 @@ operate-spec =
     enum-known-op
     add-candidate-requires
     enum-told
-    pop-requires
+    pop-first-requires
     enum-known-op-2
     touch-requires
     enum-told-2

@@ -24,7 +24,7 @@ same-length-2 c = search needs
 
 returns : tie.Need-returns
 returns c =
-    let a = c .before .before .before .before .before .before .before .before .before .before .args in
+    let a = c .before .before .before .before .before .before .before .before .before .before .before .args in
     (tt, λ cuts limit flags vertex k. part-none cuts (capacityOf (length (a .words .now)) (length (a .reals .now))) limit flags (a .e) (a .x) k (a .b0) (a .b1) (a .counts .made) (a .counts .queued) (a .before) (links (a .edges .now) (a .words .now)) (a .reals .now) (queue (a .keys .now) (a .events .now)) vertex (omega (arith, c .before .capacity .ensures, c .if1 .taken)))
 
 trimmed-requires : tie.Need-trimmed-requires
@@ -62,14 +62,14 @@ same-length-7 c = search needs
 
 returns-2 : tie.Need-returns-2
 returns-2 c =
-    let a = c .before .before .before .before .before .before .before .before .before .before .before .before .before .before .before .before .before .before .before .before .before .before .before .before .before .before .before .before .before .before .before .before .args in
+    let a = c .before .before .before .before .before .before .before .before .before .before .before .before .before .before .before .before .before .before .before .before .before .before .before .before .before .before .before .before .before .before .before .before .before .args in
     (tt, λ cuts limit flags vertex k. part-full cuts (capacityOf (length (a .words .now)) (length (a .reals .now))) limit flags (a .e) (a .x) k (a .b0) (a .b1) (a .counts .made) (a .counts .queued) (a .before) (links (a .edges .now) (a .words .now)) (a .reals .now) (queue (a .keys .now) (a .events .now)) vertex (omega (arith, c .before .before .before .before .before .before .before .before .before .before .before .before .before .before .before .before .before .before .before .before .before .before .before .capacity .ensures, c .before .before .before .before .before .before .before .before .before .before .before .before .before .before .before .before .before .before .before .before .before .before .if1 .left)) (lowestOf (a .x .win .src) (a .b0) (a .b1)) refl (links (c .before .before .before .before .before .before .before .before .before .before .before .before .before .before .before .before .before .make-window .last .0) (c .before .before .before .before .before .before .before .before .before .before .before .before .before .before .before .before .before .make-window .last .1 .0)) (c .before .before .before .before .before .before .before .before .before .before .before .before .before .before .before .before .before .make-window .last .1 .1 .0) (rw (c .before .before .before .before .before .before .before .before .before .before .before .before .before .before .before .before .before .before .before .before .before .trimmed .ensures) at (c .before .before .before .before .before .before .before .before .before .before .before .before .before .before .before .before .before .make-window .ensures)) (c .before .before .before .before .before .before .before .before .before .before .if2 .taken) (c .before .before .before .before .before .before .before .before .before .window-event .result) (rw (c .before .before .before .before .before .before .before .before .before .before .before .before .before .before .before .before .before .before .before .before .before .trimmed .ensures) at (c .before .before .before .before .before .before .before .before .before .window-event .ensures)) (queue (c .before .before .before .before .before .before .push .last .0) (c .before .before .before .before .before .before .push .last .1 .0)) (rw (c .enum-told .given .1) at (c .before .before .before .before .before .before .push .ensures .0)))
 
-add-t37 : tie.Need-add-t37
-add-t37 c = search needs
+add-t40 : tie.Need-add-t40
+add-t40 c = search needs
 
-add-t39 : tie.Need-add-t39
-add-t39 c = search needs
+add-t42 : tie.Need-add-t42
+add-t42 c = search needs
 
 same-length-8 : tie.Need-same-length-8
 same-length-8 c = search needs
@@ -88,14 +88,14 @@ same-length-12 c = search needs
 
 returns-3 : tie.Need-returns-3
 returns-3 c =
-    let a = c .before .before .before .before .before .before .before .before .before .before .before .before .before .before .before .before .before .before .before .before .before .before .before .before .before .before .before .before .before .before .before .before .before .args in
+    let a = c .before .before .before .before .before .before .before .before .before .before .before .before .before .before .before .before .before .before .before .before .before .before .before .before .before .before .before .before .before .before .before .before .before .before .args in
     (add-one (a .counts .made), λ cuts limit flags vertex k. part-queued cuts (capacityOf (length (a .words .now)) (length (a .reals .now))) limit flags (a .e) (a .x) k (a .b0) (a .b1) (a .counts .made) (a .counts .queued) (a .before) (links (a .edges .now) (a .words .now)) (a .reals .now) (queue (a .keys .now) (a .events .now)) vertex (omega (arith, c .before .before .before .before .before .before .before .before .before .before .before .before .before .before .before .before .before .before .before .before .before .before .before .before .capacity .ensures, c .before .before .before .before .before .before .before .before .before .before .before .before .before .before .before .before .before .before .before .before .before .before .before .if1 .left)) (lowestOf (a .x .win .src) (a .b0) (a .b1)) refl (links (c .before .before .before .before .before .before .before .before .before .before .before .before .before .before .before .before .before .before .make-window .last .0) (c .before .before .before .before .before .before .before .before .before .before .before .before .before .before .before .before .before .before .make-window .last .1 .0)) (c .before .before .before .before .before .before .before .before .before .before .before .before .before .before .before .before .before .before .make-window .last .1 .1 .0) (rw (c .before .before .before .before .before .before .before .before .before .before .before .before .before .before .before .before .before .before .before .before .before .before .trimmed .ensures) at (c .before .before .before .before .before .before .before .before .before .before .before .before .before .before .before .before .before .before .make-window .ensures)) (c .before .before .before .before .before .before .before .before .before .before .before .if2 .taken) (c .before .before .before .before .before .before .before .before .before .before .window-event .result) (rw (c .before .before .before .before .before .before .before .before .before .before .before .before .before .before .before .before .before .before .before .before .before .before .trimmed .ensures) at (c .before .before .before .before .before .before .before .before .before .before .window-event .ensures)) (queue (c .before .before .before .before .before .before .before .push .last .0) (c .before .before .before .before .before .before .before .push .last .1 .0)) (a .counts .made + 1) (add-one (a .counts .made)) (c .before .pushed .given .0 .0) (rw (c .before .pushed .given .1) at (c .before .before .before .before .before .before .before .push .ensures .0)))
 
-add-t19 : tie.Need-add-t19
-add-t19 c = search needs
+add-t20 : tie.Need-add-t20
+add-t20 c = search needs
 
-add-t41 : tie.Need-add-t41
-add-t41 c = search needs
+add-t44 : tie.Need-add-t44
+add-t44 c = search needs
 
 same-length-13 : tie.Need-same-length-13
 same-length-13 c = search needs
@@ -108,7 +108,7 @@ same-length-15 c = search needs
 
 returns-4 : tie.Need-returns-4
 returns-4 c =
-    let a = c .before .before .before .before .before .before .before .before .before .before .before .before .before .before .before .before .before .before .before .before .before .before .args in
+    let a = c .before .before .before .before .before .before .before .before .before .before .before .before .before .before .before .before .before .before .before .before .before .before .before .args in
     (add-one (a .counts .made), λ cuts limit flags vertex k. part-quiet cuts (capacityOf (length (a .words .now)) (length (a .reals .now))) limit flags (a .e) (a .x) k (a .b0) (a .b1) (a .counts .made) (a .counts .queued) (a .before) (links (a .edges .now) (a .words .now)) (a .reals .now) (queue (a .keys .now) (a .events .now)) vertex (omega (arith, c .before .before .before .before .before .before .before .before .before .before .before .before .before .capacity .ensures, c .before .before .before .before .before .before .before .before .before .before .before .before .if1 .left)) (lowestOf (a .x .win .src) (a .b0) (a .b1)) refl (links (c .before .before .before .before .before .before .before .make-window .last .0) (c .before .before .before .before .before .before .before .make-window .last .1 .0)) (c .before .before .before .before .before .before .before .make-window .last .1 .1 .0) (rw (c .before .before .before .before .before .before .before .before .before .before .before .trimmed .ensures) at (c .before .before .before .before .before .before .before .make-window .ensures)) (a .counts .made + 1) (add-one (a .counts .made)) (c .if2 .left))
 
 pub make-part-spec : {M : Type 1} → statement M
@@ -131,16 +131,16 @@ make-part-spec =
     same-length-6
     same-length-7
     returns-2
-    add-t37
-    add-t39
+    add-t40
+    add-t42
     same-length-8
     same-length-9
     same-length-10
     same-length-11
     same-length-12
     returns-3
-    add-t19
-    add-t41
+    add-t20
+    add-t44
     same-length-13
     same-length-14
     same-length-15

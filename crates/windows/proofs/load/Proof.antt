@@ -28,35 +28,35 @@ has-flag-requires c κs = search needs
 load-win-requires : tie.Need-load-win-requires
 load-win-requires c κs = search needs
 
-mul-t7 : tie.Need-mul-t7
-mul-t7 c = search needs
-
-shared-slice-read-t10 : tie.Need-shared-slice-read-t10
-shared-slice-read-t10 c = search needs
-
 add-t8 : tie.Need-add-t8
 add-t8 c = search needs
 
-mul-t14 : tie.Need-mul-t14
-mul-t14 c = search needs
+mul-t9 : tie.Need-mul-t9
+mul-t9 c = search needs
 
-shared-slice-read-t16 : tie.Need-shared-slice-read-t16
-shared-slice-read-t16 c = search needs
+shared-slice-read-t11 : tie.Need-shared-slice-read-t11
+shared-slice-read-t11 c = search needs
 
 has-flag-requires-2 : tie.Need-has-flag-requires-2
 has-flag-requires-2 c κs = search needs
 
+mul-t8 : tie.Need-mul-t8
+mul-t8 c = search needs
+
+shared-slice-read-t11-2 : tie.Need-shared-slice-read-t11-2
+shared-slice-read-t11-2 c = search needs
+
 has-flag-requires-3 : tie.Need-has-flag-requires-3
 has-flag-requires-3 c κs = search needs
 
-add-t19 : tie.Need-add-t19
-add-t19 c = search needs
+add-t9 : tie.Need-add-t9
+add-t9 c = search needs
 
-mul-t20 : tie.Need-mul-t20
-mul-t20 c = search needs
+mul-t17 : tie.Need-mul-t17
+mul-t17 c = search needs
 
-shared-slice-read-t22 : tie.Need-shared-slice-read-t22
-shared-slice-read-t22 c = search needs
+shared-slice-read-t19 : tie.Need-shared-slice-read-t19
+shared-slice-read-t19 c = search needs
 
 returns : tie.Need-returns
 unfolding windowAt
@@ -67,9 +67,8 @@ returns c =
     let z : 4 * k ≡ 4 * k + 0 = omega arith in
     λ t. record {
       edge = record { 0 = getD w (z t) 0 };
-      into = record { 0 = intoOf w k };
-      alive = c .before .before .has-flag2 .ensures t;
-      queued = c .before .has-flag3 .ensures t;
+      carried = record { into = record { 0 = intoOf w k }; queued = c .before .before .before .has-flag2 .ensures t };
+      alive = c .before .has-flag3 .ensures t;
       link = linkOf w k;
       win = (c .before .before .before .before .before .load-win .ensures ∙ ap (λ line. winAt line (a .reals .now) k) (c .before .before .before .before .before .before .has-flag .ensures)) t;
     }
@@ -85,14 +84,14 @@ load-spec =
     shared-slice-read-flags
     has-flag-requires
     load-win-requires
-    mul-t7
-    shared-slice-read-t10
     add-t8
-    mul-t14
-    shared-slice-read-t16
+    mul-t9
+    shared-slice-read-t11
     has-flag-requires-2
+    mul-t8
+    shared-slice-read-t11-2
     has-flag-requires-3
-    add-t19
-    mul-t20
-    shared-slice-read-t22
+    add-t9
+    mul-t17
+    shared-slice-read-t19
     returns)

@@ -1,12 +1,9 @@
 use borrow.Author.Needs.{needs}
-use Rattle.trim_run.proofs.candidate_at.Statement.{statement}
-use Rattle.trim_run.proofs.candidate_at.Tie as tie
+use Rattle.trim_run.proofs.new_window_at.Statement.{statement}
+use Rattle.trim_run.proofs.new_window_at.Tie as tie
 
 read-u32-requires : tie.Need-read-u32-requires
 read-u32-requires c κs = search needs
-
-read-u32-requires-2 : tie.Need-read-u32-requires-2
-read-u32-requires-2 c κs = search needs
 
 is-queued-requires : tie.Need-is-queued-requires
 is-queued-requires c κs = search needs
@@ -22,20 +19,17 @@ source-at-requires c κs = search needs
 
 returns : tie.Need-returns
 returns c = λ t. record {
-  edge = c .before .before .before .before .before .read-u32 .ensures t;
   b0 = c .before .before .read-f64 .ensures t;
   b1 = c .before .read-f642 .ensures t;
   src = c .source-at .ensures t;
-  into = c .before .before .before .before .read-u322 .ensures t;
-  queued = c .before .before .before .is-queued .ensures t;
+  carried = record { into = record { 0 = c .before .before .before .before .read-u32 .ensures t }; queued = c .before .before .before .is-queued .ensures t };
 }
 
-pub candidate-at-spec : {M : Type 1} → statement M
-candidate-at-spec =
+pub new-window-at-spec : {M : Type 1} → statement M
+new-window-at-spec =
     tie.close
     (tie.spec
     read-u32-requires
-    read-u32-requires-2
     is-queued-requires
     read-f64-requires
     read-f64-requires-2

@@ -1,0 +1,181 @@
+-- Where windows stand in the buffers, with zeros behind, the buffers' words and reals are those of the windows. Assumes nothing.
+use Prim.Native.Nat.{ℕ, zero, suc, _+_, _*_, _-_, _≤_, _<_}
+use native.Mathlib.Omega.{arith}
+use native.Mathlib.Decide.{ℕ-discrete}
+use mathlib.Core.Bool.{Bool, true, false, cond}
+use mathlib.Core.List.{List, [], _∷_, _++_, append-assoc, append-nil}
+use mathlib.Core.Logic.{_≢_}
+use mathlib.Core.Path.{_≡_, refl, sym, ap, subst, _∙_}
+use borrow.Author.Tests.{eq-eqb, ne-eqb}
+use lib.Dec.{eqb}
+use lib.ListN.{length, getD, take, drop, replicate, take-append-drop}
+use lib.Seq.{take-add, length-take-le}
+use lib.Ieee.{Float, nan}
+use Rattle.nat_laws.specs.Lists.{listOf}
+use Rattle.buffers.specs.Slots.{slot}
+use Rattle.buffers.proofs.Strides.{slot-at, length-slot}
+use Rattle.float64.specs.Scalar.{zero as zero64}
+use Rattle.windows.specs.declared.WindowRecord.{WindowRecord}
+use Rattle.windows.specs.Windows.{isLine, realsOf, srcOf, flagsOf, hasFlag, edgeOf, intoOf, flagsAt, linkOf, winAt, windowAt, relinked}
+use Rattle.windows.proofs.WindowList.{length-realsOf}
+use Rattle.chains.specs.Chains.{links, headOf, nextOf, Path, Out, firstLink}
+use Rattle.chains.proofs.Paths.{path-first}
+use Rattle.trim_model.specs.Windows.{Window}
+use Rattle.live_windows.specs.Live.{nums, In, Holds, bare, winsOf}
+use Rattle.live_windows.proofs.Stored.{length-wins}
+use Rattle.contents.specs.Contents.{linkAfter, fourWords, wordsFrom, sixReals, realsFrom, padded, wordsOf, realsOfAll}
+
+-- ---- slots as lists
+four : (l : List ℕ) → length l ≡ 4 → l ≡ getD l 0 0 ∷ getD l 1 0 ∷ getD l 2 0 ∷ getD l 3 0 ∷ []
+four [] h = absurd (omega arith)
+four (a ∷ []) h = absurd (omega arith)
+four (a ∷ b ∷ []) h = absurd (omega arith)
+four (a ∷ b ∷ c ∷ []) h = absurd (omega arith)
+four (a ∷ b ∷ c ∷ d ∷ []) h = refl
+four (a ∷ b ∷ c ∷ d ∷ e ∷ l) h = absurd (omega arith)
+
+six : (l : List Float) → length l ≡ 6 → l ≡ getD l 0 nan ∷ getD l 1 nan ∷ getD l 2 nan ∷ getD l 3 nan ∷ getD l 4 nan ∷ getD l 5 nan ∷ []
+six [] h = absurd (omega arith)
+six (a ∷ []) h = absurd (omega arith)
+six (a ∷ b ∷ []) h = absurd (omega arith)
+six (a ∷ b ∷ c ∷ []) h = absurd (omega arith)
+six (a ∷ b ∷ c ∷ d ∷ []) h = absurd (omega arith)
+six (a ∷ b ∷ c ∷ d ∷ e ∷ []) h = absurd (omega arith)
+six (a ∷ b ∷ c ∷ d ∷ e ∷ f ∷ []) h = refl
+six (a ∷ b ∷ c ∷ d ∷ e ∷ f ∷ g ∷ l) h = absurd (omega arith)
+
+-- ---- flags
+-- a number below 8 is what its flags make
+below-eight : (n : ℕ) → n < 8 → n ≡ flagsOf (hasFlag n 1) (hasFlag n 2) (hasFlag n 4)
+below-eight zero h = refl
+below-eight (suc zero) h = refl
+below-eight (suc (suc zero)) h = refl
+below-eight (suc (suc (suc zero))) h = refl
+below-eight (suc (suc (suc (suc zero)))) h = refl
+below-eight (suc (suc (suc (suc (suc zero))))) h = refl
+below-eight (suc (suc (suc (suc (suc (suc zero)))))) h = refl
+below-eight (suc (suc (suc (suc (suc (suc (suc zero))))))) h = refl
+below-eight (suc (suc (suc (suc (suc (suc (suc (suc n)))))))) h = absurd (omega arith)
+
+line-is : (line : Bool) (a b c : Float) → isLine (srcOf line a b c) ≡ line
+unfolding isLine
+line-is true a b c = refl
+line-is false a b c = refl
+
+reals-are : (line : Bool) (a b c : Float) → realsOf (srcOf line a b c) ≡ a ∷ b ∷ c ∷ []
+unfolding realsOf
+reals-are true a b c = refl
+reals-are false a b c = refl
+
+-- ---- links along a path
+after-head : (w : List ℕ) (l i : ℕ) (is : List ℕ) → Path w l is → In i is → nextOf w i ≡ linkAfter i is
+unfolding Path linkAfter
+after-head w l i [] p m = absurd (m tt)
+after-head w l i (j ∷ js) p m = go (ℕ-discrete i j) (after-head w (nextOf w j) i js (p .1)) where
+  go : Dec (i ≡ j) → (In i js → nextOf w i ≡ linkAfter i js) → nextOf w i ≡ cond (eqb i j) (firstLink js) (linkAfter i js)
+  go (yes d) ih = rw (eq-eqb i j d) (ap (nextOf w) d ∙ path-first w (nextOf w j) js (p .1))
+  go (no d) ih = rw (ne-eqb i j d) (ih (λ o. m (d, o)))
+
+slot-is : {A : Type 0} (s : ℕ) (l : List A) (k : ℕ) → take s (drop (s * k) l) ≡ slot s l k
+unfolding slot
+slot-is s l k = refl
+
+-- ---- one window more
+words-snoc : (live : ℕ → List Window) (i : ℕ) (l : List WindowRecord) (y : WindowRecord) → wordsFrom live i (l ++ (y ∷ [])) ≡ wordsFrom live i l ++ fourWords live (i + length l) y
+unfolding wordsFrom
+words-snoc live i [] y = let e : i ≡ i + 0 = omega arith in append-nil (fourWords live i y) ∙ ap (λ (j : ℕ). fourWords live j y) e
+words-snoc live i (z ∷ l) y =
+    let e : suc i + length l ≡ i + suc (length l) = omega arith in
+    ap (λ (r : List ℕ). fourWords live i z ++ r) (words-snoc live (suc i) l y ∙ ap (λ (j : ℕ). wordsFrom live (suc i) l ++ fourWords live j y) e)
+    ∙ sym (append-assoc (fourWords live i z) (wordsFrom live (suc i) l) (fourWords live (i + suc (length l)) y))
+
+reals-snoc : (l : List WindowRecord) (y : WindowRecord) → realsFrom (l ++ (y ∷ [])) ≡ realsFrom l ++ sixReals y
+unfolding realsFrom
+reals-snoc [] y = append-nil (sixReals y)
+reals-snoc (z ∷ l) y = ap (λ (r : List Float). sixReals z ++ r) (reals-snoc l y) ∙ sym (append-assoc (sixReals z) (realsFrom l) (sixReals y))
+
+-- a list of which the first n elements are known, and zeros behind
+filled : {A : Type 0} (z : A) (l k : List A) (n : ℕ) → n ≤ length l → take n l ≡ k → drop n l ≡ replicate (length l - n) z → l ≡ padded z (length l) k
+filled z l k n h d g =
+    let e : length k ≡ n = ap length (sym d) ∙ length-take-le n l h in
+    sym (take-append-drop n l)
+    ∙ (λ t. d t ++ g t)
+    ∙ ap (λ (j : ℕ). k ++ replicate (length l - j) z) (sym e)
+
+module _ (n : ℕ) (wins : List WindowRecord) (edges w : List ℕ) (f : List Float) (live : ℕ → List Window) (H : Holds n wins (links edges w) f live) (fitsWords : 4 * n ≤ length w) (fitsReals : 6 * n ≤ length f) where
+  abbrev x : ℕ → WindowRecord
+  x i = bare (windowAt w f i)
+
+  link-of : (i : ℕ) → i < n → linkOf w i ≡ cond (x i .alive) (linkAfter i (nums (live (x i .edge .0)))) (x i .link)
+  unfolding bare relinked windowAt
+  link-of i l = go (hasFlag (flagsAt w i) 2) refl where
+    go : (b : Bool) → hasFlag (flagsAt w i) 2 ≡ b → linkOf w i ≡ cond b (linkAfter i (nums (live (edgeOf w i)))) (cond b 0 (linkOf w i))
+    go true h =
+        let s = H .on-edge (edgeOf w i) in
+        after-head w (headOf edges (edgeOf w i)) i (nums (live (edgeOf w i))) (s .chain .path) (s .complete i l refl h)
+    go false h = refl
+
+  flags-of : (i : ℕ) → i < n → flagsAt w i ≡ flagsOf (isLine (x i .win .src)) (x i .alive) (x i .carried .queued)
+  unfolding bare relinked windowAt winAt
+  flags-of i l =
+      below-eight (flagsAt w i) (H .flags i l)
+      ∙ ap (λ b. flagsOf b (hasFlag (flagsAt w i) 2) (hasFlag (flagsAt w i) 4)) (sym (line-is (hasFlag (flagsAt w i) 1) (getD f (6 * i + 3) nan) (getD f (6 * i + 4) nan) (getD f (6 * i + 5) nan)))
+
+  edge-of : (i : ℕ) → edgeOf w i ≡ x i .edge .0
+  unfolding bare relinked windowAt
+  edge-of i = refl
+
+  into-of : (i : ℕ) → intoOf w i ≡ x i .carried .into .0
+  unfolding bare relinked windowAt
+  into-of i = refl
+
+  words-at : (i : ℕ) → i < n → slot 4 w i ≡ fourWords live i (x i)
+  words-at i l =
+      let h : 4 * i + 4 ≤ length w = omega (arith, l, fitsWords) in
+      four (slot 4 w i) (length-slot 4 w i h)
+      ∙ (λ t. slot-at 4 w i 0 0 (omega arith) t ∷ slot-at 4 w i 1 0 (omega arith) t ∷ slot-at 4 w i 2 0 (omega arith) t ∷ slot-at 4 w i 3 0 (omega arith) t ∷ [])
+      ∙ (λ t. edge-of i t ∷ into-of i t ∷ flags-of i l t ∷ link-of i l t ∷ [])
+
+  reals-at : (i : ℕ) → i < n → slot 6 f i ≡ sixReals (x i)
+  unfolding bare relinked windowAt winAt
+  reals-at i l =
+      let h : 6 * i + 6 ≤ length f = omega (arith, l, fitsReals) in
+      let at : (a : ℕ) → a < 6 → getD (slot 6 f i) a nan ≡ getD f (6 * i + a) nan = λ a k. slot-at 6 f i a nan k in
+      six (slot 6 f i) (length-slot 6 f i h)
+      ∙ (λ t. at 0 (omega arith) t ∷ at 1 (omega arith) t ∷ at 2 (omega arith) t ∷ at 3 (omega arith) t ∷ at 4 (omega arith) t ∷ at 5 (omega arith) t ∷ [])
+      ∙ ap (λ r. getD f (6 * i + 0) nan ∷ getD f (6 * i + 1) nan ∷ getD f (6 * i + 2) nan ∷ r)
+      (sym (reals-are (hasFlag (flagsAt w i) 1) (getD f (6 * i + 3) nan) (getD f (6 * i + 4) nan) (getD f (6 * i + 5) nan)))
+
+  -- ---- all of them
+  words-upto : (k : ℕ) → k ≤ n → take (4 * k) w ≡ wordsFrom live 0 (winsOf k w f)
+  unfolding winsOf listOf wordsFrom
+  words-upto zero h = refl
+  words-upto (suc k) h =
+      let e : 4 * suc k ≡ 4 * k + 4 = omega arith in
+      let last : 0 + length (winsOf k w f) ≡ k = omega (arith, length-wins k w f) in
+      ap (λ (j : ℕ). take j w) e
+      ∙ take-add (4 * k) 4 w
+      ∙ (λ t. words-upto k (omega (arith, h)) t ++ (slot-is 4 w k ∙ words-at k (omega (arith, h))) t)
+      ∙ sym (words-snoc live 0 (winsOf k w f) (x k) ∙ ap (λ (j : ℕ). wordsFrom live 0 (winsOf k w f) ++ fourWords live j (x k)) last)
+
+  reals-upto : (k : ℕ) → k ≤ n → take (6 * k) f ≡ realsFrom (winsOf k w f)
+  unfolding winsOf listOf realsFrom
+  reals-upto zero h = refl
+  reals-upto (suc k) h =
+      let e : 6 * suc k ≡ 6 * k + 6 = omega arith in
+      ap (λ (j : ℕ). take j f) e
+      ∙ take-add (6 * k) 6 f
+      ∙ (λ t. reals-upto k (omega (arith, h)) t ++ (slot-is 6 f k ∙ reals-at k (omega (arith, h))) t)
+      ∙ sym (reals-snoc (winsOf k w f) (x k))
+
+  words-whole : take (4 * n) w ≡ wordsFrom live 0 wins
+  words-whole = words-upto n (omega arith) ∙ ap (wordsFrom live 0) (H .all)
+
+  reals-whole : take (6 * n) f ≡ realsFrom wins
+  reals-whole = reals-upto n (omega arith) ∙ ap realsFrom (H .all)
+
+  pub words-are : drop (4 * n) w ≡ replicate (length w - 4 * n) 0 → w ≡ wordsOf (length w) wins live
+  words-are z = filled 0 w (wordsFrom live 0 wins) (4 * n) fitsWords words-whole z
+
+  pub reals-are-all : drop (6 * n) f ≡ replicate (length f - 6 * n) zero64 → f ≡ realsOfAll (length f) wins
+  reals-are-all z = filled zero64 f (realsFrom wins) (6 * n) fitsReals reals-whole z
