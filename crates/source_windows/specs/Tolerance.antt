@@ -9,8 +9,8 @@ abbrev pub narrowest : Float
 narrowest = ofBits binary64 0x3d71_9799_812d_ea11
 
 -- 1e-9: a point at most this part of an edge's length into the face lies on the edge
-abbrev pub touching : Float
-touching = ofBits binary64 0x3e11_2e0b_e826_d695
+abbrev pub nearEdge : Float
+nearEdge = ofBits binary64 0x3e11_2e0b_e826_d695
 
 -- 1e-15: a segment that goes at most this part of its length along an edge is upright on it
 abbrev pub upright : Float

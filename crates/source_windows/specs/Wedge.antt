@@ -9,14 +9,14 @@ use Rattle.vec3.specs.Vec.{scaleOf, axpyOf, subOf, dotOf}
 use Rattle.vec3.specs.declared.Vec3.{Vec3}
 use Rattle.source.specs.declared.Src.{Src}
 use Rattle.source.specs.declared.Src.the-variants.{Point}
-use Rattle.source_windows.specs.Tolerance.{touching, tooNarrow}
+use Rattle.source_windows.specs.Tolerance.{nearEdge, tooNarrow}
 use Rattle.source_windows.specs.declared.Bounds.{Bounds}
 use Rattle.source_windows.specs.declared.CandidateRange.{CandidateRange}
 use Rattle.source_windows.specs.declared.CandidateRange.the-variants.{Nothing, Window}
 
 -- `carrier`'s test, and `on` of `source_point`
 abbrev pub liesOn : Float → Float → Bool
-liesOn y l = le y (touching ⊗ l)
+liesOn y l = le y (nearEdge ⊗ l)
 
 -- a direction of face h in g's plane, unfolded across their common edge xh; yg and yh go into g and h: into h becomes out of g
 unfoldable pub unfoldedOf : Vec3 → Vec3 → Vec3 → Vec3 → Vec3
