@@ -2,16 +2,17 @@
 use Prim.Native.Nat.{ℕ, zero, suc, _*_, _/_, _<_, _≤_}
 use mathlib.Core.Path.{_≡_, refl, sym, ap, _∙_}
 use mathlib.Core.Bool.{true, false}
-use mathlib.Core.List.{[], _∷_}
+use mathlib.Core.List.{List, [], _∷_}
 use native.Mathlib.Nat.{not-suc-le-zero}
 use native.Mathlib.Omega.{arith}
 use lib.ListN.{length}
+use lib.Ieee.{Float}
 use Rattle.job_checks.specs.declared.BufferCounts.{BufferCounts}
 use Rattle.job_checks.specs.declared.Checked.{Checked}
 use Rattle.job_checks.specs.Any.{firstOf}
-use Rattle.job_checks.specs.Job.{Job}
-use Rattle.job_checks.specs.Refusals.{refusalNumber, refusals, refusalOf}
-use Rattle.job_checks.specs.Sound.{Sound}
+use Rattle.job_checks.specs.Job.{Job, pieceCount}
+use Rattle.job_checks.specs.Refusals.{maxVertices, refusalNumber, refusals, refusalOf}
+use Rattle.job_checks.specs.Sound.{ValidTriangles, LongEnough, Sound}
 use Rattle.job_checks.proofs.Any.{first-holds, first-after, first-none, first-within, first-past}
 use Rattle.job_checks.proofs.Sound.{refusals-numbered, sound}
 use Rattle.topology.specs.Edges.{edges, sharedByThree}
@@ -32,6 +33,20 @@ stays (suc k) m t l = refl
 changes : (k : ℕ) (m t : MeshBuffers) → k ≡ 0 → t ≡ afterwards k m t
 unfolding afterwards
 changes k m t e = rw e
+
+-- what `topology` asks, from the checks 1 to 3 and 9 alone
+pub fits-from : (v : List Float) (triangles : List ℕ) (m : MeshBuffers) (others : OtherCounts) (pieces : ℕ) → ValidTriangles triangles (length v / 3) → length v / 3 ≤ maxVertices → LongEnough (length v / 3) (length triangles / 3) pieces (countsIn m others)
+    → Fits v triangles (length (m .vertex-words)) (length (m .edge-words)) (length (m .edge-reals)) (length (m .round)) (length (m .triangle-words)) (length (m .triangle-reals))
+fits-from v triangles m others pieces valid few long =
+    record {
+      mesh = mesh-of triangles (length v / 3) valid few;
+      vertices-fit = omega (arith, long .vertices-fit);
+      edges-fit = omega (arith, long .edges-fit, valid .whole);
+      edge-reals-fit = omega (arith, long .edges-fit, valid .whole);
+      round-fits = omega (arith, long .vertex-faces-fit, valid .whole);
+      triangles-fit = omega (arith, long .triangles-fit, valid .whole);
+      triangle-reals-fit = omega (arith, long .triangles-fit, valid .whole);
+    }
 
 module _ (j : Job) (others : OtherCounts) (before : MeshBuffers) where
   -- refused by the checks, with nothing changed
@@ -85,15 +100,7 @@ module _ (j : Job) (others : OtherCounts) (before : MeshBuffers) where
     pub fits : Fits (j .vertices) (j .triangles) (length (before .vertex-words)) (length (before .edge-words)) (length (before .edge-reals)) (length (before .round)) (length (before .triangle-words)) (length (before .triangle-reals))
     fits =
         let s : Sound j (countsIn before others) = sound j (countsIn before others) passed in
-        record {
-          mesh = mesh-of (j .triangles) (length (j .vertices) / 3) (s .triangles) (s .whole .few-vertices);
-          vertices-fit = omega (arith, s .buffers .vertices-fit);
-          edges-fit = omega (arith, s .buffers .edges-fit, s .whole .whole-triangles);
-          edge-reals-fit = omega (arith, s .buffers .edges-fit, s .whole .whole-triangles);
-          round-fits = omega (arith, s .buffers .vertex-faces-fit, s .whole .whole-triangles);
-          triangles-fit = omega (arith, s .buffers .triangles-fit, s .whole .whole-triangles);
-          triangle-reals-fit = omega (arith, s .buffers .triangles-fit, s .whole .whole-triangles);
-        }
+        fits-from (j .vertices) (j .triangles) before others (pieceCount j) (s .triangles) (s .whole .few-vertices) (s .buffers)
 
 -- the checks' answer, at the counts of the buffers
 pub counted : (j : Job) (b b′ : BufferCounts) (k : ℕ) → k ≡ refusalOf j b → b ≡ b′ → k ≡ refusalOf j b′

@@ -16,6 +16,8 @@ use Rattle.topology.specs.Frames.{yhat}
 use Rattle.topology.specs.Rows.{rows}
 use Rattle.topology.proofs.Edges.{edge-count}
 use Rattle.topology.proofs.Rows.{row-inside, row-read}
+use Rattle.edge_table.specs.declared.Table.{Table}
+use Rattle.edge_table.specs.declared.Table.the-variants.{Edges as Table·Edges}
 use Rattle.edge_table.specs.Table.{edgeWords, triangleWords}
 use Rattle.edge_table.proofs.Reading.{low-read, high-read, first-face-read, second-face-read, windows-read, scratch-read, spare-read, number-read}
 use Rattle.vertex_faces.specs.Ranges.{withFlags, startOf, endOf, roundOf}
@@ -26,9 +28,10 @@ use Rattle.frames.proofs.Held.{lengths-held, normals-held, nine}
 use Rattle.mesh.specs.declared.OtherCounts.{OtherCounts}
 use Rattle.mesh.specs.declared.Meshed.{Meshed}
 use Rattle.mesh.specs.declared.Meshed.the-variants.{Edges}
-use Rattle.mesh.specs.Topology.{MeshBuffers, Fits, vertexWords, filled, topologyOf}
+use Rattle.mesh.specs.Topology.{MeshBuffers, Fits, vertexWords, filled, topologyOf, Made}
 use Rattle.mesh.specs.Answer.{numberOf, countsIn, meshRefusals, meshRefusal, afterwards, Answered}
 use Rattle.mesh.specs.Held.{Held, Fresh}
+use Rattle.mesh.proofs.Making.{has-edges}
 use Rattle.mesh.proofs.Answering.{fits}
 
 -- The filled buffers, one after the other.
@@ -78,7 +81,7 @@ module _ (v : List Float) (triangles flags : List ℕ) (n : ℕ) where
         ∙ read-flag flags (replicate n 0) k (length v / 3) l zeros-long
 
 module _ (v : List Float) (triangles flags : List ℕ) (m : MeshBuffers) where
-  abbrev FitsIn : Type 0
+  abbrev pub FitsIn : Type 0
   FitsIn = Fits v triangles (length (m .vertex-words)) (length (m .edge-words)) (length (m .edge-reals)) (length (m .round)) (length (m .triangle-words)) (length (m .triangle-reals))
 
   abbrev edgeReals : List Float
@@ -118,6 +121,18 @@ module _ (v : List Float) (triangles flags : List ℕ) (m : MeshBuffers) where
         scratch = scratch-read triangles (length (m .edge-words));
         no-entries = spare-read triangles (length (m .triangle-words));
       }
+
+-- What an answer of `topology` with n edges says, by its contract.
+module _ (v : List Float) (triangles flags : List ℕ) (t : Table) (before after : MeshBuffers) (made : Made v triangles flags t before after) (n : ℕ) (e : t ≡ Table·Edges n) where
+  made-filled : after ≡ filled v triangles flags before
+  unfolding topologyOf
+  made-filled = made .buffers ∙ rw (has-edges triangles t (made .answer) n e .0) refl
+
+  pub made-held : FitsIn v triangles flags before → Held v triangles flags after
+  made-held fit = subst (Held v triangles flags) (sym made-filled) (filled-held v triangles flags before fit)
+
+  pub made-fresh : Fresh after
+  made-fresh = subst Fresh (sym made-filled) (filled-fresh v triangles flags before)
 
 after-none : (v : List Float) (triangles flags : List ℕ) (m after : MeshBuffers) (k : ℕ) → k ≡ 0 → sharedByThree triangles ≡ false → after ≡ afterwards k m (topologyOf v triangles flags m) → after ≡ filled v triangles flags m
 unfolding afterwards topologyOf
