@@ -1,6 +1,6 @@
 -- A candidate window whose start is from 0 on and whose end is up to its edge's length, infinities among them, is proper where it is admitted: its width as
 -- computed is above tiny then, so both ends are finite. For whatever is offered that way: by insertion, by a vertex and by propagation. Assumes nothing.
---     admitted-inside, admitted-proper; clipped-proper (x.max(0.) and y.min(l)), whole-proper (the whole edge, 0 and l); length-point (of an edge of a checked mesh)
+--     admitted-inside, admitted-proper; offered-proper (what source_windows and propagation offer), clipped-proper (x.max(0.) and y.min(l)), whole-proper (the whole edge, 0 and l); length-point (of an edge of a checked mesh)
 use Prim.Native.Nat.{ℕ}
 use mathlib.Core.Bool.{Bool, true, false, not, _||_}
 use lib.Dec.{T}
@@ -8,7 +8,10 @@ use lib.Ieee.{Float, binary64, lt, le, fits}
 use lib.Ieee.Bits.{ofBits-fits}
 use mathlib.Core.Path.{_≡_, subst, sym}
 use Rattle.float64.specs.Scalar.{zero, minOf, maxOf}
+use Rattle.source.specs.declared.Src.{Src}
 use Rattle.source.specs.Distance.{lowestOf}
+use Rattle.source_windows.specs.Ends.{EndsOn, window}
+use Rattle.source_windows.specs.declared.CandidateRange.the-variants.{Window}
 use Rattle.better.specs.Claim.{Point}
 use Rattle.float_bounds.specs.Within.{Start, End, Inside}
 use Rattle.float_bounds.proofs.Ends.{start-zero, max-start, end-length, min-end, wide-inside}
@@ -53,3 +56,10 @@ module _ (limit : Float) (len : ℕ → Float) (c : Candidate) (long : Point (le
   -- the whole edge
   pub whole-proper : c .b0 ≡ zero → c .b1 ≡ len (c .edge) → Proper len c
   whole-proper s e = admitted-proper (subst Start (sym s) start-zero) (subst (End (len (c .edge))) (sym e) (end-length (len (c .edge)) (long .number) (long .double)))
+
+  -- what insertion, a vertex or propagation offers an edge, by the laws of source_windows and propagation
+  on-edge : {l b0 b1 : Float} {src : Src} → EndsOn l (Window b0 b1 src) → Start b0 × End l b1
+  on-edge (window s e) = (s, e)
+
+  pub offered-proper : EndsOn (len (c .edge)) (Window (c .b0) (c .b1) (c .src)) → Proper len c
+  offered-proper w = let ends = on-edge w in admitted-proper (ends .0) (ends .1)

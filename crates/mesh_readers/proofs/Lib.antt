@@ -1,4 +1,5 @@
 pub mod Held
+pub mod Mesh
 pub mod Round
 pub mod Sides
 pub mod Steps
