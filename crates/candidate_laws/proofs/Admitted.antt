@@ -8,9 +8,10 @@ use lib.Ieee.{Float, binary64, lt, le, fits}
 use lib.Ieee.Bits.{ofBits-fits}
 use mathlib.Core.Path.{_≡_, subst, sym}
 use Rattle.float64.specs.Scalar.{zero, minOf, maxOf}
-use Rattle.source.specs.declared.Src.{Src}
 use Rattle.source.specs.Distance.{lowestOf}
-use Rattle.source_windows.specs.Ends.{EndsOn, window}
+use Rattle.source_windows.specs.Ends.{EndsOn}
+use Rattle.source_windows.proofs.Ends.{ends-of}
+use Rattle.source_windows.specs.declared.CandidateRange.{CandidateRange}
 use Rattle.source_windows.specs.declared.CandidateRange.the-variants.{Window}
 use Rattle.better.specs.Claim.{Point}
 use Rattle.float_bounds.specs.Within.{Start, End, Inside}
@@ -58,8 +59,5 @@ module _ (limit : Float) (len : ℕ → Float) (c : Candidate) (long : Point (le
   whole-proper s e = admitted-proper (subst Start (sym s) start-zero) (subst (End (len (c .edge))) (sym e) (end-length (len (c .edge)) (long .number) (long .double)))
 
   -- what insertion, a vertex or propagation offers an edge, by the laws of source_windows and propagation
-  on-edge : {l b0 b1 : Float} {src : Src} → EndsOn l (Window b0 b1 src) → Start b0 × End l b1
-  on-edge (window s e) = (s, e)
-
-  pub offered-proper : EndsOn (len (c .edge)) (Window (c .b0) (c .b1) (c .src)) → Proper len c
-  offered-proper w = let ends = on-edge w in admitted-proper (ends .0) (ends .1)
+  pub offered-proper : {r : CandidateRange} → EndsOn (len (c .edge)) r → r ≡ Window (c .b0) (c .b1) (c .src) → Proper len c
+  offered-proper on is = let ends = ends-of on is in admitted-proper (ends .0) (ends .1)

@@ -1,5 +1,5 @@
 -- Where the buffers hold a mesh's topology, the readers' answers are the topology's. Assumes nothing.
---     of an edge      edge-held, ends-held, faces-held, other-held, shared-held; its length and unit vector are the fields of `HoldsLengths`
+--     of an edge      edge-held, ends-held, trim-edge-held, faces-held, other-held, shared-held; its length and unit vector are the fields of `HoldsLengths`
 --     of a face       side-held, normal-held, local-held, third-held, between-held, coords-held
 --     of a vertex     range-held, round-held
 use Prim.Native.Nat.{ℕ, _+_, _*_, _/_, _%_, _<_, _≤_}
@@ -13,7 +13,7 @@ use lib.Ieee.{Float, nan}
 use Rattle.vec3.specs.declared.Vec3.{Vec3}
 use Rattle.vec3.specs.Vec.{subOf, dotOf}
 use Rattle.topology.specs.Edges.{Edge, noEdge, offEnds, joins, edges, triEdge, face, other, local, third, sharedVertex, edgeBetween, vertexFaces}
-use Rattle.topology.specs.Frames.{origin, xhat, yhat, coordsX, coordsY}
+use Rattle.topology.specs.Frames.{origin, len, xhat, yhat, coordsX, coordsY}
 use Rattle.topology.proofs.Edges.{tri-edge-there}
 use Rattle.topology.proofs.Sides.{local-below}
 use Rattle.vertex_faces.specs.Ranges.{startOf, endOf}
@@ -25,7 +25,7 @@ use Rattle.mesh_readers.specs.declared.FacePair.{FacePair}
 use Rattle.mesh_readers.specs.declared.FrameCoords.{FrameCoords}
 use Rattle.mesh_readers.specs.declared.RoundRange.{RoundRange}
 use Rattle.mesh_readers.specs.Held.{HoldsRound}
-use Rattle.mesh_readers.specs.Readers.{edgeAt, endsAt, facesAt, otherAt, sharedAt, sideIn, normalIn, localAt, thirdAt, edgeBetweenAt, coordsAt, rangeAt, roundAt}
+use Rattle.mesh_readers.specs.Readers.{edgeAt, endsAt, trimEdgeAt, facesAt, otherAt, sharedAt, sideIn, normalIn, localAt, thirdAt, edgeBetweenAt, coordsAt, rangeAt, roundAt}
 
 -- ---- an edge
 module _ (triangles edgeWords : List ℕ) where
@@ -35,6 +35,10 @@ module _ (triangles edgeWords : List ℕ) where
 
     pub ends-held : (e : ℕ) → e < length (edges triangles) → endsAt edgeWords e ≡ record { a = record { 0 = getD (edges triangles) e noEdge .low }; b = record { 0 = getD (edges triangles) e noEdge .high } }
     ends-held e l i = record { a = record { 0 = held .low e l i }; b = record { 0 = held .high e l i } }
+
+    pub trim-edge-held : (v edgeReals : List Float) → HoldsLengths v triangles edgeReals → (e : ℕ) → e < length (edges triangles)
+        → trimEdgeAt edgeWords edgeReals e ≡ record { id = record { 0 = e }; len = len v triangles e; a = record { 0 = getD (edges triangles) e noEdge .low }; b = record { 0 = getD (edges triangles) e noEdge .high } }
+    trim-edge-held v edgeReals long e l i = record { id = record { 0 = e }; len = long .length-is e l i; a = record { 0 = held .low e l i }; b = record { 0 = held .high e l i } }
 
     pub shared-held : (e o : ℕ) → e < length (edges triangles) → o < length (edges triangles) → sharedAt edgeWords e o ≡ sharedVertex triangles e o
     unfolding sharedAt sharedVertex

@@ -16,6 +16,7 @@ use Rattle.buffers.specs.declared.VertexId.{VertexId}
 use Rattle.job_checks.specs.Edge.{vertexAt}
 use Rattle.topology.specs.Edges.{offEnds, joins}
 use Rattle.frames.specs.Stored.{lowAt, highAt, faceAt, unitAt, originAt}
+use Rattle.windows.specs.declared.Edge.{Edge as TrimEdge}
 use Rattle.mesh_readers.specs.declared.EdgeEnds.{EdgeEnds}
 use Rattle.mesh_readers.specs.declared.FacePair.{FacePair}
 use Rattle.mesh_readers.specs.declared.FrameCoords.{FrameCoords}
@@ -76,6 +77,10 @@ edge-id a b q i = record { 0 = q i }
 
 pub ends-of : (a b x y : ℕ) → a ≡ x → b ≡ y → _≡_ {A = EdgeEnds} (record { a = record { 0 = a }; b = record { 0 = b } }) (record { a = record { 0 = x }; b = record { 0 = y } })
 ends-of a b x y p q i = record { a = record { 0 = p i }; b = record { 0 = q i } }
+
+pub edge-of : (id : EdgeId) (l m : Float) (a b x y : ℕ) → l ≡ m → a ≡ x → b ≡ y
+    → _≡_ {A = TrimEdge} (record { id = id; len = l; a = record { 0 = a }; b = record { 0 = b } }) (record { id = id; len = m; a = record { 0 = x }; b = record { 0 = y } })
+edge-of id l m a b x y q r s i = record { id = id; len = q i; a = record { 0 = r i }; b = record { 0 = s i } }
 
 pub faces-of : (a b x y : ℕ) → a ≡ x → b ≡ y → _≡_ {A = FacePair} (record { first = record { 0 = a }; second = record { 0 = b } }) (record { first = record { 0 = x }; second = record { 0 = y } })
 faces-of a b x y p q i = record { first = record { 0 = p i }; second = record { 0 = q i } }

@@ -8,7 +8,8 @@ use lib.Ieee.{Float}
 use Rattle.vec3.specs.declared.Vec3.{Vec3}
 use Rattle.vec3.specs.Vec.{subOf, dotOf}
 use Rattle.topology.specs.Edges.{Edge, offEnds, joins}
-use Rattle.frames.specs.Stored.{lowAt, highAt, faceAt, vectorFrom, unitAt, originAt}
+use Rattle.frames.specs.Stored.{lowAt, highAt, faceAt, vectorFrom, lengthAt, unitAt, originAt}
+use Rattle.windows.specs.declared.Edge.{Edge as TrimEdge}
 use Rattle.mesh_readers.specs.declared.EdgeEnds.{EdgeEnds}
 use Rattle.mesh_readers.specs.declared.FacePair.{FacePair}
 use Rattle.mesh_readers.specs.declared.FrameCoords.{FrameCoords}
@@ -20,6 +21,10 @@ edgeAt edgeWords e = record { low = lowAt edgeWords e; high = highAt edgeWords e
 
 abbrev pub endsAt : List ℕ → ℕ → EdgeEnds
 endsAt edgeWords e = record { a = record { 0 = lowAt edgeWords e }; b = record { 0 = highAt edgeWords e } }
+
+-- as trimming takes it
+abbrev pub trimEdgeAt : List ℕ → List Float → ℕ → TrimEdge
+trimEdgeAt edgeWords edgeReals e = record { id = record { 0 = e }; len = lengthAt edgeReals e; a = record { 0 = lowAt edgeWords e }; b = record { 0 = highAt edgeWords e } }
 
 abbrev pub facesAt : List ℕ → ℕ → FacePair
 facesAt edgeWords e = record { first = record { 0 = faceAt edgeWords e 0 }; second = record { 0 = faceAt edgeWords e 1 } }

@@ -12,7 +12,7 @@ ghost use lib.ListN.{getD};
 ghost use Rattle.job_checks.specs.Edge.{vertexAt};
 ghost use Rattle.topology.specs.Edges.{offEnds, joins};
 ghost use Rattle.frames.specs.Stored.{lengthAt, unitAt};
-ghost use Rattle.mesh_readers.specs.Readers.{edgeAt, endsAt, facesAt, otherAt, sideIn, localAt, thirdAt, normalIn, coordsAt, rangeAt, roundAt, sharedAt, edgeBetweenAt, faceOf, sideToAt};
+ghost use Rattle.mesh_readers.specs.Readers.{edgeAt, endsAt, trimEdgeAt, facesAt, otherAt, sideIn, localAt, thirdAt, normalIn, coordsAt, rangeAt, roundAt, sharedAt, edgeBetweenAt, faceOf, sideToAt};
 
 // The two vertices of an edge, the lower-numbered one first.
 pub struct EdgeEnds {
@@ -44,6 +44,21 @@ pub fn ends(edge_words: &[u32], e: EdgeId) -> EdgeEnds
     EdgeEnds {
         a: VertexId(read_u32(edge_words, 6, e.0, 0)),
         b: VertexId(read_u32(edge_words, 6, e.0, 1)),
+    }
+}
+
+// An edge as it goes to trimming: its number, length and ends.
+pub fn edge(edge_words: &[u32], edge_reals: &[f64], e: EdgeId) -> windows::Edge
+    ensures { λ r. ⌜ r ≡ trimEdgeAt (now («edge_words» .entry)) (now («edge_reals» .entry)) (e .0) ⌝ }
+{
+    let len = read_f64(edge_reals, 4, e.0, 0);
+    let low = read_u32(edge_words, 6, e.0, 0);
+    let high = read_u32(edge_words, 6, e.0, 1);
+    windows::Edge {
+        id: e,
+        len,
+        a: VertexId(low),
+        b: VertexId(high),
     }
 }
 
