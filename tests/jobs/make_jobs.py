@@ -1,5 +1,5 @@
 #!/usr/bin/env python3
-"""Makes the stored jobs of crates/job_vectors.
+"""Makes the stored jobs of crates/job_vectors; make_vectors.sh beside it makes both files.
 
     python3 tests/jobs/make_jobs.py > crates/job_vectors/data/jobs
     oracle vectors topology 1 400 > FILE; python3 tests/jobs/make_jobs.py FILE > crates/job_vectors/data/meshes
