@@ -1,3 +1,4 @@
 pub mod Slots
 pub mod Lack
 pub mod Zero
+pub mod Lent

@@ -45,7 +45,8 @@ use Rattle.trim_visit.specs.Visiting.{VisitsAll}
 use Rattle.trim_keep.specs.Keeping.{Seats, Bounded}
 use Rattle.trim.specs.declared.Added.{Added}
 use Rattle.trim.specs.declared.Added.the-variants.{Went as Went₁}
-use Rattle.trim.specs.Adding.{candidateOf, newOf, Given, Says, Admits, Adds, Lists, Skips}
+use Rattle.trim.specs.Adding.{candidateOf, newOf, Given, Says, Admits, Adds, Unchanged}
+use Rattle.trim.specs.Buffers.{Slices as Slices₁, Cuts}
 use Rattle.trim.proofs.Front.{tidy-leads}
 use Rattle.trim.proofs.Adding.{no-cuts, visit-stopped, all-seated}
 
@@ -198,16 +199,16 @@ module _ (cuts windows : ℕ) (limit : Float) (flags : List ℕ) (e : Edge) (new
         subst (λ (z : Bool). Says (e .id .0) p end (cond z (admitOf cuts windows limit flags mesh c₁ s) (state.went s))) (sym y) (d mesh s g (subst T (sym y) tt))
 
     -- so it is not one that changes nothing
-    pub add-not-skipped : lt limit low ≡ false → (counts : Counts) (b : Lists) (r : Added) (b′ : Lists) → Skips limit e new counts b r b′
-    add-not-skipped h counts b r b′ z = absurd (subst (λ (d : Bool). T (not d)) (passed false h) z)
+    pub add-not-skipped : lt limit low ≡ false → (counts : Counts) (b : Slices₁) (x : Cuts) (r : Added) (b′ : Slices₁) (x′ : Cuts) → T (not (admits limit (λ k. e .len) (candidateOf e new))) → Unchanged counts b x r b′ x′
+    add-not-skipped h counts b x r b′ x′ z = absurd (subst (λ (d : Bool). T (not d)) (passed false h) z)
 
   -- the link where it ended is of no use any more
   pub add-went : (made queued last : ℕ) (s : Slices) (vertex : List Float) → Adds cuts windows limit flags e new p (at (placeOf s made queued last vertex)) → Adds cuts windows limit flags e new p (at (placeOf s made queued 0 vertex))
   add-went made queued last s vertex d mesh k g = let l = d mesh k g in let u = l .untouched in record { wins = l .wins; live = l .live; is = l .is; holds = l .holds; untouched = record { more = u .more; edges = u .edges; words = u .words; reals = u .reals } }
 
 -- nothing is changed
-pub unchanged : (limit : Float) (e : Edge) (new : NewWindow) (counts : Counts) (b : Lists) → Skips limit e new counts b (Went₁ counts) b
-unchanged limit e new counts b z = record { answer = refl; lists = refl }
+pub unchanged : (counts : Counts) (b : Slices₁) (x : Cuts) → Unchanged counts b x (Went₁ counts) b x
+unchanged counts b x = record { answer = refl; slices = refl; cuts = refl }
 
 -- ---- what the parts require
 

@@ -4,13 +4,15 @@ use mathlib.Core.Bool.{not}
 use mathlib.Core.List.{List}
 use mathlib.Core.Path.{_≡_}
 use lib.Dec.{T}
+use lib.ListN.{length}
 use lib.Ieee.{Float}
 use Rattle.buffers.specs.Lack.{lackNumber}
-use Rattle.heap.specs.Queue.{Queue}
+use Rattle.heap.specs.Queue.{Queue, queue}
 use Rattle.windows.specs.declared.Edge.{Edge}
 use Rattle.windows.specs.declared.NewWindow.{NewWindow}
 use Rattle.windows.specs.declared.WindowRecord.{WindowRecord}
-use Rattle.chains.specs.Chains.{Links}
+use Rattle.windows.specs.Windows.{capacityOf}
+use Rattle.chains.specs.Chains.{Links, links}
 use Rattle.trim_model.specs.Windows.{Window}
 use Rattle.trim_model.specs.Model.{Candidate, admits}
 use Rattle.trim_model.specs.Claim.{AdmittedProper}
@@ -20,6 +22,7 @@ use Rattle.trim_state.specs.Follows.{Follows}
 use Rattle.live_windows.specs.Live.{Holds}
 use Rattle.trim_split.specs.Running.{Place, place, stockOf, End, stopped, at, Untouched}
 use Rattle.trim_split.specs.declared.Counts.{Counts}
+use Rattle.trim.specs.Buffers.{Slices, Cuts}
 use Rattle.trim.specs.declared.Added.{Added}
 use Rattle.trim.specs.declared.Added.the-variants.{Stopped, Went}
 
@@ -75,27 +78,23 @@ module _ (cuts windows : ℕ) (limit : Float) (flags : List ℕ) (e : Edge) (w :
   abbrev pub Admits : Place → End → Type 0
   Admits p end = (mesh : Mesh) (s : State) → Given mesh s p → T (admits limit (mesh .len) c) → Says (e .id .0) p end (admitOf cuts windows limit flags mesh c s)
 
--- ---- one that is not admitted changes nothing
--- what the slices hold
-pub record Lists : Type 0 where
-  pub edges : List ℕ
-  pub words : List ℕ
-  pub reals : List Float
-  pub keys : List Float
-  pub events : List ℕ
-  pub vertex : List Float
-  pub pts : List Float
-  pub keep : List Float
-  pub out : List Float
-  pub next : List Float
+-- ---- the contract: buffers b and c at the call, b′ and c′ at the return
+-- with so many windows made and events queued
+abbrev pub placeAt : Counts → Slices → Place
+placeAt n b = place (n .made) (n .queued) 0 (links (b .edges) (b .words)) (b .reals) (queue (b .keys) (b .events)) (b .vertex)
 
-abbrev pub lists : List ℕ → List ℕ → List Float → List Float → List ℕ → List Float → List Float → List Float → List Float → List Float → Lists
-lists edges words reals keys events vertex pts keep out next =
-    record { edges = edges; words = words; reals = reals; keys = keys; events = events; vertex = vertex; pts = pts; keep = keep; out = out; next = next }
+abbrev pub endAt : Added → Slices → End
+endAt r b = endOf r (links (b .edges) (b .words)) (b .reals) (queue (b .keys) (b .events)) (b .vertex)
 
-pub record Unchanged (counts : Counts) (b : Lists) (r : Added) (b′ : Lists) : Type 0 where
+pub record Unchanged (counts : Counts) (b : Slices) (c : Cuts) (r : Added) (b′ : Slices) (c′ : Cuts) : Type 0 where
   pub answer : r ≡ Went counts
-  pub lists : b′ ≡ b
+  pub slices : b′ ≡ b
+  pub cuts : c′ ≡ c
 
-abbrev pub Skips : Float → Edge → NewWindow → Counts → Lists → Added → Lists → Type 0
-Skips limit e w counts b r b′ = T (not (admits limit (λ k. e .len) (candidateOf e w))) → Unchanged counts b r b′
+pub record AddsTo (limit : Float) (vertexWords : List ℕ) (e : Edge) (w : NewWindow) (counts : Counts) (b : Slices) (c : Cuts) (r : Added) (b′ : Slices) (c′ : Cuts) : Type 0 where
+  -- no more windows are made than the buffer has slots for
+  pub bounded : Bounded (capacityOf (length (b .words)) (length (b .reals))) r
+  -- from buffers that hold a state they come to hold the state after `addOf`, or what there is no slot for is told
+  pub adds : Adds (length (c .pts)) (capacityOf (length (b .words)) (length (b .reals))) limit vertexWords e w (placeAt counts b) (endAt r b′)
+  -- a window that is not admitted changes nothing
+  pub skips : T (not (admits limit (λ k. e .len) (candidateOf e w))) → Unchanged counts b c r b′ c′

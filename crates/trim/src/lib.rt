@@ -21,7 +21,9 @@ ghost use Rattle.trim_model.specs.Intervals.{tinyOf};
 ghost use Rattle.trim_cut.specs.Cut.{Sizes};
 ghost use Rattle.trim_split.specs.Running.{Ready, place, endOf};
 ghost use Rattle.trim_keep.specs.Keeping.{Bounded};
-ghost use Rattle.trim.specs.Adding.{newOf, endOf as Adding·endOf, Bounded as Adding·Bounded, Admits, Adds, Skips, lists};
+ghost use Rattle.trim.specs.Adding.{newOf, Admits, AddsTo};
+ghost use Rattle.trim.specs.Buffers.{before, after, cutsBefore, cutsAfter};
+ghost use Rattle.buffers.specs.Lent.{given};
 
 // What there is no slot for; or how many windows and events there are now.
 pub enum Added {
@@ -48,8 +50,8 @@ fn admit(
     vertex: &mut [f64],
     vertex_words: &[u32],
     pts: &mut [f64],
-    keep: &mut [f64],
     out: &mut [f64],
+    keep: &mut [f64],
     next: &mut [f64],
     counts: Counts,
     e: Edge,
@@ -115,8 +117,8 @@ pub fn add(
     vertex: &mut [f64],
     vertex_words: &[u32],
     pts: &mut [f64],
-    keep: &mut [f64],
     out: &mut [f64],
+    keep: &mut [f64],
     next: &mut [f64],
     counts: Counts,
     e: Edge,
@@ -124,10 +126,8 @@ pub fn add(
     limit: f64,
 ) -> Added
     requires { ⌜ Ready (e .id .0) (counts .made) 0 (now edges) (now words) (now reals) × Sizes (length (now pts)) (now keep) (now out) (now next) ⌝ }
-    ensures { λ r. ⌜ Adding·Bounded (capacityOf (length (now (words .entry))) (length (now (reals .entry)))) r × (Adds (length (now (pts .entry))) (capacityOf (length (now (words .entry))) (length (now (reals .entry)))) limit (now («vertex_words» .entry)) e w (place (counts .made) (counts .queued) 0 (links (now (edges .entry)) (now (words .entry))) (now (reals .entry)) (queue (now (keys .entry)) (now (events .entry))) (now (vertex .entry))) (Adding·endOf r (links (now (edges .exit)) (now (words .exit))) (now (reals .exit)) (queue (now (keys .exit)) (now (events .exit))) (now (vertex .exit)))
-        × Skips limit e w counts
-        (lists (now (edges .entry)) (now (words .entry)) (now (reals .entry)) (now (keys .entry)) (now (events .entry)) (now (vertex .entry)) (now (pts .entry)) (now (keep .entry)) (now (out .entry)) (now (next .entry))) r
-        (lists (now (edges .exit)) (now (words .exit)) (now (reals .exit)) (now (keys .exit)) (now (events .exit)) (now (vertex .exit)) (now (pts .exit)) (now (keep .exit)) (now (out .exit)) (now (next .exit)))) ⌝ }
+    ensures { λ r. ⌜ AddsTo limit (given «vertex_words») e w counts (before edges words reals keys events vertex) (cutsBefore pts out keep next)
+        r (after edges words reals keys events vertex) (cutsAfter pts out keep next) ⌝ }
 {
     let tiny = 1e-11 * e.len;
     let b0 = w.b0;
@@ -159,8 +159,8 @@ pub fn add(
         vertex,
         vertex_words,
         pts,
-        keep,
         out,
+        keep,
         next,
         counts,
         e,

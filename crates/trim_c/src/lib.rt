@@ -1,14 +1,15 @@
 // The function that runs a list, for programs in C and Rust, in buffers that they lend.
 use buffers::write_u32;
 use trim_list::Ran;
-ghost use Rattle.trim_list.specs.Lists.{slices, cuts};
+ghost use Rattle.buffers.specs.Lent.{given};
+ghost use Rattle.trim.specs.Buffers.{before, after, cutsBefore, cutsAfter};
 ghost use mathlib.Core.Path.{_≡_};
 ghost use Rattle.trim_c.specs.Exports.{toldOf, Answered};
 
 // The answer is 0 where all operations went, else the number that refuses one. The first two numbers of `told` are then the windows made and the
 // events queued, or the operation that is refused and 0.
 fn tell(ran: Ran, told: &mut [u32]) -> u32
-    ensures { λ r. ⌜ (r, now (told .exit)) ≡ toldOf ran (now (told .entry)) ⌝ }
+    ensures { λ r. ⌜ (r, now (told .exit)) ≡ toldOf ran (given told) ⌝ }
 {
     match ran {
         Ran::Done { made, queued } => {
@@ -44,7 +45,9 @@ pub extern "C" fn sirmolaat_trim_run(
     next: &mut [f64],
     told: &mut [u32],
 ) -> u32
-    ensures { λ r. ⌜ Answered limit (now («vertex_words» .entry)) (now (ends .entry)) (now (lens .entry)) (now (ops .entry)) (now (args .entry)) (slices (now (edges .entry)) (now (words .entry)) (now (reals .entry)) (now (keys .entry)) (now (events .entry)) (now (vertex .entry))) (cuts (now (pts .entry)) (now (out .entry)) (now (keep .entry)) (now (next .entry))) (slices (now (edges .exit)) (now (words .exit)) (now (reals .exit)) (now (keys .exit)) (now (events .exit)) (now (vertex .exit))) (cuts (now (pts .exit)) (now (out .exit)) (now (keep .exit)) (now (next .exit))) (now (told .entry)) r (now (told .exit)) ⌝ }
+    ensures { λ r. ⌜ Answered limit (given «vertex_words») (given ends) (given lens) (given ops) (given args)
+        (before edges words reals keys events vertex) (cutsBefore pts out keep next)
+        (after edges words reals keys events vertex) (cutsAfter pts out keep next) (given told) r (now (told .exit)) ⌝ }
 {
     let ran = trim_list::run(
         limit,

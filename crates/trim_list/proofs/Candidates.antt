@@ -32,7 +32,8 @@ use Rattle.trim_run.specs.Run.{hasLength, isOnEdge, refusalOf, tryAdd, operate}
 use Rattle.trim_run.specs.Represents.{Checked}
 use Rattle.trim_run.proofs.Follow.{proper}
 use Rattle.trim_list.specs.declared.Step.the-variants.{Stopped, Went}
-use Rattle.trim_list.specs.Lists.{Slices, Cuts, Setting, settingOf, Ready, Stands, placeIn, Says, Operated}
+use Rattle.trim_list.specs.Lists.{Setting, settingOf, Ready, Stands, placeIn, Says, Operated}
+use Rattle.trim.specs.Buffers.{Slices, Cuts}
 
 -- ---- by the answers of two tests
 refused : (a b : Bool) (n : ℕ) (r : Result) → n ≡ cond a (cond b 0 72) 71 → n ≢ 0 → cond a (cond b r (stopped 72)) (stopped 71) ≡ stopped n

@@ -26,7 +26,8 @@ use Rattle.trim_run.proofs.Follow.{operate-follows, demand3-follows}
 use Rattle.trim_list.specs.declared.Step.{Step}
 use Rattle.trim_list.specs.declared.Step.the-variants.{Stopped, Went}
 use Rattle.trim_list.specs.declared.Ran.the-variants.{Done, Ended}
-use Rattle.trim_list.specs.Lists.{Slices, Cuts, meshOf, Setting, settingOf, Ready, Stands, Goes, Operated, runOf, Finishes, Ends, Runs, placeIn}
+use Rattle.trim_list.specs.Lists.{meshOf, Setting, settingOf, Ready, Stands, Goes, Operated, runOf, Finishes, Ends, Runs, placeIn}
+use Rattle.trim.specs.Buffers.{Slices, Cuts}
 
 -- ---- lists of operations
 candidates-last : (os : List Operation) (o : Operation) → candidates (os ++ (o ∷ [])) ≡ candidates os ++ candidateOf o

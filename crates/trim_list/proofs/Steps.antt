@@ -22,7 +22,8 @@ use Rattle.trim_run.specs.Run.{operate}
 use Rattle.trim_list.specs.declared.Step.{Step}
 use Rattle.trim_list.specs.declared.Step.the-variants.{Stopped, Went}
 use Rattle.trim_list.proofs.Pops.{after-pop}
-use Rattle.trim_list.specs.Lists.{Slices, slices, Setting, Within, placeIn, Touches, PopsFirst, Operated}
+use Rattle.trim_list.specs.Lists.{Setting, Within, placeIn, Touches, PopsFirst, Operated}
+use Rattle.trim.specs.Buffers.{Slices, slices}
 
 -- ---- a touch
 module _ (v : ℕ) (d limit : Float) (flags : List ℕ) (made queued : ℕ) (keys : List Float) (events : List ℕ) (vertex : List Float) where

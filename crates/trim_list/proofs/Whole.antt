@@ -17,7 +17,8 @@ use Rattle.contents.proofs.Held.{words-are, reals-are-all}
 use Rattle.contents.proofs.Forgotten.{heads-only}
 use Rattle.trim_list.specs.declared.Ran.{Ran}
 use Rattle.trim_list.specs.declared.Ran.the-variants.{Done, Ended}
-use Rattle.trim_list.specs.Lists.{Slices, slices, Cuts, cuts, meshOf, Setting, settingOf, Ready, Finishes, Ends, Runs, placeIn, edgeCount, operationCount, cutCount, lentSetting, cleared, ZeroSlices, ZeroCuts, RunWhole}
+use Rattle.trim_list.specs.Lists.{meshOf, Setting, settingOf, Ready, Finishes, Ends, Runs, placeIn, edgeCount, operationCount, cutCount, lentSetting, cleared, ZeroSlices, ZeroCuts, RunWhole}
+use Rattle.trim.specs.Buffers.{Slices, slices, Cuts, cuts}
 use Rattle.trim_list.proofs.Loop.{SameLengths, SameCuts}
 
 -- ---- counts

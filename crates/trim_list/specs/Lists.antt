@@ -17,6 +17,7 @@ use Rattle.actions.specs.Actions as actions
 use Rattle.trim_state.specs.State.{State, Result, stopped, went, Mesh}
 use Rattle.trim_state.specs.Follows.{Follows}
 use Rattle.trim_split.specs.Running.{Place, place, Untouched}
+use Rattle.trim.specs.Buffers.{Slices, slices, Cuts}
 use Rattle.trim_run.specs.Operations.{Operation, touch, operations, candidates, DoublesOf}
 use Rattle.trim_run.specs.Run.{operate, Run, ran, ended, runFrom, start}
 use Rattle.trim_run.specs.Demand3.{Demand3}
@@ -28,27 +29,6 @@ use Rattle.trim_list.specs.declared.Ran.{Ran}
 use Rattle.trim_list.specs.declared.Ran.the-variants.{Done, Ended}
 
 -- ---- what is lent
-pub record Slices : Type 0 where
-  pub edges : List ℕ
-  pub words : List ℕ
-  pub reals : List Float
-  pub keys : List Float
-  pub events : List ℕ
-  pub vertex : List Float
-
-abbrev pub slices : List ℕ → List ℕ → List Float → List Float → List ℕ → List Float → Slices
-slices edges words reals keys events vertex = record { edges = edges; words = words; reals = reals; keys = keys; events = events; vertex = vertex }
-
--- the buffers of the lists that an addition makes: `pts` has one number to an entry, the others two
-pub record Cuts : Type 0 where
-  pub pts : List Float
-  pub out : List Float
-  pub keep : List Float
-  pub next : List Float
-
-abbrev pub cuts : List Float → List Float → List Float → List Float → Cuts
-cuts pts out keep next = record { pts = pts; out = out; keep = keep; next = next }
-
 -- of each edge its two ends, and its length
 abbrev pub meshOf : List ℕ → List Float → Mesh
 meshOf ends lens = record { len = λ (e : ℕ). getD lens (1 * e + 0) nan; low = λ (e : ℕ). getD ends (2 * e + 0) 0; high = λ (e : ℕ). getD ends (2 * e + 1) 0 }

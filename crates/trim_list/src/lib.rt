@@ -17,7 +17,9 @@ ghost use Rattle.windows.specs.Windows.{capacityOf};
 ghost use Rattle.chains.specs.Chains.{headOf};
 ghost use Rattle.trim_run.specs.Operations.{asCandidate, asOperation};
 ghost use Rattle.trim_run.specs.Operations.{add as Operations·add};
-ghost use Rattle.trim_list.specs.Lists.{slices, cuts, settingOf, Ready, Operated, Runs, placeIn, Touches, PopsFirst, edgeCount, cutCount, operationCount, lentSetting, ZeroSlices, ZeroCuts, RunWhole};
+ghost use Rattle.trim_list.specs.Lists.{settingOf, Ready, Operated, Runs, placeIn, Touches, PopsFirst, edgeCount, cutCount, operationCount, lentSetting, ZeroSlices, ZeroCuts, RunWhole};
+ghost use Rattle.buffers.specs.Lent.{given};
+ghost use Rattle.trim.specs.Buffers.{slices, cuts, before, after, cutsBefore, cutsAfter};
 
 // An operation is refused by its number; or so many windows are made and so many events queued.
 pub enum Step {
@@ -43,7 +45,7 @@ fn touch(
     made: u32,
     queued: u32,
 ) -> Step
-    ensures { λ r. ⌜ Touches (v .0) d limit (now («vertex_words» .entry)) made queued (now (keys .entry)) (now (events .entry)) (now (vertex .entry)) r (now (keys .exit)) (now (events .exit)) (now (vertex .exit)) ⌝ }
+    ensures { λ r. ⌜ Touches (v .0) d limit (given «vertex_words») made queued (now (keys .entry)) (now (events .entry)) (now (vertex .entry)) r (now (keys .exit)) (now (events .exit)) (now (vertex .exit)) ⌝ }
 {
     if buffers::slots(vertex.len(), 2) <= v.0 {
         return Step::Stopped(73);
@@ -76,7 +78,7 @@ fn pop_first(
 
 // How many edges the slices all have.
 fn edge_count(ends: &[u32], lens: &[f64], edges: &[u32]) -> u32
-    ensures { λ r. ⌜ r ≡ edgeCount (now (ends .entry)) (now (lens .entry)) (now (edges .entry)) ⌝ }
+    ensures { λ r. ⌜ r ≡ edgeCount (given ends) (given lens) (now (edges .entry)) ⌝ }
 {
     let n = buffers::count(ends.len(), 2, lens.len(), 1);
     let heads = buffers::slots(edges.len(), 6);
@@ -88,7 +90,7 @@ fn edge_count(ends: &[u32], lens: &[f64], edges: &[u32]) -> u32
 
 // How many entries the lists of an addition can have.
 fn cut_count(pts: &[f64], out: &[f64], keep: &[f64], next: &[f64]) -> u32
-    ensures { λ r. ⌜ r ≡ cutCount (cuts (now (pts .entry)) (now (out .entry)) (now (keep .entry)) (now (next .entry))) ⌝ }
+    ensures { λ r. ⌜ r ≡ cutCount (cutsBefore pts out keep next) ⌝ }
 {
     let a = buffers::count(pts.len(), 1, out.len(), 2);
     let b = buffers::count(keep.len(), 2, next.len(), 2);
@@ -99,7 +101,7 @@ fn cut_count(pts: &[f64], out: &[f64], keep: &[f64], next: &[f64]) -> u32
 }
 
 fn zero_cuts(pts: &mut [f64], out: &mut [f64], keep: &mut [f64], next: &mut [f64])
-    ensures { λ r. ⌜ ZeroCuts (cuts (now (pts .entry)) (now (out .entry)) (now (keep .entry)) (now (next .entry))) (cuts (now (pts .exit)) (now (out .exit)) (now (keep .exit)) (now (next .exit))) ⌝ }
+    ensures { λ r. ⌜ ZeroCuts (cutsBefore pts out keep next) (cutsAfter pts out keep next) ⌝ }
 {
     buffers::zero_f64(pts);
     buffers::zero_f64(out);
@@ -115,7 +117,7 @@ fn zero_slices(
     events: &mut [u32],
     vertex: &mut [f64],
 )
-    ensures { λ r. ⌜ ZeroSlices (slices (now (edges .entry)) (now (words .entry)) (now (reals .entry)) (now (keys .entry)) (now (events .entry)) (now (vertex .entry))) (slices (now (edges .exit)) (now (words .exit)) (now (reals .exit)) (now (keys .exit)) (now (events .exit)) (now (vertex .exit))) ⌝ }
+    ensures { λ r. ⌜ ZeroSlices (before edges words reals keys events vertex) (after edges words reals keys events vertex) ⌝ }
 {
     buffers::zero_u32(edges);
     buffers::zero_u32(words);
@@ -148,7 +150,8 @@ fn add_candidate(
     queued: u32,
 ) -> Step
     requires { ⌜ Ready m made (slices (now edges) (now words) (now reals) (now keys) (now events) (now vertex)) (cuts (now pts) (now out) (now keep) (now next)) ⌝ }
-    ensures { λ r. ⌜ Operated (settingOf (cuts (now (pts .entry)) (now (out .entry)) (now (keep .entry)) (now (next .entry))) (slices (now (edges .entry)) (now (words .entry)) (now (reals .entry)) (now (keys .entry)) (now (events .entry)) (now (vertex .entry))) limit (now («vertex_words» .entry)) (now (ends .entry)) (now (lens .entry)) m) (Operations·add (asCandidate (id .0) w)) made queued (slices (now (edges .entry)) (now (words .entry)) (now (reals .entry)) (now (keys .entry)) (now (events .entry)) (now (vertex .entry))) r (slices (now (edges .exit)) (now (words .exit)) (now (reals .exit)) (now (keys .exit)) (now (events .exit)) (now (vertex .exit))) ⌝ }
+    ensures { λ r. ⌜ Operated (settingOf (cutsBefore pts out keep next) (before edges words reals keys events vertex) limit (given «vertex_words») (given ends) (given lens) m)
+        (Operations·add (asCandidate (id .0) w)) made queued (before edges words reals keys events vertex) r (after edges words reals keys events vertex) ⌝ }
 {
     let len = read_f64(lens, 1, id.0, 0);
     let number = trim_run::refusal(m, id, len, w.b0, w.b1);
@@ -172,8 +175,8 @@ fn add_candidate(
         vertex,
         vertex_words,
         pts,
-        keep,
         out,
+        keep,
         next,
         Counts { made, queued },
         e,
@@ -211,7 +214,8 @@ fn operate(
     queued: u32,
 ) -> Step
     requires { ⌜ Ready m made (slices (now edges) (now words) (now reals) (now keys) (now events) (now vertex)) (cuts (now pts) (now out) (now keep) (now next)) ⌝ }
-    ensures { λ r. ⌜ Operated (settingOf (cuts (now (pts .entry)) (now (out .entry)) (now (keep .entry)) (now (next .entry))) (slices (now (edges .entry)) (now (words .entry)) (now (reals .entry)) (now (keys .entry)) (now (events .entry)) (now (vertex .entry))) limit (now («vertex_words» .entry)) (now (ends .entry)) (now (lens .entry)) m) (asOperation op) made queued (slices (now (edges .entry)) (now (words .entry)) (now (reals .entry)) (now (keys .entry)) (now (events .entry)) (now (vertex .entry))) r (slices (now (edges .exit)) (now (words .exit)) (now (reals .exit)) (now (keys .exit)) (now (events .exit)) (now (vertex .exit))) ⌝ }
+    ensures { λ r. ⌜ Operated (settingOf (cutsBefore pts out keep next) (before edges words reals keys events vertex) limit (given «vertex_words») (given ends) (given lens) m)
+        (asOperation op) made queued (before edges words reals keys events vertex) r (after edges words reals keys events vertex) ⌝ }
 {
     match op {
         Op::Add(id, w) => add_candidate(
@@ -276,7 +280,8 @@ fn run_all(
     next: &mut [f64],
 ) -> Ran
     requires { ⌜ Ready m 0 (slices (now edges) (now words) (now reals) (now keys) (now events) (now vertex)) (cuts (now pts) (now out) (now keep) (now next)) × ((e : ℕ) → headOf (now edges) e ≡ 0) ⌝ }
-    ensures { λ r. ⌜ Runs (settingOf (cuts (now (pts .entry)) (now (out .entry)) (now (keep .entry)) (now (next .entry))) (slices (now (edges .entry)) (now (words .entry)) (now (reals .entry)) (now (keys .entry)) (now (events .entry)) (now (vertex .entry))) limit (now («vertex_words» .entry)) (now (ends .entry)) (now (lens .entry)) m) (now (ops .entry)) (now (args .entry)) n (placeIn 0 0 (slices (now (edges .entry)) (now (words .entry)) (now (reals .entry)) (now (keys .entry)) (now (events .entry)) (now (vertex .entry)))) r (slices (now (edges .exit)) (now (words .exit)) (now (reals .exit)) (now (keys .exit)) (now (events .exit)) (now (vertex .exit))) ⌝ }
+    ensures { λ r. ⌜ Runs (settingOf (cutsBefore pts out keep next) (before edges words reals keys events vertex) limit (given «vertex_words») (given ends) (given lens) m)
+        (given ops) (given args) n (placeIn 0 0 (before edges words reals keys events vertex)) r (after edges words reals keys events vertex) ⌝ }
 {
     let mut made = 0;
     let mut queued = 0;
@@ -338,7 +343,8 @@ fn run_parts(
     next: &mut [f64],
 ) -> Ran
     requires { ⌜ (m ≡ edgeCount (now ends) (now lens) (now edges)) × ((x ≡ cutCount (cuts (now pts) (now out) (now keep) (now next))) × ((n ≡ operationCount (now ops) (now args)) × ((e : ℕ) → headOf (now edges) e ≡ 0))) ⌝ }
-    ensures { λ r. ⌜ Runs (lentSetting (cuts (now (pts .entry)) (now (out .entry)) (now (keep .entry)) (now (next .entry))) (slices (now (edges .entry)) (now (words .entry)) (now (reals .entry)) (now (keys .entry)) (now (events .entry)) (now (vertex .entry))) limit (now («vertex_words» .entry)) (now (ends .entry)) (now (lens .entry))) (now (ops .entry)) (now (args .entry)) (operationCount (now (ops .entry)) (now (args .entry))) (placeIn 0 0 (slices (now (edges .entry)) (now (words .entry)) (now (reals .entry)) (now (keys .entry)) (now (events .entry)) (now (vertex .entry)))) r (slices (now (edges .exit)) (now (words .exit)) (now (reals .exit)) (now (keys .exit)) (now (events .exit)) (now (vertex .exit))) ⌝ }
+    ensures { λ r. ⌜ Runs (lentSetting (cutsBefore pts out keep next) (before edges words reals keys events vertex) limit (given «vertex_words») (given ends) (given lens))
+        (given ops) (given args) (operationCount (given ops) (given args)) (placeIn 0 0 (before edges words reals keys events vertex)) r (after edges words reals keys events vertex) ⌝ }
 {
     let single = x as usize;
     let double = 2 * single;
@@ -384,7 +390,9 @@ pub fn run(
     keep: &mut [f64],
     next: &mut [f64],
 ) -> Ran
-    ensures { λ r. ⌜ RunWhole limit (now («vertex_words» .entry)) (now (ends .entry)) (now (lens .entry)) (now (ops .entry)) (now (args .entry)) (slices (now (edges .entry)) (now (words .entry)) (now (reals .entry)) (now (keys .entry)) (now (events .entry)) (now (vertex .entry))) (cuts (now (pts .entry)) (now (out .entry)) (now (keep .entry)) (now (next .entry))) r (slices (now (edges .exit)) (now (words .exit)) (now (reals .exit)) (now (keys .exit)) (now (events .exit)) (now (vertex .exit))) (cuts (now (pts .exit)) (now (out .exit)) (now (keep .exit)) (now (next .exit))) ⌝ }
+    ensures { λ r. ⌜ RunWhole limit (given «vertex_words») (given ends) (given lens) (given ops) (given args)
+        (before edges words reals keys events vertex) (cutsBefore pts out keep next)
+        r (after edges words reals keys events vertex) (cutsAfter pts out keep next) ⌝ }
 {
     let m = edge_count(ends, lens, edges);
     let x = cut_count(pts, out, keep, next);

@@ -4,7 +4,8 @@ use lib.ListN.{length}
 use Rattle.buffers.specs.Lack.{lackNumber}
 use Rattle.trim_split.specs.Running.{stopped, at}
 use Rattle.trim_split.proofs.Loops.{slices, windowsOf, placeOf}
-use Rattle.trim.specs.Adding.{lists}
+use Rattle.trim.specs.Buffers.{cuts}
+use Rattle.trim.specs.Buffers.{slices as Buffers·slices}
 use Rattle.trim.proofs.Calls.{add-narrow, add-far, add-admitted, add-not-skipped, add-went, unchanged}
 use borrow.Author.Needs.{needs}
 use Rattle.trim.proofs.add.Statement.{statement}
@@ -14,9 +15,9 @@ returns : tie.Need-returns
 returns c =
     let a = c .before .before .before .before .before .before .before .before .before .before .before .before .before .before .before .args in
     let s = (slices (a .edges .now) (a .words .now) (a .reals .now) (a .keys .now) (a .events .now)) in
-    let cuts = length (a .pts .now) in
+    let size = length (a .pts .now) in
     let p = placeOf s (a .counts .made) (a .counts .queued) 0 (a .vertex .now) in
-    (c .before .before .before .before .before .before .before .before .before .before .before .before .before .before .before .pre .0 .fits, (add-narrow cuts (windowsOf s) (a .limit) (a .vertex-words .now) (a .e) (a .w) p (c .if1 .taken), unchanged (a .limit) (a .e) (a .w) (a .counts) (lists (a .edges .now) (a .words .now) (a .reals .now) (a .keys .now) (a .events .now) (a .vertex .now) (a .pts .now) (a .keep .now) (a .out .now) (a .next .now))))
+    record { bounded = c .before .before .before .before .before .before .before .before .before .before .before .before .before .before .before .pre .0 .fits; adds = add-narrow size (windowsOf s) (a .limit) (a .vertex-words .now) (a .e) (a .w) p (c .if1 .taken); skips = λ z. unchanged (a .counts) (Buffers·slices (a .edges .now) (a .words .now) (a .reals .now) (a .keys .now) (a .events .now) (a .vertex .now)) (cuts (a .pts .now) (a .out .now) (a .keep .now) (a .next .now)) }
 
 lowest-requires : tie.Need-lowest-requires
 lowest-requires c κs = search needs
@@ -25,9 +26,9 @@ returns-2 : tie.Need-returns-2
 returns-2 c =
     let a = c .before .before .before .before .before .before .before .before .before .before .before .before .before .before .before .before .before .args in
     let s = (slices (a .edges .now) (a .words .now) (a .reals .now) (a .keys .now) (a .events .now)) in
-    let cuts = length (a .pts .now) in
+    let size = length (a .pts .now) in
     let p = placeOf s (a .counts .made) (a .counts .queued) 0 (a .vertex .now) in
-    (c .before .before .before .before .before .before .before .before .before .before .before .before .before .before .before .before .before .pre .0 .fits, (add-far cuts (windowsOf s) (a .limit) (a .vertex-words .now) (a .e) (a .w) p (c .before .lowest .result) (c .before .lowest .ensures) (c .before .before .if1 .left) (c .if2 .taken), unchanged (a .limit) (a .e) (a .w) (a .counts) (lists (a .edges .now) (a .words .now) (a .reals .now) (a .keys .now) (a .events .now) (a .vertex .now) (a .pts .now) (a .keep .now) (a .out .now) (a .next .now))))
+    record { bounded = c .before .before .before .before .before .before .before .before .before .before .before .before .before .before .before .before .before .pre .0 .fits; adds = add-far size (windowsOf s) (a .limit) (a .vertex-words .now) (a .e) (a .w) p (c .before .lowest .result) (c .before .lowest .ensures) (c .before .before .if1 .left) (c .if2 .taken); skips = λ z. unchanged (a .counts) (Buffers·slices (a .edges .now) (a .words .now) (a .reals .now) (a .keys .now) (a .events .now) (a .vertex .now)) (cuts (a .pts .now) (a .out .now) (a .keep .now) (a .next .now)) }
 
 admit-requires : tie.Need-admit-requires
 admit-requires c κs = search needs
@@ -72,15 +73,14 @@ returns-3 : tie.Need-returns-3
 returns-3 c =
     let a = c .before .before .before .before .before .before .before .before .before .before .before .before .before .before .before .before .before .before .before .before .before .before .before .before .before .before .before .before .before .before .before .before .before .before .before .before .before .before .before .before .before .before .before .before .before .before .before .before .before .before .before .args in
     let s = (slices (a .edges .now) (a .words .now) (a .reals .now) (a .keys .now) (a .events .now)) in
-    let cuts = length (a .pts .now) in
+    let size = length (a .pts .now) in
     let p = placeOf s (a .counts .made) (a .counts .queued) 0 (a .vertex .now) in
-    let done = rw (c .before .admitted .given .1) at (c .before .before .before .before .before .before .before .before .before .before .before .before .before .before .before .before .before .before .before .before .before .before .before .admit .ensures .1) in (
-      tt,
-      (
-        add-admitted cuts (windowsOf s) (a .limit) (a .vertex-words .now) (a .e) (a .w) p (c .before .before .before .before .before .before .before .before .before .before .before .before .before .before .before .before .before .before .before .before .before .before .before .before .before .before .before .before .before .before .before .before .before .before .before .lowest .result) (c .before .before .before .before .before .before .before .before .before .before .before .before .before .before .before .before .before .before .before .before .before .before .before .before .before .before .before .before .before .before .before .before .before .before .before .lowest .ensures) (c .before .before .before .before .before .before .before .before .before .before .before .before .before .before .before .before .before .before .before .before .before .before .before .before .before .before .before .before .before .before .before .before .before .before .before .before .if1 .left) (c .before .before .before .before .before .before .before .before .before .before .before .before .before .before .before .before .before .before .before .before .before .before .before .before .before .before .before .before .before .before .before .before .before .before .if2 .left) (stopped (lackNumber (c .before .admitted .given .0 .0))) (done (c .before .before .before .before .before .before .before .before .before .before .before .before .before .before .before .before .before .before .before .before .before .before .before .before .before .before .before .before .before .before .before .before .before .before .before .lowest .ensures) refl),
-        add-not-skipped cuts (windowsOf s) (a .limit) (a .vertex-words .now) (a .e) (a .w) p (c .before .before .before .before .before .before .before .before .before .before .before .before .before .before .before .before .before .before .before .before .before .before .before .before .before .before .before .before .before .before .before .before .before .before .before .lowest .result) (c .before .before .before .before .before .before .before .before .before .before .before .before .before .before .before .before .before .before .before .before .before .before .before .before .before .before .before .before .before .before .before .before .before .before .before .lowest .ensures) (c .before .before .before .before .before .before .before .before .before .before .before .before .before .before .before .before .before .before .before .before .before .before .before .before .before .before .before .before .before .before .before .before .before .before .before .before .if1 .left) (c .before .before .before .before .before .before .before .before .before .before .before .before .before .before .before .before .before .before .before .before .before .before .before .before .before .before .before .before .before .before .before .before .before .before .if2 .left) _ _ _ _,
-      ),
-    )
+    let done = rw (c .before .admitted .given .1) at (c .before .before .before .before .before .before .before .before .before .before .before .before .before .before .before .before .before .before .before .before .before .before .before .admit .ensures .1) in
+    record {
+      bounded = tt;
+      adds = add-admitted size (windowsOf s) (a .limit) (a .vertex-words .now) (a .e) (a .w) p (c .before .before .before .before .before .before .before .before .before .before .before .before .before .before .before .before .before .before .before .before .before .before .before .before .before .before .before .before .before .before .before .before .before .before .before .lowest .result) (c .before .before .before .before .before .before .before .before .before .before .before .before .before .before .before .before .before .before .before .before .before .before .before .before .before .before .before .before .before .before .before .before .before .before .before .lowest .ensures) (c .before .before .before .before .before .before .before .before .before .before .before .before .before .before .before .before .before .before .before .before .before .before .before .before .before .before .before .before .before .before .before .before .before .before .before .before .if1 .left) (c .before .before .before .before .before .before .before .before .before .before .before .before .before .before .before .before .before .before .before .before .before .before .before .before .before .before .before .before .before .before .before .before .before .before .if2 .left) (stopped (lackNumber (c .before .admitted .given .0 .0))) (done (c .before .before .before .before .before .before .before .before .before .before .before .before .before .before .before .before .before .before .before .before .before .before .before .before .before .before .before .before .before .before .before .before .before .before .before .lowest .ensures) refl);
+      skips = add-not-skipped size (windowsOf s) (a .limit) (a .vertex-words .now) (a .e) (a .w) p (c .before .before .before .before .before .before .before .before .before .before .before .before .before .before .before .before .before .before .before .before .before .before .before .before .before .before .before .before .before .before .before .before .before .before .before .lowest .result) (c .before .before .before .before .before .before .before .before .before .before .before .before .before .before .before .before .before .before .before .before .before .before .before .before .before .before .before .before .before .before .before .before .before .before .before .lowest .ensures) (c .before .before .before .before .before .before .before .before .before .before .before .before .before .before .before .before .before .before .before .before .before .before .before .before .before .before .before .before .before .before .before .before .before .before .before .before .if1 .left) (c .before .before .before .before .before .before .before .before .before .before .before .before .before .before .before .before .before .before .before .before .before .before .before .before .before .before .before .before .before .before .before .before .before .before .if2 .left) _ _ _ _ _ _;
+    }
 
 same-length-11 : tie.Need-same-length-11
 same-length-11 c = search needs
@@ -116,20 +116,19 @@ returns-4 : tie.Need-returns-4
 returns-4 c =
     let a = c .before .before .before .before .before .before .before .before .before .before .before .before .before .before .before .before .before .before .before .before .before .before .before .before .before .before .before .before .before .before .before .before .before .before .before .before .before .before .before .before .before .before .before .before .before .before .before .before .before .before .before .args in
     let s = (slices (a .edges .now) (a .words .now) (a .reals .now) (a .keys .now) (a .events .now)) in
-    let cuts = length (a .pts .now) in
+    let size = length (a .pts .now) in
     let p = placeOf s (a .counts .made) (a .counts .queued) 0 (a .vertex .now) in
     let s′ = (slices (c .before .before .before .before .before .before .before .before .before .before .before .before .before .before .before .before .before .before .before .before .before .before .before .admit .last .0) (c .before .before .before .before .before .before .before .before .before .before .before .before .before .before .before .before .before .before .before .before .before .before .before .admit .last .1 .0) (c .before .before .before .before .before .before .before .before .before .before .before .before .before .before .before .before .before .before .before .before .before .before .before .admit .last .1 .1 .0) (c .before .before .before .before .before .before .before .before .before .before .before .before .before .before .before .before .before .before .before .before .before .before .before .admit .last .1 .1 .1 .0) (c .before .before .before .before .before .before .before .before .before .before .before .before .before .before .before .before .before .before .before .before .before .before .before .admit .last .1 .1 .1 .1 .0)) in
     let n = c .before .admitted2 .given .0 .0 in
     let last = c .before .admitted2 .given .0 .1 .0 in
     let vertex = c .before .before .before .before .before .before .before .before .before .before .before .before .before .before .before .before .before .before .before .before .before .before .before .admit .last .1 .1 .1 .1 .1 .0 in
-    let done = rw (c .before .admitted2 .given .1) at (c .before .before .before .before .before .before .before .before .before .before .before .before .before .before .before .before .before .before .before .before .before .before .before .admit .ensures .1) in (
-      (rw (c .before .admitted2 .given .1) at (c .before .before .before .before .before .before .before .before .before .before .before .before .before .before .before .before .before .before .before .before .before .before .before .admit .ensures .0)) .0,
-      (
-        add-went cuts (windowsOf s) (a .limit) (a .vertex-words .now) (a .e) (a .w) p (n .made) (n .queued) last s′ vertex
-            (add-admitted cuts (windowsOf s) (a .limit) (a .vertex-words .now) (a .e) (a .w) p (c .before .before .before .before .before .before .before .before .before .before .before .before .before .before .before .before .before .before .before .before .before .before .before .before .before .before .before .before .before .before .before .before .before .before .before .lowest .result) (c .before .before .before .before .before .before .before .before .before .before .before .before .before .before .before .before .before .before .before .before .before .before .before .before .before .before .before .before .before .before .before .before .before .before .before .lowest .ensures) (c .before .before .before .before .before .before .before .before .before .before .before .before .before .before .before .before .before .before .before .before .before .before .before .before .before .before .before .before .before .before .before .before .before .before .before .before .if1 .left) (c .before .before .before .before .before .before .before .before .before .before .before .before .before .before .before .before .before .before .before .before .before .before .before .before .before .before .before .before .before .before .before .before .before .before .if2 .left) (at (placeOf s′ (n .made) (n .queued) last vertex)) (done (c .before .before .before .before .before .before .before .before .before .before .before .before .before .before .before .before .before .before .before .before .before .before .before .before .before .before .before .before .before .before .before .before .before .before .before .lowest .ensures) refl)),
-        add-not-skipped cuts (windowsOf s) (a .limit) (a .vertex-words .now) (a .e) (a .w) p (c .before .before .before .before .before .before .before .before .before .before .before .before .before .before .before .before .before .before .before .before .before .before .before .before .before .before .before .before .before .before .before .before .before .before .before .lowest .result) (c .before .before .before .before .before .before .before .before .before .before .before .before .before .before .before .before .before .before .before .before .before .before .before .before .before .before .before .before .before .before .before .before .before .before .before .lowest .ensures) (c .before .before .before .before .before .before .before .before .before .before .before .before .before .before .before .before .before .before .before .before .before .before .before .before .before .before .before .before .before .before .before .before .before .before .before .before .if1 .left) (c .before .before .before .before .before .before .before .before .before .before .before .before .before .before .before .before .before .before .before .before .before .before .before .before .before .before .before .before .before .before .before .before .before .before .if2 .left) _ _ _ _,
-      ),
-    )
+    let done = rw (c .before .admitted2 .given .1) at (c .before .before .before .before .before .before .before .before .before .before .before .before .before .before .before .before .before .before .before .before .before .before .before .admit .ensures .1) in
+    record {
+      bounded = (rw (c .before .admitted2 .given .1) at (c .before .before .before .before .before .before .before .before .before .before .before .before .before .before .before .before .before .before .before .before .before .before .before .admit .ensures .0)) .0;
+      adds = add-went size (windowsOf s) (a .limit) (a .vertex-words .now) (a .e) (a .w) p (n .made) (n .queued) last s′ vertex
+          (add-admitted size (windowsOf s) (a .limit) (a .vertex-words .now) (a .e) (a .w) p (c .before .before .before .before .before .before .before .before .before .before .before .before .before .before .before .before .before .before .before .before .before .before .before .before .before .before .before .before .before .before .before .before .before .before .before .lowest .result) (c .before .before .before .before .before .before .before .before .before .before .before .before .before .before .before .before .before .before .before .before .before .before .before .before .before .before .before .before .before .before .before .before .before .before .before .lowest .ensures) (c .before .before .before .before .before .before .before .before .before .before .before .before .before .before .before .before .before .before .before .before .before .before .before .before .before .before .before .before .before .before .before .before .before .before .before .before .if1 .left) (c .before .before .before .before .before .before .before .before .before .before .before .before .before .before .before .before .before .before .before .before .before .before .before .before .before .before .before .before .before .before .before .before .before .before .if2 .left) (at (placeOf s′ (n .made) (n .queued) last vertex)) (done (c .before .before .before .before .before .before .before .before .before .before .before .before .before .before .before .before .before .before .before .before .before .before .before .before .before .before .before .before .before .before .before .before .before .before .before .lowest .ensures) refl));
+      skips = add-not-skipped size (windowsOf s) (a .limit) (a .vertex-words .now) (a .e) (a .w) p (c .before .before .before .before .before .before .before .before .before .before .before .before .before .before .before .before .before .before .before .before .before .before .before .before .before .before .before .before .before .before .before .before .before .before .before .lowest .result) (c .before .before .before .before .before .before .before .before .before .before .before .before .before .before .before .before .before .before .before .before .before .before .before .before .before .before .before .before .before .before .before .before .before .before .before .lowest .ensures) (c .before .before .before .before .before .before .before .before .before .before .before .before .before .before .before .before .before .before .before .before .before .before .before .before .before .before .before .before .before .before .before .before .before .before .before .before .if1 .left) (c .before .before .before .before .before .before .before .before .before .before .before .before .before .before .before .before .before .before .before .before .before .before .before .before .before .before .before .before .before .before .before .before .before .before .if2 .left) _ _ _ _ _ _;
+    }
 
 pub add-spec : {M : Type 1} → statement M
 add-spec =

@@ -2,7 +2,8 @@
 use mathlib.Core.Path.{refl}
 use Rattle.trim_run.specs.declared.Op.the-variants.{Add, Pop, Touch, Unknown}
 use Rattle.trim_list.specs.declared.Step.the-variants.{Stopped, Went}
-use Rattle.trim_list.specs.Lists.{slices, cuts, settingOf}
+use Rattle.trim_list.specs.Lists.{settingOf}
+use Rattle.trim.specs.Buffers.{slices, cuts}
 use Rattle.trim_list.proofs.Steps.{of-op, op-unknown, op-pop, op-touch}
 use borrow.Author.Needs.{needs}
 use Rattle.trim_list.proofs.operate.Statement.{statement}

@@ -1,6 +1,6 @@
 -- `trim_list::run` meets its contract. Assumes nothing.
 use mathlib.Core.Path.{_∙_}
-use Rattle.trim_list.specs.Lists.{slices, cuts}
+use Rattle.trim.specs.Buffers.{slices, cuts}
 use Rattle.trim_list.proofs.Whole.{edges-same, heads-zero, zeros-stay, whole-done, whole-ended}
 use borrow.Author.Needs.{needs}
 use Rattle.trim_list.proofs.run.Statement.{statement}

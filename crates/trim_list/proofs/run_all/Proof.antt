@@ -3,7 +3,7 @@
 use Prim.Native.Nat.{_+_, _-_}
 use mathlib.Core.Path.{_∙_}
 use native.Mathlib.Omega.{arith}
-use Rattle.trim_list.specs.Lists.{slices, cuts}
+use Rattle.trim.specs.Buffers.{slices, cuts}
 use Rattle.trim_list.proofs.Loop.{Inv, inv-start, inv-ready, inv-stopped, inv-next, inv-done}
 use borrow.Author.Needs.{needs}
 use Rattle.trim_list.proofs.run_all.Statement.{statement}

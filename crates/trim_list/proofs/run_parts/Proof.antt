@@ -2,7 +2,8 @@
 use Prim.Native.Nat.{_*_}
 use mathlib.Core.Path.{sym}
 use lib.Seq.{length-take-le}
-use Rattle.trim_list.specs.Lists.{slices, cuts, placeIn}
+use Rattle.trim_list.specs.Lists.{placeIn}
+use Rattle.trim.specs.Buffers.{slices, cuts}
 use Rattle.trim_list.proofs.Whole.{pts-fit, out-fit, keep-fit, next-fit, parts-ready, parts-run}
 use borrow.Author.Needs.{needs}
 use Rattle.trim_list.proofs.run_parts.Statement.{statement}
