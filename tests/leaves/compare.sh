@@ -12,6 +12,7 @@ trap 'rm -rf "$made"' EXIT
 cd "$made"
 for seed in $(seq "$first" $((first + rounds - 1))); do
     for leaf in propagate:2400 point:1500 segment:3800 emit:6500 entry:2800; do
+        # shellcheck disable=SC2094 # the first is the leaf's name, the last a file of that name
         "$here/oracle/target/release/oracle" vectors "${leaf%:*}" "$seed" "${leaf#*:}" >"${leaf%:*}"
     done
     "$here/target/bin/leaf_vectors"
