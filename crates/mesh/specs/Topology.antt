@@ -6,6 +6,7 @@ use mathlib.Core.List.{List}
 use lib.ListN.{length, replicate}
 use lib.Ieee.{Float}
 use Rattle.float64.specs.Scalar.{zero}
+use Rattle.buffers.specs.Lent.{Lent, given, left}
 use Rattle.topology.specs.Edges.{edges, sharedByThree}
 use Rattle.edge_table.specs.declared.Table.{Table}
 use Rattle.edge_table.specs.Table.{Mesh, tableOf, edgeWords, triangleWords}
@@ -23,6 +24,14 @@ pub record MeshBuffers : Type 0 where
 
 abbrev pub meshBuffers : List ℕ → List ℕ → List Float → List ℕ → List ℕ → List Float → MeshBuffers
 meshBuffers vw ew er r tw tr = record { vertex-words = vw; edge-words = ew; edge-reals = er; round = r; triangle-words = tw; triangle-reals = tr }
+
+-- at the call, and at the return
+module _ (vertexWords edge-words : Lent ℕ) (edgeReals : Lent Float) (round triangle-words : Lent ℕ) (triangleReals : Lent Float) where
+  abbrev pub before : MeshBuffers
+  before = meshBuffers (given vertexWords) (given edge-words) (given edgeReals) (given round) (given triangle-words) (given triangleReals)
+
+  abbrev pub after : MeshBuffers
+  after = meshBuffers (left vertexWords) (left edge-words) (left edgeReals) (left round) (left triangle-words) (left triangleReals)
 
 -- what refusal 10 leaves
 unfoldable pub zeroed : MeshBuffers → MeshBuffers

@@ -7,8 +7,9 @@ use job_checks::Checked;
 ghost use mathlib.Core.Path.{_≡_};
 ghost use Prim.Native.Nat.{_≤_, min};
 ghost use lib.ListN.{length};
+ghost use Rattle.buffers.specs.Lent.{given};
 ghost use Rattle.job_checks.specs.Job.{job};
-ghost use Rattle.mesh.specs.Topology.{meshBuffers, Fits, Completed, Made};
+ghost use Rattle.mesh.specs.Topology.{before, after, Fits, Completed, Made};
 ghost use Rattle.mesh.specs.Answer.{numberOf, countsOf, Answered};
 
 // How many slots the slices have that a job needs beside those of the mesh: the distances of vertices, two f64 each, count with the words of vertices. And how
@@ -51,7 +52,8 @@ fn complete(
     triangle_words: &[u32],
     triangle_reals: &mut [f64],
 )
-    requires { ⌜ Fits (now vertices) (now triangles) (length (now «vertex_words»)) (length (now «edge_words»)) (length (now «edge_reals»)) (length (now round)) (length (now «triangle_words»)) (length (now «triangle_reals»)) × (edges ≤ length (now triangles)) ⌝ }
+    requires { ⌜ Fits (now vertices) (now triangles) (length (now «vertex_words»)) (length (now «edge_words»))
+        (length (now «edge_reals»)) (length (now round)) (length (now «triangle_words»)) (length (now «triangle_reals»)) × (edges ≤ length (now triangles)) ⌝ }
     ensures { λ r. ⌜ Completed (now (vertices .entry)) (now (triangles .entry)) (now (flags .entry)) edges (now («edge_words» .entry)) (now («triangle_words» .entry))
         (now («vertex_words» .entry)) (now («edge_reals» .entry)) (now (round .entry)) (now («triangle_reals» .entry))
         (now («vertex_words» .exit)) (now («edge_reals» .exit)) (now (round .exit)) (now («triangle_reals» .exit)) ⌝ }
@@ -82,10 +84,11 @@ pub fn topology(
     triangle_words: &mut [u32],
     triangle_reals: &mut [f64],
 ) -> Table
-    requires { ⌜ Fits (now vertices) (now triangles) (length (now «vertex_words»)) (length (now «edge_words»)) (length (now «edge_reals»)) (length (now round)) (length (now «triangle_words»)) (length (now «triangle_reals»)) ⌝ }
-    ensures { λ r. ⌜ Made (now (vertices .entry)) (now (triangles .entry)) (now (flags .entry)) r
-        (meshBuffers (now («vertex_words» .entry)) (now («edge_words» .entry)) (now («edge_reals» .entry)) (now (round .entry)) (now («triangle_words» .entry)) (now («triangle_reals» .entry)))
-        (meshBuffers (now («vertex_words» .exit)) (now («edge_words» .exit)) (now («edge_reals» .exit)) (now (round .exit)) (now («triangle_words» .exit)) (now («triangle_reals» .exit))) ⌝ }
+    requires { ⌜ Fits (now vertices) (now triangles) (length (now «vertex_words»)) (length (now «edge_words»))
+        (length (now «edge_reals»)) (length (now round)) (length (now «triangle_words»)) (length (now «triangle_reals»)) ⌝ }
+    ensures { λ r. ⌜ Made (given vertices) (given triangles) (given flags) r
+        (before «vertex_words» «edge_words» «edge_reals» round «triangle_words» «triangle_reals»)
+        (after «vertex_words» «edge_words» «edge_reals» round «triangle_words» «triangle_reals») ⌝ }
 {
     // the heads of the table's buckets are no longer wanted where the faces round each vertex are listed
     match edge_table::build(triangles, round, edge_words, triangle_words) {
@@ -161,10 +164,10 @@ pub fn build(
     triangle_reals: &mut [f64],
 ) -> Meshed
     ensures { λ r. ⌜ Answered
-        (job (now (vertices .entry)) (now (triangles .entry)) (now (flags .entry)) (now (kinds .entry)) (now (faces .entry)) (now (coords .entry)) limit)
+        (job (given vertices) (given triangles) (given flags) (given kinds) (given faces) (given coords) limit)
         others r
-        (meshBuffers (now («vertex_words» .entry)) (now («edge_words» .entry)) (now («edge_reals» .entry)) (now (round .entry)) (now («triangle_words» .entry)) (now («triangle_reals» .entry)))
-        (meshBuffers (now («vertex_words» .exit)) (now («edge_words» .exit)) (now («edge_reals» .exit)) (now (round .exit)) (now («triangle_words» .exit)) (now («triangle_reals» .exit))) ⌝ }
+        (before «vertex_words» «edge_words» «edge_reals» round «triangle_words» «triangle_reals»)
+        (after «vertex_words» «edge_words» «edge_reals» round «triangle_words» «triangle_reals») ⌝ }
 {
     let counts = buffer_counts(
         vertex_words.len(),

@@ -4,7 +4,7 @@ use mesh::Meshed;
 use mesh::OtherCounts;
 ghost use mathlib.Core.Path.{_≡_};
 ghost use Rattle.job_checks.specs.Refusals.{refusalOf};
-ghost use Rattle.mesh.specs.Topology.{meshBuffers};
+ghost use Rattle.mesh.specs.Topology.{before, after};
 ghost use Rattle.mesh_c.specs.Exports.{meshAlone, plenty, Packed};
 
 // The first of the refusals 1 to 5 that holds, or 0: the other four are about pieces, a limit and buffers.
@@ -48,8 +48,8 @@ pub extern "C" fn sirmolaat_mesh_build(
     triangle_reals: &mut [f64],
 ) -> u64
     ensures { λ r. ⌜ Packed (meshAlone (now (vertices .entry)) (now (triangles .entry)) (now (flags .entry))) r
-        (meshBuffers (now («vertex_words» .entry)) (now («edge_words» .entry)) (now («edge_reals» .entry)) (now (round .entry)) (now («triangle_words» .entry)) (now («triangle_reals» .entry)))
-        (meshBuffers (now («vertex_words» .exit)) (now («edge_words» .exit)) (now («edge_reals» .exit)) (now (round .exit)) (now («triangle_words» .exit)) (now («triangle_reals» .exit))) ⌝ }
+        (before «vertex_words» «edge_words» «edge_reals» round «triangle_words» «triangle_reals»)
+        (after «vertex_words» «edge_words» «edge_reals» round «triangle_words» «triangle_reals») ⌝ }
 {
     let meshed = mesh::build(
         vertices,

@@ -14,16 +14,13 @@ ghost use lib.ListN.{length};
 ghost use Rattle.source.specs.Distance.{lowestOf};
 ghost use Rattle.better.specs.Stretches.{interval};
 ghost use Rattle.better.specs.Buffers.{pairs};
-ghost use Rattle.heap.specs.Queue.{queue};
-ghost use Rattle.windows.specs.Windows.{capacityOf};
-ghost use Rattle.chains.specs.Chains.{links};
 ghost use Rattle.trim_model.specs.Intervals.{tinyOf};
 ghost use Rattle.trim_cut.specs.Cut.{Sizes};
-ghost use Rattle.trim_split.specs.Running.{Ready, place, endOf};
+ghost use Rattle.trim_split.specs.Running.{Ready, roomFor, placeBefore, endAfter, endOf};
 ghost use Rattle.trim_keep.specs.Keeping.{Bounded};
 ghost use Rattle.trim.specs.Adding.{newOf, Admits, AddsTo};
 ghost use Rattle.trim.specs.Buffers.{before, after, cutsBefore, cutsAfter};
-ghost use Rattle.buffers.specs.Lent.{given};
+ghost use Rattle.buffers.specs.Lent.{given, left};
 
 // What there is no slot for; or how many windows and events there are now.
 pub enum Added {
@@ -34,7 +31,7 @@ pub enum Added {
 // `keep` at first: the whole of the new window.
 fn whole(keep: &mut [f64], b0: f64, b1: f64)
     requires { ⌜ 2 ≤ length (now keep) ⌝ }
-    ensures { λ r. ⌜ pairs 1 (now (keep .exit)) ≡ interval b0 b1 ∷ [] ⌝ }
+    ensures { λ r. ⌜ pairs 1 (left keep) ≡ interval b0 b1 ∷ [] ⌝ }
 {
     keep[0] = b0;
     keep[1] = b1;
@@ -60,7 +57,10 @@ fn admit(
     limit: f64,
 ) -> Made
     requires { ⌜ Ready (e .id .0) (counts .made) 0 (now edges) (now words) (now reals) × Sizes (length (now pts)) (now keep) (now out) (now next) ⌝ }
-    ensures { λ r. ⌜ Bounded (capacityOf (length (now (words .entry))) (length (now (reals .entry)))) r × (w .win .low ≡ lowestOf (w .win .src) (w .win .b0) (w .win .b1) → tiny ≡ tinyOf (e .len) → Admits (length (now (pts .entry))) (capacityOf (length (now (words .entry))) (length (now (reals .entry)))) limit (now («vertex_words» .entry)) e (newOf w) (place (counts .made) (counts .queued) 0 (links (now (edges .entry)) (now (words .entry))) (now (reals .entry)) (queue (now (keys .entry)) (now (events .entry))) (now (vertex .entry))) (endOf r (links (now (edges .exit)) (now (words .exit))) (now (reals .exit)) (queue (now (keys .exit)) (now (events .exit))) (now (vertex .exit)))) ⌝ }
+    ensures { λ r. ⌜ Bounded (roomFor words reals) r × (w .win .low ≡ lowestOf (w .win .src) (w .win .b0) (w .win .b1) → tiny ≡ tinyOf (e .len) →
+        Admits (length (given pts)) (roomFor words reals) limit (given «vertex_words») e (newOf w)
+        (placeBefore edges words reals keys events (counts .made) (counts .queued) 0 (given vertex))
+        (endAfter edges words reals keys events (endOf r) (left vertex))) ⌝ }
 {
     if pts.len() == 0 {
         return Made::Stopped(Lack::Cuts);

@@ -6,6 +6,7 @@ use trim_split::Counts;
 use trim_split::Made;
 use windows::Edge;
 use windows::WindowRecord;
+ghost use Rattle.buffers.specs.Lent.{given, left};
 ghost use mathlib.Core.Path.{_≡_};
 ghost use mathlib.Core.List.{List, [], _∷_};
 ghost use Prim.Native.Nat.{ℕ, _+_, _≤_, _<_};
@@ -17,14 +18,12 @@ ghost use Rattle.source.specs.Distance.{evalOf};
 ghost use Rattle.better.specs.Stretches.{interval};
 ghost use Rattle.better.specs.Buffers.{pairs};
 ghost use Rattle.heap.specs.Queue.{queue};
-ghost use Rattle.windows.specs.Windows.{capacityOf};
-ghost use Rattle.chains.specs.Chains.{links};
 ghost use Rattle.actions.specs.Actions.{touch, stock, play, queueing};
 ghost use Rattle.trim_model.specs.Intervals.{pushIf, wideOf};
 ghost use Rattle.trim_model.specs.Windows.{part};
 ghost use Rattle.trim_state.specs.Trace.{near, touching};
 ghost use Rattle.live_windows.specs.Live.{liveOf};
-ghost use Rattle.trim_split.specs.Running.{Ready, place, endOf};
+ghost use Rattle.trim_split.specs.Running.{Ready, roomFor, placeBefore, endAfter, endOf};
 ghost use Rattle.trim_keep.specs.Keeping.{Bounded, Seats, KeptOne};
 
 // The first end of an edge is touched if the window reaches it.
@@ -38,7 +37,9 @@ fn touch_low(
     e: Edge,
     win: Win,
 ) -> Pushed
-    ensures { λ r. ⌜ ((cuts windows made : ℕ) → play cuts windows limit (now («vertex_words» .entry)) (pushIf (le (win .b0) (near ⊗ e .len)) (touch (e .a .0) (evalOf win zero64 zero64))) (stock made n (queue (now (keys .entry)) (now (events .entry))) (now (vertex .entry))) ≡ queueing made (now (vertex .exit)) (r, queue (now (keys .exit)) (now (events .exit)))) ⌝ }
+    ensures { λ r. ⌜ ((cuts windows made : ℕ) →
+        play cuts windows limit (given «vertex_words») (pushIf (le (win .b0) (near ⊗ e .len)) (touch (e .a .0) (evalOf win zero64 zero64))) (stock made n (queue (given keys) (given events)) (given vertex))
+        ≡ queueing made (left vertex) (r, queue (now (keys .exit)) (now (events .exit)))) ⌝ }
 {
     if win.b0 <= 1e-9 * e.len {
         let d = source::eval(win, 0.0, 0.0);
@@ -58,7 +59,9 @@ fn touch_high(
     e: Edge,
     win: Win,
 ) -> Pushed
-    ensures { λ r. ⌜ ((cuts windows made : ℕ) → play cuts windows limit (now («vertex_words» .entry)) (pushIf (le (e .len ⊖ near ⊗ e .len) (win .b1)) (touch (e .b .0) (evalOf win (e .len) zero64))) (stock made n (queue (now (keys .entry)) (now (events .entry))) (now (vertex .entry))) ≡ queueing made (now (vertex .exit)) (r, queue (now (keys .exit)) (now (events .exit)))) ⌝ }
+    ensures { λ r. ⌜ ((cuts windows made : ℕ) →
+        play cuts windows limit (given «vertex_words») (pushIf (le (e .len ⊖ near ⊗ e .len) (win .b1)) (touch (e .b .0) (evalOf win (e .len) zero64))) (stock made n (queue (given keys) (given events)) (given vertex))
+        ≡ queueing made (left vertex) (r, queue (now (keys .exit)) (now (events .exit)))) ⌝ }
 {
     if win.b1 >= e.len - 1e-9 * e.len {
         let d = source::eval(win, e.len, 0.0);
@@ -80,7 +83,9 @@ fn touch_ends(
     b0: f64,
     b1: f64,
 ) -> Pushed
-    ensures { λ r. ⌜ ((cuts windows made k j : ℕ) → play cuts windows limit (now («vertex_words» .entry)) (touching e (part (liveOf x k) b0 b1 j)) (stock made n (queue (now (keys .entry)) (now (events .entry))) (now (vertex .entry))) ≡ queueing made (now (vertex .exit)) (r, queue (now (keys .exit)) (now (events .exit)))) ⌝ }
+    ensures { λ r. ⌜ ((cuts windows made k j : ℕ) →
+        play cuts windows limit (given «vertex_words») (touching e (part (liveOf x k) b0 b1 j)) (stock made n (queue (given keys) (given events)) (given vertex))
+        ≡ queueing made (left vertex) (r, queue (now (keys .exit)) (now (events .exit)))) ⌝ }
 {
     let old = x.win;
     let win = trim_split::trimmed(old, b0, b1);
@@ -109,7 +114,10 @@ fn keep_part(
     limit: f64,
 ) -> Made
     requires { ⌜ Ready (e .id .0) (counts .made) before (now edges) (now words) (now reals) ⌝ }
-    ensures { λ r. ⌜ Bounded (capacityOf (length (now (words .entry))) (length (now (reals .entry)))) r × ((cuts k : ℕ) → KeptOne cuts (capacityOf (length (now (words .entry))) (length (now (reals .entry)))) limit (now («vertex_words» .entry)) e (liveOf x k) (interval b0 b1) (place (counts .made) (counts .queued) before (links (now (edges .entry)) (now (words .entry))) (now (reals .entry)) (queue (now (keys .entry)) (now (events .entry))) (now (vertex .entry))) (endOf r (links (now (edges .exit)) (now (words .exit))) (now (reals .exit)) (queue (now (keys .exit)) (now (events .exit))) (now (vertex .exit)))) ⌝ }
+    ensures { λ r. ⌜ Bounded (roomFor words reals) r × ((cuts k : ℕ) →
+        KeptOne cuts (roomFor words reals) limit (given «vertex_words») e (liveOf x k) (interval b0 b1)
+        (placeBefore edges words reals keys events (counts .made) (counts .queued) before (given vertex))
+        (endAfter edges words reals keys events (endOf r) (left vertex))) ⌝ }
 {
     let seat = live_windows::seat_from(edges, words, reals, counts.made, e.id, before, b0);
     let part = trim_split::make_part(
@@ -173,7 +181,10 @@ pub fn keep_parts(
     limit: f64,
 ) -> Made
     requires { ⌜ Ready (e .id .0) (counts .made) before (now edges) (now words) (now reals) × (k + k ≤ length (now keep)) ⌝ }
-    ensures { λ r. ⌜ Bounded (capacityOf (length (now (words .entry))) (length (now (reals .entry)))) r × ((cuts j : ℕ) → Seats cuts (capacityOf (length (now (words .entry))) (length (now (reals .entry)))) limit (now («vertex_words» .entry)) e (liveOf x j) (wideOf tiny (pairs k (now (keep .entry)))) (place (counts .made) (counts .queued) before (links (now (edges .entry)) (now (words .entry))) (now (reals .entry)) (queue (now (keys .entry)) (now (events .entry))) (now (vertex .entry))) (endOf r (links (now (edges .exit)) (now (words .exit))) (now (reals .exit)) (queue (now (keys .exit)) (now (events .exit))) (now (vertex .exit)))) ⌝ }
+    ensures { λ r. ⌜ Bounded (roomFor words reals) r × ((cuts j : ℕ) →
+        Seats cuts (roomFor words reals) limit (given «vertex_words») e (liveOf x j) (wideOf tiny (pairs k (given keep)))
+        (placeBefore edges words reals keys events (counts .made) (counts .queued) before (given vertex))
+        (endAfter edges words reals keys events (endOf r) (left vertex))) ⌝ }
 {
     let mut now = counts;
     let mut last = before;

@@ -6,11 +6,12 @@ use mathlib.Core.Path.{_≡_}
 use lib.ListN.{length, getD, drop}
 use lib.Ieee.{Float}
 use Rattle.buffers.specs.Lack.{lackNumber}
+use Rattle.buffers.specs.Lent.{Lent, given, left}
 use Rattle.buffers.specs.Slots.{slotsOf}
 use Rattle.windows.specs.declared.WindowRecord.{WindowRecord}
 use Rattle.windows.specs.Windows.{capacityOf}
-use Rattle.heap.specs.Queue.{Queue}
-use Rattle.chains.specs.Chains.{Links}
+use Rattle.heap.specs.Queue.{Queue, queue}
+use Rattle.chains.specs.Chains.{Links, links}
 use Rattle.actions.specs.Actions as actions
 use Rattle.actions.specs.Actions.{Action, Stock, winsAfter, play}
 use Rattle.trim_model.specs.Windows.{Window}
@@ -44,6 +45,17 @@ pub data End : Type 0 where
 abbrev pub endOf : Made → Links → List Float → Queue → List Float → End
 endOf (Stopped lack) b f q vertex = stopped (lackNumber lack)
 endOf (Went c last) b f q vertex = at (place (c .made) (c .queued) last b f q vertex)
+
+-- ---- of lent slices: the windows that there are slots for, a place at the call, and an end at the return
+abbrev pub roomFor : Lent ℕ → Lent Float → ℕ
+roomFor words reals = capacityOf (length (given words)) (length (given reals))
+
+module _ (edges words : Lent ℕ) (reals keys : Lent Float) (events : Lent ℕ) where
+  abbrev pub placeBefore : ℕ → ℕ → ℕ → List Float → Place
+  placeBefore made queued last vertex = place made queued last (links (given edges) (given words)) (given reals) (queue (given keys) (given events)) vertex
+
+  abbrev pub endAfter : (Links → List Float → Queue → List Float → End) → List Float → End
+  endAfter end vertex = end (links (left edges) (left words)) (left reals) (queue (left keys) (left events)) vertex
 
 -- so many windows are made, if it was not stopped
 abbrev pub Counted : Made → ℕ → Type 0

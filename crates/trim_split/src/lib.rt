@@ -5,6 +5,7 @@ use buffers::WindowId;
 use heap::Pushed;
 use source::Win;
 use windows::WindowRecord;
+ghost use Rattle.buffers.specs.Lent.{given};
 ghost use Prim.Native.Nat.{ℕ, suc, _+_, _≤_, _<_, pred};
 ghost use mathlib.Core.List.{List, [], _∷_};
 ghost use mathlib.Core.Path.{_≡_};
@@ -13,14 +14,11 @@ ghost use lib.Ieee.{Float};
 ghost use Rattle.buffers.specs.Slots.{slotsOf};
 ghost use Rattle.better.specs.Stretches.{interval};
 ghost use Rattle.better.specs.Buffers.{pairs};
-ghost use Rattle.heap.specs.Queue.{queue};
-ghost use Rattle.windows.specs.Windows.{capacityOf};
-ghost use Rattle.chains.specs.Chains.{links};
 ghost use Rattle.trim_model.specs.Windows.{part, fresh, split};
 ghost use Rattle.trim_state.specs.Trace.{making, makings, splitting};
 ghost use Rattle.live_windows.specs.Live.{liveOf};
 ghost use Rattle.trim_split.specs.Trimmed.{trimmedTo};
-ghost use Rattle.trim_split.specs.Running.{Ready, Counted, place, endOf, Does};
+ghost use Rattle.trim_split.specs.Running.{Ready, Counted, roomFor, placeBefore, endAfter, endOf, Does};
 
 // How many windows are made, and how many events are queued.
 pub struct Counts {
@@ -58,7 +56,10 @@ pub fn make_part(
     b1: f64,
 ) -> Made
     requires { ⌜ Ready (e .0) (counts .made) before (now edges) (now words) (now reals) ⌝ }
-    ensures { λ r. ⌜ Counted r (suc (counts .made)) × ((cuts : ℕ) (limit : Float) (flags : List ℕ) (vertex : List Float) (k : ℕ) → Does cuts (capacityOf (length (now (words .entry))) (length (now (reals .entry)))) limit flags (e .0) (making (e .0) (liveOf x k) (counts .made) (interval b0 b1)) [] (part (liveOf x k) b0 b1 (counts .made) ∷ []) (place (counts .made) (counts .queued) before (links (now (edges .entry)) (now (words .entry))) (now (reals .entry)) (queue (now (keys .entry)) (now (events .entry))) vertex) (endOf r (links (now (edges .exit)) (now (words .exit))) (now (reals .exit)) (queue (now (keys .exit)) (now (events .exit))) vertex)) ⌝ }
+    ensures { λ r. ⌜ Counted r (suc (counts .made)) × ((cuts : ℕ) (limit : Float) (flags : List ℕ) (vertex : List Float) (k : ℕ) →
+        Does cuts (roomFor words reals) limit flags (e .0) (making (e .0) (liveOf x k) (counts .made) (interval b0 b1)) [] (part (liveOf x k) b0 b1 (counts .made) ∷ [])
+        (placeBefore edges words reals keys events (counts .made) (counts .queued) before vertex)
+        (endAfter edges words reals keys events (endOf r) vertex)) ⌝ }
 {
     let made = counts.made;
     let queued = counts.queued;
@@ -107,7 +108,11 @@ fn make_parts(
     n: usize,
 ) -> Made
     requires { ⌜ Ready (e .0) (counts .made) before (now edges) (now words) (now reals) × (n + n ≤ length (now pieces)) ⌝ }
-    ensures { λ r. ⌜ Counted r (counts .made + length (drop 1 (pairs n (now (pieces .entry))))) × ((cuts : ℕ) (limit : Float) (flags : List ℕ) (vertex : List Float) (k : ℕ) → Does cuts (capacityOf (length (now (words .entry))) (length (now (reals .entry)))) limit flags (e .0) (makings (e .0) (liveOf x k) (counts .made) (drop 1 (pairs n (now (pieces .entry))))) [] (fresh (liveOf x k) (counts .made) (drop 1 (pairs n (now (pieces .entry))))) (place (counts .made) (counts .queued) before (links (now (edges .entry)) (now (words .entry))) (now (reals .entry)) (queue (now (keys .entry)) (now (events .entry))) vertex) (endOf r (links (now (edges .exit)) (now (words .exit))) (now (reals .exit)) (queue (now (keys .exit)) (now (events .exit))) vertex)) ⌝ }
+    ensures { λ r. ⌜ Counted r (counts .made + length (drop 1 (pairs n (given pieces)))) × ((cuts : ℕ) (limit : Float) (flags : List ℕ) (vertex : List Float) (k : ℕ) →
+        Does cuts (roomFor words reals) limit flags (e .0) (makings (e .0) (liveOf x k) (counts .made) (drop 1 (pairs n (given pieces))))
+        [] (fresh (liveOf x k) (counts .made) (drop 1 (pairs n (given pieces))))
+        (placeBefore edges words reals keys events (counts .made) (counts .queued) before vertex)
+        (endAfter edges words reals keys events (endOf r) vertex)) ⌝ }
 {
     let mut now = counts;
     let mut last = before;
@@ -144,7 +149,11 @@ pub fn split_window(
     n: usize,
 ) -> Made
     requires { ⌜ Ready (e .0) (counts .made) before (now edges) (now words) (now reals) × ((id .0 < counts .made) × (n + n ≤ length (now pieces))) ⌝ }
-    ensures { λ r. ⌜ Counted r (counts .made + pred (length (pairs n (now (pieces .entry))))) × ((cuts : ℕ) (limit : Float) (flags : List ℕ) (vertex : List Float) → Does cuts (capacityOf (length (now (words .entry))) (length (now (reals .entry)))) limit flags (e .0) (splitting (e .0) (liveOf x (id .0)) (counts .made) (pairs n (now (pieces .entry)))) (liveOf x (id .0) ∷ []) (split (liveOf x (id .0)) (counts .made) (pairs n (now (pieces .entry)))) (place (counts .made) (counts .queued) before (links (now (edges .entry)) (now (words .entry))) (now (reals .entry)) (queue (now (keys .entry)) (now (events .entry))) vertex) (endOf r (links (now (edges .exit)) (now (words .exit))) (now (reals .exit)) (queue (now (keys .exit)) (now (events .exit))) vertex)) ⌝ }
+    ensures { λ r. ⌜ Counted r (counts .made + pred (length (pairs n (given pieces)))) × ((cuts : ℕ) (limit : Float) (flags : List ℕ) (vertex : List Float) →
+        Does cuts (roomFor words reals) limit flags (e .0) (splitting (e .0) (liveOf x (id .0)) (counts .made) (pairs n (given pieces)))
+        (liveOf x (id .0) ∷ []) (split (liveOf x (id .0)) (counts .made) (pairs n (given pieces)))
+        (placeBefore edges words reals keys events (counts .made) (counts .queued) before vertex)
+        (endAfter edges words reals keys events (endOf r) vertex)) ⌝ }
 {
     let made = counts.made;
     let old = x.win;

@@ -6,20 +6,18 @@ use trim_cut::Met;
 use trim_split::Counts;
 use trim_split::Made;
 use windows::WindowRecord;
+ghost use Rattle.buffers.specs.Lent.{given, left};
 ghost use Prim.Native.Nat.{ℕ, _≤_, _<_};
 ghost use mathlib.Core.List.{List};
 ghost use lib.ListN.{length};
 ghost use lib.Ieee.{Float};
 ghost use Rattle.better.specs.Stretches.{betterOf};
 ghost use Rattle.better.specs.Buffers.{pairs};
-ghost use Rattle.heap.specs.Queue.{queue};
-ghost use Rattle.windows.specs.Windows.{capacityOf};
-ghost use Rattle.chains.specs.Chains.{links};
 ghost use Rattle.trim_model.specs.Windows.{Window};
 ghost use Rattle.trim_model.specs.Add.{visit as Add·visit};
 ghost use Rattle.live_windows.specs.Live.{liveOf};
 ghost use Rattle.trim_cut.specs.Cut.{Sizes};
-ghost use Rattle.trim_split.specs.Running.{Ready, place};
+ghost use Rattle.trim_split.specs.Running.{Ready, roomFor, placeBefore, endAfter};
 ghost use Rattle.trim_visit.specs.Visiting.{from, endOf, Keeps, Bounded, Visits1, VisitsAll};
 
 // What there is no slot for; or how many windows and events there are now, the link of the last window that survived, and how many intervals the new
@@ -50,7 +48,10 @@ fn visit(
     tiny: f64,
 ) -> Visited
     requires { ⌜ Ready (e .0) (counts .made) before (now edges) (now words) (now reals) × ((id .0 < counts .made) × (Sizes (length (now pts)) (now keep) (now out) (now next) × (k ≤ length (now pts)))) ⌝ }
-    ensures { λ r. ⌜ Keeps (length (now (pts .entry))) r (now (keep .exit)) (Add·visit betterOf tiny (liveOf w 0) (liveOf x (id .0)) (from (pairs k (now (keep .entry))) (counts .made))) × ((limit : Float) (flags : List ℕ) (vertex : List Float) → Visits1 (length (now (pts .entry))) (capacityOf (length (now (words .entry))) (length (now (reals .entry)))) limit flags (e .0) tiny (liveOf w 0) (pairs k (now (keep .entry))) (liveOf x (id .0)) (place (counts .made) (counts .queued) before (links (now (edges .entry)) (now (words .entry))) (now (reals .entry)) (queue (now (keys .entry)) (now (events .entry))) vertex) (endOf r (links (now (edges .exit)) (now (words .exit))) (now (reals .exit)) (queue (now (keys .exit)) (now (events .exit))) vertex)) ⌝ }
+    ensures { λ r. ⌜ Keeps (length (given pts)) r (left keep) (Add·visit betterOf tiny (liveOf w 0) (liveOf x (id .0)) (from (pairs k (given keep)) (counts .made))) × ((limit : Float) (flags : List ℕ) (vertex : List Float) →
+        Visits1 (length (given pts)) (roomFor words reals) limit flags (e .0) tiny (liveOf w 0) (pairs k (given keep)) (liveOf x (id .0))
+        (placeBefore edges words reals keys events (counts .made) (counts .queued) before vertex)
+        (endAfter edges words reals keys events (endOf r) vertex)) ⌝ }
 {
     let new = w.win;
     let old = x.win;
@@ -107,7 +108,10 @@ pub fn visits(
     tiny: f64,
 ) -> Visited
     requires { ⌜ Ready (e .0) (counts .made) before (now edges) (now words) (now reals) × (Sizes (length (now pts)) (now keep) (now out) (now next) × (k ≤ length (now pts))) ⌝ }
-    ensures { λ r. ⌜ Bounded (length (now (pts .entry))) (capacityOf (length (now (words .entry))) (length (now (reals .entry)))) (counts .made) r × ((limit : Float) (flags : List ℕ) (vertex : List Float) → VisitsAll (length (now (pts .entry))) (capacityOf (length (now (words .entry))) (length (now (reals .entry)))) limit flags (e .0) tiny (liveOf w 0) (λ zs. length zs ≤ counts .made) (pairs k (now (keep .entry))) (place (counts .made) (counts .queued) before (links (now (edges .entry)) (now (words .entry))) (now (reals .entry)) (queue (now (keys .entry)) (now (events .entry))) vertex) r (endOf r (links (now (edges .exit)) (now (words .exit))) (now (reals .exit)) (queue (now (keys .exit)) (now (events .exit))) vertex) (now (keep .exit))) ⌝ }
+    ensures { λ r. ⌜ Bounded (length (given pts)) (roomFor words reals) (counts .made) r × ((limit : Float) (flags : List ℕ) (vertex : List Float) →
+        VisitsAll (length (given pts)) (roomFor words reals) limit flags (e .0) tiny (liveOf w 0) (λ zs. length zs ≤ counts .made) (pairs k (given keep))
+        (placeBefore edges words reals keys events (counts .made) (counts .queued) before vertex) r
+        (endAfter edges words reals keys events (endOf r) vertex) (left keep)) ⌝ }
 {
     let new = w.win;
     let end = new.b1 + tiny;
