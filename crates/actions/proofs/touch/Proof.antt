@@ -30,24 +30,55 @@ same-length-3 c = search needs
 
 returns : tie.Need-returns
 returns c = λ cuts windows made.
-    let a = c .before .before .before .before .before .before .before .before .before .before .before .before .before .before .before .before .before .before .before .before .before .before .args in
-    touch-queued cuts windows (a .limit) (a .vertex-words .now) made (a .n) (queue (a .keys .now) (a .words .now)) (a .vertex .now) (a .v .0) (a .d) (c .before .before .before .before .before .before .before .before .before .before .before .before .before .before .before .before .distance .result) (c .before .before .before .before .before .before .before .before .before .before .before .before .before .before .before .before .distance .ensures) (c .before .before .before .before .before .before .before .before .before .before .before .before .before .before .before .if1 .taken) _ (c .before .before .before .before .before .before .before .before .before .before .before .before .before .write-f64 .ensures) (c .before .before .before .before .before .before .before .before .before .before .flagged .result) (c .before .before .before .before .before .before .before .before .before .before .flagged .ensures) (c .before .before .before .before .before .before .before .before .before .if2 .taken) (c .before .before .before .before .before .before .before .before .if3 .taken) (c .before .before .before .before .before .vertex-event .result) (c .before .before .before .before .before .vertex-event .ensures) _ (c .before .before .before .before .push .ensures .0)
+    let at-push = c .before .before .before .before in
+    let at-vertex-event = at-push .before in
+    let at-if3 = at-vertex-event .before .before .before in
+    let at-if2 = at-if3 .before in
+    let at-flagged = at-if2 .before in
+    let at-write-f64 = at-flagged .before .before .before in
+    let at-if1 = at-write-f64 .before .before in
+    let at-distance = at-if1 .before in
+    let start = at-distance .before .before .before .before .before .before in
+    let vertex-event = at-vertex-event .vertex-event in
+    let flagged = at-flagged .flagged in
+    let distance = at-distance .distance in
+    let a = start .args in
+    touch-queued cuts windows (a .limit) (a .vertex-words .now) made (a .n) (queue (a .keys .now) (a .words .now)) (a .vertex .now) (a .v .0) (a .d) (distance .result) (distance .ensures)
+    (at-if1 .if1 .taken) _ (at-write-f64 .write-f64 .ensures) (flagged .result) (flagged .ensures) (at-if2 .if2 .taken) (at-if3 .if3 .taken) (vertex-event .result) (vertex-event .ensures) _
+    (at-push .push .ensures .0)
 
 same-length-4 : tie.Need-same-length-4
 same-length-4 c = search needs
 
 returns-2 : tie.Need-returns-2
 returns-2 c = λ cuts windows made.
-    let a = c .before .before .before .before .before .before .before .before .before .before .before .before .before .before .args in
-    touch-beyond cuts windows (a .limit) (a .vertex-words .now) made (a .n) (queue (a .keys .now) (a .words .now)) (a .vertex .now) (a .v .0) (a .d) (c .before .before .before .before .before .before .before .before .distance .result) (c .before .before .before .before .before .before .before .before .distance .ensures) (c .before .before .before .before .before .before .before .if1 .taken) _ (c .before .before .before .before .before .write-f64 .ensures) (c .before .before .flagged .result) (c .before .before .flagged .ensures) (c .before .if2 .taken) (c .if3 .left)
+    let at-if2 = c .before in
+    let at-flagged = at-if2 .before in
+    let at-write-f64 = at-flagged .before .before .before in
+    let at-if1 = at-write-f64 .before .before in
+    let at-distance = at-if1 .before in
+    let start = at-distance .before .before .before .before .before .before in
+    let flagged = at-flagged .flagged in
+    let distance = at-distance .distance in
+    let a = start .args in
+    touch-beyond cuts windows (a .limit) (a .vertex-words .now) made (a .n) (queue (a .keys .now) (a .words .now)) (a .vertex .now) (a .v .0) (a .d) (distance .result) (distance .ensures)
+    (at-if1 .if1 .taken) _ (at-write-f64 .write-f64 .ensures) (flagged .result) (flagged .ensures) (at-if2 .if2 .taken) (c .if3 .left)
 
 same-length-5 : tie.Need-same-length-5
 same-length-5 c = search needs
 
 returns-3 : tie.Need-returns-3
 returns-3 c = λ cuts windows made.
-    let a = c .before .before .before .before .before .before .before .before .before .before .before .before .before .args in
-    touch-unflagged cuts windows (a .limit) (a .vertex-words .now) made (a .n) (queue (a .keys .now) (a .words .now)) (a .vertex .now) (a .v .0) (a .d) (c .before .before .before .before .before .before .before .distance .result) (c .before .before .before .before .before .before .before .distance .ensures) (c .before .before .before .before .before .before .if1 .taken) _ (c .before .before .before .before .write-f64 .ensures) (c .before .flagged .result) (c .before .flagged .ensures) (c .if2 .left)
+    let at-flagged = c .before in
+    let at-write-f64 = at-flagged .before .before .before in
+    let at-if1 = at-write-f64 .before .before in
+    let at-distance = at-if1 .before in
+    let start = at-distance .before .before .before .before .before .before in
+    let flagged = at-flagged .flagged in
+    let distance = at-distance .distance in
+    let a = start .args in
+    touch-unflagged cuts windows (a .limit) (a .vertex-words .now) made (a .n) (queue (a .keys .now) (a .words .now)) (a .vertex .now) (a .v .0) (a .d) (distance .result)
+    (distance .ensures) (at-if1 .if1 .taken) _ (at-write-f64 .write-f64 .ensures) (flagged .result) (flagged .ensures) (c .if2 .left)
 
 same-length-6 : tie.Need-same-length-6
 same-length-6 c = search needs

@@ -29,8 +29,19 @@ loop-less c = search needs
 
 loop-again : tie.Need-loop-again Inv-loop μ-loop
 loop-again c =
-    let l = c .before .before .before .before .before .loop in
-    (search needs, (c .before .before .store-units .kept .0 ∙ l .inv .1 .0, rows-turn-three 3 _ _ _ _ _ _ _ (3 * l .f) (3 * (l .f + 1)) (omega arith) (c .before .before .store-units .ensures) (unit-past (c .before .before .before .before .before .before .before .args .reals .now) _ (3 * l .f) (3 * l .f) (omega arith) (l .inv .1 .1)) (unit-past (c .before .before .before .before .before .before .before .args .reals .now) _ (3 * l .f) (3 * l .f + 1) (omega arith) (l .inv .1 .1)) (unit-past (c .before .before .before .before .before .before .before .args .reals .now) _ (3 * l .f) (3 * l .f + 2) (omega arith) (l .inv .1 .1)) (l .inv .1 .1)))
+    let at-store-units = c .before .before in
+    let at-loop = at-store-units .before .before .before in
+    let start = at-loop .before .before in
+    let store-units = at-store-units .store-units in
+    let l = at-loop .loop in (
+      search needs,
+      (
+        store-units .kept .0 ∙ l .inv .1 .0,
+        rows-turn-three 3 _ _ _ _ _ _ _ (3 * l .f) (3 * (l .f + 1)) (omega arith) (store-units .ensures)
+            (unit-past (start .args .reals .now) _ (3 * l .f) (3 * l .f) (omega arith) (l .inv .1 .1)) (unit-past (start .args .reals .now) _ (3 * l .f) (3 * l .f + 1) (omega arith) (l .inv .1 .1))
+            (unit-past (start .args .reals .now) _ (3 * l .f) (3 * l .f + 2) (omega arith) (l .inv .1 .1)) (l .inv .1 .1),
+      ),
+    )
 
 same-length : tie.Need-same-length Inv-loop μ-loop
 same-length c = search needs

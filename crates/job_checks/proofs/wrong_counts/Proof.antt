@@ -30,22 +30,68 @@ returns-5 c = sym (next-of _ _ _ (ap not (eq-eqb _ _ (c .before .before .before 
 
 returns-6 : tie.Need-returns-6
 unfolding wrongCounts
-returns-6 c = sym (next-of _ _ _ (ap not (eq-eqb _ _ (c .before .before .before .before .before .if1 .left))) (next-of _ _ _ (ap not (eq-eqb _ _ (c .before .before .before .before .if2 .left))) (next-of _ _ _ (le-ltb _ _ (c .before .before .before .if3 .left)) (next-of _ _ _ (le-ltb _ _ (c .before .before .if4 .left)) (next-of _ _ _ (le-ltb _ _ (c .before .if5 .left)) (one-holds _ _ (ap not (ne-eqb _ _ (c .if6 .taken)))))))))
+returns-6 c =
+    let at-if5 = c .before in
+    let at-if4 = at-if5 .before in
+    let at-if3 = at-if4 .before in
+    let at-if2 = at-if3 .before in
+    let at-if1 = at-if2 .before in
+    sym (next-of _ _ _ (ap not (eq-eqb _ _ (at-if1 .if1 .left)))
+    (next-of _ _ _ (ap not (eq-eqb _ _ (at-if2 .if2 .left)))
+    (next-of _ _ _ (le-ltb _ _ (at-if3 .if3 .left))
+    (next-of _ _ _ (le-ltb _ _ (at-if4 .if4 .left)) (next-of _ _ _ (le-ltb _ _ (at-if5 .if5 .left)) (one-holds _ _ (ap not (ne-eqb _ _ (c .if6 .taken)))))))))
 
 returns-7 : tie.Need-returns-7
 unfolding wrongCounts
-returns-7 c = sym (next-of _ _ _ (ap not (eq-eqb _ _ (c .before .before .before .before .before .before .if1 .left))) (next-of _ _ _ (ap not (eq-eqb _ _ (c .before .before .before .before .before .if2 .left))) (next-of _ _ _ (le-ltb _ _ (c .before .before .before .before .if3 .left)) (next-of _ _ _ (le-ltb _ _ (c .before .before .before .if4 .left)) (next-of _ _ _ (le-ltb _ _ (c .before .before .if5 .left)) (next-of _ _ _ (ap not (eq-eqb _ _ (c .before .if6 .left))) (one-holds _ _ (ap not (ne-eqb _ _ (c .if7 .taken))))))))))
+returns-7 c =
+    let at-if6 = c .before in
+    let at-if5 = at-if6 .before in
+    let at-if4 = at-if5 .before in
+    let at-if3 = at-if4 .before in
+    let at-if2 = at-if3 .before in
+    let at-if1 = at-if2 .before in
+    sym (next-of _ _ _ (ap not (eq-eqb _ _ (at-if1 .if1 .left)))
+    (next-of _ _ _ (ap not (eq-eqb _ _ (at-if2 .if2 .left)))
+    (next-of _ _ _ (le-ltb _ _ (at-if3 .if3 .left))
+    (next-of _ _ _ (le-ltb _ _ (at-if4 .if4 .left))
+    (next-of _ _ _ (le-ltb _ _ (at-if5 .if5 .left)) (next-of _ _ _ (ap not (eq-eqb _ _ (at-if6 .if6 .left))) (one-holds _ _ (ap not (ne-eqb _ _ (c .if7 .taken))))))))))
 
 mul-if8 : tie.Need-mul-if8
 mul-if8 c = search needs
 
 returns-8 : tie.Need-returns-8
 unfolding wrongCounts
-returns-8 c = sym (next-of _ _ _ (ap not (eq-eqb _ _ (c .before .before .before .before .before .before .before .if1 .left))) (next-of _ _ _ (ap not (eq-eqb _ _ (c .before .before .before .before .before .before .if2 .left))) (next-of _ _ _ (le-ltb _ _ (c .before .before .before .before .before .if3 .left)) (next-of _ _ _ (le-ltb _ _ (c .before .before .before .before .if4 .left)) (next-of _ _ _ (le-ltb _ _ (c .before .before .before .if5 .left)) (next-of _ _ _ (ap not (eq-eqb _ _ (c .before .before .if6 .left))) (next-of _ _ _ (ap not (eq-eqb _ _ (c .before .if7 .left))) (one-holds _ _ (ap not (ne-eqb _ _ (c .if8 .taken)))))))))))
+returns-8 c =
+    let at-if7 = c .before in
+    let at-if6 = at-if7 .before in
+    let at-if5 = at-if6 .before in
+    let at-if4 = at-if5 .before in
+    let at-if3 = at-if4 .before in
+    let at-if2 = at-if3 .before in
+    let at-if1 = at-if2 .before in
+    sym (next-of _ _ _ (ap not (eq-eqb _ _ (at-if1 .if1 .left)))
+    (next-of _ _ _ (ap not (eq-eqb _ _ (at-if2 .if2 .left)))
+    (next-of _ _ _ (le-ltb _ _ (at-if3 .if3 .left))
+    (next-of _ _ _ (le-ltb _ _ (at-if4 .if4 .left))
+    (next-of _ _ _ (le-ltb _ _ (at-if5 .if5 .left))
+    (next-of _ _ _ (ap not (eq-eqb _ _ (at-if6 .if6 .left))) (next-of _ _ _ (ap not (eq-eqb _ _ (at-if7 .if7 .left))) (one-holds _ _ (ap not (ne-eqb _ _ (c .if8 .taken)))))))))))
 
 returns-9 : tie.Need-returns-9
 unfolding wrongCounts
-returns-9 c = sym (next-of _ _ _ (ap not (eq-eqb _ _ (c .before .before .before .before .before .before .before .if1 .left))) (next-of _ _ _ (ap not (eq-eqb _ _ (c .before .before .before .before .before .before .if2 .left))) (next-of _ _ _ (le-ltb _ _ (c .before .before .before .before .before .if3 .left)) (next-of _ _ _ (le-ltb _ _ (c .before .before .before .before .if4 .left)) (next-of _ _ _ (le-ltb _ _ (c .before .before .before .if5 .left)) (next-of _ _ _ (ap not (eq-eqb _ _ (c .before .before .if6 .left))) (next-of _ _ _ (ap not (eq-eqb _ _ (c .before .if7 .left))) (next-of _ _ _ (ap not (eq-eqb _ _ (c .if8 .left))) none-of))))))))
+returns-9 c =
+    let at-if7 = c .before in
+    let at-if6 = at-if7 .before in
+    let at-if5 = at-if6 .before in
+    let at-if4 = at-if5 .before in
+    let at-if3 = at-if4 .before in
+    let at-if2 = at-if3 .before in
+    let at-if1 = at-if2 .before in
+    sym (next-of _ _ _ (ap not (eq-eqb _ _ (at-if1 .if1 .left)))
+    (next-of _ _ _ (ap not (eq-eqb _ _ (at-if2 .if2 .left)))
+    (next-of _ _ _ (le-ltb _ _ (at-if3 .if3 .left))
+    (next-of _ _ _ (le-ltb _ _ (at-if4 .if4 .left))
+    (next-of _ _ _ (le-ltb _ _ (at-if5 .if5 .left))
+    (next-of _ _ _ (ap not (eq-eqb _ _ (at-if6 .if6 .left))) (next-of _ _ _ (ap not (eq-eqb _ _ (at-if7 .if7 .left))) (next-of _ _ _ (ap not (eq-eqb _ _ (c .if8 .left))) none-of))))))))
 
 pub wrong-counts-spec : {M : Type 1} → statement M
 wrong-counts-spec =

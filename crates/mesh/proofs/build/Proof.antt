@@ -55,10 +55,18 @@ same-length-6 c = search needs
 
 returns-2 : tie.Need-returns-2
 returns-2 c =
-    let a = c .before .before .before .before .before .before .before .before .before .before .before .before .before .before .before .before .before .before .before .before .before .before .before .before .before .before .before .before .before .before .before .before .before .before .before .before .before .before .args in
+    let at-edges = c .before in
+    let at-topology = at-edges .before .before .before .before .before .before .before .before .before .before .before .before .before .before in
+    let at-if1 = at-topology .before .before .before .before .before .before .before in
+    let at-refusal-number = at-if1 .before in
+    let at-check = at-refusal-number .before in
+    let at-buffer-counts = at-check .before in
+    let start = at-buffer-counts .before .before .before .before .before .before .before .before .before .before .before .before .before in
+    let a = start .args in
     let j = job (a .vertices .now) (a .triangles .now) (a .flags .now) (a .kinds .now) (a .faces .now) (a .coords .now) (a .limit) in
     let m = meshBuffers (a .vertex-words .now) (a .edge-words .now) (a .edge-reals .now) (a .round .now) (a .triangle-words .now) (a .triangle-reals .now) in
-    answer-edges j (a .others) m (passed-of _ _ _ _ _ (c .before .before .before .before .before .before .before .before .before .before .before .before .before .before .before .before .before .before .before .before .before .before .before .before .check .ensures) (c .before .before .before .before .before .before .before .before .before .before .before .before .before .before .before .before .before .before .before .before .before .before .before .refusal-number .ensures) (c .before .before .before .before .before .before .before .before .before .before .before .before .before .before .before .before .before .before .before .before .before .before .if1 .left) (c .before .before .before .before .before .before .before .before .before .before .before .before .before .before .before .before .before .before .before .before .before .before .before .before .before .buffer-counts .ensures)) _ _ (c .before .before .before .before .before .before .before .before .before .before .before .before .before .before .before .topology .ensures) _ (c .before .edges .given .1)
+    answer-edges j (a .others) m (passed-of _ _ _ _ _ (at-check .check .ensures) (at-refusal-number .refusal-number .ensures) (at-if1 .if1 .left) (at-buffer-counts .buffer-counts .ensures))
+    _ _ (at-topology .topology .ensures) _ (at-edges .edges .given .1)
 
 same-length-7 : tie.Need-same-length-7
 same-length-7 c = search needs
@@ -80,10 +88,17 @@ same-length-12 c = search needs
 
 returns-3 : tie.Need-returns-3
 returns-3 c =
-    let a = c .before .before .before .before .before .before .before .before .before .before .before .before .before .before .before .before .before .before .before .before .before .before .before .before .before .before .before .before .before .before .before .before .before .before .before .before .before .args in
+    let at-topology = c .before .before .before .before .before .before .before .before .before .before .before .before .before .before in
+    let at-if1 = at-topology .before .before .before .before .before .before .before in
+    let at-refusal-number = at-if1 .before in
+    let at-check = at-refusal-number .before in
+    let at-buffer-counts = at-check .before in
+    let start = at-buffer-counts .before .before .before .before .before .before .before .before .before .before .before .before .before in
+    let a = start .args in
     let j = job (a .vertices .now) (a .triangles .now) (a .flags .now) (a .kinds .now) (a .faces .now) (a .coords .now) (a .limit) in
     let m = meshBuffers (a .vertex-words .now) (a .edge-words .now) (a .edge-reals .now) (a .round .now) (a .triangle-words .now) (a .triangle-reals .now) in
-    answer-third j (a .others) m (passed-of _ _ _ _ _ (c .before .before .before .before .before .before .before .before .before .before .before .before .before .before .before .before .before .before .before .before .before .before .before .check .ensures) (c .before .before .before .before .before .before .before .before .before .before .before .before .before .before .before .before .before .before .before .before .before .before .refusal-number .ensures) (c .before .before .before .before .before .before .before .before .before .before .before .before .before .before .before .before .before .before .before .before .before .if1 .left) (c .before .before .before .before .before .before .before .before .before .before .before .before .before .before .before .before .before .before .before .before .before .before .before .before .buffer-counts .ensures)) _ _ (c .before .before .before .before .before .before .before .before .before .before .before .before .before .before .topology .ensures) (c .enum-told .given .1)
+    answer-third j (a .others) m (passed-of _ _ _ _ _ (at-check .check .ensures) (at-refusal-number .refusal-number .ensures) (at-if1 .if1 .left) (at-buffer-counts .buffer-counts .ensures))
+    _ _ (at-topology .topology .ensures) (c .enum-told .given .1)
 
 pub build-spec : {M : Type 1} → statement M
 build-spec =

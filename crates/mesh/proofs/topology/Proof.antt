@@ -61,7 +61,14 @@ same-length-6 : tie.Need-same-length-6
 same-length-6 c = search needs
 
 returns : tie.Need-returns
-returns c = made-third _ _ _ _ _ _ _ _ _ _ _ _ _ _ _ _ (c .before .before .before .before .before .before .before .before .before .before .before .before .before .before .before .before .before .before .before .before .build .ensures) (c .before .before .before .before .before .before .before .before .before .before .before .before .enum-told .given .1) (c .before .before .before .before .before .before .before .before .before .before .zero-u32 .ensures) (c .before .before .before .before .before .before .zero-f64 .ensures) (c .before .before .zero-f642 .ensures)
+returns c =
+    let at-zero-f642 = c .before .before in
+    let at-zero-f64 = at-zero-f642 .before .before .before .before in
+    let at-zero-u32 = at-zero-f64 .before .before .before .before in
+    let at-enum-told = at-zero-u32 .before .before in
+    let at-build = at-enum-told .before .before .before .before .before .before .before .before in
+    made-third _ _ _ _ _ _ _ _ _ _ _ _ _ _ _ _ (at-build .build .ensures) (at-enum-told .enum-told .given .1) (at-zero-u32 .zero-u32 .ensures) (at-zero-f64 .zero-f64 .ensures)
+    (at-zero-f642 .zero-f642 .ensures)
 
 same-length-7 : tie.Need-same-length-7
 same-length-7 c = search needs

@@ -33,7 +33,16 @@ pattern-requires-2 : tie.Need-pattern-requires-2 Inv-loop μ-loop
 pattern-requires-2 c κs = search needs
 
 returns : tie.Need-returns Inv-loop μ-loop
-returns c = let a = c .before .before .before .before .before .before .before .args in sym (c .before .before .before .before .before .loop .inv .1 ∙ from-other nan (toBits binary64) (toBits binary64 (a .x)) (c .before .before .before .before .before .loop .i) (a .s .now) (c .before .before .before .before .loop-test .taken) (λ q. c .if1 .taken (c .before .before .pattern .ensures ∙ (q ∙ sym (c .before .pattern2 .ensures)))))
+returns c =
+    let at-pattern2 = c .before in
+    let at-pattern = at-pattern2 .before in
+    let at-loop-test = at-pattern .before .before in
+    let at-loop = at-loop-test .before in
+    let start = at-loop .before .before in
+    let loop = at-loop .loop in
+    let a = start .args in
+    sym (loop .inv .1 ∙ from-other nan (toBits binary64) (toBits binary64 (a .x)) (loop .i) (a .s .now) (at-loop-test .loop-test .taken)
+    (λ q. c .if1 .taken (at-pattern .pattern .ensures ∙ (q ∙ sym (at-pattern2 .pattern2 .ensures)))))
 
 add-i : tie.Need-add-i Inv-loop μ-loop
 add-i c = search needs
@@ -42,7 +51,19 @@ loop-less : tie.Need-loop-less Inv-loop μ-loop
 loop-less c = search needs
 
 loop-again : tie.Need-loop-again Inv-loop μ-loop
-loop-again c = let a = c .before .before .before .before .before .before .before .args in (omega (arith, c .before .before .before .before .before .loop .inv .0), c .before .before .before .before .before .loop .inv .1 ∙ (from-same nan (toBits binary64) (toBits binary64 (a .x)) (c .before .before .before .before .before .loop .i) (a .s .now) (c .before .before .before .before .loop-test .taken) (sym (c .before .before .pattern .ensures) ∙ (c .if1 .left ∙ c .before .pattern2 .ensures)) ∙ ap (λ (k : ℕ). allAre (toBits binary64) (toBits binary64 (a .x)) (drop k (a .s .now))) (sym (add-one (c .before .before .before .before .before .loop .i)))))
+loop-again c =
+    let at-pattern2 = c .before in
+    let at-pattern = at-pattern2 .before in
+    let at-loop-test = at-pattern .before .before in
+    let at-loop = at-loop-test .before in
+    let start = at-loop .before .before in
+    let loop = at-loop .loop in
+    let a = start .args in (
+      omega (arith, loop .inv .0),
+      loop .inv .1 ∙ (from-same nan (toBits binary64) (toBits binary64 (a .x)) (loop .i) (a .s .now) (at-loop-test .loop-test .taken)
+          (sym (at-pattern .pattern .ensures) ∙ (c .if1 .left ∙ at-pattern2 .pattern2 .ensures)) ∙ ap (λ (k : ℕ). allAre (toBits binary64) (toBits binary64 (a .x)) (drop k (a .s .now)))
+          (sym (add-one (loop .i)))),
+    )
 
 returns-2 : tie.Need-returns-2 Inv-loop μ-loop
 returns-2 c = let a = c .before .before .before .args in sym (c .before .loop .inv .1 ∙ from-past nan (toBits binary64) (toBits binary64 (a .x)) (c .before .loop .i) (a .s .now) (c .loop-test .left))

@@ -35,7 +35,17 @@ loop-less : tie.Need-loop-less Inv-loop μ-loop
 loop-less c = search needs
 
 loop-again : tie.Need-loop-again Inv-loop μ-loop
-loop-again c = let a = c .before .before .before .before .args in (omega (arith, c .before .before .before .loop .inv .0), c .before .before .before .loop .inv .1 ∙ (from-same 0 (λ y. y) (a .x) (c .before .before .before .loop .i) (a .s .now) (c .before .before .loop-test .taken) (c .if1 .left) ∙ ap (λ (k : ℕ). allAre (λ y. y) (a .x) (drop k (a .s .now))) (sym (add-one (c .before .before .before .loop .i)))))
+loop-again c =
+    let at-loop-test = c .before .before in
+    let at-loop = at-loop-test .before in
+    let start = at-loop .before in
+    let loop = at-loop .loop in
+    let a = start .args in (
+      omega (arith, loop .inv .0),
+      loop .inv .1 ∙
+          (from-same 0 (λ y. y) (a .x) (loop .i) (a .s .now) (at-loop-test .loop-test .taken) (c .if1 .left) ∙ ap (λ (k : ℕ). allAre (λ y. y) (a .x) (drop k (a .s .now)))
+          (sym (add-one (loop .i)))),
+    )
 
 returns-2 : tie.Need-returns-2 Inv-loop μ-loop
 returns-2 c = let a = c .before .before .args in sym (c .before .loop .inv .1 ∙ from-past 0 (λ y. y) (a .x) (c .before .loop .i) (a .s .now) (c .loop-test .left))

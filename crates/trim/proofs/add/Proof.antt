@@ -13,22 +13,38 @@ use Rattle.trim.proofs.add.Tie as tie
 
 returns : tie.Need-returns
 returns c =
-    let a = c .before .before .before .before .before .before .before .before .before .before .before .before .before .before .before .args in
+    let start = c .before .before .before .before .before .before .before .before .before .before .before .before .before .before .before in
+    let a = start .args in
     let s = (slices (a .edges .now) (a .words .now) (a .reals .now) (a .keys .now) (a .events .now)) in
     let size = length (a .pts .now) in
     let p = placeOf s (a .counts .made) (a .counts .queued) 0 (a .vertex .now) in
-    record { bounded = c .before .before .before .before .before .before .before .before .before .before .before .before .before .before .before .pre .0 .fits; adds = add-narrow size (windowsOf s) (a .limit) (a .vertex-words .now) (a .e) (a .w) p (c .if1 .taken); skips = λ z. unchanged (a .counts) (Buffers·slices (a .edges .now) (a .words .now) (a .reals .now) (a .keys .now) (a .events .now) (a .vertex .now)) (cuts (a .pts .now) (a .out .now) (a .keep .now) (a .next .now)) }
+    record {
+      bounded = start .pre .0 .fits;
+      adds = add-narrow size (windowsOf s) (a .limit) (a .vertex-words .now) (a .e) (a .w) p (c .if1 .taken);
+      skips = λ z. unchanged (a .counts)
+          (Buffers·slices (a .edges .now) (a .words .now) (a .reals .now) (a .keys .now) (a .events .now) (a .vertex .now)) (cuts (a .pts .now) (a .out .now) (a .keep .now) (a .next .now));
+    }
 
 lowest-requires : tie.Need-lowest-requires
 lowest-requires c κs = search needs
 
 returns-2 : tie.Need-returns-2
 returns-2 c =
-    let a = c .before .before .before .before .before .before .before .before .before .before .before .before .before .before .before .before .before .args in
+    let at-lowest = c .before in
+    let at-if1 = at-lowest .before in
+    let start = at-if1 .before .before .before .before .before .before .before .before .before .before .before .before .before .before .before in
+    let lowest = at-lowest .lowest in
+    let a = start .args in
     let s = (slices (a .edges .now) (a .words .now) (a .reals .now) (a .keys .now) (a .events .now)) in
     let size = length (a .pts .now) in
     let p = placeOf s (a .counts .made) (a .counts .queued) 0 (a .vertex .now) in
-    record { bounded = c .before .before .before .before .before .before .before .before .before .before .before .before .before .before .before .before .before .pre .0 .fits; adds = add-far size (windowsOf s) (a .limit) (a .vertex-words .now) (a .e) (a .w) p (c .before .lowest .result) (c .before .lowest .ensures) (c .before .before .if1 .left) (c .if2 .taken); skips = λ z. unchanged (a .counts) (Buffers·slices (a .edges .now) (a .words .now) (a .reals .now) (a .keys .now) (a .events .now) (a .vertex .now)) (cuts (a .pts .now) (a .out .now) (a .keep .now) (a .next .now)) }
+    record {
+      bounded = start .pre .0 .fits;
+      adds = add-far size (windowsOf s) (a .limit) (a .vertex-words .now) (a .e) (a .w) p (lowest .result) (lowest .ensures) (at-if1 .if1 .left)
+          (c .if2 .taken);
+      skips = λ z. unchanged (a .counts) (Buffers·slices (a .edges .now) (a .words .now) (a .reals .now) (a .keys .now) (a .events .now) (a .vertex .now))
+          (cuts (a .pts .now) (a .out .now) (a .keep .now) (a .next .now));
+    }
 
 admit-requires : tie.Need-admit-requires
 admit-requires c κs = search needs
@@ -71,15 +87,27 @@ same-length-10 c = search needs
 
 returns-3 : tie.Need-returns-3
 returns-3 c =
-    let a = c .before .before .before .before .before .before .before .before .before .before .before .before .before .before .before .before .before .before .before .before .before .before .before .before .before .before .before .before .before .before .before .before .before .before .before .before .before .before .before .before .before .before .before .before .before .before .before .before .before .before .before .args in
+    let at-admitted = c .before in
+    let at-admit = at-admitted .before .before .before .before .before .before .before .before .before .before .before .before .before .before .before .before .before .before .before .before .before .before in
+    let at-if2 = at-admit .before .before .before .before .before .before .before .before .before .before .before in
+    let at-lowest = at-if2 .before in
+    let at-if1 = at-lowest .before in
+    let start = at-if1 .before .before .before .before .before .before .before .before .before .before .before .before .before .before .before in
+    let admitted = at-admitted .admitted in
+    let if2 = at-if2 .if2 in
+    let lowest = at-lowest .lowest in
+    let if1 = at-if1 .if1 in
+    let a = start .args in
     let s = (slices (a .edges .now) (a .words .now) (a .reals .now) (a .keys .now) (a .events .now)) in
     let size = length (a .pts .now) in
     let p = placeOf s (a .counts .made) (a .counts .queued) 0 (a .vertex .now) in
-    let done = rw (c .before .admitted .given .1) at (c .before .before .before .before .before .before .before .before .before .before .before .before .before .before .before .before .before .before .before .before .before .before .before .admit .ensures .1) in
+    let done = rw (admitted .given .1) at (at-admit .admit .ensures .1) in
     record {
       bounded = tt;
-      adds = add-admitted size (windowsOf s) (a .limit) (a .vertex-words .now) (a .e) (a .w) p (c .before .before .before .before .before .before .before .before .before .before .before .before .before .before .before .before .before .before .before .before .before .before .before .before .before .before .before .before .before .before .before .before .before .before .before .lowest .result) (c .before .before .before .before .before .before .before .before .before .before .before .before .before .before .before .before .before .before .before .before .before .before .before .before .before .before .before .before .before .before .before .before .before .before .before .lowest .ensures) (c .before .before .before .before .before .before .before .before .before .before .before .before .before .before .before .before .before .before .before .before .before .before .before .before .before .before .before .before .before .before .before .before .before .before .before .before .if1 .left) (c .before .before .before .before .before .before .before .before .before .before .before .before .before .before .before .before .before .before .before .before .before .before .before .before .before .before .before .before .before .before .before .before .before .before .if2 .left) (stopped (lackNumber (c .before .admitted .given .0 .0))) (done (c .before .before .before .before .before .before .before .before .before .before .before .before .before .before .before .before .before .before .before .before .before .before .before .before .before .before .before .before .before .before .before .before .before .before .before .lowest .ensures) refl);
-      skips = add-not-skipped size (windowsOf s) (a .limit) (a .vertex-words .now) (a .e) (a .w) p (c .before .before .before .before .before .before .before .before .before .before .before .before .before .before .before .before .before .before .before .before .before .before .before .before .before .before .before .before .before .before .before .before .before .before .before .lowest .result) (c .before .before .before .before .before .before .before .before .before .before .before .before .before .before .before .before .before .before .before .before .before .before .before .before .before .before .before .before .before .before .before .before .before .before .before .lowest .ensures) (c .before .before .before .before .before .before .before .before .before .before .before .before .before .before .before .before .before .before .before .before .before .before .before .before .before .before .before .before .before .before .before .before .before .before .before .before .if1 .left) (c .before .before .before .before .before .before .before .before .before .before .before .before .before .before .before .before .before .before .before .before .before .before .before .before .before .before .before .before .before .before .before .before .before .before .if2 .left) _ _ _ _ _ _;
+      adds = add-admitted size (windowsOf s) (a .limit) (a .vertex-words .now) (a .e) (a .w) p (lowest .result) (lowest .ensures) (if1 .left) (if2 .left)
+          (stopped (lackNumber (admitted .given .0 .0))) (done (lowest .ensures) refl);
+      skips = add-not-skipped size (windowsOf s) (a .limit) (a .vertex-words .now) (a .e) (a .w) p
+          (lowest .result) (lowest .ensures) (if1 .left) (if2 .left) _ _ _ _ _ _;
     }
 
 same-length-11 : tie.Need-same-length-11
@@ -114,20 +142,33 @@ same-length-20 c = search needs
 
 returns-4 : tie.Need-returns-4
 returns-4 c =
-    let a = c .before .before .before .before .before .before .before .before .before .before .before .before .before .before .before .before .before .before .before .before .before .before .before .before .before .before .before .before .before .before .before .before .before .before .before .before .before .before .before .before .before .before .before .before .before .before .before .before .before .before .before .args in
+    let at-admitted2 = c .before in
+    let at-admit = at-admitted2 .before .before .before .before .before .before .before .before .before .before .before .before .before .before .before .before .before .before .before .before .before .before in
+    let at-if2 = at-admit .before .before .before .before .before .before .before .before .before .before .before in
+    let at-lowest = at-if2 .before in
+    let at-if1 = at-lowest .before in
+    let start = at-if1 .before .before .before .before .before .before .before .before .before .before .before .before .before .before .before in
+    let admitted2 = at-admitted2 .admitted2 in
+    let admit = at-admit .admit in
+    let if2 = at-if2 .if2 in
+    let lowest = at-lowest .lowest in
+    let if1 = at-if1 .if1 in
+    let a = start .args in
     let s = (slices (a .edges .now) (a .words .now) (a .reals .now) (a .keys .now) (a .events .now)) in
     let size = length (a .pts .now) in
     let p = placeOf s (a .counts .made) (a .counts .queued) 0 (a .vertex .now) in
-    let s′ = (slices (c .before .before .before .before .before .before .before .before .before .before .before .before .before .before .before .before .before .before .before .before .before .before .before .admit .last .0) (c .before .before .before .before .before .before .before .before .before .before .before .before .before .before .before .before .before .before .before .before .before .before .before .admit .last .1 .0) (c .before .before .before .before .before .before .before .before .before .before .before .before .before .before .before .before .before .before .before .before .before .before .before .admit .last .1 .1 .0) (c .before .before .before .before .before .before .before .before .before .before .before .before .before .before .before .before .before .before .before .before .before .before .before .admit .last .1 .1 .1 .0) (c .before .before .before .before .before .before .before .before .before .before .before .before .before .before .before .before .before .before .before .before .before .before .before .admit .last .1 .1 .1 .1 .0)) in
-    let n = c .before .admitted2 .given .0 .0 in
-    let last = c .before .admitted2 .given .0 .1 .0 in
-    let vertex = c .before .before .before .before .before .before .before .before .before .before .before .before .before .before .before .before .before .before .before .before .before .before .before .admit .last .1 .1 .1 .1 .1 .0 in
-    let done = rw (c .before .admitted2 .given .1) at (c .before .before .before .before .before .before .before .before .before .before .before .before .before .before .before .before .before .before .before .before .before .before .before .admit .ensures .1) in
+    let s′ = (slices (admit .last .0) (admit .last .1 .0) (admit .last .1 .1 .0) (admit .last .1 .1 .1 .0) (admit .last .1 .1 .1 .1 .0)) in
+    let n = admitted2 .given .0 .0 in
+    let last = admitted2 .given .0 .1 .0 in
+    let vertex = admit .last .1 .1 .1 .1 .1 .0 in
+    let done = rw (admitted2 .given .1) at (admit .ensures .1) in
     record {
-      bounded = (rw (c .before .admitted2 .given .1) at (c .before .before .before .before .before .before .before .before .before .before .before .before .before .before .before .before .before .before .before .before .before .before .before .admit .ensures .0)) .0;
-      adds = add-went size (windowsOf s) (a .limit) (a .vertex-words .now) (a .e) (a .w) p (n .made) (n .queued) last s′ vertex
-          (add-admitted size (windowsOf s) (a .limit) (a .vertex-words .now) (a .e) (a .w) p (c .before .before .before .before .before .before .before .before .before .before .before .before .before .before .before .before .before .before .before .before .before .before .before .before .before .before .before .before .before .before .before .before .before .before .before .lowest .result) (c .before .before .before .before .before .before .before .before .before .before .before .before .before .before .before .before .before .before .before .before .before .before .before .before .before .before .before .before .before .before .before .before .before .before .before .lowest .ensures) (c .before .before .before .before .before .before .before .before .before .before .before .before .before .before .before .before .before .before .before .before .before .before .before .before .before .before .before .before .before .before .before .before .before .before .before .before .if1 .left) (c .before .before .before .before .before .before .before .before .before .before .before .before .before .before .before .before .before .before .before .before .before .before .before .before .before .before .before .before .before .before .before .before .before .before .if2 .left) (at (placeOf s′ (n .made) (n .queued) last vertex)) (done (c .before .before .before .before .before .before .before .before .before .before .before .before .before .before .before .before .before .before .before .before .before .before .before .before .before .before .before .before .before .before .before .before .before .before .before .lowest .ensures) refl));
-      skips = add-not-skipped size (windowsOf s) (a .limit) (a .vertex-words .now) (a .e) (a .w) p (c .before .before .before .before .before .before .before .before .before .before .before .before .before .before .before .before .before .before .before .before .before .before .before .before .before .before .before .before .before .before .before .before .before .before .before .lowest .result) (c .before .before .before .before .before .before .before .before .before .before .before .before .before .before .before .before .before .before .before .before .before .before .before .before .before .before .before .before .before .before .before .before .before .before .before .lowest .ensures) (c .before .before .before .before .before .before .before .before .before .before .before .before .before .before .before .before .before .before .before .before .before .before .before .before .before .before .before .before .before .before .before .before .before .before .before .before .if1 .left) (c .before .before .before .before .before .before .before .before .before .before .before .before .before .before .before .before .before .before .before .before .before .before .before .before .before .before .before .before .before .before .before .before .before .before .if2 .left) _ _ _ _ _ _;
+      bounded = (rw (admitted2 .given .1) at (admit .ensures .0)) .0;
+      adds = add-went size (windowsOf s) (a .limit) (a .vertex-words .now) (a .e) (a .w) p (n .made) (n .queued) last
+          s′ vertex (add-admitted size (windowsOf s) (a .limit) (a .vertex-words .now) (a .e) (a .w) p (lowest .result) (lowest .ensures) (if1 .left) (if2 .left)
+          (at (placeOf s′ (n .made) (n .queued) last vertex)) (done (lowest .ensures) refl));
+      skips = add-not-skipped size (windowsOf s) (a .limit) (a .vertex-words .now) (a .e) (a .w) p
+          (lowest .result) (lowest .ensures) (if1 .left) (if2 .left) _ _ _ _ _ _;
     }
 
 pub add-spec : {M : Type 1} → statement M

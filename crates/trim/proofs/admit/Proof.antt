@@ -32,10 +32,28 @@ enum-known-visited-2 c = search needs
 
 keep-parts-requires : tie.Need-keep-parts-requires
 keep-parts-requires c κs =
-    let a = c .before .before .before .before .before .before .before .before .before .before .before .before .before .before .before .before .before .before .before .before .before .before .before .before .before .before .before .before .before .before .before .before .before .before .before .before .before .before .before .before .before .before .before .before .before .before .before .before .before .before .before .before .before .before .before .before .before .before .before .before .before .args in
-    let b = (rw (c .before .before .before .before .before .before .before .before .visited2 .given .1) at (c .before .before .before .before .before .before .before .before .before .before .before .before .before .before .before .before .before .before .before .before .before .before .before .before .before .before .before .before .visits .ensures .0)) in (
-      seat-ready (a .e .id .0) (a .counts .made) (c .before .before .before .before .before .before .before .before .before .before .before .before .before .before .before .before .before .before .before .before .before .before .before .before .before .before .before .before .before .before .before .before .before .before .before .before .before .before .before .before .pass-front .result) (c .before .before .before .before .before .before .before .before .visited2 .given .0 .0 .made) (c .before .before .before .before .before .before .before .before .visited2 .given .0 .1 .0) (c .before .before .before .before .before .before .before .before .visited2 .given .0 .1 .1 .0) (length (a .pts .now)) (slices (a .edges .now) (a .words .now) (a .reals .now) (a .keys .now) (a .events .now)) (slices (c .before .before .before .before .before .before .before .before .before .before .before .before .before .before .before .before .before .before .before .before .before .before .before .before .before .before .before .before .visits .last .0) (c .before .before .before .before .before .before .before .before .before .before .before .before .before .before .before .before .before .before .before .before .before .before .before .before .before .before .before .before .visits .last .1 .0) (c .before .before .before .before .before .before .before .before .before .before .before .before .before .before .before .before .before .before .before .before .before .before .before .before .before .before .before .before .visits .last .1 .1 .0) (c .before .before .before .before .before .before .before .before .before .before .before .before .before .before .before .before .before .before .before .before .before .before .before .before .before .before .before .before .visits .last .1 .1 .1 .0) (c .before .before .before .before .before .before .before .before .before .before .before .before .before .before .before .before .before .before .before .before .before .before .before .before .before .before .before .before .visits .last .1 .1 .1 .1 .0)) (record { edges = c .before .before .before .before .before .before .before .before .before .before .before .before .before .before .before .before .before .before .before .before .before .before .before .before .before .before .before .before .visits .kept .0 ∙ c .before .before .before .before .before .before .before .before .before .before .before .before .before .before .before .before .before .before .before .before .before .before .before .before .before .before .before .before .before .before .before .before .before .before .before .before .before .before .before .before .pass-front .kept .0; words = c .before .before .before .before .before .before .before .before .before .before .before .before .before .before .before .before .before .before .before .before .before .before .before .before .before .before .before .before .visits .kept .1 .0; reals = c .before .before .before .before .before .before .before .before .before .before .before .before .before .before .before .before .before .before .before .before .before .before .before .before .before .before .before .before .visits .kept .1 .1 .0; keys = c .before .before .before .before .before .before .before .before .before .before .before .before .before .before .before .before .before .before .before .before .before .before .before .before .before .before .before .before .visits .kept .1 .1 .1 .0; events = c .before .before .before .before .before .before .before .before .before .before .before .before .before .before .before .before .before .before .before .before .before .before .before .before .before .before .before .before .visits .kept .1 .1 .1 .1 .0 }) (c .before .before .before .before .before .before .before .before .before .before .before .before .before .before .before .before .before .before .before .before .before .before .before .before .before .before .before .before .before .before .before .before .before .before .before .before .before .before .before .before .before .before .before .before .before .before .before .before .before .before .before .before .before .before .before .before .before .before .before .before .before .pre .0) (c .before .before .before .before .before .before .before .before .before .before .before .before .before .before .before .before .before .before .before .before .before .before .before .before .before .before .before .before .before .before .before .before .before .before .before .before .before .before .before .before .pass-front .ensures .made) b,
-      kept-fit (length (a .pts .now)) (c .before .before .before .before .before .before .before .before .visited2 .given .0 .1 .1 .0) (a .keep .now) (a .out .now) (a .next .now) (c .before .before .before .before .before .before .before .before .before .before .before .before .before .before .before .before .before .before .before .before .before .before .before .before .before .before .before .before .visits .last .1 .1 .1 .1 .1 .0) (c .before .before .before .before .before .before .before .before .before .before .before .before .before .before .before .before .before .before .before .before .before .before .before .before .before .before .before .before .before .before .before .before .before .before .before .before .before .before .before .before .before .before .before .before .before .before .before .before .before .before .before .before .before .before .before .before .before .before .before .before .before .pre .1) (c .before .before .before .before .before .before .before .before .before .before .before .before .before .before .before .before .before .before .before .before .before .before .before .before .before .before .before .before .visits .kept .1 .1 .1 .1 .1 .0 ∙ c .before .before .before .before .before .before .before .before .before .before .before .before .before .before .before .before .before .before .before .before .before .before .before .before .before .before .before .before .before .before .before .before .before .before .before .before .before .before .before .before .before .before .before .before .before .before .whole .kept .0) (b .1 .1 .0),
+    let at-visited2 = c .before .before .before .before .before .before .before .before in
+    let at-visits = at-visited2 .before .before .before .before .before .before .before .before .before .before .before .before .before .before .before .before .before .before .before .before in
+    let at-pass-front = at-visits .before .before .before .before .before .before .before .before .before .before .before .before in
+    let at-whole = at-pass-front .before .before .before .before .before .before in
+    let start = at-whole .before .before .before .before .before .before .before .before .before .before .before .before .before .before .before in
+    let visited2 = at-visited2 .visited2 in
+    let visits = at-visits .visits in
+    let pass-front = at-pass-front .pass-front in
+    let a = start .args in
+    let b = (rw (visited2 .given .1) at (visits .ensures .0)) in (
+      seat-ready (a .e .id .0) (a .counts .made) (pass-front .result) (visited2 .given .0 .0 .made) (visited2 .given .0 .1 .0) (visited2 .given .0 .1 .1 .0) (length (a .pts .now))
+          (slices (a .edges .now) (a .words .now) (a .reals .now) (a .keys .now) (a .events .now))
+          (slices (visits .last .0) (visits .last .1 .0) (visits .last .1 .1 .0) (visits .last .1 .1 .1 .0) (visits .last .1 .1 .1 .1 .0))
+          (record {
+            edges = visits .kept .0 ∙ pass-front .kept .0;
+            words = visits .kept .1 .0;
+            reals = visits .kept .1 .1 .0;
+            keys = visits .kept .1 .1 .1 .0;
+            events = visits .kept .1 .1 .1 .1 .0;
+          }) (start .pre .0) (pass-front .ensures .made) b,
+      kept-fit (length (a .pts .now)) (visited2 .given .0 .1 .1 .0) (a .keep .now) (a .out .now) (a .next .now)
+          (visits .last .1 .1 .1 .1 .1 .0) (start .pre .1) (visits .kept .1 .1 .1 .1 .1 .0 ∙ at-whole .whole .kept .0) (b .1 .1 .0),
     )
 
 same-length : tie.Need-same-length
@@ -61,35 +79,63 @@ same-length-7 c = search needs
 
 same-length-8 : tie.Need-same-length-8
 same-length-8 c =
-    c .before .before .before .before .before .before .before .before .before .before .before .before .before .before .before .before .before .before .before .before .before .visits .kept .1 .1 .1 .1 .1 .0 ∙ c .before .before .before .before .before .before .before .before .before .before .before .before .before .before .before .before .before .before .before .before .before .before .before .before .before .before .before .before .before .before .before .before .before .before .before .before .before .before .before .whole .kept .0
+    let at-visits = c .before .before .before .before .before .before .before .before .before .before .before .before .before .before .before .before .before .before .before .before .before
+    in
+    let at-whole = at-visits .before .before .before .before .before .before .before .before .before .before .before .before .before .before .before .before .before .before in
+    at-visits .visits .kept .1 .1 .1 .1 .1 .0 ∙ at-whole .whole .kept .0
 
 same-length-9 : tie.Need-same-length-9
 same-length-9 c = search needs
 
 returns-2 : tie.Need-returns-2
 returns-2 c =
-    let a = c .before .before .before .before .before .before .before .before .before .before .before .before .before .before .before .before .before .before .before .before .before .before .before .before .before .before .before .before .before .before .before .before .before .before .before .before .before .before .before .before .before .before .before .before .before .before .before .before .before .before .before .before .before .before .args in
-    (tt, admit-stopped (length (a .pts .now)) (a .limit) (a .vertex-words .now) (a .e) (a .w) (a .counts .made) (a .counts .queued) (slices (a .edges .now) (a .words .now) (a .reals .now) (a .keys .now) (a .events .now)) (a .vertex .now) (a .tiny) (c .before .before .before .before .before .before .before .before .before .before .before .before .before .before .before .before .before .before .before .before .before .before .before .before .before .before .before .before .before .before .before .before .before .before .before .before .before .before .before .before .before .before .if1 .left) (c .before .before .before .before .before .before .before .before .before .before .before .before .before .before .before .before .before .before .before .before .before .before .before .before .before .before .before .before .before .before .before .before .before .pass-front .result) (c .before .before .before .before .before .before .before .before .before .before .before .before .before .before .before .before .before .before .before .before .before .before .before .before .before .before .before .before .before .before .before .before .before .pass-front .last .0) (c .before .before .before .before .before .before .before .before .before .before .before .before .before .before .before .before .before .before .before .before .before .before .before .before .before .before .before .before .before .before .before .before .before .pass-front .ensures) (c .before .before .before .before .before .before .before .before .before .before .before .before .before .before .before .before .before .before .before .before .before .before .before .before .before .before .before .before .before .before .before .before .before .before .before .before .before .before .before .whole .last .0) (c .before .before .before .before .before .before .before .before .before .before .before .before .before .before .before .before .before .before .before .before .before .before .before .before .before .before .before .before .before .before .before .before .before .before .before .before .before .before .before .whole .ensures) (c .before .visited .given .0 .0) (c .before .before .before .before .before .before .before .before .before .before .before .before .before .before .before .before .before .before .before .before .before .visits .last .1 .1 .1 .1 .1 .0) (rw (c .before .visited .given .1) at (c .before .before .before .before .before .before .before .before .before .before .before .before .before .before .before .before .before .before .before .before .before .visits .ensures .1)))
+    let at-visited = c .before in
+    let at-visits = at-visited .before .before .before .before .before .before .before .before .before .before .before .before .before .before .before .before .before .before .before .before in
+    let at-pass-front = at-visits .before .before .before .before .before .before .before .before .before .before .before .before in
+    let at-whole = at-pass-front .before .before .before .before .before .before in
+    let at-if1 = at-whole .before .before .before in
+    let start = at-if1 .before .before .before .before .before .before .before .before .before .before .before .before in
+    let visited = at-visited .visited in
+    let visits = at-visits .visits in
+    let pass-front = at-pass-front .pass-front in
+    let whole = at-whole .whole in
+    let a = start .args in (
+      tt,
+      admit-stopped (length (a .pts .now)) (a .limit) (a .vertex-words .now) (a .e) (a .w) (a .counts .made) (a .counts .queued)
+          (slices (a .edges .now) (a .words .now) (a .reals .now) (a .keys .now) (a .events .now)) (a .vertex .now) (a .tiny) (at-if1 .if1 .left) (pass-front .result) (pass-front .last .0)
+          (pass-front .ensures) (whole .last .0) (whole .ensures) (visited .given .0 .0) (visits .last .1 .1 .1 .1 .1 .0) (rw (visited .given .1) at (visits .ensures .1)),
+    )
 
 same-length-10 : tie.Need-same-length-10
 same-length-10 c =
-    c .before .before .before .before .before .before .before .before .before .before .before .before .keep-parts .kept .0 ∙ c .before .before .before .before .before .before .before .before .before .before .before .before .before .before .before .before .before .before .before .before .before .before .before .before .before .before .before .before .before .before .before .before .before .before .before .before .before .before .before .before .before .visits .kept .0 ∙ c .before .before .before .before .before .before .before .before .before .before .before .before .before .before .before .before .before .before .before .before .before .before .before .before .before .before .before .before .before .before .before .before .before .before .before .before .before .before .before .before .before .before .before .before .before .before .before .before .before .before .before .before .before .pass-front .kept .0
+    let at-keep-parts = c .before .before .before .before .before .before .before .before .before .before .before .before in
+    let at-visits = at-keep-parts .before .before .before .before .before .before .before .before .before .before .before .before .before .before .before .before .before .before .before .before .before .before .before .before .before .before .before .before .before in
+    let at-pass-front = at-visits .before .before .before .before .before .before .before .before .before .before .before .before in
+    at-keep-parts .keep-parts .kept .0 ∙ at-visits .visits .kept .0 ∙ at-pass-front .pass-front .kept .0
 
 same-length-11 : tie.Need-same-length-11
 same-length-11 c =
-    c .before .before .before .before .before .before .before .before .before .before .before .before .keep-parts .kept .1 .0 ∙ c .before .before .before .before .before .before .before .before .before .before .before .before .before .before .before .before .before .before .before .before .before .before .before .before .before .before .before .before .before .before .before .before .before .before .before .before .before .before .before .before .before .visits .kept .1 .0
+    let at-keep-parts = c .before .before .before .before .before .before .before .before .before .before .before .before in
+    let at-visits = at-keep-parts .before .before .before .before .before .before .before .before .before .before .before .before .before .before .before .before .before .before .before .before .before .before .before .before .before .before .before .before .before in
+    at-keep-parts .keep-parts .kept .1 .0 ∙ at-visits .visits .kept .1 .0
 
 same-length-12 : tie.Need-same-length-12
 same-length-12 c =
-    c .before .before .before .before .before .before .before .before .before .before .before .before .keep-parts .kept .1 .1 .0 ∙ c .before .before .before .before .before .before .before .before .before .before .before .before .before .before .before .before .before .before .before .before .before .before .before .before .before .before .before .before .before .before .before .before .before .before .before .before .before .before .before .before .before .visits .kept .1 .1 .0
+    let at-keep-parts = c .before .before .before .before .before .before .before .before .before .before .before .before in
+    let at-visits = at-keep-parts .before .before .before .before .before .before .before .before .before .before .before .before .before .before .before .before .before .before .before .before .before .before .before .before .before .before .before .before .before in
+    at-keep-parts .keep-parts .kept .1 .1 .0 ∙ at-visits .visits .kept .1 .1 .0
 
 same-length-13 : tie.Need-same-length-13
 same-length-13 c =
-    c .before .before .before .before .before .before .before .before .before .before .before .before .keep-parts .kept .1 .1 .1 .0 ∙ c .before .before .before .before .before .before .before .before .before .before .before .before .before .before .before .before .before .before .before .before .before .before .before .before .before .before .before .before .before .before .before .before .before .before .before .before .before .before .before .before .before .visits .kept .1 .1 .1 .0
+    let at-keep-parts = c .before .before .before .before .before .before .before .before .before .before .before .before in
+    let at-visits = at-keep-parts .before .before .before .before .before .before .before .before .before .before .before .before .before .before .before .before .before .before .before .before .before .before .before .before .before .before .before .before .before in
+    at-keep-parts .keep-parts .kept .1 .1 .1 .0 ∙ at-visits .visits .kept .1 .1 .1 .0
 
 same-length-14 : tie.Need-same-length-14
 same-length-14 c =
-    c .before .before .before .before .before .before .before .before .before .before .before .before .keep-parts .kept .1 .1 .1 .1 .0 ∙ c .before .before .before .before .before .before .before .before .before .before .before .before .before .before .before .before .before .before .before .before .before .before .before .before .before .before .before .before .before .before .before .before .before .before .before .before .before .before .before .before .before .visits .kept .1 .1 .1 .1 .0
+    let at-keep-parts = c .before .before .before .before .before .before .before .before .before .before .before .before in
+    let at-visits = at-keep-parts .before .before .before .before .before .before .before .before .before .before .before .before .before .before .before .before .before .before .before .before .before .before .before .before .before .before .before .before .before in
+    at-keep-parts .keep-parts .kept .1 .1 .1 .1 .0 ∙ at-visits .visits .kept .1 .1 .1 .1 .0
 
 same-length-15 : tie.Need-same-length-15
 same-length-15 c = search needs
@@ -102,18 +148,49 @@ same-length-17 c = search needs
 
 same-length-18 : tie.Need-same-length-18
 same-length-18 c =
-    c .before .before .before .before .before .before .before .before .before .before .before .before .before .before .before .before .before .before .before .before .before .before .before .before .before .before .before .before .before .before .before .before .before .before .before .before .before .before .before .before .before .visits .kept .1 .1 .1 .1 .1 .0 ∙ c .before .before .before .before .before .before .before .before .before .before .before .before .before .before .before .before .before .before .before .before .before .before .before .before .before .before .before .before .before .before .before .before .before .before .before .before .before .before .before .before .before .before .before .before .before .before .before .before .before .before .before .before .before .before .before .before .before .before .before .whole .kept .0
+    let at-visits = c .before .before .before .before .before .before .before .before .before .before .before .before .before .before .before .before .before .before .before .before .before .before .before .before .before .before .before .before .before .before .before .before .before .before .before .before .before .before .before .before .before in
+    let at-whole = at-visits .before .before .before .before .before .before .before .before .before .before .before .before .before .before .before .before .before .before in
+    at-visits .visits .kept .1 .1 .1 .1 .1 .0 ∙ at-whole .whole .kept .0
 
 same-length-19 : tie.Need-same-length-19
 same-length-19 c = search needs
 
 returns-3 : tie.Need-returns-3
 returns-3 c =
-    let a = c .before .before .before .before .before .before .before .before .before .before .before .before .before .before .before .before .before .before .before .before .before .before .before .before .before .before .before .before .before .before .before .before .before .before .before .before .before .before .before .before .before .before .before .before .before .before .before .before .before .before .before .before .before .before .before .before .before .before .before .before .before .before .before .before .before .before .before .before .before .before .before .before .before .before .args in (
-      bounded-in (slices (a .edges .now) (a .words .now) (a .reals .now) (a .keys .now) (a .events .now)) (slices (c .before .before .before .before .before .before .before .before .before .before .before .before .before .before .before .before .before .before .before .before .before .before .before .before .before .before .before .before .before .before .before .before .before .before .before .before .before .before .before .before .before .visits .last .0) (c .before .before .before .before .before .before .before .before .before .before .before .before .before .before .before .before .before .before .before .before .before .before .before .before .before .before .before .before .before .before .before .before .before .before .before .before .before .before .before .before .before .visits .last .1 .0) (c .before .before .before .before .before .before .before .before .before .before .before .before .before .before .before .before .before .before .before .before .before .before .before .before .before .before .before .before .before .before .before .before .before .before .before .before .before .before .before .before .before .visits .last .1 .1 .0) (c .before .before .before .before .before .before .before .before .before .before .before .before .before .before .before .before .before .before .before .before .before .before .before .before .before .before .before .before .before .before .before .before .before .before .before .before .before .before .before .before .before .visits .last .1 .1 .1 .0) (c .before .before .before .before .before .before .before .before .before .before .before .before .before .before .before .before .before .before .before .before .before .before .before .before .before .before .before .before .before .before .before .before .before .before .before .before .before .before .before .before .before .visits .last .1 .1 .1 .1 .0)) (c .before .before .before .before .before .before .before .before .before .before .before .before .keep-parts .result) (record { edges = c .before .before .before .before .before .before .before .before .before .before .before .before .before .before .before .before .before .before .before .before .before .before .before .before .before .before .before .before .before .before .before .before .before .before .before .before .before .before .before .before .before .visits .kept .0 ∙ c .before .before .before .before .before .before .before .before .before .before .before .before .before .before .before .before .before .before .before .before .before .before .before .before .before .before .before .before .before .before .before .before .before .before .before .before .before .before .before .before .before .before .before .before .before .before .before .before .before .before .before .before .before .pass-front .kept .0; words = c .before .before .before .before .before .before .before .before .before .before .before .before .before .before .before .before .before .before .before .before .before .before .before .before .before .before .before .before .before .before .before .before .before .before .before .before .before .before .before .before .before .visits .kept .1 .0; reals = c .before .before .before .before .before .before .before .before .before .before .before .before .before .before .before .before .before .before .before .before .before .before .before .before .before .before .before .before .before .before .before .before .before .before .before .before .before .before .before .before .before .visits .kept .1 .1 .0; keys = c .before .before .before .before .before .before .before .before .before .before .before .before .before .before .before .before .before .before .before .before .before .before .before .before .before .before .before .before .before .before .before .before .before .before .before .before .before .before .before .before .before .visits .kept .1 .1 .1 .0; events = c .before .before .before .before .before .before .before .before .before .before .before .before .before .before .before .before .before .before .before .before .before .before .before .before .before .before .before .before .before .before .before .before .before .before .before .before .before .before .before .before .before .visits .kept .1 .1 .1 .1 .0 }) (c .before .before .before .before .before .before .before .before .before .before .before .before .keep-parts .ensures .0),
-      admit-seated (length (a .pts .now)) (a .limit) (a .vertex-words .now) (a .e) (a .w) (a .counts .made) (a .counts .queued) (slices (a .edges .now) (a .words .now) (a .reals .now) (a .keys .now) (a .events .now)) (a .vertex .now) (a .tiny) (c .before .before .before .before .before .before .before .before .before .before .before .before .before .before .before .before .before .before .before .before .before .before .before .before .before .before .before .before .before .before .before .before .before .before .before .before .before .before .before .before .before .before .before .before .before .before .before .before .before .before .before .before .before .before .before .before .before .before .before .before .before .before .if1 .left) (c .before .before .before .before .before .before .before .before .before .before .before .before .before .before .before .before .before .before .before .before .before .before .before .before .before .before .before .before .before .before .before .before .before .before .before .before .before .before .before .before .before .before .before .before .before .before .before .before .before .before .before .before .before .pass-front .result) (c .before .before .before .before .before .before .before .before .before .before .before .before .before .before .before .before .before .before .before .before .before .before .before .before .before .before .before .before .before .before .before .before .before .before .before .before .before .before .before .before .before .before .before .before .before .before .before .before .before .before .before .before .before .pass-front .last .0) (c .before .before .before .before .before .before .before .before .before .before .before .before .before .before .before .before .before .before .before .before .before .before .before .before .before .before .before .before .before .before .before .before .before .before .before .before .before .before .before .before .before .before .before .before .before .before .before .before .before .before .before .before .before .pass-front .ensures) (c .before .before .before .before .before .before .before .before .before .before .before .before .before .before .before .before .before .before .before .before .before .before .before .before .before .before .before .before .before .before .before .before .before .before .before .before .before .before .before .before .before .before .before .before .before .before .before .before .before .before .before .before .before .before .before .before .before .before .before .whole .last .0) (c .before .before .before .before .before .before .before .before .before .before .before .before .before .before .before .before .before .before .before .before .before .before .before .before .before .before .before .before .before .before .before .before .before .before .before .before .before .before .before .before .before .before .before .before .before .before .before .before .before .before .before .before .before .before .before .before .before .before .before .whole .ensures) (c .before .before .before .before .before .before .before .before .before .before .before .before .before .before .before .before .before .before .before .before .before .visited2 .given .0 .0) (c .before .before .before .before .before .before .before .before .before .before .before .before .before .before .before .before .before .before .before .before .before .visited2 .given .0 .1 .0) (c .before .before .before .before .before .before .before .before .before .before .before .before .before .before .before .before .before .before .before .before .before .visited2 .given .0 .1 .1 .0) (slices (c .before .before .before .before .before .before .before .before .before .before .before .before .before .before .before .before .before .before .before .before .before .before .before .before .before .before .before .before .before .before .before .before .before .before .before .before .before .before .before .before .before .visits .last .0) (c .before .before .before .before .before .before .before .before .before .before .before .before .before .before .before .before .before .before .before .before .before .before .before .before .before .before .before .before .before .before .before .before .before .before .before .before .before .before .before .before .before .visits .last .1 .0) (c .before .before .before .before .before .before .before .before .before .before .before .before .before .before .before .before .before .before .before .before .before .before .before .before .before .before .before .before .before .before .before .before .before .before .before .before .before .before .before .before .before .visits .last .1 .1 .0) (c .before .before .before .before .before .before .before .before .before .before .before .before .before .before .before .before .before .before .before .before .before .before .before .before .before .before .before .before .before .before .before .before .before .before .before .before .before .before .before .before .before .visits .last .1 .1 .1 .0) (c .before .before .before .before .before .before .before .before .before .before .before .before .before .before .before .before .before .before .before .before .before .before .before .before .before .before .before .before .before .before .before .before .before .before .before .before .before .before .before .before .before .visits .last .1 .1 .1 .1 .0)) (c .before .before .before .before .before .before .before .before .before .before .before .before .before .before .before .before .before .before .before .before .before .before .before .before .before .before .before .before .before .before .before .before .before .before .before .before .before .before .before .before .before .visits .last .1 .1 .1 .1 .1 .0) (record { edges = c .before .before .before .before .before .before .before .before .before .before .before .before .before .before .before .before .before .before .before .before .before .before .before .before .before .before .before .before .before .before .before .before .before .before .before .before .before .before .before .before .before .visits .kept .0 ∙ c .before .before .before .before .before .before .before .before .before .before .before .before .before .before .before .before .before .before .before .before .before .before .before .before .before .before .before .before .before .before .before .before .before .before .before .before .before .before .before .before .before .before .before .before .before .before .before .before .before .before .before .before .before .pass-front .kept .0; words = c .before .before .before .before .before .before .before .before .before .before .before .before .before .before .before .before .before .before .before .before .before .before .before .before .before .before .before .before .before .before .before .before .before .before .before .before .before .before .before .before .before .visits .kept .1 .0; reals = c .before .before .before .before .before .before .before .before .before .before .before .before .before .before .before .before .before .before .before .before .before .before .before .before .before .before .before .before .before .before .before .before .before .before .before .before .before .before .before .before .before .visits .kept .1 .1 .0; keys = c .before .before .before .before .before .before .before .before .before .before .before .before .before .before .before .before .before .before .before .before .before .before .before .before .before .before .before .before .before .before .before .before .before .before .before .before .before .before .before .before .before .visits .kept .1 .1 .1 .0; events = c .before .before .before .before .before .before .before .before .before .before .before .before .before .before .before .before .before .before .before .before .before .before .before .before .before .before .before .before .before .before .before .before .before .before .before .before .before .before .before .before .before .visits .kept .1 .1 .1 .1 .0 }) (rw (c .before .before .before .before .before .before .before .before .before .before .before .before .before .before .before .before .before .before .before .before .before .visited2 .given .1) at (c .before .before .before .before .before .before .before .before .before .before .before .before .before .before .before .before .before .before .before .before .before .before .before .before .before .before .before .before .before .before .before .before .before .before .before .before .before .before .before .before .before .visits .ensures .1))
-          (endOf (c .before .before .before .before .before .before .before .before .before .before .before .before .keep-parts .result) (links (c .before .before .before .before .before .before .before .before .before .before .before .before .keep-parts .last .0) (c .before .before .before .before .before .before .before .before .before .before .before .before .keep-parts .last .1 .0)) (c .before .before .before .before .before .before .before .before .before .before .before .before .keep-parts .last .1 .1 .0) (queue (c .before .before .before .before .before .before .before .before .before .before .before .before .keep-parts .last .1 .1 .1 .0) (c .before .before .before .before .before .before .before .before .before .before .before .before .keep-parts .last .1 .1 .1 .1 .0)) (c .before .before .before .before .before .before .before .before .before .before .before .before .keep-parts .last .1 .1 .1 .1 .1 .0))
-          (c .before .before .before .before .before .before .before .before .before .before .before .before .keep-parts .ensures .1),
+    let at-keep-parts = c .before .before .before .before .before .before .before .before .before .before .before .before in
+    let at-visited2 = at-keep-parts .before .before .before .before .before .before .before .before .before in
+    let at-visits = at-visited2 .before .before .before .before .before .before .before .before .before .before .before .before .before .before .before .before .before .before .before .before in
+    let at-pass-front = at-visits .before .before .before .before .before .before .before .before .before .before .before .before in
+    let at-whole = at-pass-front .before .before .before .before .before .before in
+    let at-if1 = at-whole .before .before .before in
+    let start = at-if1 .before .before .before .before .before .before .before .before .before .before .before .before in
+    let keep-parts = at-keep-parts .keep-parts in
+    let visited2 = at-visited2 .visited2 in
+    let visits = at-visits .visits in
+    let pass-front = at-pass-front .pass-front in
+    let whole = at-whole .whole in
+    let a = start .args in
+    let the-slices-2 = slices (a .edges .now) (a .words .now) (a .reals .now) (a .keys .now) (a .events .now) in
+    let the-slices = slices (visits .last .0) (visits .last .1 .0) (visits .last .1 .1 .0) (visits .last .1 .1 .1 .0) (visits .last .1 .1 .1 .1 .0) in (
+      bounded-in the-slices-2 the-slices (keep-parts .result)
+          (record {
+            edges = visits .kept .0 ∙ pass-front .kept .0;
+            words = visits .kept .1 .0;
+            reals = visits .kept .1 .1 .0;
+            keys = visits .kept .1 .1 .1 .0;
+            events = visits .kept .1 .1 .1 .1 .0;
+          }) (keep-parts .ensures .0),
+      admit-seated (length (a .pts .now)) (a .limit) (a .vertex-words .now) (a .e) (a .w) (a .counts .made) (a .counts .queued) the-slices-2 (a .vertex .now)
+          (a .tiny) (at-if1 .if1 .left) (pass-front .result) (pass-front .last .0) (pass-front .ensures) (whole .last .0) (whole .ensures) (visited2 .given .0 .0) (visited2 .given .0 .1 .0)
+          (visited2 .given .0 .1 .1 .0) the-slices (visits .last .1 .1 .1 .1 .1 .0)
+          (record {
+            edges = visits .kept .0 ∙ pass-front .kept .0;
+            words = visits .kept .1 .0;
+            reals = visits .kept .1 .1 .0;
+            keys = visits .kept .1 .1 .1 .0;
+            events = visits .kept .1 .1 .1 .1 .0;
+          }) (rw (visited2 .given .1) at (visits .ensures .1)) (endOf (keep-parts .result) (links (keep-parts .last .0) (keep-parts .last .1 .0)) (keep-parts .last .1 .1 .0)
+          (queue (keep-parts .last .1 .1 .1 .0) (keep-parts .last .1 .1 .1 .1 .0)) (keep-parts .last .1 .1 .1 .1 .1 .0)) (keep-parts .ensures .1),
     )
 
 pub admit-spec : {M : Type 1} → statement M

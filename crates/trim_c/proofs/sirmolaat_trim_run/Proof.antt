@@ -43,7 +43,11 @@ same-length-11 : tie.Need-same-length-11
 same-length-11 c = search needs
 
 returns : tie.Need-returns
-returns c = record { answer = c .before .before .before .before .before .before .before .before .before .before .before .before .before .before .before .before .before .before .before .before .before .before .before .before .run .result; runs = c .before .before .before .before .before .before .before .before .before .before .before .before .before .before .before .before .before .before .before .before .before .before .before .before .run .ensures; tells = c .before .before .tell .ensures }
+returns c =
+    let at-tell = c .before .before in
+    let at-run = at-tell .before .before .before .before .before .before .before .before .before .before .before .before .before .before .before .before .before .before .before .before .before .before in
+    let run = at-run .run in
+    record { answer = run .result; runs = run .ensures; tells = at-tell .tell .ensures }
 
 pub sirmolaat-trim-run-spec : {M : Type 1} → statement M
 sirmolaat-trim-run-spec =

@@ -25,8 +25,11 @@ same-length-2 c = search needs
 
 returns : tie.Need-returns
 returns c =
-    let a = c .before .before .before .before .before .before .before .before .before .before .before .before .before .args in
-    full-better (a .p) (a .q) (a .lo) (a .hi) (a .b0) (a .b1) (a .tiny) (length (a .pts .now)) (pairs (a .k) (a .keep .now)) (c .before .before .before .before .before .before .better .last .1 .1 .1 .1 .1 .0) (omega (arith, c .before .before .before .before .before .before .better .kept .1 .1 .1 .1 .1 .0, c .before .before .before .before .before .before .before .before .before .before .before .before .before .pre .0 .outs)) (rw (c .enum-told .given .1) at (answers-of _ _ _ _ _ _ (c .before .before .before .before .before .before .better .ensures .0)))
+    let at-better = c .before .before .before .before .before .before in
+    let start = at-better .before .before .before .before .before .before .before in
+    let a = start .args in
+    full-better (a .p) (a .q) (a .lo) (a .hi) (a .b0) (a .b1) (a .tiny) (length (a .pts .now)) (pairs (a .k) (a .keep .now)) (at-better .better .last .1 .1 .1 .1 .1 .0)
+    (omega (arith, at-better .better .kept .1 .1 .1 .1 .1 .0, start .pre .0 .outs)) (rw (c .enum-told .given .1) at (answers-of _ _ _ _ _ _ (at-better .better .ensures .0)))
 
 next-requires : tie.Need-next-requires
 next-requires c κs =
@@ -65,9 +68,13 @@ returns-2 c =
 
 copy-requires : tie.Need-copy-requires
 copy-requires c κs =
-    let h = (rw (c .before .before .before .left .given .1) at (c .before .before .before .before .before .before .before .next .ensures .0)) in
+    let at-left = c .before .before .before in
+    let at-next = at-left .before .before .before .before in
+    let start = at-next .before .before .before .before .before .before .before .before .before .before .before .before .before .before .before .before .before .before in
+    let next = at-next .next in
+    let h = (rw (at-left .left .given .1) at (next .ensures .0)) in
     let g = h .0 in
-    (g, omega (arith, g, c .before .before .before .before .before .before .before .next .kept .1 .1 .1 .1 .1 .1 .0, c .before .before .before .before .before .before .before .before .before .before .before .before .before .before .before .before .before .before .before .before .before .before .before .before .before .pre .0 .nexts, c .before .before .before .before .before .before .before .before .before .before .before .before .before .before .before .before .before .before .before .before .before .before .before .before .before .pre .0 .keeps))
+    (g, omega (arith, g, next .kept .1 .1 .1 .1 .1 .1 .0, start .pre .0 .nexts, start .pre .0 .keeps))
 
 same-length-7 : tie.Need-same-length-7
 same-length-7 c = search needs
@@ -96,7 +103,9 @@ returns-3 c =
 
 pieces-requires : tie.Need-pieces-requires
 pieces-requires c κs =
-    let h = (rw (c .before .before .before .before .before .before .before .before .before .before .before .before .before .before .before .before .before .before .better2 .given .1) at (answers-of _ _ _ _ _ _ (c .before .before .before .before .before .before .before .before .before .before .before .before .before .before .before .before .before .before .before .before .before .before .before .before .better .ensures .0))) in
+    let at-better2 = c .before .before .before .before .before .before .before .before .before .before .before .before .before .before .before .before .before .before in
+    let at-better = at-better2 .before .before .before .before .before .before in
+    let h = (rw (at-better2 .better2 .given .1) at (answers-of _ _ _ _ _ _ (at-better .better .ensures .0))) in
     h .1 .0
 
 enum-known-rest : tie.Need-enum-known-rest

@@ -18,19 +18,69 @@ is-on-edge-requires-2 : tie.Need-is-on-edge-requires-2
 is-on-edge-requires-2 c κs = search needs
 
 returns-2 : tie.Need-returns-2
-returns-2 c = let s = c .before .before .before .before .before .before .before .before in
+returns-2 c =
+    let at-is-on-edge2 = c .before in
+    let at-if3 = at-is-on-edge2 .before in
+    let at-is-on-edge = at-if3 .before in
+    let at-if2 = at-is-on-edge .before in
+    let at-has-length = at-if2 .before in
+    let at-if1 = at-has-length .before in
+    let at-before = at-if1 .before in
+    let is-on-edge2 = at-is-on-edge2 .is-on-edge2 in
+    let is-on-edge = at-is-on-edge .is-on-edge in
+    let has-length = at-has-length .has-length in
+    let s = at-before .before in
     let a = s .args in
-    record { number = refuse-none (a .m) (a .e .0) (a .l) (a .b0) (a .b1) (c .before .before .before .before .before .has-length .result) (c .before .before .before .before .before .has-length .ensures) (c .before .before .before .before .before .before .if1 .left) (c .before .before .before .before .if2 .taken) (c .before .before .before .is-on-edge .result) (c .before .before .before .is-on-edge .ensures) (c .before .before .if3 .taken) (c .before .is-on-edge2 .result) (c .before .is-on-edge2 .ensures) (c .if4 .taken); start = double (a .b0) (s .good .1 .1 .1 .0 .1); end = double (a .b1) (s .good .1 .1 .1 .1 .0 .1); length = double (a .l) (s .good .1 .1 .0 .1) }
+    record {
+      number = refuse-none (a .m) (a .e .0) (a .l) (a .b0) (a .b1) (has-length .result) (has-length .ensures) (at-if1 .if1 .left) (at-if2 .if2 .taken) (is-on-edge .result)
+          (is-on-edge .ensures) (at-if3 .if3 .taken) (is-on-edge2 .result) (is-on-edge2 .ensures) (c .if4 .taken);
+      start = double (a .b0) (s .good .1 .1 .1 .0 .1);
+      end = double (a .b1)
+          (s .good .1 .1 .1 .1 .0 .1);
+      length = double (a .l) (s .good .1 .1 .0 .1);
+    }
 
 returns-3 : tie.Need-returns-3
-returns-3 c = let s = c .before .before .before .before .before .before .before .before in
+returns-3 c =
+    let at-is-on-edge2 = c .before in
+    let at-if3 = at-is-on-edge2 .before in
+    let at-is-on-edge = at-if3 .before in
+    let at-if2 = at-is-on-edge .before in
+    let at-has-length = at-if2 .before in
+    let at-if1 = at-has-length .before in
+    let at-before = at-if1 .before in
+    let is-on-edge2 = at-is-on-edge2 .is-on-edge2 in
+    let is-on-edge = at-is-on-edge .is-on-edge in
+    let has-length = at-has-length .has-length in
+    let s = at-before .before in
     let a = s .args in
-    record { number = refuse-end (a .m) (a .e .0) (a .l) (a .b0) (a .b1) (c .before .before .before .before .before .has-length .result) (c .before .before .before .before .before .has-length .ensures) (c .before .before .before .before .before .before .if1 .left) (c .before .before .before .before .if2 .taken) (c .before .before .before .is-on-edge .result) (c .before .before .before .is-on-edge .ensures) (c .before .before .if3 .taken) (c .before .is-on-edge2 .result) (c .before .is-on-edge2 .ensures) (c .if4 .left); start = double (a .b0) (s .good .1 .1 .1 .0 .1); end = double (a .b1) (s .good .1 .1 .1 .1 .0 .1); length = double (a .l) (s .good .1 .1 .0 .1) }
+    record {
+      number = refuse-end (a .m) (a .e .0) (a .l) (a .b0) (a .b1) (has-length .result) (has-length .ensures) (at-if1 .if1 .left) (at-if2 .if2 .taken) (is-on-edge .result)
+          (is-on-edge .ensures) (at-if3 .if3 .taken) (is-on-edge2 .result) (is-on-edge2 .ensures) (c .if4 .left);
+      start = double (a .b0) (s .good .1 .1 .1 .0 .1);
+      end = double (a .b1)
+          (s .good .1 .1 .1 .1 .0 .1);
+      length = double (a .l) (s .good .1 .1 .0 .1);
+    }
 
 returns-4 : tie.Need-returns-4
-returns-4 c = let s = c .before .before .before .before .before .before in
+returns-4 c =
+    let at-is-on-edge = c .before in
+    let at-if2 = at-is-on-edge .before in
+    let at-has-length = at-if2 .before in
+    let at-if1 = at-has-length .before in
+    let at-before = at-if1 .before in
+    let is-on-edge = at-is-on-edge .is-on-edge in
+    let has-length = at-has-length .has-length in
+    let s = at-before .before in
     let a = s .args in
-    record { number = refuse-start (a .m) (a .e .0) (a .l) (a .b0) (a .b1) (c .before .before .before .has-length .result) (c .before .before .before .has-length .ensures) (c .before .before .before .before .if1 .left) (c .before .before .if2 .taken) (c .before .is-on-edge .result) (c .before .is-on-edge .ensures) (c .if3 .left); start = double (a .b0) (s .good .1 .1 .1 .0 .1); end = double (a .b1) (s .good .1 .1 .1 .1 .0 .1); length = double (a .l) (s .good .1 .1 .0 .1) }
+    record {
+      number = refuse-start (a .m) (a .e .0) (a .l) (a .b0) (a .b1) (has-length .result) (has-length .ensures) (at-if1 .if1 .left) (at-if2 .if2 .taken) (is-on-edge .result)
+          (is-on-edge .ensures) (c .if3 .left);
+      start = double (a .b0) (s .good .1 .1 .1 .0 .1);
+      end = double (a .b1) (s .good .1 .1 .1 .1 .0 .1);
+      length = double (a .l) (s .good .1 .1 .0 .1);
+    }
 
 returns-5 : tie.Need-returns-5
 returns-5 c = let s = c .before .before .before .before in

@@ -62,8 +62,26 @@ same-length-7 c = search needs
 
 returns-2 : tie.Need-returns-2
 returns-2 c =
-    let a = c .before .before .before .before .before .before .before .before .before .before .before .before .before .before .before .before .before .before .before .before .before .before .before .before .before .before .before .before .before .before .before .before .before .args in
-    (tt, λ cuts limit flags vertex k. part-full cuts (capacityOf (length (a .words .now)) (length (a .reals .now))) limit flags (a .e) (a .x) k (a .b0) (a .b1) (a .counts .made) (a .counts .queued) (a .before) (links (a .edges .now) (a .words .now)) (a .reals .now) (queue (a .keys .now) (a .events .now)) vertex (omega (arith, c .before .before .before .before .before .before .before .before .before .before .before .before .before .before .before .before .before .before .before .before .before .before .before .capacity .ensures, c .before .before .before .before .before .before .before .before .before .before .before .before .before .before .before .before .before .before .before .before .before .before .if1 .left)) (lowestOf (a .x .win .src) (a .b0) (a .b1)) refl (links (c .before .before .before .before .before .before .before .before .before .before .before .before .before .before .before .before .before .make-window .last .0) (c .before .before .before .before .before .before .before .before .before .before .before .before .before .before .before .before .before .make-window .last .1 .0)) (c .before .before .before .before .before .before .before .before .before .before .before .before .before .before .before .before .before .make-window .last .1 .1 .0) (rw (c .before .before .before .before .before .before .before .before .before .before .before .before .before .before .before .before .before .before .before .before .before .trimmed .ensures) at (c .before .before .before .before .before .before .before .before .before .before .before .before .before .before .before .before .before .make-window .ensures)) (c .before .before .before .before .before .before .before .before .before .before .if2 .taken) (c .before .before .before .before .before .before .before .before .before .window-event .result) (rw (c .before .before .before .before .before .before .before .before .before .before .before .before .before .before .before .before .before .before .before .before .before .trimmed .ensures) at (c .before .before .before .before .before .before .before .before .before .window-event .ensures)) (queue (c .before .before .before .before .before .before .push .last .0) (c .before .before .before .before .before .before .push .last .1 .0)) (rw (c .enum-told .given .1) at (c .before .before .before .before .before .before .push .ensures .0)))
+    let at-push = c .before .before .before .before .before .before in
+    let at-window-event = at-push .before .before .before in
+    let at-if2 = at-window-event .before in
+    let at-make-window = at-if2 .before .before .before .before .before .before .before in
+    let at-trimmed = at-make-window .before .before .before .before in
+    let at-if1 = at-trimmed .before in
+    let at-capacity = at-if1 .before in
+    let start = at-capacity .before .before .before .before .before .before .before .before .before .before in
+    let push = at-push .push in
+    let window-event = at-window-event .window-event in
+    let make-window = at-make-window .make-window in
+    let trimmed = at-trimmed .trimmed in
+    let a = start .args in (
+      tt,
+      λ cuts limit flags vertex k. part-full cuts (capacityOf (length (a .words .now)) (length (a .reals .now))) limit flags (a .e) (a .x) k (a .b0) (a .b1) (a .counts .made)
+          (a .counts .queued) (a .before) (links (a .edges .now) (a .words .now)) (a .reals .now) (queue (a .keys .now) (a .events .now)) vertex
+          (omega (arith, at-capacity .capacity .ensures, at-if1 .if1 .left)) (lowestOf (a .x .win .src) (a .b0) (a .b1)) refl (links (make-window .last .0) (make-window .last .1 .0))
+          (make-window .last .1 .1 .0) (rw (trimmed .ensures) at (make-window .ensures)) (at-if2 .if2 .taken) (window-event .result) (rw (trimmed .ensures) at (window-event .ensures))
+          (queue (push .last .0) (push .last .1 .0)) (rw (c .enum-told .given .1) at (push .ensures .0)),
+    )
 
 add-t40 : tie.Need-add-t40
 add-t40 c = search needs
@@ -88,8 +106,28 @@ same-length-12 c = search needs
 
 returns-3 : tie.Need-returns-3
 returns-3 c =
-    let a = c .before .before .before .before .before .before .before .before .before .before .before .before .before .before .before .before .before .before .before .before .before .before .before .before .before .before .before .before .before .before .before .before .before .before .args in
-    (add-one (a .counts .made), λ cuts limit flags vertex k. part-queued cuts (capacityOf (length (a .words .now)) (length (a .reals .now))) limit flags (a .e) (a .x) k (a .b0) (a .b1) (a .counts .made) (a .counts .queued) (a .before) (links (a .edges .now) (a .words .now)) (a .reals .now) (queue (a .keys .now) (a .events .now)) vertex (omega (arith, c .before .before .before .before .before .before .before .before .before .before .before .before .before .before .before .before .before .before .before .before .before .before .before .before .capacity .ensures, c .before .before .before .before .before .before .before .before .before .before .before .before .before .before .before .before .before .before .before .before .before .before .before .if1 .left)) (lowestOf (a .x .win .src) (a .b0) (a .b1)) refl (links (c .before .before .before .before .before .before .before .before .before .before .before .before .before .before .before .before .before .before .make-window .last .0) (c .before .before .before .before .before .before .before .before .before .before .before .before .before .before .before .before .before .before .make-window .last .1 .0)) (c .before .before .before .before .before .before .before .before .before .before .before .before .before .before .before .before .before .before .make-window .last .1 .1 .0) (rw (c .before .before .before .before .before .before .before .before .before .before .before .before .before .before .before .before .before .before .before .before .before .before .trimmed .ensures) at (c .before .before .before .before .before .before .before .before .before .before .before .before .before .before .before .before .before .before .make-window .ensures)) (c .before .before .before .before .before .before .before .before .before .before .before .if2 .taken) (c .before .before .before .before .before .before .before .before .before .before .window-event .result) (rw (c .before .before .before .before .before .before .before .before .before .before .before .before .before .before .before .before .before .before .before .before .before .before .trimmed .ensures) at (c .before .before .before .before .before .before .before .before .before .before .window-event .ensures)) (queue (c .before .before .before .before .before .before .before .push .last .0) (c .before .before .before .before .before .before .before .push .last .1 .0)) (a .counts .made + 1) (add-one (a .counts .made)) (c .before .pushed .given .0 .0) (rw (c .before .pushed .given .1) at (c .before .before .before .before .before .before .before .push .ensures .0)))
+    let at-pushed = c .before in
+    let at-push = at-pushed .before .before .before .before .before .before in
+    let at-window-event = at-push .before .before .before in
+    let at-if2 = at-window-event .before in
+    let at-make-window = at-if2 .before .before .before .before .before .before .before in
+    let at-trimmed = at-make-window .before .before .before .before in
+    let at-if1 = at-trimmed .before in
+    let at-capacity = at-if1 .before in
+    let start = at-capacity .before .before .before .before .before .before .before .before .before .before in
+    let pushed = at-pushed .pushed in
+    let push = at-push .push in
+    let window-event = at-window-event .window-event in
+    let make-window = at-make-window .make-window in
+    let trimmed = at-trimmed .trimmed in
+    let a = start .args in (
+      add-one (a .counts .made),
+      λ cuts limit flags vertex k. part-queued cuts (capacityOf (length (a .words .now)) (length (a .reals .now))) limit flags (a .e) (a .x) k (a .b0) (a .b1)
+          (a .counts .made) (a .counts .queued) (a .before) (links (a .edges .now) (a .words .now)) (a .reals .now) (queue (a .keys .now) (a .events .now)) vertex
+          (omega (arith, at-capacity .capacity .ensures, at-if1 .if1 .left)) (lowestOf (a .x .win .src) (a .b0) (a .b1)) refl (links (make-window .last .0) (make-window .last .1 .0))
+          (make-window .last .1 .1 .0) (rw (trimmed .ensures) at (make-window .ensures)) (at-if2 .if2 .taken) (window-event .result) (rw (trimmed .ensures) at (window-event .ensures))
+          (queue (push .last .0) (push .last .1 .0)) (a .counts .made + 1) (add-one (a .counts .made)) (pushed .given .0 .0) (rw (pushed .given .1) at (push .ensures .0)),
+    )
 
 add-t20 : tie.Need-add-t20
 add-t20 c = search needs
@@ -108,8 +146,19 @@ same-length-15 c = search needs
 
 returns-4 : tie.Need-returns-4
 returns-4 c =
-    let a = c .before .before .before .before .before .before .before .before .before .before .before .before .before .before .before .before .before .before .before .before .before .before .before .args in
-    (add-one (a .counts .made), λ cuts limit flags vertex k. part-quiet cuts (capacityOf (length (a .words .now)) (length (a .reals .now))) limit flags (a .e) (a .x) k (a .b0) (a .b1) (a .counts .made) (a .counts .queued) (a .before) (links (a .edges .now) (a .words .now)) (a .reals .now) (queue (a .keys .now) (a .events .now)) vertex (omega (arith, c .before .before .before .before .before .before .before .before .before .before .before .before .before .capacity .ensures, c .before .before .before .before .before .before .before .before .before .before .before .before .if1 .left)) (lowestOf (a .x .win .src) (a .b0) (a .b1)) refl (links (c .before .before .before .before .before .before .before .make-window .last .0) (c .before .before .before .before .before .before .before .make-window .last .1 .0)) (c .before .before .before .before .before .before .before .make-window .last .1 .1 .0) (rw (c .before .before .before .before .before .before .before .before .before .before .before .trimmed .ensures) at (c .before .before .before .before .before .before .before .make-window .ensures)) (a .counts .made + 1) (add-one (a .counts .made)) (c .if2 .left))
+    let at-make-window = c .before .before .before .before .before .before .before in
+    let at-trimmed = at-make-window .before .before .before .before in
+    let at-if1 = at-trimmed .before in
+    let at-capacity = at-if1 .before in
+    let start = at-capacity .before .before .before .before .before .before .before .before .before .before in
+    let make-window = at-make-window .make-window in
+    let a = start .args in (
+      add-one (a .counts .made),
+      λ cuts limit flags vertex k. part-quiet cuts (capacityOf (length (a .words .now)) (length (a .reals .now))) limit flags (a .e) (a .x) k (a .b0) (a .b1)
+          (a .counts .made) (a .counts .queued) (a .before) (links (a .edges .now) (a .words .now)) (a .reals .now) (queue (a .keys .now) (a .events .now)) vertex
+          (omega (arith, at-capacity .capacity .ensures, at-if1 .if1 .left)) (lowestOf (a .x .win .src) (a .b0) (a .b1)) refl (links (make-window .last .0) (make-window .last .1 .0))
+          (make-window .last .1 .1 .0) (rw (at-trimmed .trimmed .ensures) at (make-window .ensures)) (a .counts .made + 1) (add-one (a .counts .made)) (c .if2 .left),
+    )
 
 pub make-part-spec : {M : Type 1} → statement M
 make-part-spec =

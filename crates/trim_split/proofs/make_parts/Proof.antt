@@ -31,8 +31,12 @@ to-of-requires c κs = omega (arith, c .before .before .before .before .before .
 
 make-part-requires : tie.Need-make-part-requires Inv-loop μ-loop
 make-part-requires c κs =
-    let a = c .before .before .before .before .before .before .before .before .before .before .before .before .before .before .before .args in
-    parts-ready (a .e .0) (a .x) (pairs (a .n) (a .pieces .now)) (slices (a .edges .now) (a .words .now) (a .reals .now) (a .keys .now) (a .events .now)) (a .counts .made) (a .counts .queued) (a .before) (slices (c .before .before .before .before .before .before .before .before .loop .edges) (c .before .before .before .before .before .before .before .before .loop .words) (c .before .before .before .before .before .before .before .before .loop .reals) (c .before .before .before .before .before .before .before .before .loop .keys) (c .before .before .before .before .before .before .before .before .loop .events)) (c .before .before .before .before .before .before .before .before .loop .now .made) (c .before .before .before .before .before .before .before .before .loop .now .queued) (c .before .before .before .before .before .before .before .before .loop .last) (c .before .before .before .before .before .before .before .before .loop .i) (c .before .before .before .before .before .before .before .before .loop .inv)
+    let at-loop = c .before .before .before .before .before .before .before .before in
+    let start = at-loop .before .before .before .before .before .before .before in
+    let loop = at-loop .loop in
+    let a = start .args in
+    parts-ready (a .e .0) (a .x) (pairs (a .n) (a .pieces .now)) (slices (a .edges .now) (a .words .now) (a .reals .now) (a .keys .now) (a .events .now)) (a .counts .made)
+    (a .counts .queued) (a .before) (slices (loop .edges) (loop .words) (loop .reals) (loop .keys) (loop .events)) (loop .now .made) (loop .now .queued) (loop .last) (loop .i) (loop .inv)
 
 enum-known-part : tie.Need-enum-known-part Inv-loop μ-loop
 enum-known-part c = search needs
@@ -54,22 +58,63 @@ same-length-5 c = c .before .before .before .before .before .before .before .bef
 
 returns : tie.Need-returns Inv-loop μ-loop
 returns c =
-    let a = c .before .before .before .before .before .before .before .before .before .before .before .before .before .before .before .before .before .before .before .before .before .before .before .before .before .before .before .before .before .args in
-    (tt, parts-stopped (a .e .0) (a .x) (pairs (a .n) (a .pieces .now)) (slices (a .edges .now) (a .words .now) (a .reals .now) (a .keys .now) (a .events .now)) (a .counts .made) (a .counts .queued) (a .before) (slices (c .before .before .before .before .before .before .before .before .before .before .before .before .before .before .before .before .before .before .before .before .before .before .loop .edges) (c .before .before .before .before .before .before .before .before .before .before .before .before .before .before .before .before .before .before .before .before .before .before .loop .words) (c .before .before .before .before .before .before .before .before .before .before .before .before .before .before .before .before .before .before .before .before .before .before .loop .reals) (c .before .before .before .before .before .before .before .before .before .before .before .before .before .before .before .before .before .before .before .before .before .before .loop .keys) (c .before .before .before .before .before .before .before .before .before .before .before .before .before .before .before .before .before .before .before .before .before .before .loop .events)) (c .before .before .before .before .before .before .before .before .before .before .before .before .before .before .before .before .before .before .before .before .before .before .loop .now .made) (c .before .before .before .before .before .before .before .before .before .before .before .before .before .before .before .before .before .before .before .before .before .before .loop .now .queued) (c .before .before .before .before .before .before .before .before .before .before .before .before .before .before .before .before .before .before .before .before .before .before .loop .last) (c .before .before .before .before .before .before .before .before .before .before .before .before .before .before .before .before .before .before .before .before .before .before .loop .i) (c .before .before .before .before .before .before .before .before .before .before .before .before .before .before .before .before .before .before .before .before .before .before .loop .inv) (c .before .before .before .before .before .before .before .before .before .before .before .before .before .before .before .before .before .before .before .before .from-of .result) (c .before .before .before .before .before .before .before .before .before .before .before .before .before .before .before .before .before .before .before .to-of .result) (here-is (drop (c .before .before .before .before .before .before .before .before .before .before .before .before .before .before .before .before .before .before .before .before .before .before .loop .i) (pairs (a .n) (a .pieces .now))) (drop (suc (c .before .before .before .before .before .before .before .before .before .before .before .before .before .before .before .before .before .before .before .before .before .before .loop .i)) (pairs (a .n) (a .pieces .now))) (c .before .before .before .before .before .before .before .before .before .before .before .before .before .before .before .before .before .before .before .before .from-of .result) (c .before .before .before .before .before .before .before .before .before .before .before .before .before .before .before .before .before .before .before .to-of .result) (getD (a .pieces .now) (c .before .before .before .before .before .before .before .before .before .before .before .before .before .before .before .before .before .before .before .before .before .before .loop .i + c .before .before .before .before .before .before .before .before .before .before .before .before .before .before .before .before .before .before .before .before .before .before .loop .i) nan) (getD (a .pieces .now) (suc (c .before .before .before .before .before .before .before .before .before .before .before .before .before .before .before .before .before .before .before .before .before .before .loop .i + c .before .before .before .before .before .before .before .before .before .before .before .before .before .before .before .before .before .before .before .before .before .before .loop .i)) nan) (pairs-from (a .pieces .now) (a .n) (c .before .before .before .before .before .before .before .before .before .before .before .before .before .before .before .before .before .before .before .before .before .before .loop .i) (c .before .before .before .before .before .before .before .before .before .before .before .before .before .before .before .before .before .before .before .before .before .loop-test .taken)) (c .before .before .before .before .before .before .before .before .before .before .before .before .before .before .before .before .before .before .before .before .from-of .ensures) (c .before .before .before .before .before .before .before .before .before .before .before .before .before .before .before .before .before .before .before .to-of .ensures)) (slices (c .before .before .before .before .before .before .before .before .before .before .before .before .before .make-part .last .0) (c .before .before .before .before .before .before .before .before .before .before .before .before .before .make-part .last .1 .0) (c .before .before .before .before .before .before .before .before .before .before .before .before .before .make-part .last .1 .1 .0) (c .before .before .before .before .before .before .before .before .before .before .before .before .before .make-part .last .1 .1 .1 .0) (c .before .before .before .before .before .before .before .before .before .before .before .before .before .make-part .last .1 .1 .1 .1 .0)) (lackNumber (c .before .part .given .0 .0)) (rw (c .before .part .given .1) at (c .before .before .before .before .before .before .before .before .before .before .before .before .before .make-part .ensures .1)))
+    let at-part = c .before in
+    let at-make-part = at-part .before .before .before .before .before .before .before .before .before .before .before .before in
+    let at-to-of = at-make-part .before .before .before .before .before .before in
+    let at-from-of = at-to-of .before in
+    let at-loop-test = at-from-of .before in
+    let at-loop = at-loop-test .before in
+    let start = at-loop .before .before .before .before .before .before .before in
+    let part = at-part .part in
+    let make-part = at-make-part .make-part in
+    let to-of = at-to-of .to-of in
+    let from-of = at-from-of .from-of in
+    let loop = at-loop .loop in
+    let a = start .args in (
+      tt,
+      parts-stopped (a .e .0) (a .x) (pairs (a .n) (a .pieces .now)) (slices (a .edges .now) (a .words .now) (a .reals .now) (a .keys .now) (a .events .now)) (a .counts .made)
+          (a .counts .queued) (a .before) (slices (loop .edges) (loop .words) (loop .reals) (loop .keys) (loop .events)) (loop .now .made) (loop .now .queued) (loop .last) (loop .i) (loop .inv)
+          (from-of .result) (to-of .result) (here-is (drop (loop .i) (pairs (a .n) (a .pieces .now))) (drop (suc (loop .i)) (pairs (a .n) (a .pieces .now))) (from-of .result) (to-of .result)
+          (getD (a .pieces .now) (loop .i + loop .i) nan) (getD (a .pieces .now) (suc (loop .i + loop .i)) nan) (pairs-from (a .pieces .now) (a .n) (loop .i) (at-loop-test .loop-test .taken))
+          (from-of .ensures) (to-of .ensures)) (slices (make-part .last .0) (make-part .last .1 .0) (make-part .last .1 .1 .0) (make-part .last .1 .1 .1 .0) (make-part .last .1 .1 .1 .1 .0))
+          (lackNumber (part .given .0 .0)) (rw (part .given .1) at (make-part .ensures .1)),
+    )
 
 enum-known-part-2 : tie.Need-enum-known-part-2 Inv-loop μ-loop
 enum-known-part-2 c = search needs
 
 add-i : tie.Need-add-i Inv-loop μ-loop
-add-i c = omega (arith, c .before .before .before .before .before .before .before .before .before .before .before .before .before .before .before .before .before .before .before .before .before .loop-test .taken, c .before .before .before .before .before .before .before .before .before .before .before .before .before .before .before .before .before .before .before .before .before .before .before .before .before .before .before .before .before .fits .n)
+add-i c =
+    let at-loop-test = c .before .before .before .before .before .before .before .before .before .before .before .before .before .before .before .before .before .before .before .before .before in
+    let at-fits = at-loop-test .before .before .before .before .before .before .before .before in
+    omega (arith, at-loop-test .loop-test .taken, at-fits .fits .n)
 
 loop-less : tie.Need-loop-less Inv-loop μ-loop
 loop-less c = omega (arith, c .before .before .before .before .before .before .before .before .before .before .before .before .before .before .before .before .before .before .before .before .before .loop-test .taken)
 
 loop-again : tie.Need-loop-again Inv-loop μ-loop
 loop-again c =
-    let a = c .before .before .before .before .before .before .before .before .before .before .before .before .before .before .before .before .before .before .before .before .before .before .before .before .before .before .before .before .before .args in
-    parts-next (a .e .0) (a .x) (pairs (a .n) (a .pieces .now)) (slices (a .edges .now) (a .words .now) (a .reals .now) (a .keys .now) (a .events .now)) (a .counts .made) (a .counts .queued) (a .before) (slices (c .before .before .before .before .before .before .before .before .before .before .before .before .before .before .before .before .before .before .before .before .before .before .loop .edges) (c .before .before .before .before .before .before .before .before .before .before .before .before .before .before .before .before .before .before .before .before .before .before .loop .words) (c .before .before .before .before .before .before .before .before .before .before .before .before .before .before .before .before .before .before .before .before .before .before .loop .reals) (c .before .before .before .before .before .before .before .before .before .before .before .before .before .before .before .before .before .before .before .before .before .before .loop .keys) (c .before .before .before .before .before .before .before .before .before .before .before .before .before .before .before .before .before .before .before .before .before .before .loop .events)) (c .before .before .before .before .before .before .before .before .before .before .before .before .before .before .before .before .before .before .before .before .before .before .loop .now .made) (c .before .before .before .before .before .before .before .before .before .before .before .before .before .before .before .before .before .before .before .before .before .before .loop .now .queued) (c .before .before .before .before .before .before .before .before .before .before .before .before .before .before .before .before .before .before .before .before .before .before .loop .last) (c .before .before .before .before .before .before .before .before .before .before .before .before .before .before .before .before .before .before .before .before .before .before .loop .i) (c .before .before .before .before .before .before .before .before .before .before .before .before .before .before .before .before .before .before .before .before .before .before .loop .inv) (c .before .before .before .before .before .before .before .before .before .before .before .before .before .before .before .before .before .before .before .before .from-of .result) (c .before .before .before .before .before .before .before .before .before .before .before .before .before .before .before .before .before .before .before .to-of .result) (here-is (drop (c .before .before .before .before .before .before .before .before .before .before .before .before .before .before .before .before .before .before .before .before .before .before .loop .i) (pairs (a .n) (a .pieces .now))) (drop (suc (c .before .before .before .before .before .before .before .before .before .before .before .before .before .before .before .before .before .before .before .before .before .before .loop .i)) (pairs (a .n) (a .pieces .now))) (c .before .before .before .before .before .before .before .before .before .before .before .before .before .before .before .before .before .before .before .before .from-of .result) (c .before .before .before .before .before .before .before .before .before .before .before .before .before .before .before .before .before .before .before .to-of .result) (getD (a .pieces .now) (c .before .before .before .before .before .before .before .before .before .before .before .before .before .before .before .before .before .before .before .before .before .before .loop .i + c .before .before .before .before .before .before .before .before .before .before .before .before .before .before .before .before .before .before .before .before .before .before .loop .i) nan) (getD (a .pieces .now) (suc (c .before .before .before .before .before .before .before .before .before .before .before .before .before .before .before .before .before .before .before .before .before .before .loop .i + c .before .before .before .before .before .before .before .before .before .before .before .before .before .before .before .before .before .before .before .before .before .before .loop .i)) nan) (pairs-from (a .pieces .now) (a .n) (c .before .before .before .before .before .before .before .before .before .before .before .before .before .before .before .before .before .before .before .before .before .before .loop .i) (c .before .before .before .before .before .before .before .before .before .before .before .before .before .before .before .before .before .before .before .before .before .loop-test .taken)) (c .before .before .before .before .before .before .before .before .before .before .before .before .before .before .before .before .before .before .before .before .from-of .ensures) (c .before .before .before .before .before .before .before .before .before .before .before .before .before .before .before .before .before .before .before .to-of .ensures)) (slices (c .before .before .before .before .before .before .before .before .before .before .before .before .before .make-part .last .0) (c .before .before .before .before .before .before .before .before .before .before .before .before .before .make-part .last .1 .0) (c .before .before .before .before .before .before .before .before .before .before .before .before .before .make-part .last .1 .1 .0) (c .before .before .before .before .before .before .before .before .before .before .before .before .before .make-part .last .1 .1 .1 .0) (c .before .before .before .before .before .before .before .before .before .before .before .before .before .make-part .last .1 .1 .1 .1 .0)) (record { edges = c .before .before .before .before .before .before .before .before .before .before .before .before .before .make-part .kept .0; words = c .before .before .before .before .before .before .before .before .before .before .before .before .before .make-part .kept .1 .0; reals = c .before .before .before .before .before .before .before .before .before .before .before .before .before .make-part .kept .1 .1 .0; keys = c .before .before .before .before .before .before .before .before .before .before .before .before .before .make-part .kept .1 .1 .1 .0; events = c .before .before .before .before .before .before .before .before .before .before .before .before .before .make-part .kept .1 .1 .1 .1 .0 }) (c .before .part2 .given .0 .0 .made) (c .before .part2 .given .0 .0 .queued) (c .before .part2 .given .0 .1 .0) (c .before .before .before .before .before .before .before .before .before .before .before .before .before .before .before .before .before .before .before .before .before .before .loop .i + 1) (rw (c .before .part2 .given .1) at (c .before .before .before .before .before .before .before .before .before .before .before .before .before .make-part .ensures .0)) refl (rw (c .before .part2 .given .1) at (c .before .before .before .before .before .before .before .before .before .before .before .before .before .make-part .ensures .1)) nan
+    let at-part2 = c .before in
+    let at-make-part = at-part2 .before .before .before .before .before .before .before .before .before .before .before .before in
+    let at-to-of = at-make-part .before .before .before .before .before .before in
+    let at-from-of = at-to-of .before in
+    let at-loop-test = at-from-of .before in
+    let at-loop = at-loop-test .before in
+    let start = at-loop .before .before .before .before .before .before .before in
+    let part2 = at-part2 .part2 in
+    let make-part = at-make-part .make-part in
+    let to-of = at-to-of .to-of in
+    let from-of = at-from-of .from-of in
+    let loop = at-loop .loop in
+    let a = start .args in
+    parts-next (a .e .0) (a .x) (pairs (a .n) (a .pieces .now)) (slices (a .edges .now) (a .words .now) (a .reals .now) (a .keys .now) (a .events .now)) (a .counts .made)
+    (a .counts .queued) (a .before) (slices (loop .edges) (loop .words) (loop .reals) (loop .keys) (loop .events)) (loop .now .made) (loop .now .queued) (loop .last) (loop .i) (loop .inv)
+    (from-of .result) (to-of .result) (here-is (drop (loop .i) (pairs (a .n) (a .pieces .now))) (drop (suc (loop .i)) (pairs (a .n) (a .pieces .now))) (from-of .result) (to-of .result)
+    (getD (a .pieces .now) (loop .i + loop .i) nan) (getD (a .pieces .now) (suc (loop .i + loop .i)) nan) (pairs-from (a .pieces .now) (a .n) (loop .i) (at-loop-test .loop-test .taken))
+    (from-of .ensures) (to-of .ensures)) (slices (make-part .last .0) (make-part .last .1 .0) (make-part .last .1 .1 .0) (make-part .last .1 .1 .1 .0) (make-part .last .1 .1 .1 .1 .0))
+    (record { edges = make-part .kept .0; words = make-part .kept .1 .0; reals = make-part .kept .1 .1 .0; keys = make-part .kept .1 .1 .1 .0; events = make-part .kept .1 .1 .1 .1 .0 })
+    (part2 .given .0 .0 .made) (part2 .given .0 .0 .queued) (part2 .given .0 .1 .0) (loop .i + 1) (rw (part2 .given .1) at (make-part .ensures .0)) refl
+    (rw (part2 .given .1) at (make-part .ensures .1)) nan
 
 same-length-6 : tie.Need-same-length-6 Inv-loop μ-loop
 same-length-6 c = c .before .loop .inv .same .edges
@@ -88,9 +133,18 @@ same-length-10 c = c .before .loop .inv .same .events
 
 returns-2 : tie.Need-returns-2 Inv-loop μ-loop
 returns-2 c =
-    let a = c .before .before .before .before .before .before .before .before .args in
-    let none = pairs-past (a .pieces .now) (a .n) (c .before .loop .i) (c .loop-test .left) in
-    (parts-count (a .e .0) (a .x) (pairs (a .n) (a .pieces .now)) (slices (a .edges .now) (a .words .now) (a .reals .now) (a .keys .now) (a .events .now)) (a .counts .made) (a .counts .queued) (a .before) (slices (c .before .loop .edges) (c .before .loop .words) (c .before .loop .reals) (c .before .loop .keys) (c .before .loop .events)) (c .before .loop .now .made) (c .before .loop .now .queued) (c .before .loop .last) (c .before .loop .i) (c .before .loop .inv) none, parts-over (a .e .0) (a .x) (pairs (a .n) (a .pieces .now)) (slices (a .edges .now) (a .words .now) (a .reals .now) (a .keys .now) (a .events .now)) (a .counts .made) (a .counts .queued) (a .before) (slices (c .before .loop .edges) (c .before .loop .words) (c .before .loop .reals) (c .before .loop .keys) (c .before .loop .events)) (c .before .loop .now .made) (c .before .loop .now .queued) (c .before .loop .last) (c .before .loop .i) (c .before .loop .inv) none)
+    let at-loop = c .before in
+    let start = at-loop .before .before .before .before .before .before .before in
+    let loop = at-loop .loop in
+    let a = start .args in
+    let none = pairs-past (a .pieces .now) (a .n) (loop .i) (c .loop-test .left) in
+    let the-slices-2 = slices (loop .edges) (loop .words) (loop .reals) (loop .keys) (loop .events) in
+    let the-slices = slices (a .edges .now) (a .words .now) (a .reals .now) (a .keys .now) (a .events .now) in (
+      parts-count (a .e .0) (a .x) (pairs (a .n) (a .pieces .now)) the-slices (a .counts .made) (a .counts .queued) (a .before) the-slices-2 (loop .now .made) (loop .now .queued)
+          (loop .last) (loop .i) (loop .inv) none,
+      parts-over (a .e .0) (a .x) (pairs (a .n) (a .pieces .now)) the-slices (a .counts .made) (a .counts .queued) (a .before) the-slices-2
+          (loop .now .made) (loop .now .queued) (loop .last) (loop .i) (loop .inv) none,
+    )
 
 pub make-parts-spec : {M : Type 1} → statement M
 make-parts-spec =

@@ -18,7 +18,9 @@ use Rattle.trim_split.proofs.split_window.Statement.{statement}
 use Rattle.trim_split.proofs.split_window.Tie as tie
 
 kill-window-requires : tie.Need-kill-window-requires
-kill-window-requires c κs = (omega (arith, c .before .before .before .before .before .before .before .before .before .before .before .pre .0 .fits), (c .before .before .before .before .before .before .before .before .before .before .before .pre .0 .edge, (c .before .before .before .before .before .before .before .before .before .before .before .pre .0 .linked, c .before .before .before .before .before .before .before .before .before .before .before .pre .1 .0)))
+kill-window-requires c κs =
+    let start = c .before .before .before .before .before .before .before .before .before .before .before in
+    (omega (arith, start .pre .0 .fits), (start .pre .0 .edge, (start .pre .0 .linked, start .pre .1 .0)))
 
 same-length : tie.Need-same-length
 same-length c = search needs
@@ -28,8 +30,17 @@ same-length-2 c = search needs
 
 returns : tie.Need-returns
 returns c =
-    let a = c .before .before .before .before .before .before .before .before .before .before .before .before .before .before .before .before .args in
-    (omega (arith, pairs-length (a .n) (a .pieces .now), c .before .before .before .before .before .before .before .before .if1 .taken), split-killed (a .e .0) (a .x) (a .id .0) (a .counts .made) (a .counts .queued) (a .before) (slices (a .edges .now) (a .words .now) (a .reals .now) (a .keys .now) (a .events .now)) (c .before .before .before .before .before .before .before .before .before .before .before .before .before .before .before .before .pre .0 .fits) (pairs (a .n) (a .pieces .now)) (c .before .before .before .before .before .before .before .before .before .before .before .before .before .before .before .before .pre .0 .linked) (none-of (a .n) (a .pieces .now) (c .before .before .before .before .before .before .before .before .if1 .taken)) (c .before .before .before .before .kill-window .last .0) (c .before .before .before .before .kill-window .last .1 .0) (c .before .before .before .before .kill-window .ensures))
+    let at-kill-window = c .before .before .before .before in
+    let at-if1 = at-kill-window .before .before .before .before in
+    let start = at-if1 .before .before .before .before .before .before .before .before in
+    let kill-window = at-kill-window .kill-window in
+    let if1 = at-if1 .if1 in
+    let a = start .args in (
+      omega (arith, pairs-length (a .n) (a .pieces .now), if1 .taken),
+      split-killed (a .e .0) (a .x) (a .id .0) (a .counts .made) (a .counts .queued) (a .before)
+          (slices (a .edges .now) (a .words .now) (a .reals .now) (a .keys .now) (a .events .now)) (start .pre .0 .fits) (pairs (a .n) (a .pieces .now)) (start .pre .0 .linked)
+          (none-of (a .n) (a .pieces .now) (if1 .taken)) (kill-window .last .0) (kill-window .last .1 .0) (kill-window .ensures),
+    )
 
 from-of-requires : tie.Need-from-of-requires
 from-of-requires c κs = omega (arith, c .before .before .before .before .before .before .before .before .pre .1 .1, c .if1 .left)
@@ -44,12 +55,30 @@ trim-window-requires : tie.Need-trim-window-requires
 trim-window-requires c κs = omega (arith, c .before .before .before .before .before .before .before .before .before .before .before .before .before .pre .0 .fits, c .before .before .before .before .before .before .before .before .before .before .before .before .before .pre .1 .0)
 
 add-make-parts : tie.Need-add-make-parts
-add-make-parts c = omega (arith, c .before .before .before .before .before .before .before .before .before .before .before .before .before .before .before .before .before .before .before .before .before .before .pre .0 .fits, c .before .before .before .before .before .before .before .before .before .before .before .before .before .before .before .before .before .before .before .before .before .before .pre .1 .0)
+add-make-parts c =
+    let start = c .before .before .before .before .before .before .before .before .before .before .before .before .before .before .before .before .before .before .before .before .before .before in
+    omega (arith, start .pre .0 .fits, start .pre .1 .0)
 
 make-parts-requires : tie.Need-make-parts-requires
 make-parts-requires c κs =
-    let a = c .before .before .before .before .before .before .before .before .before .before .before .before .before .before .before .before .before .before .before .before .before .before .args in
-    (trimmed-ready (a .e .0) (a .x) (a .id .0) (a .counts .made) (a .counts .queued) (a .before) (slices (a .edges .now) (a .words .now) (a .reals .now) (a .keys .now) (a .events .now)) (c .before .before .before .before .before .before .before .before .before .before .before .before .before .before .before .before .before .before .before .before .before .before .pre .0 .fits) (pairs (a .n) (a .pieces .now)) (c .before .before .before .before .before .before .before .before .before .before .before .before .before .before .before .before .before .before .before .before .before .before .pre .1 .0) (c .before .before .before .before .before .before .before .before .before .before .before .before .before .from-of .result) (c .before .before .before .before .before .before .before .before .before .before .before .before .to-of .result) (c .before .before .before .before .before .before .before .before .before .before .before .trimmed .result .low) (ap (λ (w : Win). w .low) (c .before .before .before .before .before .before .before .before .before .before .before .trimmed .ensures)) (c .before .before .before .before .before .before .before .before .trim-window .last .1 .0) (c .before .before .before .before .before .before .before .before .trim-window .ensures) (c .before .before .before .before .before .before .before .before .trim-window .kept .1 .0) (here-is (pairs (a .n) (a .pieces .now)) (drop 1 (pairs (a .n) (a .pieces .now))) (c .before .before .before .before .before .before .before .before .before .before .before .before .before .from-of .result) (c .before .before .before .before .before .before .before .before .before .before .before .before .to-of .result) (getD (a .pieces .now) 0 nan) (getD (a .pieces .now) 1 nan) (pairs-from (a .pieces .now) (a .n) 0 (omega (arith, c .before .before .before .before .before .before .before .before .before .before .before .before .before .before .if1 .left))) (c .before .before .before .before .before .before .before .before .before .before .before .before .before .from-of .ensures) (c .before .before .before .before .before .before .before .before .before .before .before .before .to-of .ensures)) (c .before .before .before .before .before .before .before .before .before .before .before .before .before .before .before .before .before .before .before .before .before .before .pre .0 .edge) (a .id .0 + 1) (add-one (a .id .0)), c .before .before .before .before .before .before .before .before .before .before .before .before .before .before .before .before .before .before .before .before .before .before .pre .1 .1)
+    let at-trim-window = c .before .before .before .before .before .before .before .before in
+    let at-trimmed = at-trim-window .before .before .before in
+    let at-to-of = at-trimmed .before in
+    let at-from-of = at-to-of .before in
+    let at-if1 = at-from-of .before in
+    let start = at-if1 .before .before .before .before .before .before .before .before in
+    let trim-window = at-trim-window .trim-window in
+    let trimmed = at-trimmed .trimmed in
+    let to-of = at-to-of .to-of in
+    let from-of = at-from-of .from-of in
+    let a = start .args in (
+      trimmed-ready (a .e .0) (a .x) (a .id .0) (a .counts .made) (a .counts .queued) (a .before) (slices (a .edges .now) (a .words .now) (a .reals .now) (a .keys .now) (a .events .now))
+          (start .pre .0 .fits) (pairs (a .n) (a .pieces .now)) (start .pre .1 .0) (from-of .result) (to-of .result) (trimmed .result .low) (ap (λ (w : Win). w .low) (trimmed .ensures))
+          (trim-window .last .1 .0) (trim-window .ensures) (trim-window .kept .1 .0)
+          (here-is (pairs (a .n) (a .pieces .now)) (drop 1 (pairs (a .n) (a .pieces .now))) (from-of .result) (to-of .result) (getD (a .pieces .now) 0 nan) (getD (a .pieces .now) 1 nan)
+          (pairs-from (a .pieces .now) (a .n) 0 (omega (arith, at-if1 .if1 .left))) (from-of .ensures) (to-of .ensures)) (start .pre .0 .edge) (a .id .0 + 1) (add-one (a .id .0)),
+      start .pre .1 .1,
+    )
 
 same-length-3 : tie.Need-same-length-3
 same-length-3 c = search needs
@@ -68,9 +97,30 @@ same-length-7 c = search needs
 
 returns-2 : tie.Need-returns-2
 returns-2 c =
-    let a = c .before .before .before .before .before .before .before .before .before .before .before .before .before .before .before .before .before .before .before .before .before .before .before .before .before .before .before .before .before .before .before .before .before .args in
-    let r = c .before .before .before .before .before .before .before .before .before .before .make-parts .result in
-    (counted-as r (a .counts .made + length (drop 1 (pairs (a .n) (a .pieces .now)))) (a .counts .made + pred (length (pairs (a .n) (a .pieces .now)))) (ap (λ (j : ℕ). a .counts .made + j) (but-first (pairs (a .n) (a .pieces .now)))) (c .before .before .before .before .before .before .before .before .before .before .make-parts .ensures .0), split-made (a .e .0) (a .x) (a .id .0) (a .counts .made) (a .counts .queued) (a .before) (slices (a .edges .now) (a .words .now) (a .reals .now) (a .keys .now) (a .events .now)) (c .before .before .before .before .before .before .before .before .before .before .before .before .before .before .before .before .before .before .before .before .before .before .before .before .before .before .before .before .before .before .before .before .before .pre .0 .fits) (pairs (a .n) (a .pieces .now)) (c .before .before .before .before .before .before .before .before .before .before .before .before .before .before .before .before .before .before .before .before .before .before .before .before .before .before .before .before .before .before .before .before .before .pre .1 .0) (c .before .before .before .before .before .before .before .before .before .before .before .before .before .before .before .before .before .before .before .before .before .before .before .before .from-of .result) (c .before .before .before .before .before .before .before .before .before .before .before .before .before .before .before .before .before .before .before .before .before .before .before .to-of .result) (c .before .before .before .before .before .before .before .before .before .before .before .before .before .before .before .before .before .before .before .before .before .before .trimmed .result .low) (ap (λ (w : Win). w .low) (c .before .before .before .before .before .before .before .before .before .before .before .before .before .before .before .before .before .before .before .before .before .before .trimmed .ensures)) (c .before .before .before .before .before .before .before .before .before .before .before .before .before .before .before .before .before .before .before .trim-window .last .1 .0) (c .before .before .before .before .before .before .before .before .before .before .before .before .before .before .before .before .before .before .before .trim-window .ensures) (c .before .before .before .before .before .before .before .before .before .before .before .before .before .before .before .before .before .before .before .trim-window .kept .1 .0) (here-is (pairs (a .n) (a .pieces .now)) (drop 1 (pairs (a .n) (a .pieces .now))) (c .before .before .before .before .before .before .before .before .before .before .before .before .before .before .before .before .before .before .before .before .before .before .before .before .from-of .result) (c .before .before .before .before .before .before .before .before .before .before .before .before .before .before .before .before .before .before .before .before .before .before .before .to-of .result) (getD (a .pieces .now) 0 nan) (getD (a .pieces .now) 1 nan) (pairs-from (a .pieces .now) (a .n) 0 (omega (arith, c .before .before .before .before .before .before .before .before .before .before .before .before .before .before .before .before .before .before .before .before .before .before .before .before .before .if1 .left))) (c .before .before .before .before .before .before .before .before .before .before .before .before .before .before .before .before .before .before .before .before .before .before .before .before .from-of .ensures) (c .before .before .before .before .before .before .before .before .before .before .before .before .before .before .before .before .before .before .before .before .before .before .before .to-of .ensures)) (a .id .0 + 1) (add-one (a .id .0)) (endOf r (links (c .before .before .before .before .before .before .before .before .before .before .make-parts .last .0) (c .before .before .before .before .before .before .before .before .before .before .make-parts .last .1 .0)) (c .before .before .before .before .before .before .before .before .before .before .make-parts .last .1 .1 .0) (queue (c .before .before .before .before .before .before .before .before .before .before .make-parts .last .1 .1 .1 .0) (c .before .before .before .before .before .before .before .before .before .before .make-parts .last .1 .1 .1 .1 .0))) (c .before .before .before .before .before .before .before .before .before .before .make-parts .ensures .1))
+    let at-make-parts = c .before .before .before .before .before .before .before .before .before .before in
+    let at-trim-window = at-make-parts .before .before .before .before .before .before .before .before .before in
+    let at-trimmed = at-trim-window .before .before .before in
+    let at-to-of = at-trimmed .before in
+    let at-from-of = at-to-of .before in
+    let at-if1 = at-from-of .before in
+    let start = at-if1 .before .before .before .before .before .before .before .before in
+    let make-parts = at-make-parts .make-parts in
+    let trim-window = at-trim-window .trim-window in
+    let trimmed = at-trimmed .trimmed in
+    let to-of = at-to-of .to-of in
+    let from-of = at-from-of .from-of in
+    let a = start .args in
+    let r = make-parts .result in (
+      counted-as r (a .counts .made + length (drop 1 (pairs (a .n) (a .pieces .now)))) (a .counts .made + pred (length (pairs (a .n) (a .pieces .now))))
+          (ap (λ (j : ℕ). a .counts .made + j) (but-first (pairs (a .n) (a .pieces .now)))) (make-parts .ensures .0),
+      split-made (a .e .0) (a .x) (a .id .0) (a .counts .made) (a .counts .queued)
+          (a .before) (slices (a .edges .now) (a .words .now) (a .reals .now) (a .keys .now) (a .events .now)) (start .pre .0 .fits) (pairs (a .n) (a .pieces .now)) (start .pre .1 .0)
+          (from-of .result) (to-of .result) (trimmed .result .low) (ap (λ (w : Win). w .low) (trimmed .ensures)) (trim-window .last .1 .0) (trim-window .ensures) (trim-window .kept .1 .0)
+          (here-is (pairs (a .n) (a .pieces .now)) (drop 1 (pairs (a .n) (a .pieces .now))) (from-of .result) (to-of .result) (getD (a .pieces .now) 0 nan) (getD (a .pieces .now) 1 nan)
+          (pairs-from (a .pieces .now) (a .n) 0 (omega (arith, at-if1 .if1 .left))) (from-of .ensures) (to-of .ensures)) (a .id .0 + 1) (add-one (a .id .0))
+          (endOf r (links (make-parts .last .0) (make-parts .last .1 .0)) (make-parts .last .1 .1 .0) (queue (make-parts .last .1 .1 .1 .0) (make-parts .last .1 .1 .1 .1 .0)))
+          (make-parts .ensures .1),
+    )
 
 same-length-8 : tie.Need-same-length-8
 same-length-8 c = search needs

@@ -25,8 +25,22 @@ add-t34 c = search needs
 
 returns : tie.Need-returns
 returns c =
-    let a = c .before .before .before .before .before .before .before .before .before .before .before .before .before .before .before .args in
-    (keeps-passes (a .e .0) (a .tiny) (a .w) (a .x) (a .id .0) (a .counts .made) (a .counts .queued) (a .before) (a .k) (slices (a .edges .now) (a .words .now) (a .reals .now) (a .keys .now) (a .events .now)) (cutSlices (a .keep .now) (a .pts .now) (a .out .now) (a .next .now)) (c .before .before .before .before .before .before .before .before .before .before .before .before .before .before .before .pre .0 .fits) (c .before .before .before .before .before .before .before .before .before .before .before .before .before .before .before .pre .1 .0) (c .before .before .before .max .result) (c .before .before .min .result) (c .before .before .before .max .ensures) (c .before .before .min .ensures) (c .before .if1 .taken) (c .before .before .before .before .before .before .before .before .before .before .before .before .before .before .before .pre .1 .1 .1) nan, visit-passes (a .e .0) (a .tiny) (a .w) (a .x) (a .id .0) (a .counts .made) (a .counts .queued) (a .before) (a .k) (slices (a .edges .now) (a .words .now) (a .reals .now) (a .keys .now) (a .events .now)) (cutSlices (a .keep .now) (a .pts .now) (a .out .now) (a .next .now)) (c .before .before .before .before .before .before .before .before .before .before .before .before .before .before .before .pre .0 .fits) (c .before .before .before .before .before .before .before .before .before .before .before .before .before .before .before .pre .1 .0) (c .before .before .before .max .result) (c .before .before .min .result) (c .before .before .before .max .ensures) (c .before .before .min .ensures) (c .before .if1 .taken) (a .id .0 + 1) (add-one (a .id .0)))
+    let at-if1 = c .before in
+    let at-min = at-if1 .before in
+    let at-max = at-min .before in
+    let start = at-max .before .before .before .before .before .before .before .before .before .before .before .before in
+    let if1 = at-if1 .if1 in
+    let min = at-min .min in
+    let max = at-max .max in
+    let a = start .args in
+    let the-cutSlices = cutSlices (a .keep .now) (a .pts .now) (a .out .now) (a .next .now) in
+    let the-slices = slices (a .edges .now) (a .words .now) (a .reals .now) (a .keys .now) (a .events .now) in (
+      keeps-passes (a .e .0) (a .tiny) (a .w) (a .x) (a .id .0) (a .counts .made) (a .counts .queued) (a .before) (a .k) the-slices the-cutSlices (start .pre .0 .fits) (start .pre .1 .0)
+          (max .result) (min .result) (max .ensures) (min .ensures) (if1 .taken) (start .pre .1 .1 .1) nan,
+      visit-passes (a .e .0) (a .tiny) (a .w) (a .x) (a .id .0) (a .counts .made)
+          (a .counts .queued) (a .before) (a .k) the-slices the-cutSlices (start .pre .0 .fits) (start .pre .1 .0) (max .result) (min .result) (max .ensures) (min .ensures) (if1 .taken)
+          (a .id .0 + 1) (add-one (a .id .0)),
+    )
 
 cut-requires : tie.Need-cut-requires
 cut-requires c κs = search needs
@@ -51,11 +65,24 @@ same-length-4 c = search needs
 
 returns-2 : tie.Need-returns-2
 returns-2 c =
-    let a = c .before .before .before .before .before .before .before .before .before .before .before .before .before .before .before .before .before .before .before .before .before .before .before .before .before .before .before .before .before .args in
-    (tt, visit-full (a .e .0) (a .tiny) (a .w) (a .x) (a .id .0) (a .counts .made) (a .counts .queued) (a .before) (a .k) (slices (a .edges .now) (a .words .now) (a .reals .now) (a .keys .now) (a .events .now)) (cutSlices (a .keep .now) (a .pts .now) (a .out .now) (a .next .now)) (c .before .before .before .before .before .before .before .before .before .before .before .before .before .before .before .before .before .before .before .before .before .before .before .before .before .before .before .before .before .pre .0 .fits) (c .before .before .before .before .before .before .before .before .before .before .before .before .before .before .before .before .before .before .before .before .before .before .before .before .before .before .before .before .before .pre .1 .0) (c .before .before .before .before .before .before .before .before .before .before .before .before .before .before .before .before .before .max .result) (c .before .before .before .before .before .before .before .before .before .before .before .before .before .before .before .before .min .result) (c .before .before .before .before .before .before .before .before .before .before .before .before .before .before .before .before .before .max .ensures) (c .before .before .before .before .before .before .before .before .before .before .before .before .before .before .before .before .min .ensures) (c .before .before .before .before .before .before .before .before .before .before .before .before .before .before .before .if1 .left) (rw (c .enum-told .given .1) at (c .before .before .before .before .before .before .before .before .before .before .cut .ensures)))
+    let at-cut = c .before .before .before .before .before .before .before .before .before .before in
+    let at-if1 = at-cut .before .before .before .before .before in
+    let at-min = at-if1 .before in
+    let at-max = at-min .before in
+    let start = at-max .before .before .before .before .before .before .before .before .before .before .before .before in
+    let min = at-min .min in
+    let max = at-max .max in
+    let a = start .args in (
+      tt,
+      visit-full (a .e .0) (a .tiny) (a .w) (a .x) (a .id .0) (a .counts .made) (a .counts .queued) (a .before) (a .k)
+          (slices (a .edges .now) (a .words .now) (a .reals .now) (a .keys .now) (a .events .now)) (cutSlices (a .keep .now) (a .pts .now) (a .out .now) (a .next .now)) (start .pre .0 .fits)
+          (start .pre .1 .0) (max .result) (min .result) (max .ensures) (min .ensures) (at-if1 .if1 .left) (rw (c .enum-told .given .1) at (at-cut .cut .ensures)),
+    )
 
 add-t44 : tie.Need-add-t44
-add-t44 c = omega (arith, c .before .before .before .before .before .before .before .before .before .before .before .before .before .before .before .before .before .before .before .before .before .before .before .before .before .before .before .before .before .before .before .before .pre .1 .0, c .before .before .before .before .before .before .before .before .before .before .before .before .before .before .before .before .before .before .before .before .before .before .before .before .before .before .before .before .before .before .before .before .pre .0 .fits)
+add-t44 c =
+    let start = c .before .before .before .before .before .before .before .before .before .before .before .before .before .before .before .before .before .before .before .before .before .before .before .before .before .before .before .before .before .before .before .before in
+    omega (arith, start .pre .1 .0, start .pre .0 .fits)
 
 same-length-5 : tie.Need-same-length-5
 same-length-5 c = search needs
@@ -71,13 +98,55 @@ same-length-8 c = search needs
 
 returns-3 : tie.Need-returns-3
 returns-3 c =
-    let a = c .before .before .before .before .before .before .before .before .before .before .before .before .before .before .before .before .before .before .before .before .before .before .before .before .before .before .before .before .before .before .before .before .args in
-    (keeps-none (a .e .0) (a .tiny) (a .w) (a .x) (a .id .0) (a .counts .made) (a .counts .queued) (a .before) (a .k) (slices (a .edges .now) (a .words .now) (a .reals .now) (a .keys .now) (a .events .now)) (cutSlices (a .keep .now) (a .pts .now) (a .out .now) (a .next .now)) (c .before .before .before .before .before .before .before .before .before .before .before .before .before .before .before .before .before .before .before .before .before .before .before .before .before .before .before .before .before .before .before .before .pre .0 .fits) (c .before .before .before .before .before .before .before .before .before .before .before .before .before .before .before .before .before .before .before .before .before .before .before .before .before .before .before .before .before .before .before .before .pre .1 .0) (c .before .before .before .before .before .before .before .before .before .before .before .before .before .before .before .before .before .before .before .before .max .result) (c .before .before .before .before .before .before .before .before .before .before .before .before .before .before .before .before .before .before .before .min .result) (c .before .before .before .before .before .before .before .before .before .before .before .before .before .before .before .before .before .before .before .before .max .ensures) (c .before .before .before .before .before .before .before .before .before .before .before .before .before .before .before .before .before .before .before .min .ensures) (c .before .before .before .before .before .before .before .before .before .before .before .before .before .before .before .before .before .before .if1 .left) (c .before .before .before .met .given .0 .0) (c .before .before .before .met .given .0 .1 .0) (c .before .before .before .met .given .0 .1 .1 .0) (c .before .before .before .before .before .before .before .before .before .before .before .before .before .cut .last .1 .1 .1 .1 .1 .1 .1 .0) (c .before .before .before .before .before .before .before .before .before .before .before .before .before .cut .last .1 .1 .1 .1 .1 .1 .1 .1 .1 .1 .1 .0) (rw (c .before .before .before .met .given .1) at (c .before .before .before .before .before .before .before .before .before .before .before .before .before .cut .ensures)) (c .before .if2 .taken) nan, visit-none (a .e .0) (a .tiny) (a .w) (a .x) (a .id .0) (a .counts .made) (a .counts .queued) (a .before) (a .k) (slices (a .edges .now) (a .words .now) (a .reals .now) (a .keys .now) (a .events .now)) (cutSlices (a .keep .now) (a .pts .now) (a .out .now) (a .next .now)) (c .before .before .before .before .before .before .before .before .before .before .before .before .before .before .before .before .before .before .before .before .before .before .before .before .before .before .before .before .before .before .before .before .pre .0 .fits) (c .before .before .before .before .before .before .before .before .before .before .before .before .before .before .before .before .before .before .before .before .before .before .before .before .before .before .before .before .before .before .before .before .pre .1 .0) (c .before .before .before .before .before .before .before .before .before .before .before .before .before .before .before .before .before .before .before .before .max .result) (c .before .before .before .before .before .before .before .before .before .before .before .before .before .before .before .before .before .before .before .min .result) (c .before .before .before .before .before .before .before .before .before .before .before .before .before .before .before .before .before .before .before .before .max .ensures) (c .before .before .before .before .before .before .before .before .before .before .before .before .before .before .before .before .before .before .before .min .ensures) (c .before .before .before .before .before .before .before .before .before .before .before .before .before .before .before .before .before .before .if1 .left) (c .before .before .before .met .given .0 .0) (c .before .before .before .met .given .0 .1 .0) (c .before .before .before .met .given .0 .1 .1 .0) (c .before .before .before .before .before .before .before .before .before .before .before .before .before .cut .last .1 .1 .1 .1 .1 .1 .1 .0) (c .before .before .before .before .before .before .before .before .before .before .before .before .before .cut .last .1 .1 .1 .1 .1 .1 .1 .1 .1 .1 .1 .0) (rw (c .before .before .before .met .given .1) at (c .before .before .before .before .before .before .before .before .before .before .before .before .before .cut .ensures)) (c .before .if2 .taken) (a .id .0 + 1) (add-one (a .id .0)))
+    let at-if2 = c .before in
+    let at-met = at-if2 .before .before in
+    let at-cut = at-met .before .before .before .before .before .before .before .before .before .before in
+    let at-if1 = at-cut .before .before .before .before .before in
+    let at-min = at-if1 .before in
+    let at-max = at-min .before in
+    let start = at-max .before .before .before .before .before .before .before .before .before .before .before .before in
+    let if2 = at-if2 .if2 in
+    let met = at-met .met in
+    let cut = at-cut .cut in
+    let if1 = at-if1 .if1 in
+    let min = at-min .min in
+    let max = at-max .max in
+    let a = start .args in
+    let the-cut = cut .last .1 .1 .1 .1 .1 .1 .1 .1 .1 .1 .1 .0 in
+    let the-cutSlices = cutSlices (a .keep .now) (a .pts .now) (a .out .now) (a .next .now) in
+    let the-slices = slices (a .edges .now) (a .words .now) (a .reals .now) (a .keys .now) (a .events .now) in (
+      keeps-none (a .e .0) (a .tiny) (a .w) (a .x) (a .id .0) (a .counts .made) (a .counts .queued) (a .before) (a .k) the-slices the-cutSlices (start .pre .0 .fits) (start .pre .1 .0)
+          (max .result) (min .result) (max .ensures) (min .ensures) (if1 .left) (met .given .0 .0) (met .given .0 .1 .0) (met .given .0 .1 .1 .0) (cut .last .1 .1 .1 .1 .1 .1 .1 .0) the-cut
+          (rw (met .given .1) at (cut .ensures)) (if2 .taken) nan,
+      visit-none (a .e .0) (a .tiny) (a .w) (a .x) (a .id .0) (a .counts .made) (a .counts .queued) (a .before) (a .k) the-slices
+          the-cutSlices (start .pre .0 .fits) (start .pre .1 .0) (max .result) (min .result) (max .ensures) (min .ensures) (if1 .left) (met .given .0 .0) (met .given .0 .1 .0)
+          (met .given .0 .1 .1 .0) (cut .last .1 .1 .1 .1 .1 .1 .1 .0) the-cut (rw (met .given .1) at (cut .ensures)) (if2 .taken) (a .id .0 + 1) (add-one (a .id .0)),
+    )
 
 split-window-requires : tie.Need-split-window-requires
 split-window-requires c κs =
-    let a = c .before .before .before .before .before .before .before .before .before .before .before .before .before .before .before .before .before .before .before .before .before .before .before .before .before .before .before .before .before .before .before .before .before .before .before .before .before .args in
-    (c .before .before .before .before .before .before .before .before .before .before .before .before .before .before .before .before .before .before .before .before .before .before .before .before .before .before .before .before .before .before .before .before .before .before .before .before .before .pre .0, (c .before .before .before .before .before .before .before .before .before .before .before .before .before .before .before .before .before .before .before .before .before .before .before .before .before .before .before .before .before .before .before .before .before .before .before .before .before .pre .1 .0, pieces-fit (a .e .0) (a .tiny) (a .w) (a .x) (a .id .0) (a .counts .made) (a .counts .queued) (a .before) (a .k) (slices (a .edges .now) (a .words .now) (a .reals .now) (a .keys .now) (a .events .now)) (cutSlices (a .keep .now) (a .pts .now) (a .out .now) (a .next .now)) (c .before .before .before .before .before .before .before .before .before .before .before .before .before .before .before .before .before .before .before .before .before .before .before .before .before .before .before .before .before .before .before .before .before .before .before .before .before .pre .0 .fits) (c .before .before .before .before .before .before .before .before .before .before .before .before .before .before .before .before .before .before .before .before .before .before .before .before .before .before .before .before .before .before .before .before .before .before .before .before .before .pre .1 .0) (c .before .before .before .before .before .before .before .before .before .before .before .before .before .before .before .before .before .before .before .before .before .before .before .before .before .max .result) (c .before .before .before .before .before .before .before .before .before .before .before .before .before .before .before .before .before .before .before .before .before .before .before .before .min .result) (c .before .before .before .before .before .before .before .before .before .before .before .before .before .before .before .before .before .before .before .before .before .before .before .before .before .max .ensures) (c .before .before .before .before .before .before .before .before .before .before .before .before .before .before .before .before .before .before .before .before .before .before .before .before .min .ensures) (c .before .before .before .before .before .before .before .before .before .before .before .before .before .before .before .before .before .before .before .before .before .before .before .if1 .left) (c .before .before .before .before .before .before .before .before .met .given .0 .0) (c .before .before .before .before .before .before .before .before .met .given .0 .1 .0) (c .before .before .before .before .before .before .before .before .met .given .0 .1 .1 .0) (c .before .before .before .before .before .before .before .before .before .before .before .before .before .before .before .before .before .before .cut .last .1 .1 .1 .1 .1 .1 .1 .0) (c .before .before .before .before .before .before .before .before .before .before .before .before .before .before .before .before .before .before .cut .last .1 .1 .1 .1 .1 .1 .1 .1 .1 .1 .1 .0) (rw (c .before .before .before .before .before .before .before .before .met .given .1) at (c .before .before .before .before .before .before .before .before .before .before .before .before .before .before .before .before .before .before .cut .ensures)) (c .before .before .before .before .before .before .if2 .left) (c .before .before .before .before .before .before .before .before .before .before .before .before .before .before .before .before .before .before .cut .kept .1 .1 .1 .1 .1 .1 .1 .1 .1 .1 .1 .0 ∙ c .before .before .before .before .before .before .before .before .before .before .before .before .before .before .before .before .before .before .before .before .before .before .before .before .before .before .before .before .before .before .before .before .before .before .before .before .before .pre .1 .1 .0 .nexts)))
+    let at-if2 = c .before .before .before .before .before .before in
+    let at-met = at-if2 .before .before in
+    let at-cut = at-met .before .before .before .before .before .before .before .before .before .before in
+    let at-if1 = at-cut .before .before .before .before .before in
+    let at-min = at-if1 .before in
+    let at-max = at-min .before in
+    let start = at-max .before .before .before .before .before .before .before .before .before .before .before .before in
+    let met = at-met .met in
+    let cut = at-cut .cut in
+    let min = at-min .min in
+    let max = at-max .max in
+    let a = start .args in (
+      start .pre .0,
+      (
+        start .pre .1 .0,
+        pieces-fit (a .e .0) (a .tiny) (a .w) (a .x) (a .id .0) (a .counts .made) (a .counts .queued) (a .before) (a .k)
+            (slices (a .edges .now) (a .words .now) (a .reals .now) (a .keys .now) (a .events .now)) (cutSlices (a .keep .now) (a .pts .now) (a .out .now) (a .next .now)) (start .pre .0 .fits)
+            (start .pre .1 .0) (max .result) (min .result) (max .ensures) (min .ensures) (at-if1 .if1 .left) (met .given .0 .0) (met .given .0 .1 .0) (met .given .0 .1 .1 .0)
+            (cut .last .1 .1 .1 .1 .1 .1 .1 .0) (cut .last .1 .1 .1 .1 .1 .1 .1 .1 .1 .1 .1 .0) (rw (met .given .1) at (cut .ensures)) (at-if2 .if2 .left)
+            (cut .kept .1 .1 .1 .1 .1 .1 .1 .1 .1 .1 .1 .0 ∙ start .pre .1 .1 .0 .nexts),
+      ),
+    )
 
 enum-known-left : tie.Need-enum-known-left
 enum-known-left c = search needs
@@ -114,8 +183,28 @@ same-length-17 c = search needs
 
 returns-4 : tie.Need-returns-4
 returns-4 c =
-    let a = c .before .before .before .before .before .before .before .before .before .before .before .before .before .before .before .before .before .before .before .before .before .before .before .before .before .before .before .before .before .before .before .before .before .before .before .before .before .before .before .before .before .before .before .before .before .before .before .before .before .before .before .args in
-    (tt, visit-split (a .e .0) (a .tiny) (a .w) (a .x) (a .id .0) (a .counts .made) (a .counts .queued) (a .before) (a .k) (slices (a .edges .now) (a .words .now) (a .reals .now) (a .keys .now) (a .events .now)) (cutSlices (a .keep .now) (a .pts .now) (a .out .now) (a .next .now)) (c .before .before .before .before .before .before .before .before .before .before .before .before .before .before .before .before .before .before .before .before .before .before .before .before .before .before .before .before .before .before .before .before .before .before .before .before .before .before .before .before .before .before .before .before .before .before .before .before .before .before .before .pre .0 .fits) (c .before .before .before .before .before .before .before .before .before .before .before .before .before .before .before .before .before .before .before .before .before .before .before .before .before .before .before .before .before .before .before .before .before .before .before .before .before .before .before .before .before .before .before .before .before .before .before .before .before .before .before .pre .1 .0) (c .before .before .before .before .before .before .before .before .before .before .before .before .before .before .before .before .before .before .before .before .before .before .before .before .before .before .before .before .before .before .before .before .before .before .before .before .before .before .before .max .result) (c .before .before .before .before .before .before .before .before .before .before .before .before .before .before .before .before .before .before .before .before .before .before .before .before .before .before .before .before .before .before .before .before .before .before .before .before .before .before .min .result) (c .before .before .before .before .before .before .before .before .before .before .before .before .before .before .before .before .before .before .before .before .before .before .before .before .before .before .before .before .before .before .before .before .before .before .before .before .before .before .before .max .ensures) (c .before .before .before .before .before .before .before .before .before .before .before .before .before .before .before .before .before .before .before .before .before .before .before .before .before .before .before .before .before .before .before .before .before .before .before .before .before .before .min .ensures) (c .before .before .before .before .before .before .before .before .before .before .before .before .before .before .before .before .before .before .before .before .before .before .before .before .before .before .before .before .before .before .before .before .before .before .before .before .before .if1 .left) (c .before .before .before .before .before .before .before .before .before .before .before .before .before .before .before .before .before .before .before .before .before .before .met .given .0 .0) (c .before .before .before .before .before .before .before .before .before .before .before .before .before .before .before .before .before .before .before .before .before .before .met .given .0 .1 .0) (c .before .before .before .before .before .before .before .before .before .before .before .before .before .before .before .before .before .before .before .before .before .before .met .given .0 .1 .1 .0) (c .before .before .before .before .before .before .before .before .before .before .before .before .before .before .before .before .before .before .before .before .before .before .before .before .before .before .before .before .before .before .before .before .cut .last .1 .1 .1 .1 .1 .1 .1 .0) (c .before .before .before .before .before .before .before .before .before .before .before .before .before .before .before .before .before .before .before .before .before .before .before .before .before .before .before .before .before .before .before .before .cut .last .1 .1 .1 .1 .1 .1 .1 .1 .1 .1 .1 .0) (rw (c .before .before .before .before .before .before .before .before .before .before .before .before .before .before .before .before .before .before .before .before .before .before .met .given .1) at (c .before .before .before .before .before .before .before .before .before .before .before .before .before .before .before .before .before .before .before .before .before .before .before .before .before .before .before .before .before .before .before .before .cut .ensures)) (c .before .before .before .before .before .before .before .before .before .before .before .before .before .before .before .before .before .before .before .before .if2 .left) (λ (vertex : List Float). stopped (lackNumber (c .before .left .given .0 .0))) (rw (c .before .left .given .1) at (c .before .before .before .before .before .before .before .before .before .before .before .before .before .split-window .ensures .1)))
+    let at-left = c .before in
+    let at-split-window = at-left .before .before .before .before .before .before .before .before .before .before .before .before in
+    let at-if2 = at-split-window .before .before .before .before .before .before .before in
+    let at-met = at-if2 .before .before in
+    let at-cut = at-met .before .before .before .before .before .before .before .before .before .before in
+    let at-if1 = at-cut .before .before .before .before .before in
+    let at-min = at-if1 .before in
+    let at-max = at-min .before in
+    let start = at-max .before .before .before .before .before .before .before .before .before .before .before .before in
+    let left = at-left .left in
+    let met = at-met .met in
+    let cut = at-cut .cut in
+    let min = at-min .min in
+    let max = at-max .max in
+    let a = start .args in (
+      tt,
+      visit-split (a .e .0) (a .tiny) (a .w) (a .x) (a .id .0) (a .counts .made) (a .counts .queued) (a .before) (a .k)
+          (slices (a .edges .now) (a .words .now) (a .reals .now) (a .keys .now) (a .events .now)) (cutSlices (a .keep .now) (a .pts .now) (a .out .now) (a .next .now)) (start .pre .0 .fits)
+          (start .pre .1 .0) (max .result) (min .result) (max .ensures) (min .ensures) (at-if1 .if1 .left) (met .given .0 .0) (met .given .0 .1 .0) (met .given .0 .1 .1 .0)
+          (cut .last .1 .1 .1 .1 .1 .1 .1 .0) (cut .last .1 .1 .1 .1 .1 .1 .1 .1 .1 .1 .1 .0) (rw (met .given .1) at (cut .ensures)) (at-if2 .if2 .left)
+          (λ (vertex : List Float). stopped (lackNumber (left .given .0 .0))) (rw (left .given .1) at (at-split-window .split-window .ensures .1)),
+    )
 
 same-length-18 : tie.Need-same-length-18
 same-length-18 c = search needs
@@ -146,8 +235,37 @@ same-length-26 c = search needs
 
 returns-5 : tie.Need-returns-5
 returns-5 c =
-    let a = c .before .before .before .before .before .before .before .before .before .before .before .before .before .before .before .before .before .before .before .before .before .before .before .before .before .before .before .before .before .before .before .before .before .before .before .before .before .before .before .before .before .before .before .before .before .before .before .before .before .before .before .args in
-    (keeps-split (a .e .0) (a .tiny) (a .w) (a .x) (a .id .0) (a .counts .made) (a .counts .queued) (a .before) (a .k) (slices (a .edges .now) (a .words .now) (a .reals .now) (a .keys .now) (a .events .now)) (cutSlices (a .keep .now) (a .pts .now) (a .out .now) (a .next .now)) (c .before .before .before .before .before .before .before .before .before .before .before .before .before .before .before .before .before .before .before .before .before .before .before .before .before .before .before .before .before .before .before .before .before .before .before .before .before .before .before .before .before .before .before .before .before .before .before .before .before .before .before .pre .0 .fits) (c .before .before .before .before .before .before .before .before .before .before .before .before .before .before .before .before .before .before .before .before .before .before .before .before .before .before .before .before .before .before .before .before .before .before .before .before .before .before .before .before .before .before .before .before .before .before .before .before .before .before .before .pre .1 .0) (c .before .before .before .before .before .before .before .before .before .before .before .before .before .before .before .before .before .before .before .before .before .before .before .before .before .before .before .before .before .before .before .before .before .before .before .before .before .before .before .max .result) (c .before .before .before .before .before .before .before .before .before .before .before .before .before .before .before .before .before .before .before .before .before .before .before .before .before .before .before .before .before .before .before .before .before .before .before .before .before .before .min .result) (c .before .before .before .before .before .before .before .before .before .before .before .before .before .before .before .before .before .before .before .before .before .before .before .before .before .before .before .before .before .before .before .before .before .before .before .before .before .before .before .max .ensures) (c .before .before .before .before .before .before .before .before .before .before .before .before .before .before .before .before .before .before .before .before .before .before .before .before .before .before .before .before .before .before .before .before .before .before .before .before .before .before .min .ensures) (c .before .before .before .before .before .before .before .before .before .before .before .before .before .before .before .before .before .before .before .before .before .before .before .before .before .before .before .before .before .before .before .before .before .before .before .before .before .if1 .left) (c .before .before .before .before .before .before .before .before .before .before .before .before .before .before .before .before .before .before .before .before .before .before .met .given .0 .0) (c .before .before .before .before .before .before .before .before .before .before .before .before .before .before .before .before .before .before .before .before .before .before .met .given .0 .1 .0) (c .before .before .before .before .before .before .before .before .before .before .before .before .before .before .before .before .before .before .before .before .before .before .met .given .0 .1 .1 .0) (c .before .before .before .before .before .before .before .before .before .before .before .before .before .before .before .before .before .before .before .before .before .before .before .before .before .before .before .before .before .before .before .before .cut .last .1 .1 .1 .1 .1 .1 .1 .0) (c .before .before .before .before .before .before .before .before .before .before .before .before .before .before .before .before .before .before .before .before .before .before .before .before .before .before .before .before .before .before .before .before .cut .last .1 .1 .1 .1 .1 .1 .1 .1 .1 .1 .1 .0) (rw (c .before .before .before .before .before .before .before .before .before .before .before .before .before .before .before .before .before .before .before .before .before .before .met .given .1) at (c .before .before .before .before .before .before .before .before .before .before .before .before .before .before .before .before .before .before .before .before .before .before .before .before .before .before .before .before .before .before .before .before .cut .ensures)) (c .before .before .before .before .before .before .before .before .before .before .before .before .before .before .before .before .before .before .before .before .if2 .left) (c .before .left2 .given .0 .0 .made) (rw (c .before .left2 .given .1) at (c .before .before .before .before .before .before .before .before .before .before .before .before .before .split-window .ensures .0)) nan, visit-split (a .e .0) (a .tiny) (a .w) (a .x) (a .id .0) (a .counts .made) (a .counts .queued) (a .before) (a .k) (slices (a .edges .now) (a .words .now) (a .reals .now) (a .keys .now) (a .events .now)) (cutSlices (a .keep .now) (a .pts .now) (a .out .now) (a .next .now)) (c .before .before .before .before .before .before .before .before .before .before .before .before .before .before .before .before .before .before .before .before .before .before .before .before .before .before .before .before .before .before .before .before .before .before .before .before .before .before .before .before .before .before .before .before .before .before .before .before .before .before .before .pre .0 .fits) (c .before .before .before .before .before .before .before .before .before .before .before .before .before .before .before .before .before .before .before .before .before .before .before .before .before .before .before .before .before .before .before .before .before .before .before .before .before .before .before .before .before .before .before .before .before .before .before .before .before .before .before .pre .1 .0) (c .before .before .before .before .before .before .before .before .before .before .before .before .before .before .before .before .before .before .before .before .before .before .before .before .before .before .before .before .before .before .before .before .before .before .before .before .before .before .before .max .result) (c .before .before .before .before .before .before .before .before .before .before .before .before .before .before .before .before .before .before .before .before .before .before .before .before .before .before .before .before .before .before .before .before .before .before .before .before .before .before .min .result) (c .before .before .before .before .before .before .before .before .before .before .before .before .before .before .before .before .before .before .before .before .before .before .before .before .before .before .before .before .before .before .before .before .before .before .before .before .before .before .before .max .ensures) (c .before .before .before .before .before .before .before .before .before .before .before .before .before .before .before .before .before .before .before .before .before .before .before .before .before .before .before .before .before .before .before .before .before .before .before .before .before .before .min .ensures) (c .before .before .before .before .before .before .before .before .before .before .before .before .before .before .before .before .before .before .before .before .before .before .before .before .before .before .before .before .before .before .before .before .before .before .before .before .before .if1 .left) (c .before .before .before .before .before .before .before .before .before .before .before .before .before .before .before .before .before .before .before .before .before .before .met .given .0 .0) (c .before .before .before .before .before .before .before .before .before .before .before .before .before .before .before .before .before .before .before .before .before .before .met .given .0 .1 .0) (c .before .before .before .before .before .before .before .before .before .before .before .before .before .before .before .before .before .before .before .before .before .before .met .given .0 .1 .1 .0) (c .before .before .before .before .before .before .before .before .before .before .before .before .before .before .before .before .before .before .before .before .before .before .before .before .before .before .before .before .before .before .before .before .cut .last .1 .1 .1 .1 .1 .1 .1 .0) (c .before .before .before .before .before .before .before .before .before .before .before .before .before .before .before .before .before .before .before .before .before .before .before .before .before .before .before .before .before .before .before .before .cut .last .1 .1 .1 .1 .1 .1 .1 .1 .1 .1 .1 .0) (rw (c .before .before .before .before .before .before .before .before .before .before .before .before .before .before .before .before .before .before .before .before .before .before .met .given .1) at (c .before .before .before .before .before .before .before .before .before .before .before .before .before .before .before .before .before .before .before .before .before .before .before .before .before .before .before .before .before .before .before .before .cut .ensures)) (c .before .before .before .before .before .before .before .before .before .before .before .before .before .before .before .before .before .before .before .before .if2 .left) (λ (vertex : List Float). at (placeOf (slices (c .before .before .before .before .before .before .before .before .before .before .before .before .before .split-window .last .0) (c .before .before .before .before .before .before .before .before .before .before .before .before .before .split-window .last .1 .0) (c .before .before .before .before .before .before .before .before .before .before .before .before .before .split-window .last .1 .1 .0) (c .before .before .before .before .before .before .before .before .before .before .before .before .before .split-window .last .1 .1 .1 .0) (c .before .before .before .before .before .before .before .before .before .before .before .before .before .split-window .last .1 .1 .1 .1 .0)) (c .before .left2 .given .0 .0 .made) (c .before .left2 .given .0 .0 .queued) (c .before .left2 .given .0 .1 .0) vertex)) (rw (c .before .left2 .given .1) at (c .before .before .before .before .before .before .before .before .before .before .before .before .before .split-window .ensures .1)))
+    let at-left2 = c .before in
+    let at-split-window = at-left2 .before .before .before .before .before .before .before .before .before .before .before .before in
+    let at-if2 = at-split-window .before .before .before .before .before .before .before in
+    let at-met = at-if2 .before .before in
+    let at-cut = at-met .before .before .before .before .before .before .before .before .before .before in
+    let at-if1 = at-cut .before .before .before .before .before in
+    let at-min = at-if1 .before in
+    let at-max = at-min .before in
+    let start = at-max .before .before .before .before .before .before .before .before .before .before .before .before in
+    let left2 = at-left2 .left2 in
+    let split-window = at-split-window .split-window in
+    let if2 = at-if2 .if2 in
+    let met = at-met .met in
+    let cut = at-cut .cut in
+    let if1 = at-if1 .if1 in
+    let min = at-min .min in
+    let max = at-max .max in
+    let a = start .args in
+    let the-cut = cut .last .1 .1 .1 .1 .1 .1 .1 .1 .1 .1 .1 .0 in
+    let the-cutSlices = cutSlices (a .keep .now) (a .pts .now) (a .out .now) (a .next .now) in
+    let the-slices = slices (a .edges .now) (a .words .now) (a .reals .now) (a .keys .now) (a .events .now) in (
+      keeps-split (a .e .0) (a .tiny) (a .w) (a .x) (a .id .0) (a .counts .made) (a .counts .queued) (a .before) (a .k) the-slices the-cutSlices (start .pre .0 .fits) (start .pre .1 .0)
+          (max .result) (min .result) (max .ensures) (min .ensures) (if1 .left) (met .given .0 .0) (met .given .0 .1 .0) (met .given .0 .1 .1 .0) (cut .last .1 .1 .1 .1 .1 .1 .1 .0) the-cut
+          (rw (met .given .1) at (cut .ensures)) (if2 .left) (left2 .given .0 .0 .made) (rw (left2 .given .1) at (split-window .ensures .0)) nan,
+      visit-split (a .e .0) (a .tiny) (a .w) (a .x)
+          (a .id .0) (a .counts .made) (a .counts .queued) (a .before) (a .k) the-slices the-cutSlices (start .pre .0 .fits) (start .pre .1 .0) (max .result) (min .result) (max .ensures)
+          (min .ensures) (if1 .left) (met .given .0 .0) (met .given .0 .1 .0) (met .given .0 .1 .1 .0) (cut .last .1 .1 .1 .1 .1 .1 .1 .0) the-cut (rw (met .given .1) at (cut .ensures))
+          (if2 .left) (λ (vertex : List Float). at
+          (placeOf (slices (split-window .last .0) (split-window .last .1 .0) (split-window .last .1 .1 .0) (split-window .last .1 .1 .1 .0) (split-window .last .1 .1 .1 .1 .0))
+          (left2 .given .0 .0 .made) (left2 .given .0 .0 .queued) (left2 .given .0 .1 .0) vertex)) (rw (left2 .given .1) at (split-window .ensures .1)),
+    )
 
 pub visit-spec : {M : Type 1} → statement M
 visit-spec =

@@ -18,8 +18,10 @@ abbrev μ-loop : tie.MeasureT-loop
 
 loop-holds : tie.Need-loop-holds Inv-loop μ-loop
 loop-holds c =
-    let a = c .before .before .before .before .before .before .before .before .before .before .before .args in
-    visits-start (a .e .0) (a .tiny) (liveOf (a .w) 0) (slices (a .edges .now) (a .words .now) (a .reals .now) (a .keys .now) (a .events .now)) (cutSlices (a .keep .now) (a .pts .now) (a .out .now) (a .next .now)) (a .counts .made) (a .counts .queued) (a .before) (a .k) (c .before .before .before .before .before .before .before .before .before .before .before .pre .0) (c .before .before .before .before .before .before .before .before .before .before .before .pre .1 .0) (c .before .before .before .before .before .before .before .before .before .before .before .pre .1 .1)
+    let start = c .before .before .before .before .before .before .before .before .before .before .before in
+    let a = start .args in
+    visits-start (a .e .0) (a .tiny) (liveOf (a .w) 0) (slices (a .edges .now) (a .words .now) (a .reals .now) (a .keys .now) (a .events .now))
+    (cutSlices (a .keep .now) (a .pts .now) (a .out .now) (a .next .now)) (a .counts .made) (a .counts .queued) (a .before) (a .k) (start .pre .0) (start .pre .1 .0) (start .pre .1 .1)
 
 next-link-requires : tie.Need-next-link-requires Inv-loop μ-loop
 next-link-requires c κs = search needs
@@ -53,58 +55,155 @@ same-length-9 c = c .before .before .before .before .before .before .loop .inv .
 
 returns : tie.Need-returns Inv-loop μ-loop
 returns c =
-    let a = c .before .before .before .before .before .before .before .before .before .before .before .before .before .before .before .before .before .before .args in
-    ((c .before .before .before .before .before .before .loop .inv .fits, (c .before .before .before .before .before .before .loop .inv .linked, (c .before .before .before .before .before .before .loop .inv .few, c .before .before .before .before .before .before .loop .inv .grown))), visits-end (a .e .0) (a .tiny) (liveOf (a .w) 0) (slices (a .edges .now) (a .words .now) (a .reals .now) (a .keys .now) (a .events .now)) (cutSlices (a .keep .now) (a .pts .now) (a .out .now) (a .next .now)) (a .counts .made) (a .counts .queued) (a .before) (a .k) (slices (c .before .before .before .before .before .before .loop .edges) (c .before .before .before .before .before .before .loop .words) (c .before .before .before .before .before .before .loop .reals) (c .before .before .before .before .before .before .loop .keys) (c .before .before .before .before .before .before .loop .events)) (cutSlices (c .before .before .before .before .before .before .loop .keep) (c .before .before .before .before .before .before .loop .pts) (c .before .before .before .before .before .before .loop .out) (c .before .before .before .before .before .before .loop .next)) (c .before .before .before .before .before .before .loop .now) (c .before .before .before .before .before .before .loop .last) (c .before .before .before .before .before .before .loop .kept) (c .before .before .before .before .before .before .loop .left) (c .before .before .before .before .before .before .loop .inv) (c .before .next-link .result) (c .before .next-link .ensures) (c .if1 .taken))
+    let at-next-link = c .before in
+    let at-loop = at-next-link .before .before .before .before .before in
+    let start = at-loop .before .before .before .before .before .before .before .before .before .before .before .before in
+    let next-link = at-next-link .next-link in
+    let loop = at-loop .loop in
+    let a = start .args in (
+      (loop .inv .fits, (loop .inv .linked, (loop .inv .few, loop .inv .grown))),
+      visits-end (a .e .0) (a .tiny) (liveOf (a .w) 0)
+          (slices (a .edges .now) (a .words .now) (a .reals .now) (a .keys .now) (a .events .now)) (cutSlices (a .keep .now) (a .pts .now) (a .out .now) (a .next .now)) (a .counts .made)
+          (a .counts .queued) (a .before) (a .k) (slices (loop .edges) (loop .words) (loop .reals) (loop .keys) (loop .events)) (cutSlices (loop .keep) (loop .pts) (loop .out) (loop .next))
+          (loop .now) (loop .last) (loop .kept) (loop .left) (loop .inv) (next-link .result) (next-link .ensures) (c .if1 .taken),
+    )
 
 sub-t38 : tie.Need-sub-t38 Inv-loop μ-loop
 sub-t38 c = omega (arith, c .if1 .left)
 
 load-requires : tie.Need-load-requires Inv-loop μ-loop
 load-requires c κs =
-    let a = c .before .before .before .before .before .before .before .before .before .before .before .before .before .before .before .before .before .before .before .before .args in
-    let l = c .before .before .before .before .before .before .before .before .loop in
-    let r = visits-ready (a .e .0) (a .tiny) (liveOf (a .w) 0) (slices (a .edges .now) (a .words .now) (a .reals .now) (a .keys .now) (a .events .now)) (cutSlices (a .keep .now) (a .pts .now) (a .out .now) (a .next .now)) (a .counts .made) (a .counts .queued) (a .before) (a .k) (slices (l .edges) (l .words) (l .reals) (l .keys) (l .events)) (cutSlices (l .keep) (l .pts) (l .out) (l .next)) (l .now) (l .last) (l .kept) (l .left) (l .inv) in
-    omega (arith, r .fits, c .before .before .before .next-link .ensures .made, c .before .before .if1 .left)
+    let at-if1 = c .before .before in
+    let at-next-link = at-if1 .before in
+    let at-loop = at-next-link .before .before .before .before .before in
+    let start = at-loop .before .before .before .before .before .before .before .before .before .before .before .before in
+    let a = start .args in
+    let l = at-loop .loop in
+    let r = visits-ready (a .e .0) (a .tiny) (liveOf (a .w) 0) (slices (a .edges .now) (a .words .now) (a .reals .now) (a .keys .now) (a .events .now))
+    (cutSlices (a .keep .now) (a .pts .now) (a .out .now) (a .next .now)) (a .counts .made) (a .counts .queued) (a .before) (a .k)
+    (slices (l .edges) (l .words) (l .reals) (l .keys) (l .events)) (cutSlices (l .keep) (l .pts) (l .out) (l .next)) (l .now) (l .last) (l .kept) (l .left) (l .inv) in
+    omega (arith, r .fits, at-next-link .next-link .ensures .made, at-if1 .if1 .left)
 
 visit-requires : tie.Need-visit-requires Inv-loop μ-loop
 visit-requires c κs =
-    let a = c .before .before .before .before .before .before .before .before .before .before .before .before .before .before .before .before .before .before .before .before .before .before .before .before .before .before .before .before .before .before .before .before .before .args in
-    (visits-ready (a .e .0) (a .tiny) (liveOf (a .w) 0) (slices (a .edges .now) (a .words .now) (a .reals .now) (a .keys .now) (a .events .now)) (cutSlices (a .keep .now) (a .pts .now) (a .out .now) (a .next .now)) (a .counts .made) (a .counts .queued) (a .before) (a .k) (slices (c .before .before .before .before .before .before .before .before .before .before .before .before .before .before .before .before .before .before .before .before .before .loop .edges) (c .before .before .before .before .before .before .before .before .before .before .before .before .before .before .before .before .before .before .before .before .before .loop .words) (c .before .before .before .before .before .before .before .before .before .before .before .before .before .before .before .before .before .before .before .before .before .loop .reals) (c .before .before .before .before .before .before .before .before .before .before .before .before .before .before .before .before .before .before .before .before .before .loop .keys) (c .before .before .before .before .before .before .before .before .before .before .before .before .before .before .before .before .before .before .before .before .before .loop .events)) (cutSlices (c .before .before .before .before .before .before .before .before .before .before .before .before .before .before .before .before .before .before .before .before .before .loop .keep) (c .before .before .before .before .before .before .before .before .before .before .before .before .before .before .before .before .before .before .before .before .before .loop .pts) (c .before .before .before .before .before .before .before .before .before .before .before .before .before .before .before .before .before .before .before .before .before .loop .out) (c .before .before .before .before .before .before .before .before .before .before .before .before .before .before .before .before .before .before .before .before .before .loop .next)) (c .before .before .before .before .before .before .before .before .before .before .before .before .before .before .before .before .before .before .before .before .before .loop .now) (c .before .before .before .before .before .before .before .before .before .before .before .before .before .before .before .before .before .before .before .before .before .loop .last) (c .before .before .before .before .before .before .before .before .before .before .before .before .before .before .before .before .before .before .before .before .before .loop .kept) (c .before .before .before .before .before .before .before .before .before .before .before .before .before .before .before .before .before .before .before .before .before .loop .left) (c .before .before .before .before .before .before .before .before .before .before .before .before .before .before .before .before .before .before .before .before .before .loop .inv), (visits-inside (a .e .0) (a .tiny) (liveOf (a .w) 0) (slices (a .edges .now) (a .words .now) (a .reals .now) (a .keys .now) (a .events .now)) (cutSlices (a .keep .now) (a .pts .now) (a .out .now) (a .next .now)) (a .counts .made) (a .counts .queued) (a .before) (a .k) (slices (c .before .before .before .before .before .before .before .before .before .before .before .before .before .before .before .before .before .before .before .before .before .loop .edges) (c .before .before .before .before .before .before .before .before .before .before .before .before .before .before .before .before .before .before .before .before .before .loop .words) (c .before .before .before .before .before .before .before .before .before .before .before .before .before .before .before .before .before .before .before .before .before .loop .reals) (c .before .before .before .before .before .before .before .before .before .before .before .before .before .before .before .before .before .before .before .before .before .loop .keys) (c .before .before .before .before .before .before .before .before .before .before .before .before .before .before .before .before .before .before .before .before .before .loop .events)) (cutSlices (c .before .before .before .before .before .before .before .before .before .before .before .before .before .before .before .before .before .before .before .before .before .loop .keep) (c .before .before .before .before .before .before .before .before .before .before .before .before .before .before .before .before .before .before .before .before .before .loop .pts) (c .before .before .before .before .before .before .before .before .before .before .before .before .before .before .before .before .before .before .before .before .before .loop .out) (c .before .before .before .before .before .before .before .before .before .before .before .before .before .before .before .before .before .before .before .before .before .loop .next)) (c .before .before .before .before .before .before .before .before .before .before .before .before .before .before .before .before .before .before .before .before .before .loop .now) (c .before .before .before .before .before .before .before .before .before .before .before .before .before .before .before .before .before .before .before .before .before .loop .last) (c .before .before .before .before .before .before .before .before .before .before .before .before .before .before .before .before .before .before .before .before .before .loop .kept) (c .before .before .before .before .before .before .before .before .before .before .before .before .before .before .before .before .before .before .before .before .before .loop .left) (c .before .before .before .before .before .before .before .before .before .before .before .before .before .before .before .before .before .before .before .before .before .loop .inv) (c .before .before .before .before .before .before .before .before .before .before .before .before .before .before .before .before .next-link .result) (c .before .before .before .before .before .before .before .before .before .before .before .before .before .before .before .before .next-link .ensures) (c .before .before .before .before .before .before .before .before .before .before .before .before .before .before .before .before .next-link .result - 1) (omega (arith, c .before .before .before .before .before .before .before .before .before .before .before .before .before .before .before .if1 .left)) (c .before .before .before .before .before .before .before .before .before .before .before .before .load .result) (c .before .before .before .before .before .before .before .before .before .before .before .before .load .ensures), (visits-sizes (a .e .0) (a .tiny) (liveOf (a .w) 0) (slices (a .edges .now) (a .words .now) (a .reals .now) (a .keys .now) (a .events .now)) (cutSlices (a .keep .now) (a .pts .now) (a .out .now) (a .next .now)) (a .counts .made) (a .counts .queued) (a .before) (a .k) (slices (c .before .before .before .before .before .before .before .before .before .before .before .before .before .before .before .before .before .before .before .before .before .loop .edges) (c .before .before .before .before .before .before .before .before .before .before .before .before .before .before .before .before .before .before .before .before .before .loop .words) (c .before .before .before .before .before .before .before .before .before .before .before .before .before .before .before .before .before .before .before .before .before .loop .reals) (c .before .before .before .before .before .before .before .before .before .before .before .before .before .before .before .before .before .before .before .before .before .loop .keys) (c .before .before .before .before .before .before .before .before .before .before .before .before .before .before .before .before .before .before .before .before .before .loop .events)) (cutSlices (c .before .before .before .before .before .before .before .before .before .before .before .before .before .before .before .before .before .before .before .before .before .loop .keep) (c .before .before .before .before .before .before .before .before .before .before .before .before .before .before .before .before .before .before .before .before .before .loop .pts) (c .before .before .before .before .before .before .before .before .before .before .before .before .before .before .before .before .before .before .before .before .before .loop .out) (c .before .before .before .before .before .before .before .before .before .before .before .before .before .before .before .before .before .before .before .before .before .loop .next)) (c .before .before .before .before .before .before .before .before .before .before .before .before .before .before .before .before .before .before .before .before .before .loop .now) (c .before .before .before .before .before .before .before .before .before .before .before .before .before .before .before .before .before .before .before .before .before .loop .last) (c .before .before .before .before .before .before .before .before .before .before .before .before .before .before .before .before .before .before .before .before .before .loop .kept) (c .before .before .before .before .before .before .before .before .before .before .before .before .before .before .before .before .before .before .before .before .before .loop .left) (c .before .before .before .before .before .before .before .before .before .before .before .before .before .before .before .before .before .before .before .before .before .loop .inv), visits-few (a .e .0) (a .tiny) (liveOf (a .w) 0) (slices (a .edges .now) (a .words .now) (a .reals .now) (a .keys .now) (a .events .now)) (cutSlices (a .keep .now) (a .pts .now) (a .out .now) (a .next .now)) (a .counts .made) (a .counts .queued) (a .before) (a .k) (slices (c .before .before .before .before .before .before .before .before .before .before .before .before .before .before .before .before .before .before .before .before .before .loop .edges) (c .before .before .before .before .before .before .before .before .before .before .before .before .before .before .before .before .before .before .before .before .before .loop .words) (c .before .before .before .before .before .before .before .before .before .before .before .before .before .before .before .before .before .before .before .before .before .loop .reals) (c .before .before .before .before .before .before .before .before .before .before .before .before .before .before .before .before .before .before .before .before .before .loop .keys) (c .before .before .before .before .before .before .before .before .before .before .before .before .before .before .before .before .before .before .before .before .before .loop .events)) (cutSlices (c .before .before .before .before .before .before .before .before .before .before .before .before .before .before .before .before .before .before .before .before .before .loop .keep) (c .before .before .before .before .before .before .before .before .before .before .before .before .before .before .before .before .before .before .before .before .before .loop .pts) (c .before .before .before .before .before .before .before .before .before .before .before .before .before .before .before .before .before .before .before .before .before .loop .out) (c .before .before .before .before .before .before .before .before .before .before .before .before .before .before .before .before .before .before .before .before .before .loop .next)) (c .before .before .before .before .before .before .before .before .before .before .before .before .before .before .before .before .before .before .before .before .before .loop .now) (c .before .before .before .before .before .before .before .before .before .before .before .before .before .before .before .before .before .before .before .before .before .loop .last) (c .before .before .before .before .before .before .before .before .before .before .before .before .before .before .before .before .before .before .before .before .before .loop .kept) (c .before .before .before .before .before .before .before .before .before .before .before .before .before .before .before .before .before .before .before .before .before .loop .left) (c .before .before .before .before .before .before .before .before .before .before .before .before .before .before .before .before .before .before .before .before .before .loop .inv))))
+    let at-load = c .before .before .before .before .before .before .before .before .before .before .before .before in
+    let at-if1 = at-load .before .before .before in
+    let at-next-link = at-if1 .before in
+    let at-loop = at-next-link .before .before .before .before .before in
+    let start = at-loop .before .before .before .before .before .before .before .before .before .before .before .before in
+    let load = at-load .load in
+    let next-link = at-next-link .next-link in
+    let loop = at-loop .loop in
+    let a = start .args in
+    let the-cutSlices-2 = cutSlices (loop .keep) (loop .pts) (loop .out) (loop .next) in
+    let the-cutSlices = cutSlices (a .keep .now) (a .pts .now) (a .out .now) (a .next .now) in
+    let the-slices-2 = slices (loop .edges) (loop .words) (loop .reals) (loop .keys) (loop .events) in
+    let the-slices = slices (a .edges .now) (a .words .now) (a .reals .now) (a .keys .now) (a .events .now) in (
+      visits-ready (a .e .0) (a .tiny) (liveOf (a .w) 0) the-slices the-cutSlices (a .counts .made) (a .counts .queued) (a .before) (a .k) the-slices-2 the-cutSlices-2 (loop .now)
+          (loop .last) (loop .kept) (loop .left) (loop .inv),
+      (
+        visits-inside (a .e .0) (a .tiny) (liveOf (a .w) 0) the-slices the-cutSlices (a .counts .made) (a .counts .queued) (a .before)
+            (a .k) the-slices-2 the-cutSlices-2 (loop .now) (loop .last) (loop .kept) (loop .left) (loop .inv) (next-link .result) (next-link .ensures) (next-link .result - 1)
+            (omega (arith, at-if1 .if1 .left)) (load .result) (load .ensures),
+        (
+          visits-sizes (a .e .0) (a .tiny) (liveOf (a .w) 0) the-slices the-cutSlices (a .counts .made) (a .counts .queued)
+              (a .before) (a .k) the-slices-2 the-cutSlices-2 (loop .now) (loop .last) (loop .kept) (loop .left) (loop .inv),
+          visits-few (a .e .0) (a .tiny) (liveOf (a .w) 0) the-slices the-cutSlices
+              (a .counts .made) (a .counts .queued) (a .before) (a .k) the-slices-2 the-cutSlices-2 (loop .now) (loop .last) (loop .kept) (loop .left) (loop .inv),
+        ),
+      ),
+    )
 
 enum-known-visited : tie.Need-enum-known-visited Inv-loop μ-loop
 enum-known-visited c = search needs
 
 same-length-10 : tie.Need-same-length-10 Inv-loop μ-loop
-same-length-10 c = c .before .before .before .before .before .before .before .before .before .before .before .before .before .before .before .before .before .before .before .before .before .visit .kept .0 ∙ c .before .before .before .before .before .before .before .before .before .before .before .before .before .before .before .before .before .before .before .before .before .before .before .before .before .before .before .before .before .before .before .before .before .before .before .before .before .before .before .before .before .before .before .loop .inv .same .edges
+same-length-10 c =
+    let at-visit = c .before .before .before .before .before .before .before .before .before .before .before .before .before .before .before .before .before .before .before .before .before
+    in
+    let at-loop = at-visit .before .before .before .before .before .before .before .before .before .before .before .before .before .before .before .before .before .before .before .before .before .before in
+    at-visit .visit .kept .0 ∙ at-loop .loop .inv .same .edges
 
 same-length-11 : tie.Need-same-length-11 Inv-loop μ-loop
-same-length-11 c = c .before .before .before .before .before .before .before .before .before .before .before .before .before .before .before .before .before .before .before .before .before .visit .kept .1 .0 ∙ c .before .before .before .before .before .before .before .before .before .before .before .before .before .before .before .before .before .before .before .before .before .before .before .before .before .before .before .before .before .before .before .before .before .before .before .before .before .before .before .before .before .before .before .loop .inv .same .words
+same-length-11 c =
+    let at-visit = c .before .before .before .before .before .before .before .before .before .before .before .before .before .before .before .before .before .before .before .before .before
+    in
+    let at-loop = at-visit .before .before .before .before .before .before .before .before .before .before .before .before .before .before .before .before .before .before .before .before .before .before in
+    at-visit .visit .kept .1 .0 ∙ at-loop .loop .inv .same .words
 
 same-length-12 : tie.Need-same-length-12 Inv-loop μ-loop
-same-length-12 c = c .before .before .before .before .before .before .before .before .before .before .before .before .before .before .before .before .before .before .before .before .before .visit .kept .1 .1 .0 ∙ c .before .before .before .before .before .before .before .before .before .before .before .before .before .before .before .before .before .before .before .before .before .before .before .before .before .before .before .before .before .before .before .before .before .before .before .before .before .before .before .before .before .before .before .loop .inv .same .reals
+same-length-12 c =
+    let at-visit = c .before .before .before .before .before .before .before .before .before .before .before .before .before .before .before .before .before .before .before .before .before
+    in
+    let at-loop = at-visit .before .before .before .before .before .before .before .before .before .before .before .before .before .before .before .before .before .before .before .before .before .before in
+    at-visit .visit .kept .1 .1 .0 ∙ at-loop .loop .inv .same .reals
 
 same-length-13 : tie.Need-same-length-13 Inv-loop μ-loop
-same-length-13 c = c .before .before .before .before .before .before .before .before .before .before .before .before .before .before .before .before .before .before .before .before .before .visit .kept .1 .1 .1 .0 ∙ c .before .before .before .before .before .before .before .before .before .before .before .before .before .before .before .before .before .before .before .before .before .before .before .before .before .before .before .before .before .before .before .before .before .before .before .before .before .before .before .before .before .before .before .loop .inv .same .keys
+same-length-13 c =
+    let at-visit = c .before .before .before .before .before .before .before .before .before .before .before .before .before .before .before .before .before .before .before .before .before
+    in
+    let at-loop = at-visit .before .before .before .before .before .before .before .before .before .before .before .before .before .before .before .before .before .before .before .before .before .before in
+    at-visit .visit .kept .1 .1 .1 .0 ∙ at-loop .loop .inv .same .keys
 
 same-length-14 : tie.Need-same-length-14 Inv-loop μ-loop
-same-length-14 c = c .before .before .before .before .before .before .before .before .before .before .before .before .before .before .before .before .before .before .before .before .before .visit .kept .1 .1 .1 .1 .0 ∙ c .before .before .before .before .before .before .before .before .before .before .before .before .before .before .before .before .before .before .before .before .before .before .before .before .before .before .before .before .before .before .before .before .before .before .before .before .before .before .before .before .before .before .before .loop .inv .same .events
+same-length-14 c =
+    let at-visit = c .before .before .before .before .before .before .before .before .before .before .before .before .before .before .before .before .before .before .before .before .before
+    in
+    let at-loop = at-visit .before .before .before .before .before .before .before .before .before .before .before .before .before .before .before .before .before .before .before .before .before .before in
+    at-visit .visit .kept .1 .1 .1 .1 .0 ∙ at-loop .loop .inv .same .events
 
 same-length-15 : tie.Need-same-length-15 Inv-loop μ-loop
-same-length-15 c = c .before .before .before .before .before .before .before .before .before .before .before .before .before .before .before .before .before .before .before .before .before .visit .kept .1 .1 .1 .1 .1 .0 ∙ c .before .before .before .before .before .before .before .before .before .before .before .before .before .before .before .before .before .before .before .before .before .before .before .before .before .before .before .before .before .before .before .before .before .before .before .before .before .before .before .before .before .before .before .loop .inv .same-cuts .keep
+same-length-15 c =
+    let at-visit = c .before .before .before .before .before .before .before .before .before .before .before .before .before .before .before .before .before .before .before .before .before
+    in
+    let at-loop = at-visit .before .before .before .before .before .before .before .before .before .before .before .before .before .before .before .before .before .before .before .before .before .before in
+    at-visit .visit .kept .1 .1 .1 .1 .1 .0 ∙ at-loop .loop .inv .same-cuts .keep
 
 same-length-16 : tie.Need-same-length-16 Inv-loop μ-loop
-same-length-16 c = c .before .before .before .before .before .before .before .before .before .before .before .before .before .before .before .before .before .before .before .before .before .visit .kept .1 .1 .1 .1 .1 .1 .0 ∙ c .before .before .before .before .before .before .before .before .before .before .before .before .before .before .before .before .before .before .before .before .before .before .before .before .before .before .before .before .before .before .before .before .before .before .before .before .before .before .before .before .before .before .before .loop .inv .same-cuts .pts
+same-length-16 c =
+    let at-visit = c .before .before .before .before .before .before .before .before .before .before .before .before .before .before .before .before .before .before .before .before .before
+    in
+    let at-loop = at-visit .before .before .before .before .before .before .before .before .before .before .before .before .before .before .before .before .before .before .before .before .before .before in
+    at-visit .visit .kept .1 .1 .1 .1 .1 .1 .0 ∙ at-loop .loop .inv .same-cuts .pts
 
 same-length-17 : tie.Need-same-length-17 Inv-loop μ-loop
-same-length-17 c = c .before .before .before .before .before .before .before .before .before .before .before .before .before .before .before .before .before .before .before .before .before .visit .kept .1 .1 .1 .1 .1 .1 .1 .0 ∙ c .before .before .before .before .before .before .before .before .before .before .before .before .before .before .before .before .before .before .before .before .before .before .before .before .before .before .before .before .before .before .before .before .before .before .before .before .before .before .before .before .before .before .before .loop .inv .same-cuts .out
+same-length-17 c =
+    let at-visit = c .before .before .before .before .before .before .before .before .before .before .before .before .before .before .before .before .before .before .before .before .before
+    in
+    let at-loop = at-visit .before .before .before .before .before .before .before .before .before .before .before .before .before .before .before .before .before .before .before .before .before .before in
+    at-visit .visit .kept .1 .1 .1 .1 .1 .1 .1 .0 ∙ at-loop .loop .inv .same-cuts .out
 
 same-length-18 : tie.Need-same-length-18 Inv-loop μ-loop
-same-length-18 c = c .before .before .before .before .before .before .before .before .before .before .before .before .before .before .before .before .before .before .before .before .before .visit .kept .1 .1 .1 .1 .1 .1 .1 .1 .0 ∙ c .before .before .before .before .before .before .before .before .before .before .before .before .before .before .before .before .before .before .before .before .before .before .before .before .before .before .before .before .before .before .before .before .before .before .before .before .before .before .before .before .before .before .before .loop .inv .same-cuts .next
+same-length-18 c =
+    let at-visit = c .before .before .before .before .before .before .before .before .before .before .before .before .before .before .before .before .before .before .before .before .before
+    in
+    let at-loop = at-visit .before .before .before .before .before .before .before .before .before .before .before .before .before .before .before .before .before .before .before .before .before .before in
+    at-visit .visit .kept .1 .1 .1 .1 .1 .1 .1 .1 .0 ∙ at-loop .loop .inv .same-cuts .next
 
 returns-2 : tie.Need-returns-2 Inv-loop μ-loop
 returns-2 c =
-    let a = c .before .before .before .before .before .before .before .before .before .before .before .before .before .before .before .before .before .before .before .before .before .before .before .before .before .before .before .before .before .before .before .before .before .before .before .before .before .before .before .before .before .before .before .before .before .before .before .before .before .before .before .before .before .before .before .args in
-    (tt, visits-stopped (a .e .0) (a .tiny) (liveOf (a .w) 0) (slices (a .edges .now) (a .words .now) (a .reals .now) (a .keys .now) (a .events .now)) (cutSlices (a .keep .now) (a .pts .now) (a .out .now) (a .next .now)) (a .counts .made) (a .counts .queued) (a .before) (a .k) (slices (c .before .before .before .before .before .before .before .before .before .before .before .before .before .before .before .before .before .before .before .before .before .before .before .before .before .before .before .before .before .before .before .before .before .before .before .before .before .before .before .before .before .before .before .loop .edges) (c .before .before .before .before .before .before .before .before .before .before .before .before .before .before .before .before .before .before .before .before .before .before .before .before .before .before .before .before .before .before .before .before .before .before .before .before .before .before .before .before .before .before .before .loop .words) (c .before .before .before .before .before .before .before .before .before .before .before .before .before .before .before .before .before .before .before .before .before .before .before .before .before .before .before .before .before .before .before .before .before .before .before .before .before .before .before .before .before .before .before .loop .reals) (c .before .before .before .before .before .before .before .before .before .before .before .before .before .before .before .before .before .before .before .before .before .before .before .before .before .before .before .before .before .before .before .before .before .before .before .before .before .before .before .before .before .before .before .loop .keys) (c .before .before .before .before .before .before .before .before .before .before .before .before .before .before .before .before .before .before .before .before .before .before .before .before .before .before .before .before .before .before .before .before .before .before .before .before .before .before .before .before .before .before .before .loop .events)) (cutSlices (c .before .before .before .before .before .before .before .before .before .before .before .before .before .before .before .before .before .before .before .before .before .before .before .before .before .before .before .before .before .before .before .before .before .before .before .before .before .before .before .before .before .before .before .loop .keep) (c .before .before .before .before .before .before .before .before .before .before .before .before .before .before .before .before .before .before .before .before .before .before .before .before .before .before .before .before .before .before .before .before .before .before .before .before .before .before .before .before .before .before .before .loop .pts) (c .before .before .before .before .before .before .before .before .before .before .before .before .before .before .before .before .before .before .before .before .before .before .before .before .before .before .before .before .before .before .before .before .before .before .before .before .before .before .before .before .before .before .before .loop .out) (c .before .before .before .before .before .before .before .before .before .before .before .before .before .before .before .before .before .before .before .before .before .before .before .before .before .before .before .before .before .before .before .before .before .before .before .before .before .before .before .before .before .before .before .loop .next)) (c .before .before .before .before .before .before .before .before .before .before .before .before .before .before .before .before .before .before .before .before .before .before .before .before .before .before .before .before .before .before .before .before .before .before .before .before .before .before .before .before .before .before .before .loop .now) (c .before .before .before .before .before .before .before .before .before .before .before .before .before .before .before .before .before .before .before .before .before .before .before .before .before .before .before .before .before .before .before .before .before .before .before .before .before .before .before .before .before .before .before .loop .last) (c .before .before .before .before .before .before .before .before .before .before .before .before .before .before .before .before .before .before .before .before .before .before .before .before .before .before .before .before .before .before .before .before .before .before .before .before .before .before .before .before .before .before .before .loop .kept) (c .before .before .before .before .before .before .before .before .before .before .before .before .before .before .before .before .before .before .before .before .before .before .before .before .before .before .before .before .before .before .before .before .before .before .before .before .before .before .before .before .before .before .before .loop .left) (c .before .before .before .before .before .before .before .before .before .before .before .before .before .before .before .before .before .before .before .before .before .before .before .before .before .before .before .before .before .before .before .before .before .before .before .before .before .before .before .before .before .before .before .loop .inv) (c .before .before .before .before .before .before .before .before .before .before .before .before .before .before .before .before .before .before .before .before .before .before .before .before .before .before .before .before .before .before .before .before .before .before .before .before .before .before .next-link .result) (c .before .before .before .before .before .before .before .before .before .before .before .before .before .before .before .before .before .before .before .before .before .before .before .before .before .before .before .before .before .before .before .before .before .before .before .before .before .before .next-link .ensures) (c .before .before .before .before .before .before .before .before .before .before .before .before .before .before .before .before .before .before .before .before .before .before .before .before .before .before .before .before .before .before .before .before .before .before .before .before .before .before .next-link .result - 1) (omega (arith, c .before .before .before .before .before .before .before .before .before .before .before .before .before .before .before .before .before .before .before .before .before .before .before .before .before .before .before .before .before .before .before .before .before .before .before .before .before .if1 .left)) (c .before .before .before .before .before .before .before .before .before .before .before .before .before .before .before .before .before .before .before .before .before .before .before .before .before .before .before .before .before .before .before .before .before .before .load .result) (c .before .before .before .before .before .before .before .before .before .before .before .before .before .before .before .before .before .before .before .before .before .before .before .before .before .before .before .before .before .before .before .before .before .before .load .ensures) (c .before .before .before .before .before .before .before .before .before .before .before .before .before .before .before .before .before .before .before .before .before .before .before .before .before .before .before .before .before .before .before .if2 .taken) (c .before .visited .given .0 .0) (c .before .before .before .before .before .before .before .before .before .before .before .before .before .before .before .before .before .before .before .before .before .visit .last .1 .1 .1 .1 .1 .0) (rw (c .before .visited .given .1) at (c .before .before .before .before .before .before .before .before .before .before .before .before .before .before .before .before .before .before .before .before .before .visit .ensures .1)))
+    let at-visited = c .before in
+    let at-visit = at-visited .before .before .before .before .before .before .before .before .before .before .before .before .before .before .before .before .before .before .before .before
+    in
+    let at-if2 = at-visit .before .before .before .before .before .before .before .before .before .before in
+    let at-load = at-if2 .before .before .before in
+    let at-if1 = at-load .before .before .before in
+    let at-next-link = at-if1 .before in
+    let at-loop = at-next-link .before .before .before .before .before in
+    let start = at-loop .before .before .before .before .before .before .before .before .before .before .before .before in
+    let visited = at-visited .visited in
+    let visit = at-visit .visit in
+    let load = at-load .load in
+    let next-link = at-next-link .next-link in
+    let loop = at-loop .loop in
+    let a = start .args in (
+      tt,
+      visits-stopped (a .e .0) (a .tiny) (liveOf (a .w) 0) (slices (a .edges .now) (a .words .now) (a .reals .now) (a .keys .now) (a .events .now))
+          (cutSlices (a .keep .now) (a .pts .now) (a .out .now) (a .next .now)) (a .counts .made) (a .counts .queued) (a .before) (a .k)
+          (slices (loop .edges) (loop .words) (loop .reals) (loop .keys) (loop .events)) (cutSlices (loop .keep) (loop .pts) (loop .out) (loop .next)) (loop .now) (loop .last) (loop .kept)
+          (loop .left) (loop .inv) (next-link .result) (next-link .ensures) (next-link .result - 1) (omega (arith, at-if1 .if1 .left)) (load .result) (load .ensures) (at-if2 .if2 .taken)
+          (visited .given .0 .0) (visit .last .1 .1 .1 .1 .1 .0) (rw (visited .given .1) at (visit .ensures .1)),
+    )
 
 enum-known-visited-2 : tie.Need-enum-known-visited-2 Inv-loop μ-loop
 enum-known-visited-2 c = search needs
@@ -117,8 +216,31 @@ loop-less c = omega (arith, c .before .before .before .before .before .before .b
 
 loop-again : tie.Need-loop-again Inv-loop μ-loop
 loop-again c =
-    let a = c .before .before .before .before .before .before .before .before .before .before .before .before .before .before .before .before .before .before .before .before .before .before .before .before .before .before .before .before .before .before .before .before .before .before .before .before .before .before .before .before .before .before .before .before .before .before .before .before .before .before .before .before .before .before .before .args in
-    visits-next (a .e .0) (a .tiny) (liveOf (a .w) 0) (slices (a .edges .now) (a .words .now) (a .reals .now) (a .keys .now) (a .events .now)) (cutSlices (a .keep .now) (a .pts .now) (a .out .now) (a .next .now)) (a .counts .made) (a .counts .queued) (a .before) (a .k) (slices (c .before .before .before .before .before .before .before .before .before .before .before .before .before .before .before .before .before .before .before .before .before .before .before .before .before .before .before .before .before .before .before .before .before .before .before .before .before .before .before .before .before .before .before .loop .edges) (c .before .before .before .before .before .before .before .before .before .before .before .before .before .before .before .before .before .before .before .before .before .before .before .before .before .before .before .before .before .before .before .before .before .before .before .before .before .before .before .before .before .before .before .loop .words) (c .before .before .before .before .before .before .before .before .before .before .before .before .before .before .before .before .before .before .before .before .before .before .before .before .before .before .before .before .before .before .before .before .before .before .before .before .before .before .before .before .before .before .before .loop .reals) (c .before .before .before .before .before .before .before .before .before .before .before .before .before .before .before .before .before .before .before .before .before .before .before .before .before .before .before .before .before .before .before .before .before .before .before .before .before .before .before .before .before .before .before .loop .keys) (c .before .before .before .before .before .before .before .before .before .before .before .before .before .before .before .before .before .before .before .before .before .before .before .before .before .before .before .before .before .before .before .before .before .before .before .before .before .before .before .before .before .before .before .loop .events)) (cutSlices (c .before .before .before .before .before .before .before .before .before .before .before .before .before .before .before .before .before .before .before .before .before .before .before .before .before .before .before .before .before .before .before .before .before .before .before .before .before .before .before .before .before .before .before .loop .keep) (c .before .before .before .before .before .before .before .before .before .before .before .before .before .before .before .before .before .before .before .before .before .before .before .before .before .before .before .before .before .before .before .before .before .before .before .before .before .before .before .before .before .before .before .loop .pts) (c .before .before .before .before .before .before .before .before .before .before .before .before .before .before .before .before .before .before .before .before .before .before .before .before .before .before .before .before .before .before .before .before .before .before .before .before .before .before .before .before .before .before .before .loop .out) (c .before .before .before .before .before .before .before .before .before .before .before .before .before .before .before .before .before .before .before .before .before .before .before .before .before .before .before .before .before .before .before .before .before .before .before .before .before .before .before .before .before .before .before .loop .next)) (c .before .before .before .before .before .before .before .before .before .before .before .before .before .before .before .before .before .before .before .before .before .before .before .before .before .before .before .before .before .before .before .before .before .before .before .before .before .before .before .before .before .before .before .loop .now) (c .before .before .before .before .before .before .before .before .before .before .before .before .before .before .before .before .before .before .before .before .before .before .before .before .before .before .before .before .before .before .before .before .before .before .before .before .before .before .before .before .before .before .before .loop .last) (c .before .before .before .before .before .before .before .before .before .before .before .before .before .before .before .before .before .before .before .before .before .before .before .before .before .before .before .before .before .before .before .before .before .before .before .before .before .before .before .before .before .before .before .loop .kept) (c .before .before .before .before .before .before .before .before .before .before .before .before .before .before .before .before .before .before .before .before .before .before .before .before .before .before .before .before .before .before .before .before .before .before .before .before .before .before .before .before .before .before .before .loop .left) (c .before .before .before .before .before .before .before .before .before .before .before .before .before .before .before .before .before .before .before .before .before .before .before .before .before .before .before .before .before .before .before .before .before .before .before .before .before .before .before .before .before .before .before .loop .inv) (c .before .before .before .before .before .before .before .before .before .before .before .before .before .before .before .before .before .before .before .before .before .before .before .before .before .before .before .before .before .before .before .before .before .before .before .before .before .before .next-link .result) (c .before .before .before .before .before .before .before .before .before .before .before .before .before .before .before .before .before .before .before .before .before .before .before .before .before .before .before .before .before .before .before .before .before .before .before .before .before .before .next-link .ensures) (c .before .before .before .before .before .before .before .before .before .before .before .before .before .before .before .before .before .before .before .before .before .before .before .before .before .before .before .before .before .before .before .before .before .before .before .before .before .before .next-link .result - 1) (omega (arith, c .before .before .before .before .before .before .before .before .before .before .before .before .before .before .before .before .before .before .before .before .before .before .before .before .before .before .before .before .before .before .before .before .before .before .before .before .before .if1 .left)) (c .before .before .before .before .before .before .before .before .before .before .before .before .before .before .before .before .before .before .before .before .before .before .before .before .before .before .before .before .before .before .before .before .before .before .load .result) (c .before .before .before .before .before .before .before .before .before .before .before .before .before .before .before .before .before .before .before .before .before .before .before .before .before .before .before .before .before .before .before .before .before .before .load .ensures) (c .before .before .before .before .before .before .before .before .before .before .before .before .before .before .before .before .before .before .before .before .before .before .before .before .before .before .before .before .before .before .before .if2 .taken) (slices (c .before .before .before .before .before .before .before .before .before .before .before .before .before .before .before .before .before .before .before .before .before .visit .last .0) (c .before .before .before .before .before .before .before .before .before .before .before .before .before .before .before .before .before .before .before .before .before .visit .last .1 .0) (c .before .before .before .before .before .before .before .before .before .before .before .before .before .before .before .before .before .before .before .before .before .visit .last .1 .1 .0) (c .before .before .before .before .before .before .before .before .before .before .before .before .before .before .before .before .before .before .before .before .before .visit .last .1 .1 .1 .0) (c .before .before .before .before .before .before .before .before .before .before .before .before .before .before .before .before .before .before .before .before .before .visit .last .1 .1 .1 .1 .0)) (cutSlices (c .before .before .before .before .before .before .before .before .before .before .before .before .before .before .before .before .before .before .before .before .before .visit .last .1 .1 .1 .1 .1 .0) (c .before .before .before .before .before .before .before .before .before .before .before .before .before .before .before .before .before .before .before .before .before .visit .last .1 .1 .1 .1 .1 .1 .0) (c .before .before .before .before .before .before .before .before .before .before .before .before .before .before .before .before .before .before .before .before .before .visit .last .1 .1 .1 .1 .1 .1 .1 .0) (c .before .before .before .before .before .before .before .before .before .before .before .before .before .before .before .before .before .before .before .before .before .visit .last .1 .1 .1 .1 .1 .1 .1 .1 .0)) (c .before .visited2 .given .0 .0) (c .before .visited2 .given .0 .1 .0) (c .before .visited2 .given .0 .1 .1 .0) (c .before .before .before .before .before .before .before .before .before .before .before .before .before .before .before .before .before .before .before .before .before .before .before .before .before .before .before .before .before .before .before .before .before .before .before .before .before .before .before .before .before .before .before .loop .left - 1) (record { edges = c .before .before .before .before .before .before .before .before .before .before .before .before .before .before .before .before .before .before .before .before .before .visit .kept .0; words = c .before .before .before .before .before .before .before .before .before .before .before .before .before .before .before .before .before .before .before .before .before .visit .kept .1 .0; reals = c .before .before .before .before .before .before .before .before .before .before .before .before .before .before .before .before .before .before .before .before .before .visit .kept .1 .1 .0; keys = c .before .before .before .before .before .before .before .before .before .before .before .before .before .before .before .before .before .before .before .before .before .visit .kept .1 .1 .1 .0; events = c .before .before .before .before .before .before .before .before .before .before .before .before .before .before .before .before .before .before .before .before .before .visit .kept .1 .1 .1 .1 .0 }) (record { keep = c .before .before .before .before .before .before .before .before .before .before .before .before .before .before .before .before .before .before .before .before .before .visit .kept .1 .1 .1 .1 .1 .0; pts = c .before .before .before .before .before .before .before .before .before .before .before .before .before .before .before .before .before .before .before .before .before .visit .kept .1 .1 .1 .1 .1 .1 .0; out = c .before .before .before .before .before .before .before .before .before .before .before .before .before .before .before .before .before .before .before .before .before .visit .kept .1 .1 .1 .1 .1 .1 .1 .0; next = c .before .before .before .before .before .before .before .before .before .before .before .before .before .before .before .before .before .before .before .before .before .visit .kept .1 .1 .1 .1 .1 .1 .1 .1 .0 }) (c .before .before .before .before .before .before .before .before .before .before .before .before .before .before .before .before .before .before .before .before .before .before .before .before .before .before .before .before .before .before .before .before .before .before .before .before .before .before .before .before .before .before .loop-test .taken) refl (rw (c .before .visited2 .given .1) at (c .before .before .before .before .before .before .before .before .before .before .before .before .before .before .before .before .before .before .before .before .before .visit .ensures .0)) (rw (c .before .visited2 .given .1) at (c .before .before .before .before .before .before .before .before .before .before .before .before .before .before .before .before .before .before .before .before .before .visit .ensures .1)) nan
+    let at-visited2 = c .before in
+    let at-visit = at-visited2 .before .before .before .before .before .before .before .before .before .before .before .before .before .before .before .before .before .before .before .before in
+    let at-if2 = at-visit .before .before .before .before .before .before .before .before .before .before in
+    let at-load = at-if2 .before .before .before in
+    let at-if1 = at-load .before .before .before in
+    let at-next-link = at-if1 .before in
+    let at-loop-test = at-next-link .before .before .before .before in
+    let at-loop = at-loop-test .before in
+    let start = at-loop .before .before .before .before .before .before .before .before .before .before .before .before in
+    let visited2 = at-visited2 .visited2 in
+    let visit = at-visit .visit in
+    let load = at-load .load in
+    let next-link = at-next-link .next-link in
+    let loop = at-loop .loop in
+    let a = start .args in
+    visits-next (a .e .0) (a .tiny) (liveOf (a .w) 0) (slices (a .edges .now) (a .words .now) (a .reals .now) (a .keys .now) (a .events .now))
+    (cutSlices (a .keep .now) (a .pts .now) (a .out .now) (a .next .now)) (a .counts .made) (a .counts .queued) (a .before) (a .k)
+    (slices (loop .edges) (loop .words) (loop .reals) (loop .keys) (loop .events)) (cutSlices (loop .keep) (loop .pts) (loop .out) (loop .next)) (loop .now) (loop .last) (loop .kept)
+    (loop .left) (loop .inv) (next-link .result) (next-link .ensures) (next-link .result - 1) (omega (arith, at-if1 .if1 .left)) (load .result) (load .ensures) (at-if2 .if2 .taken)
+    (slices (visit .last .0) (visit .last .1 .0) (visit .last .1 .1 .0) (visit .last .1 .1 .1 .0) (visit .last .1 .1 .1 .1 .0))
+    (cutSlices (visit .last .1 .1 .1 .1 .1 .0) (visit .last .1 .1 .1 .1 .1 .1 .0) (visit .last .1 .1 .1 .1 .1 .1 .1 .0) (visit .last .1 .1 .1 .1 .1 .1 .1 .1 .0)) (visited2 .given .0 .0)
+    (visited2 .given .0 .1 .0) (visited2 .given .0 .1 .1 .0) (loop .left - 1)
+    (record { edges = visit .kept .0; words = visit .kept .1 .0; reals = visit .kept .1 .1 .0; keys = visit .kept .1 .1 .1 .0; events = visit .kept .1 .1 .1 .1 .0 })
+    (record { keep = visit .kept .1 .1 .1 .1 .1 .0; pts = visit .kept .1 .1 .1 .1 .1 .1 .0; out = visit .kept .1 .1 .1 .1 .1 .1 .1 .0; next = visit .kept .1 .1 .1 .1 .1 .1 .1 .1 .0 })
+    (at-loop-test .loop-test .taken) refl (rw (visited2 .given .1) at (visit .ensures .0)) (rw (visited2 .given .1) at (visit .ensures .1)) nan
 
 same-length-19 : tie.Need-same-length-19 Inv-loop μ-loop
 same-length-19 c = c .before .before .before .before .before .before .before .before .before .before .before .before .loop .inv .same .edges
@@ -149,8 +271,22 @@ same-length-27 c = c .before .before .before .before .before .before .before .be
 
 returns-3 : tie.Need-returns-3 Inv-loop μ-loop
 returns-3 c =
-    let a = c .before .before .before .before .before .before .before .before .before .before .before .before .before .before .before .before .before .before .before .before .before .before .before .before .args in
-    ((c .before .before .before .before .before .before .before .before .before .before .before .before .loop .inv .fits, (c .before .before .before .before .before .before .before .before .before .before .before .before .loop .inv .linked, (c .before .before .before .before .before .before .before .before .before .before .before .before .loop .inv .few, c .before .before .before .before .before .before .before .before .before .before .before .before .loop .inv .grown))), visits-over (a .e .0) (a .tiny) (liveOf (a .w) 0) (slices (a .edges .now) (a .words .now) (a .reals .now) (a .keys .now) (a .events .now)) (cutSlices (a .keep .now) (a .pts .now) (a .out .now) (a .next .now)) (a .counts .made) (a .counts .queued) (a .before) (a .k) (slices (c .before .before .before .before .before .before .before .before .before .before .before .before .loop .edges) (c .before .before .before .before .before .before .before .before .before .before .before .before .loop .words) (c .before .before .before .before .before .before .before .before .before .before .before .before .loop .reals) (c .before .before .before .before .before .before .before .before .before .before .before .before .loop .keys) (c .before .before .before .before .before .before .before .before .before .before .before .before .loop .events)) (cutSlices (c .before .before .before .before .before .before .before .before .before .before .before .before .loop .keep) (c .before .before .before .before .before .before .before .before .before .before .before .before .loop .pts) (c .before .before .before .before .before .before .before .before .before .before .before .before .loop .out) (c .before .before .before .before .before .before .before .before .before .before .before .before .loop .next)) (c .before .before .before .before .before .before .before .before .before .before .before .before .loop .now) (c .before .before .before .before .before .before .before .before .before .before .before .before .loop .last) (c .before .before .before .before .before .before .before .before .before .before .before .before .loop .kept) (c .before .before .before .before .before .before .before .before .before .before .before .before .loop .left) (c .before .before .before .before .before .before .before .before .before .before .before .before .loop .inv) (c .before .before .before .before .before .before .before .next-link .result) (c .before .before .before .before .before .before .before .next-link .ensures) (c .before .before .before .before .before .before .before .next-link .result - 1) (omega (arith, c .before .before .before .before .before .before .if1 .left)) (c .before .before .before .load .result) (c .before .before .before .load .ensures) (c .if2 .left))
+    let at-load = c .before .before .before in
+    let at-if1 = at-load .before .before .before in
+    let at-next-link = at-if1 .before in
+    let at-loop = at-next-link .before .before .before .before .before in
+    let start = at-loop .before .before .before .before .before .before .before .before .before .before .before .before in
+    let load = at-load .load in
+    let next-link = at-next-link .next-link in
+    let loop = at-loop .loop in
+    let a = start .args in (
+      (loop .inv .fits, (loop .inv .linked, (loop .inv .few, loop .inv .grown))),
+      visits-over (a .e .0) (a .tiny) (liveOf (a .w) 0)
+          (slices (a .edges .now) (a .words .now) (a .reals .now) (a .keys .now) (a .events .now)) (cutSlices (a .keep .now) (a .pts .now) (a .out .now) (a .next .now)) (a .counts .made)
+          (a .counts .queued) (a .before) (a .k) (slices (loop .edges) (loop .words) (loop .reals) (loop .keys) (loop .events)) (cutSlices (loop .keep) (loop .pts) (loop .out) (loop .next))
+          (loop .now) (loop .last) (loop .kept) (loop .left) (loop .inv) (next-link .result) (next-link .ensures) (next-link .result - 1) (omega (arith, at-if1 .if1 .left)) (load .result)
+          (load .ensures) (c .if2 .left),
+    )
 
 same-length-28 : tie.Need-same-length-28 Inv-loop μ-loop
 same-length-28 c = c .before .loop .inv .same .edges
@@ -181,8 +317,16 @@ same-length-36 c = c .before .loop .inv .same-cuts .next
 
 returns-4 : tie.Need-returns-4 Inv-loop μ-loop
 returns-4 c =
-    let a = c .before .before .before .before .before .before .before .before .before .before .before .before .before .args in
-    ((c .before .loop .inv .fits, (c .before .loop .inv .linked, (c .before .loop .inv .few, c .before .loop .inv .grown))), visits-spent (a .e .0) (a .tiny) (liveOf (a .w) 0) (slices (a .edges .now) (a .words .now) (a .reals .now) (a .keys .now) (a .events .now)) (cutSlices (a .keep .now) (a .pts .now) (a .out .now) (a .next .now)) (a .counts .made) (a .counts .queued) (a .before) (a .k) (slices (c .before .loop .edges) (c .before .loop .words) (c .before .loop .reals) (c .before .loop .keys) (c .before .loop .events)) (cutSlices (c .before .loop .keep) (c .before .loop .pts) (c .before .loop .out) (c .before .loop .next)) (c .before .loop .now) (c .before .loop .last) (c .before .loop .kept) (c .before .loop .left) (c .before .loop .inv) (omega (arith, c .loop-test .left)))
+    let at-loop = c .before in
+    let start = at-loop .before .before .before .before .before .before .before .before .before .before .before .before in
+    let loop = at-loop .loop in
+    let a = start .args in (
+      (loop .inv .fits, (loop .inv .linked, (loop .inv .few, loop .inv .grown))),
+      visits-spent (a .e .0) (a .tiny) (liveOf (a .w) 0)
+          (slices (a .edges .now) (a .words .now) (a .reals .now) (a .keys .now) (a .events .now)) (cutSlices (a .keep .now) (a .pts .now) (a .out .now) (a .next .now)) (a .counts .made)
+          (a .counts .queued) (a .before) (a .k) (slices (loop .edges) (loop .words) (loop .reals) (loop .keys) (loop .events)) (cutSlices (loop .keep) (loop .pts) (loop .out) (loop .next))
+          (loop .now) (loop .last) (loop .kept) (loop .left) (loop .inv) (omega (arith, c .loop-test .left)),
+    )
 
 pub visits-spec : {M : Type 1} → statement M
 visits-spec =
