@@ -12,7 +12,6 @@ use Rattle.job_checks.specs.Refusals.{refusals, refusalOf}
 use Rattle.job_checks.proofs.Any.{passed-here, both-passed}
 use Rattle.job_checks.proofs.Sound.{refusals-numbered}
 use Rattle.topology.specs.Edges.{edges, triEdge, sharedByThree, vertexFaces}
-use Rattle.topology.specs.Frames.{yhat}
 use Rattle.topology.specs.Rows.{rows}
 use Rattle.topology.proofs.Edges.{edge-count}
 use Rattle.topology.proofs.Rows.{row-inside, row-read}
@@ -22,9 +21,9 @@ use Rattle.edge_table.specs.Table.{edgeWords, triangleWords}
 use Rattle.edge_table.proofs.Reading.{low-read, high-read, first-face-read, second-face-read, windows-read, scratch-read, spare-read, number-read}
 use Rattle.vertex_faces.specs.Ranges.{withFlags, startOf, endOf, roundOf}
 use Rattle.vertex_faces.proofs.Ranges.{read-start, read-end, read-third, length-flags, read-flag}
-use Rattle.frames.specs.Stored.{vectorAt, withLengths}
+use Rattle.frames.specs.Stored.{withLengths}
 use Rattle.frames.specs.Held.{HoldsEdges, HoldsFaces, HoldsSides, HoldsLengths}
-use Rattle.frames.proofs.Held.{lengths-held, normals-held, nine}
+use Rattle.frames.proofs.Held.{lengths-held, normals-held}
 use Rattle.mesh.specs.declared.OtherCounts.{OtherCounts}
 use Rattle.mesh.specs.declared.Meshed.{Meshed}
 use Rattle.mesh.specs.declared.Meshed.the-variants.{Edges}
@@ -163,13 +162,3 @@ module _ (j : Job) (others : OtherCounts) (r : Meshed) (before after : MeshBuffe
 
   pub fresh : Fresh after
   fresh = subst Fresh (sym is-filled) (filled-fresh (j .vertices) (j .triangles) (j .flags) before)
-
--- The edge and the normal of side k of face f, as the readers of the buffers have them: six words and nine reals for each triangle.
-module _ (v : List Float) (triangles flags : List ℕ) (m : MeshBuffers) (h : Held v triangles flags m) (f k : ℕ) (l : k < 3) (inside : 3 * f + k < length triangles) where
-  pub side-edge : getD (m .triangle-words) (6 * f + k) 0 ≡ triEdge triangles (3 * f + k)
-  side-edge =
-      let z : 6 * f + k ≡ 6 * ((3 * f + k) / 3) + (3 * f + k) % 3 = omega arith in
-      ap (λ (i : ℕ). getD (m .triangle-words) i 0) z ∙ h .sides (3 * f + k) inside
-
-  pub side-normal : vectorAt 9 (m .triangle-reals) f (3 * k) ≡ yhat v triangles (3 * f + k)
-  side-normal = nine (m .triangle-reals) f k ∙ h .normals (3 * f + k) inside
