@@ -53,8 +53,26 @@ same-length-6 c = search needs
 
 returns : tie.Need-returns
 returns c =
-    let a = c .before .before .before .before .before .before .before .before .before .before .before .before .before .before .before .before .before .before .before .before .before .before .before .before .before .before .before .before .before .before .before .before .before .before .before .before .before .before .before .before .before .before .args in
-    (tt, λ cuts k ks. seats-stop cuts (windowsOf (slices (a .edges .now) (a .words .now) (a .reals .now) (a .keys .now) (a .events .now))) (a .limit) (a .vertex-words .now) (a .e) (liveOf (a .x) k) (interval (a .b0) (a .b1)) ks (placeOf (slices (a .edges .now) (a .words .now) (a .reals .now) (a .keys .now) (a .events .now)) (a .counts .made) (a .counts .queued) (a .before) (a .vertex .now)) (c .before .before .before .before .before .before .before .before .before .before .before .before .before .before .before .before .before .before .before .before .before .before .before .before .before .before .before .before .before .before .before .seat-from .result) (c .before .before .before .before .before .before .before .before .before .before .before .before .before .before .before .before .before .before .before .before .before .before .before .before .before .before .before .before .before .before .before .seat-from .ensures) (placeOf (slices (c .before .before .before .before .before .before .before .before .before .before .before .before .before .before .before .before .before .before .before .before .before .before .before .before .before .make-part .last .0) (c .before .before .before .before .before .before .before .before .before .before .before .before .before .before .before .before .before .before .before .before .before .before .before .before .before .make-part .last .1 .0) (c .before .before .before .before .before .before .before .before .before .before .before .before .before .before .before .before .before .before .before .before .before .before .before .before .before .make-part .last .1 .1 .0) (c .before .before .before .before .before .before .before .before .before .before .before .before .before .before .before .before .before .before .before .before .before .before .before .before .before .make-part .last .1 .1 .1 .0) (c .before .before .before .before .before .before .before .before .before .before .before .before .before .before .before .before .before .before .before .before .before .before .before .before .before .make-part .last .1 .1 .1 .1 .0)) ((c .before .before .before .before .before .before .before .before .before .before .before .before .before .part2 .given .0 .0) .made) ((c .before .before .before .before .before .before .before .before .before .before .before .before .before .part2 .given .0 .0) .queued) (c .before .before .before .before .before .before .before .before .before .before .before .before .before .part2 .given .0 .1 .0) (a .vertex .now)) ((rw (c .before .before .before .before .before .before .before .before .before .before .before .before .before .part2 .given .1) at (c .before .before .before .before .before .before .before .before .before .before .before .before .before .before .before .before .before .before .before .before .before .before .before .before .before .make-part .ensures .1)) cuts (a .limit) (a .vertex-words .now) (a .vertex .now) k) 13 (((rw (c .enum-told .given .1) at (c .before .before .before .before .before .before .before .before .touch-ends .ensures)) cuts (windowsOf (slices (a .edges .now) (a .words .now) (a .reals .now) (a .keys .now) (a .events .now))) ((c .before .before .before .before .before .before .before .before .before .before .before .before .before .part2 .given .0 .0) .made) k (a .counts .made)) ∙ queue-full ((c .before .before .before .before .before .before .before .before .before .before .before .before .before .part2 .given .0 .0) .made) (c .before .before .before .before .before .before .before .before .touch-ends .last .0) (queue (c .before .before .before .before .before .before .before .before .touch-ends .last .1 .1 .0) (c .before .before .before .before .before .before .before .before .touch-ends .last .1 .1 .1 .0))))
+    let at-touch-ends = c .before .before .before .before .before .before .before .before in
+    let at-part2 = at-touch-ends .before .before .before .before .before in
+    let at-make-part = at-part2 .before .before .before .before .before .before .before .before .before .before .before .before in
+    let at-seat-from = at-make-part .before .before .before .before .before .before in
+    let start = at-seat-from .before .before .before .before .before .before .before .before .before .before .before in
+    let touch-ends = at-touch-ends .touch-ends in
+    let part2 = at-part2 .part2 in
+    let make-part = at-make-part .make-part in
+    let seat-from = at-seat-from .seat-from in
+    let a = start .args in
+    let the-windowsOf = windowsOf (slices (a .edges .now) (a .words .now) (a .reals .now) (a .keys .now) (a .events .now)) in (
+      tt,
+      λ cuts k ks. seats-stop cuts the-windowsOf (a .limit) (a .vertex-words .now) (a .e) (liveOf (a .x) k) (interval (a .b0) (a .b1)) ks
+          (placeOf (slices (a .edges .now) (a .words .now) (a .reals .now) (a .keys .now) (a .events .now)) (a .counts .made) (a .counts .queued) (a .before) (a .vertex .now)) (seat-from .result)
+          (seat-from .ensures) (placeOf (slices (make-part .last .0) (make-part .last .1 .0) (make-part .last .1 .1 .0) (make-part .last .1 .1 .1 .0) (make-part .last .1 .1 .1 .1 .0))
+          ((part2 .given .0 .0) .made) ((part2 .given .0 .0) .queued) (part2 .given .0 .1 .0) (a .vertex .now))
+          ((rw (part2 .given .1) at (make-part .ensures .1)) cuts (a .limit) (a .vertex-words .now) (a .vertex .now) k) 13
+          (((rw (c .enum-told .given .1) at (touch-ends .ensures)) cuts the-windowsOf ((part2 .given .0 .0) .made) k (a .counts .made)) ∙ queue-full ((part2 .given .0 .0) .made)
+          (touch-ends .last .0) (queue (touch-ends .last .1 .1 .0) (touch-ends .last .1 .1 .1 .0))),
+    )
 
 same-length-7 : tie.Need-same-length-7
 same-length-7 c = search needs
@@ -73,8 +91,17 @@ same-length-11 c = search needs
 
 returns-2 : tie.Need-returns-2
 returns-2 c =
-    let a = c .before .before .before .before .before .before .before .before .before .before .before .before .before .before .before .before .before .before .before .before .before .before .before .before .before .before .before .before .before .before .args in
-    (tt, λ cuts k ks. seats-full cuts (windowsOf (slices (a .edges .now) (a .words .now) (a .reals .now) (a .keys .now) (a .events .now))) (a .limit) (a .vertex-words .now) (a .e) (liveOf (a .x) k) (interval (a .b0) (a .b1)) ks (placeOf (slices (a .edges .now) (a .words .now) (a .reals .now) (a .keys .now) (a .events .now)) (a .counts .made) (a .counts .queued) (a .before) (a .vertex .now)) (lackNumber (c .before .part .given .0 .0)) ((rw (c .before .part .given .1) at (c .before .before .before .before .before .before .before .before .before .before .before .before .before .make-part .ensures .1)) cuts (a .limit) (a .vertex-words .now) (a .vertex .now) k))
+    let at-part = c .before in
+    let at-make-part = at-part .before .before .before .before .before .before .before .before .before .before .before .before in
+    let start = at-make-part .before .before .before .before .before .before .before .before .before .before .before .before .before .before .before .before .before in
+    let part = at-part .part in
+    let a = start .args in
+    let the-slices = slices (a .edges .now) (a .words .now) (a .reals .now) (a .keys .now) (a .events .now) in (
+      tt,
+      λ cuts k ks. seats-full cuts (windowsOf the-slices) (a .limit) (a .vertex-words .now) (a .e) (liveOf (a .x) k) (interval (a .b0) (a .b1)) ks
+          (placeOf the-slices (a .counts .made) (a .counts .queued) (a .before) (a .vertex .now)) (lackNumber (part .given .0 .0))
+          ((rw (part .given .1) at (at-make-part .make-part .ensures .1)) cuts (a .limit) (a .vertex-words .now) (a .vertex .now) k),
+    )
 
 same-length-12 : tie.Need-same-length-12
 same-length-12 c = search needs
@@ -96,9 +123,30 @@ same-length-17 c = search needs
 
 returns-3 : tie.Need-returns-3
 returns-3 c =
-    let a = c .before .before .before .before .before .before .before .before .before .before .before .before .before .before .before .before .before .before .before .before .before .before .before .before .before .before .before .before .before .before .before .before .before .before .before .before .before .before .before .before .before .before .before .args in
-    let r = (rw (c .before .before .before .before .before .before .before .before .before .before .before .before .before .before .part2 .given .1) at (c .before .before .before .before .before .before .before .before .before .before .before .before .before .before .before .before .before .before .before .before .before .before .before .before .before .before .make-part .ensures .1)) 0 (a .limit) (a .vertex-words .now) (a .vertex .now) 0 in
-    ((r .fits, r .linked), λ cuts k ks end d. seats-turn cuts (windowsOf (slices (a .edges .now) (a .words .now) (a .reals .now) (a .keys .now) (a .events .now))) (a .limit) (a .vertex-words .now) (a .e) (liveOf (a .x) k) (interval (a .b0) (a .b1)) ks (placeOf (slices (a .edges .now) (a .words .now) (a .reals .now) (a .keys .now) (a .events .now)) (a .counts .made) (a .counts .queued) (a .before) (a .vertex .now)) (c .before .before .before .before .before .before .before .before .before .before .before .before .before .before .before .before .before .before .before .before .before .before .before .before .before .before .before .before .before .before .before .before .seat-from .result) (c .before .before .before .before .before .before .before .before .before .before .before .before .before .before .before .before .before .before .before .before .before .before .before .before .before .before .before .before .before .before .before .before .seat-from .ensures) (placeOf (slices (c .before .before .before .before .before .before .before .before .before .before .before .before .before .before .before .before .before .before .before .before .before .before .before .before .before .before .make-part .last .0) (c .before .before .before .before .before .before .before .before .before .before .before .before .before .before .before .before .before .before .before .before .before .before .before .before .before .before .make-part .last .1 .0) (c .before .before .before .before .before .before .before .before .before .before .before .before .before .before .before .before .before .before .before .before .before .before .before .before .before .before .make-part .last .1 .1 .0) (c .before .before .before .before .before .before .before .before .before .before .before .before .before .before .before .before .before .before .before .before .before .before .before .before .before .before .make-part .last .1 .1 .1 .0) (c .before .before .before .before .before .before .before .before .before .before .before .before .before .before .before .before .before .before .before .before .before .before .before .before .before .before .make-part .last .1 .1 .1 .1 .0)) ((c .before .before .before .before .before .before .before .before .before .before .before .before .before .before .part2 .given .0 .0) .made) ((c .before .before .before .before .before .before .before .before .before .before .before .before .before .before .part2 .given .0 .0) .queued) (c .before .before .before .before .before .before .before .before .before .before .before .before .before .before .part2 .given .0 .1 .0) (a .vertex .now)) ((rw (c .before .before .before .before .before .before .before .before .before .before .before .before .before .before .part2 .given .1) at (c .before .before .before .before .before .before .before .before .before .before .before .before .before .before .before .before .before .before .before .before .before .before .before .before .before .before .make-part .ensures .1)) cuts (a .limit) (a .vertex-words .now) (a .vertex .now) k) (c .before .touched .given .0 .0) (queue (c .before .before .before .before .before .before .before .before .before .touch-ends .last .1 .1 .0) (c .before .before .before .before .before .before .before .before .before .touch-ends .last .1 .1 .1 .0)) (c .before .before .before .before .before .before .before .before .before .touch-ends .last .0) (((rw (c .before .touched .given .1) at (c .before .before .before .before .before .before .before .before .before .touch-ends .ensures)) cuts (windowsOf (slices (a .edges .now) (a .words .now) (a .reals .now) (a .keys .now) (a .events .now))) ((c .before .before .before .before .before .before .before .before .before .before .before .before .before .before .part2 .given .0 .0) .made) k (a .counts .made)) ∙ queue-more ((c .before .before .before .before .before .before .before .before .before .before .before .before .before .before .part2 .given .0 .0) .made) (c .before .touched .given .0 .0) (c .before .before .before .before .before .before .before .before .before .touch-ends .last .0) (queue (c .before .before .before .before .before .before .before .before .before .touch-ends .last .1 .1 .0) (c .before .before .before .before .before .before .before .before .before .touch-ends .last .1 .1 .1 .0))) (rw (c .before .before .before .before .before .before .before .before .before .before .before .before .before .before .part2 .given .1) at (c .before .before .before .before .before .before .before .before .before .before .before .before .before .before .before .before .before .before .before .before .before .before .before .before .before .before .make-part .ensures .0)) end d)
+    let at-touched = c .before in
+    let at-touch-ends = at-touched .before .before .before .before .before .before .before .before in
+    let at-part2 = at-touch-ends .before .before .before .before .before in
+    let at-make-part = at-part2 .before .before .before .before .before .before .before .before .before .before .before .before in
+    let at-seat-from = at-make-part .before .before .before .before .before .before in
+    let start = at-seat-from .before .before .before .before .before .before .before .before .before .before .before in
+    let touched = at-touched .touched in
+    let touch-ends = at-touch-ends .touch-ends in
+    let part2 = at-part2 .part2 in
+    let make-part = at-make-part .make-part in
+    let seat-from = at-seat-from .seat-from in
+    let a = start .args in
+    let r = (rw (part2 .given .1) at (make-part .ensures .1)) 0 (a .limit) (a .vertex-words .now) (a .vertex .now) 0 in
+    let the-queue = queue (touch-ends .last .1 .1 .0) (touch-ends .last .1 .1 .1 .0) in
+    let the-windowsOf = windowsOf (slices (a .edges .now) (a .words .now) (a .reals .now) (a .keys .now) (a .events .now)) in (
+      (r .fits, r .linked),
+      λ cuts k ks end d. seats-turn cuts the-windowsOf (a .limit) (a .vertex-words .now) (a .e) (liveOf (a .x) k) (interval (a .b0) (a .b1)) ks
+          (placeOf (slices (a .edges .now) (a .words .now) (a .reals .now) (a .keys .now) (a .events .now)) (a .counts .made) (a .counts .queued) (a .before) (a .vertex .now)) (seat-from .result)
+          (seat-from .ensures) (placeOf (slices (make-part .last .0) (make-part .last .1 .0) (make-part .last .1 .1 .0) (make-part .last .1 .1 .1 .0) (make-part .last .1 .1 .1 .1 .0))
+          ((part2 .given .0 .0) .made) ((part2 .given .0 .0) .queued) (part2 .given .0 .1 .0) (a .vertex .now))
+          ((rw (part2 .given .1) at (make-part .ensures .1)) cuts (a .limit) (a .vertex-words .now) (a .vertex .now) k) (touched .given .0 .0) the-queue (touch-ends .last .0)
+          (((rw (touched .given .1) at (touch-ends .ensures)) cuts the-windowsOf ((part2 .given .0 .0) .made) k (a .counts .made)) ∙ queue-more ((part2 .given .0 .0) .made) (touched .given .0 .0)
+          (touch-ends .last .0) the-queue) (rw (part2 .given .1) at (make-part .ensures .0)) end d,
+    )
 
 pub keep-part-spec : {M : Type 1} → statement M
 keep-part-spec =

@@ -38,13 +38,31 @@ loop-less c = omega (arith, c .before .before .before .loop-test .taken)
 
 loop-again : tie.Need-loop-again Inv-loop μ-loop
 loop-again c =
-    let a = c .before .before .before .before .before .before .before .before .before .before .before .before .before .args in
-    keep-skip (a .limit) (a .vertex-words .now) (a .e) (a .x) (a .tiny) (pairs (a .k) (a .keep .now)) (slices (a .edges .now) (a .words .now) (a .reals .now) (a .keys .now) (a .events .now)) (a .vertex .now) (a .counts .made) (a .counts .queued) (a .before) (slices (c .before .before .before .before .loop .edges) (c .before .before .before .before .loop .words) (c .before .before .before .before .loop .reals) (c .before .before .before .before .loop .keys) (c .before .before .before .before .loop .events)) (c .before .before .before .before .loop .vertex) (c .before .before .before .before .loop .now .made) (c .before .before .before .before .loop .now .queued) (c .before .before .before .before .loop .last) (c .before .before .before .before .loop .i) (c .before .before .before .before .loop .inv) (c .before .before .from-of .result) (c .before .to-of .result) (here-is (drop (c .before .before .before .before .loop .i) (pairs (a .k) (a .keep .now))) (drop (suc (c .before .before .before .before .loop .i)) (pairs (a .k) (a .keep .now))) (c .before .before .from-of .result) (c .before .to-of .result) (getD (a .keep .now) (c .before .before .before .before .loop .i + c .before .before .before .before .loop .i) nan) (getD (a .keep .now) (suc (c .before .before .before .before .loop .i + c .before .before .before .before .loop .i)) nan) (pairs-from (a .keep .now) (a .k) (c .before .before .before .before .loop .i) (c .before .before .before .loop-test .taken)) (c .before .before .from-of .ensures) (c .before .to-of .ensures)) (c .if1 .taken)
+    let at-to-of = c .before in
+    let at-from-of = at-to-of .before in
+    let at-loop-test = at-from-of .before in
+    let at-loop = at-loop-test .before in
+    let start = at-loop .before .before .before .before .before .before .before .before .before in
+    let to-of = at-to-of .to-of in
+    let from-of = at-from-of .from-of in
+    let loop = at-loop .loop in
+    let a = start .args in
+    keep-skip (a .limit) (a .vertex-words .now) (a .e) (a .x) (a .tiny) (pairs (a .k) (a .keep .now))
+    (slices (a .edges .now) (a .words .now) (a .reals .now) (a .keys .now) (a .events .now)) (a .vertex .now) (a .counts .made) (a .counts .queued) (a .before)
+    (slices (loop .edges) (loop .words) (loop .reals) (loop .keys) (loop .events)) (loop .vertex) (loop .now .made) (loop .now .queued) (loop .last) (loop .i) (loop .inv) (from-of .result)
+    (to-of .result) (here-is (drop (loop .i) (pairs (a .k) (a .keep .now))) (drop (suc (loop .i)) (pairs (a .k) (a .keep .now))) (from-of .result) (to-of .result)
+    (getD (a .keep .now) (loop .i + loop .i) nan) (getD (a .keep .now) (suc (loop .i + loop .i)) nan) (pairs-from (a .keep .now) (a .k) (loop .i) (at-loop-test .loop-test .taken))
+    (from-of .ensures) (to-of .ensures)) (c .if1 .taken)
 
 keep-part-requires : tie.Need-keep-part-requires Inv-loop μ-loop
 keep-part-requires c κs =
-    let a = c .before .before .before .before .before .before .before .before .before .before .before .before .before .before .before .before .before .before .before .args in
-    keep-ready (a .limit) (a .vertex-words .now) (a .e) (a .x) (a .tiny) (pairs (a .k) (a .keep .now)) (slices (a .edges .now) (a .words .now) (a .reals .now) (a .keys .now) (a .events .now)) (a .vertex .now) (a .counts .made) (a .counts .queued) (a .before) (slices (c .before .before .before .before .before .before .before .before .before .before .loop .edges) (c .before .before .before .before .before .before .before .before .before .before .loop .words) (c .before .before .before .before .before .before .before .before .before .before .loop .reals) (c .before .before .before .before .before .before .before .before .before .before .loop .keys) (c .before .before .before .before .before .before .before .before .before .before .loop .events)) (c .before .before .before .before .before .before .before .before .before .before .loop .vertex) (c .before .before .before .before .before .before .before .before .before .before .loop .now .made) (c .before .before .before .before .before .before .before .before .before .before .loop .now .queued) (c .before .before .before .before .before .before .before .before .before .before .loop .last) (c .before .before .before .before .before .before .before .before .before .before .loop .i) (c .before .before .before .before .before .before .before .before .before .before .loop .inv)
+    let at-loop = c .before .before .before .before .before .before .before .before .before .before in
+    let start = at-loop .before .before .before .before .before .before .before .before .before in
+    let loop = at-loop .loop in
+    let a = start .args in
+    keep-ready (a .limit) (a .vertex-words .now) (a .e) (a .x) (a .tiny) (pairs (a .k) (a .keep .now))
+    (slices (a .edges .now) (a .words .now) (a .reals .now) (a .keys .now) (a .events .now)) (a .vertex .now) (a .counts .made) (a .counts .queued) (a .before)
+    (slices (loop .edges) (loop .words) (loop .reals) (loop .keys) (loop .events)) (loop .vertex) (loop .now .made) (loop .now .queued) (loop .last) (loop .i) (loop .inv)
 
 enum-known-part : tie.Need-enum-known-part Inv-loop μ-loop
 enum-known-part c = search needs
@@ -56,35 +74,91 @@ same-length-2 : tie.Need-same-length-2 Inv-loop μ-loop
 same-length-2 c = c .before .before .before .before .before .before .before .before .before .before .before .before .before .before .before .keep-part .kept .1 .0 ∙ c .before .before .before .before .before .before .before .before .before .before .before .before .before .before .before .before .before .before .before .before .before .before .before .before .before .before .loop .inv .same .words
 
 same-length-3 : tie.Need-same-length-3 Inv-loop μ-loop
-same-length-3 c = c .before .before .before .before .before .before .before .before .before .before .before .before .before .before .before .keep-part .kept .1 .1 .0 ∙ c .before .before .before .before .before .before .before .before .before .before .before .before .before .before .before .before .before .before .before .before .before .before .before .before .before .before .loop .inv .same .reals
+same-length-3 c =
+    let at-keep-part = c .before .before .before .before .before .before .before .before .before .before .before .before .before .before .before in
+    let at-loop = at-keep-part .before .before .before .before .before .before .before .before .before .before .before in
+    at-keep-part .keep-part .kept .1 .1 .0 ∙ at-loop .loop .inv .same .reals
 
 same-length-4 : tie.Need-same-length-4 Inv-loop μ-loop
-same-length-4 c = c .before .before .before .before .before .before .before .before .before .before .before .before .before .before .before .keep-part .kept .1 .1 .1 .0 ∙ c .before .before .before .before .before .before .before .before .before .before .before .before .before .before .before .before .before .before .before .before .before .before .before .before .before .before .loop .inv .same .keys
+same-length-4 c =
+    let at-keep-part = c .before .before .before .before .before .before .before .before .before .before .before .before .before .before .before in
+    let at-loop = at-keep-part .before .before .before .before .before .before .before .before .before .before .before in
+    at-keep-part .keep-part .kept .1 .1 .1 .0 ∙ at-loop .loop .inv .same .keys
 
 same-length-5 : tie.Need-same-length-5 Inv-loop μ-loop
-same-length-5 c = c .before .before .before .before .before .before .before .before .before .before .before .before .before .before .before .keep-part .kept .1 .1 .1 .1 .0 ∙ c .before .before .before .before .before .before .before .before .before .before .before .before .before .before .before .before .before .before .before .before .before .before .before .before .before .before .loop .inv .same .events
+same-length-5 c =
+    let at-keep-part = c .before .before .before .before .before .before .before .before .before .before .before .before .before .before .before in
+    let at-loop = at-keep-part .before .before .before .before .before .before .before .before .before .before .before in
+    at-keep-part .keep-part .kept .1 .1 .1 .1 .0 ∙ at-loop .loop .inv .same .events
 
 same-length-6 : tie.Need-same-length-6 Inv-loop μ-loop
-same-length-6 c = c .before .before .before .before .before .before .before .before .before .before .before .before .before .before .before .keep-part .kept .1 .1 .1 .1 .1 .0 ∙ c .before .before .before .before .before .before .before .before .before .before .before .before .before .before .before .before .before .before .before .before .before .before .before .before .before .before .loop .inv .same-vertex
+same-length-6 c =
+    let at-keep-part = c .before .before .before .before .before .before .before .before .before .before .before .before .before .before .before in
+    let at-loop = at-keep-part .before .before .before .before .before .before .before .before .before .before .before in
+    at-keep-part .keep-part .kept .1 .1 .1 .1 .1 .0 ∙ at-loop .loop .inv .same-vertex
 
 returns : tie.Need-returns Inv-loop μ-loop
 returns c =
-    let a = c .before .before .before .before .before .before .before .before .before .before .before .before .before .before .before .before .before .before .before .before .before .before .before .before .before .before .before .before .before .before .before .before .before .before .before .args in
-    (tt, keep-stopped (a .limit) (a .vertex-words .now) (a .e) (a .x) (a .tiny) (pairs (a .k) (a .keep .now)) (slices (a .edges .now) (a .words .now) (a .reals .now) (a .keys .now) (a .events .now)) (a .vertex .now) (a .counts .made) (a .counts .queued) (a .before) (slices (c .before .before .before .before .before .before .before .before .before .before .before .before .before .before .before .before .before .before .before .before .before .before .before .before .before .before .loop .edges) (c .before .before .before .before .before .before .before .before .before .before .before .before .before .before .before .before .before .before .before .before .before .before .before .before .before .before .loop .words) (c .before .before .before .before .before .before .before .before .before .before .before .before .before .before .before .before .before .before .before .before .before .before .before .before .before .before .loop .reals) (c .before .before .before .before .before .before .before .before .before .before .before .before .before .before .before .before .before .before .before .before .before .before .before .before .before .before .loop .keys) (c .before .before .before .before .before .before .before .before .before .before .before .before .before .before .before .before .before .before .before .before .before .before .before .before .before .before .loop .events)) (c .before .before .before .before .before .before .before .before .before .before .before .before .before .before .before .before .before .before .before .before .before .before .before .before .before .before .loop .vertex) (c .before .before .before .before .before .before .before .before .before .before .before .before .before .before .before .before .before .before .before .before .before .before .before .before .before .before .loop .now .made) (c .before .before .before .before .before .before .before .before .before .before .before .before .before .before .before .before .before .before .before .before .before .before .before .before .before .before .loop .now .queued) (c .before .before .before .before .before .before .before .before .before .before .before .before .before .before .before .before .before .before .before .before .before .before .before .before .before .before .loop .last) (c .before .before .before .before .before .before .before .before .before .before .before .before .before .before .before .before .before .before .before .before .before .before .before .before .before .before .loop .i) (c .before .before .before .before .before .before .before .before .before .before .before .before .before .before .before .before .before .before .before .before .before .before .before .before .before .before .loop .inv) (c .before .before .before .before .before .before .before .before .before .before .before .before .before .before .before .before .before .before .before .before .before .before .before .before .from-of .result) (c .before .before .before .before .before .before .before .before .before .before .before .before .before .before .before .before .before .before .before .before .before .before .before .to-of .result) (here-is (drop (c .before .before .before .before .before .before .before .before .before .before .before .before .before .before .before .before .before .before .before .before .before .before .before .before .before .before .loop .i) (pairs (a .k) (a .keep .now))) (drop (suc (c .before .before .before .before .before .before .before .before .before .before .before .before .before .before .before .before .before .before .before .before .before .before .before .before .before .before .loop .i)) (pairs (a .k) (a .keep .now))) (c .before .before .before .before .before .before .before .before .before .before .before .before .before .before .before .before .before .before .before .before .before .before .before .before .from-of .result) (c .before .before .before .before .before .before .before .before .before .before .before .before .before .before .before .before .before .before .before .before .before .before .before .to-of .result) (getD (a .keep .now) (c .before .before .before .before .before .before .before .before .before .before .before .before .before .before .before .before .before .before .before .before .before .before .before .before .before .before .loop .i + c .before .before .before .before .before .before .before .before .before .before .before .before .before .before .before .before .before .before .before .before .before .before .before .before .before .before .loop .i) nan) (getD (a .keep .now) (suc (c .before .before .before .before .before .before .before .before .before .before .before .before .before .before .before .before .before .before .before .before .before .before .before .before .before .before .loop .i + c .before .before .before .before .before .before .before .before .before .before .before .before .before .before .before .before .before .before .before .before .before .before .before .before .before .before .loop .i)) nan) (pairs-from (a .keep .now) (a .k) (c .before .before .before .before .before .before .before .before .before .before .before .before .before .before .before .before .before .before .before .before .before .before .before .before .before .before .loop .i) (c .before .before .before .before .before .before .before .before .before .before .before .before .before .before .before .before .before .before .before .before .before .before .before .before .before .loop-test .taken)) (c .before .before .before .before .before .before .before .before .before .before .before .before .before .before .before .before .before .before .before .before .before .before .before .before .from-of .ensures) (c .before .before .before .before .before .before .before .before .before .before .before .before .before .before .before .before .before .before .before .before .before .before .before .to-of .ensures)) (c .before .before .before .before .before .before .before .before .before .before .before .before .before .before .before .before .before .before .before .before .before .before .if1 .left) (lackNumber (c .before .part .given .0 .0)) (rw (c .before .part .given .1) at (c .before .before .before .before .before .before .before .before .before .before .before .before .before .before .before .keep-part .ensures .1)))
+    let at-part = c .before in
+    let at-keep-part = at-part .before .before .before .before .before .before .before .before .before .before .before .before .before .before in
+    let at-if1 = at-keep-part .before .before .before .before .before .before .before in
+    let at-to-of = at-if1 .before in
+    let at-from-of = at-to-of .before in
+    let at-loop-test = at-from-of .before in
+    let at-loop = at-loop-test .before in
+    let start = at-loop .before .before .before .before .before .before .before .before .before in
+    let part = at-part .part in
+    let to-of = at-to-of .to-of in
+    let from-of = at-from-of .from-of in
+    let loop = at-loop .loop in
+    let a = start .args in (
+      tt,
+      keep-stopped (a .limit) (a .vertex-words .now) (a .e) (a .x) (a .tiny) (pairs (a .k) (a .keep .now))
+          (slices (a .edges .now) (a .words .now) (a .reals .now) (a .keys .now) (a .events .now)) (a .vertex .now) (a .counts .made) (a .counts .queued) (a .before)
+          (slices (loop .edges) (loop .words) (loop .reals) (loop .keys) (loop .events)) (loop .vertex) (loop .now .made) (loop .now .queued) (loop .last) (loop .i) (loop .inv) (from-of .result)
+          (to-of .result) (here-is (drop (loop .i) (pairs (a .k) (a .keep .now))) (drop (suc (loop .i)) (pairs (a .k) (a .keep .now))) (from-of .result) (to-of .result)
+          (getD (a .keep .now) (loop .i + loop .i) nan) (getD (a .keep .now) (suc (loop .i + loop .i)) nan) (pairs-from (a .keep .now) (a .k) (loop .i) (at-loop-test .loop-test .taken))
+          (from-of .ensures) (to-of .ensures)) (at-if1 .if1 .left) (lackNumber (part .given .0 .0)) (rw (part .given .1) at (at-keep-part .keep-part .ensures .1)),
+    )
 
 enum-known-part-2 : tie.Need-enum-known-part-2 Inv-loop μ-loop
 enum-known-part-2 c = search needs
 
 add-i-2 : tie.Need-add-i-2 Inv-loop μ-loop
-add-i-2 c = omega (arith, c .before .before .before .before .before .before .before .before .before .before .before .before .before .before .before .before .before .before .before .before .before .before .before .before .before .loop-test .taken, c .before .before .before .before .before .before .before .before .before .before .before .before .before .before .before .before .before .before .before .before .before .before .before .before .before .before .before .before .before .before .before .before .before .before .before .fits .k)
+add-i-2 c =
+    let at-loop-test = c .before .before .before .before .before .before .before .before .before .before .before .before .before .before .before .before .before .before .before .before .before .before .before .before .before in
+    let at-fits = at-loop-test .before .before .before .before .before .before .before .before .before .before in
+    omega (arith, at-loop-test .loop-test .taken, at-fits .fits .k)
 
 loop-less-2 : tie.Need-loop-less-2 Inv-loop μ-loop
 loop-less-2 c = omega (arith, c .before .before .before .before .before .before .before .before .before .before .before .before .before .before .before .before .before .before .before .before .before .before .before .before .before .loop-test .taken)
 
 loop-again-2 : tie.Need-loop-again-2 Inv-loop μ-loop
 loop-again-2 c =
-    let a = c .before .before .before .before .before .before .before .before .before .before .before .before .before .before .before .before .before .before .before .before .before .before .before .before .before .before .before .before .before .before .before .before .before .before .before .args in
-    keep-next (a .limit) (a .vertex-words .now) (a .e) (a .x) (a .tiny) (pairs (a .k) (a .keep .now)) (slices (a .edges .now) (a .words .now) (a .reals .now) (a .keys .now) (a .events .now)) (a .vertex .now) (a .counts .made) (a .counts .queued) (a .before) (slices (c .before .before .before .before .before .before .before .before .before .before .before .before .before .before .before .before .before .before .before .before .before .before .before .before .before .before .loop .edges) (c .before .before .before .before .before .before .before .before .before .before .before .before .before .before .before .before .before .before .before .before .before .before .before .before .before .before .loop .words) (c .before .before .before .before .before .before .before .before .before .before .before .before .before .before .before .before .before .before .before .before .before .before .before .before .before .before .loop .reals) (c .before .before .before .before .before .before .before .before .before .before .before .before .before .before .before .before .before .before .before .before .before .before .before .before .before .before .loop .keys) (c .before .before .before .before .before .before .before .before .before .before .before .before .before .before .before .before .before .before .before .before .before .before .before .before .before .before .loop .events)) (c .before .before .before .before .before .before .before .before .before .before .before .before .before .before .before .before .before .before .before .before .before .before .before .before .before .before .loop .vertex) (c .before .before .before .before .before .before .before .before .before .before .before .before .before .before .before .before .before .before .before .before .before .before .before .before .before .before .loop .now .made) (c .before .before .before .before .before .before .before .before .before .before .before .before .before .before .before .before .before .before .before .before .before .before .before .before .before .before .loop .now .queued) (c .before .before .before .before .before .before .before .before .before .before .before .before .before .before .before .before .before .before .before .before .before .before .before .before .before .before .loop .last) (c .before .before .before .before .before .before .before .before .before .before .before .before .before .before .before .before .before .before .before .before .before .before .before .before .before .before .loop .i) (c .before .before .before .before .before .before .before .before .before .before .before .before .before .before .before .before .before .before .before .before .before .before .before .before .before .before .loop .inv) (c .before .before .before .before .before .before .before .before .before .before .before .before .before .before .before .before .before .before .before .before .before .before .before .before .from-of .result) (c .before .before .before .before .before .before .before .before .before .before .before .before .before .before .before .before .before .before .before .before .before .before .before .to-of .result) (here-is (drop (c .before .before .before .before .before .before .before .before .before .before .before .before .before .before .before .before .before .before .before .before .before .before .before .before .before .before .loop .i) (pairs (a .k) (a .keep .now))) (drop (suc (c .before .before .before .before .before .before .before .before .before .before .before .before .before .before .before .before .before .before .before .before .before .before .before .before .before .before .loop .i)) (pairs (a .k) (a .keep .now))) (c .before .before .before .before .before .before .before .before .before .before .before .before .before .before .before .before .before .before .before .before .before .before .before .before .from-of .result) (c .before .before .before .before .before .before .before .before .before .before .before .before .before .before .before .before .before .before .before .before .before .before .before .to-of .result) (getD (a .keep .now) (c .before .before .before .before .before .before .before .before .before .before .before .before .before .before .before .before .before .before .before .before .before .before .before .before .before .before .loop .i + c .before .before .before .before .before .before .before .before .before .before .before .before .before .before .before .before .before .before .before .before .before .before .before .before .before .before .loop .i) nan) (getD (a .keep .now) (suc (c .before .before .before .before .before .before .before .before .before .before .before .before .before .before .before .before .before .before .before .before .before .before .before .before .before .before .loop .i + c .before .before .before .before .before .before .before .before .before .before .before .before .before .before .before .before .before .before .before .before .before .before .before .before .before .before .loop .i)) nan) (pairs-from (a .keep .now) (a .k) (c .before .before .before .before .before .before .before .before .before .before .before .before .before .before .before .before .before .before .before .before .before .before .before .before .before .before .loop .i) (c .before .before .before .before .before .before .before .before .before .before .before .before .before .before .before .before .before .before .before .before .before .before .before .before .before .loop-test .taken)) (c .before .before .before .before .before .before .before .before .before .before .before .before .before .before .before .before .before .before .before .before .before .before .before .before .from-of .ensures) (c .before .before .before .before .before .before .before .before .before .before .before .before .before .before .before .before .before .before .before .before .before .before .before .to-of .ensures)) (c .before .before .before .before .before .before .before .before .before .before .before .before .before .before .before .before .before .before .before .before .before .before .if1 .left) (slices (c .before .before .before .before .before .before .before .before .before .before .before .before .before .before .before .keep-part .last .0) (c .before .before .before .before .before .before .before .before .before .before .before .before .before .before .before .keep-part .last .1 .0) (c .before .before .before .before .before .before .before .before .before .before .before .before .before .before .before .keep-part .last .1 .1 .0) (c .before .before .before .before .before .before .before .before .before .before .before .before .before .before .before .keep-part .last .1 .1 .1 .0) (c .before .before .before .before .before .before .before .before .before .before .before .before .before .before .before .keep-part .last .1 .1 .1 .1 .0)) (c .before .before .before .before .before .before .before .before .before .before .before .before .before .before .before .keep-part .last .1 .1 .1 .1 .1 .0) (c .before .part2 .given .0 .0 .made) (c .before .part2 .given .0 .0 .queued) (c .before .part2 .given .0 .1 .0) (record { edges = c .before .before .before .before .before .before .before .before .before .before .before .before .before .before .before .keep-part .kept .0; words = c .before .before .before .before .before .before .before .before .before .before .before .before .before .before .before .keep-part .kept .1 .0; reals = c .before .before .before .before .before .before .before .before .before .before .before .before .before .before .before .keep-part .kept .1 .1 .0; keys = c .before .before .before .before .before .before .before .before .before .before .before .before .before .before .before .keep-part .kept .1 .1 .1 .0; events = c .before .before .before .before .before .before .before .before .before .before .before .before .before .before .before .keep-part .kept .1 .1 .1 .1 .0 }) (c .before .before .before .before .before .before .before .before .before .before .before .before .before .before .before .keep-part .kept .1 .1 .1 .1 .1 .0) (rw (c .before .part2 .given .1) at (c .before .before .before .before .before .before .before .before .before .before .before .before .before .before .before .keep-part .ensures .0)) (rw (c .before .part2 .given .1) at (c .before .before .before .before .before .before .before .before .before .before .before .before .before .before .before .keep-part .ensures .1))
+    let at-part2 = c .before in
+    let at-keep-part = at-part2 .before .before .before .before .before .before .before .before .before .before .before .before .before .before in
+    let at-if1 = at-keep-part .before .before .before .before .before .before .before in
+    let at-to-of = at-if1 .before in
+    let at-from-of = at-to-of .before in
+    let at-loop-test = at-from-of .before in
+    let at-loop = at-loop-test .before in
+    let start = at-loop .before .before .before .before .before .before .before .before .before in
+    let part2 = at-part2 .part2 in
+    let keep-part = at-keep-part .keep-part in
+    let to-of = at-to-of .to-of in
+    let from-of = at-from-of .from-of in
+    let loop = at-loop .loop in
+    let a = start .args in
+    keep-next (a .limit) (a .vertex-words .now) (a .e) (a .x) (a .tiny) (pairs (a .k) (a .keep .now))
+    (slices (a .edges .now) (a .words .now) (a .reals .now) (a .keys .now) (a .events .now)) (a .vertex .now) (a .counts .made) (a .counts .queued) (a .before)
+    (slices (loop .edges) (loop .words) (loop .reals) (loop .keys) (loop .events)) (loop .vertex) (loop .now .made) (loop .now .queued) (loop .last) (loop .i) (loop .inv) (from-of .result)
+    (to-of .result) (here-is (drop (loop .i) (pairs (a .k) (a .keep .now))) (drop (suc (loop .i)) (pairs (a .k) (a .keep .now))) (from-of .result) (to-of .result)
+    (getD (a .keep .now) (loop .i + loop .i) nan) (getD (a .keep .now) (suc (loop .i + loop .i)) nan) (pairs-from (a .keep .now) (a .k) (loop .i) (at-loop-test .loop-test .taken))
+    (from-of .ensures) (to-of .ensures)) (at-if1 .if1 .left)
+    (slices (keep-part .last .0) (keep-part .last .1 .0) (keep-part .last .1 .1 .0) (keep-part .last .1 .1 .1 .0) (keep-part .last .1 .1 .1 .1 .0)) (keep-part .last .1 .1 .1 .1 .1 .0)
+    (part2 .given .0 .0 .made) (part2 .given .0 .0 .queued) (part2 .given .0 .1 .0)
+    (record { edges = keep-part .kept .0; words = keep-part .kept .1 .0; reals = keep-part .kept .1 .1 .0; keys = keep-part .kept .1 .1 .1 .0; events = keep-part .kept .1 .1 .1 .1 .0 })
+    (keep-part .kept .1 .1 .1 .1 .1 .0) (rw (part2 .given .1) at (keep-part .ensures .0)) (rw (part2 .given .1) at (keep-part .ensures .1))
 
 same-length-7 : tie.Need-same-length-7 Inv-loop μ-loop
 same-length-7 c = c .before .loop .inv .same .edges
@@ -106,8 +180,16 @@ same-length-12 c = c .before .loop .inv .same-vertex
 
 returns-2 : tie.Need-returns-2 Inv-loop μ-loop
 returns-2 c =
-    let a = c .before .before .before .before .before .before .before .before .before .before .args in
-    ((c .before .loop .inv .fits, c .before .loop .inv .linked), keep-over (a .limit) (a .vertex-words .now) (a .e) (a .x) (a .tiny) (pairs (a .k) (a .keep .now)) (slices (a .edges .now) (a .words .now) (a .reals .now) (a .keys .now) (a .events .now)) (a .vertex .now) (a .counts .made) (a .counts .queued) (a .before) (slices (c .before .loop .edges) (c .before .loop .words) (c .before .loop .reals) (c .before .loop .keys) (c .before .loop .events)) (c .before .loop .vertex) (c .before .loop .now .made) (c .before .loop .now .queued) (c .before .loop .last) (c .before .loop .i) (c .before .loop .inv) (pairs-past (a .keep .now) (a .k) (c .before .loop .i) (c .loop-test .left)))
+    let at-loop = c .before in
+    let start = at-loop .before .before .before .before .before .before .before .before .before in
+    let loop = at-loop .loop in
+    let a = start .args in (
+      (loop .inv .fits, loop .inv .linked),
+      keep-over (a .limit) (a .vertex-words .now) (a .e) (a .x) (a .tiny) (pairs (a .k) (a .keep .now))
+          (slices (a .edges .now) (a .words .now) (a .reals .now) (a .keys .now) (a .events .now)) (a .vertex .now) (a .counts .made) (a .counts .queued) (a .before)
+          (slices (loop .edges) (loop .words) (loop .reals) (loop .keys) (loop .events)) (loop .vertex) (loop .now .made) (loop .now .queued) (loop .last) (loop .i) (loop .inv)
+          (pairs-past (a .keep .now) (a .k) (loop .i) (c .loop-test .left)),
+    )
 
 pub keep-parts-spec : {M : Type 1} → statement M
 keep-parts-spec =

@@ -13,8 +13,15 @@ refusal-requires c κs = search needs
 
 returns : tie.Need-returns
 returns c =
-    let a = c .before .before .before .before .before .before .before .before .before .before .before .before .before .before .before .before .args in
-    candidate-refused (a .limit) (a .vertex-words .now) (a .ends .now) (a .lens .now) (a .m) (slices (a .edges .now) (a .words .now) (a .reals .now) (a .keys .now) (a .events .now) (a .vertex .now)) (cuts (a .pts .now) (a .out .now) (a .keep .now) (a .next .now)) (a .made) (a .queued) (a .id) (a .w) (c .before .before .read-f64 .result) (c .before .before .read-f64 .ensures) (c .before .refusal .result) (c .before .refusal .ensures) (c .if1 .taken)
+    let at-refusal = c .before in
+    let at-read-f64 = at-refusal .before in
+    let start = at-read-f64 .before .before .before .before .before .before .before .before .before .before .before .before .before .before in
+    let refusal = at-refusal .refusal in
+    let read-f64 = at-read-f64 .read-f64 in
+    let a = start .args in
+    candidate-refused (a .limit) (a .vertex-words .now) (a .ends .now) (a .lens .now) (a .m)
+    (slices (a .edges .now) (a .words .now) (a .reals .now) (a .keys .now) (a .events .now) (a .vertex .now)) (cuts (a .pts .now) (a .out .now) (a .keep .now) (a .next .now)) (a .made)
+    (a .queued) (a .id) (a .w) (read-f64 .result) (read-f64 .ensures) (refusal .result) (refusal .ensures) (c .if1 .taken)
 
 read-u32-requires : tie.Need-read-u32-requires
 read-u32-requires c κs = search needs
@@ -24,8 +31,19 @@ read-u32-requires-2 c κs = search needs
 
 add-requires : tie.Need-add-requires
 add-requires c κs =
-    let a = c .before .before .before .before .before .before .before .before .before .before .before .before .before .before .before .before .before .before .before .before .before .before .before .before .before .before .before .before .args in
-    (candidate-ready (a .limit) (a .vertex-words .now) (a .ends .now) (a .lens .now) (a .m) (slices (a .edges .now) (a .words .now) (a .reals .now) (a .keys .now) (a .events .now) (a .vertex .now)) (cuts (a .pts .now) (a .out .now) (a .keep .now) (a .next .now)) (a .made) (a .queued) (a .id) (a .w) (c .before .before .before .before .before .before .before .before .before .before .before .before .before .before .read-f64 .result) (c .before .before .before .before .before .before .before .before .before .before .before .before .before .before .read-f64 .ensures) (c .before .before .before .before .before .before .before .before .before .before .before .before .before .refusal .result) (c .before .before .before .before .before .before .before .before .before .before .before .before .before .refusal .ensures) (c .before .before .before .before .before .before .before .before .before .before .before .before .if1 .left) (c .before .before .before .before .before .before .before .before .before .before .before .before .before .before .before .before .before .before .before .before .before .before .before .before .before .before .before .before .pre), candidate-sizes (a .m) (a .made) (slices (a .edges .now) (a .words .now) (a .reals .now) (a .keys .now) (a .events .now) (a .vertex .now)) (cuts (a .pts .now) (a .out .now) (a .keep .now) (a .next .now)) (c .before .before .before .before .before .before .before .before .before .before .before .before .before .before .before .before .before .before .before .before .before .before .before .before .before .before .before .before .pre))
+    let at-if1 = c .before .before .before .before .before .before .before .before .before .before .before .before in
+    let at-refusal = at-if1 .before in
+    let at-read-f64 = at-refusal .before in
+    let start = at-read-f64 .before .before .before .before .before .before .before .before .before .before .before .before .before .before in
+    let refusal = at-refusal .refusal in
+    let read-f64 = at-read-f64 .read-f64 in
+    let a = start .args in
+    let the-cuts = cuts (a .pts .now) (a .out .now) (a .keep .now) (a .next .now) in
+    let the-slices = slices (a .edges .now) (a .words .now) (a .reals .now) (a .keys .now) (a .events .now) (a .vertex .now) in (
+      candidate-ready (a .limit) (a .vertex-words .now) (a .ends .now) (a .lens .now) (a .m) the-slices the-cuts (a .made) (a .queued) (a .id) (a .w) (read-f64 .result) (read-f64 .ensures)
+          (refusal .result) (refusal .ensures) (at-if1 .if1 .left) (start .pre),
+      candidate-sizes (a .m) (a .made) the-slices the-cuts (start .pre),
+    )
 
 enum-known-added : tie.Need-enum-known-added
 enum-known-added c = search needs
@@ -68,8 +86,28 @@ same-length-10 c = search needs
 
 returns-2 : tie.Need-returns-2
 returns-2 c =
-    let a = c .before .before .before .before .before .before .before .before .before .before .before .before .before .before .before .before .before .before .before .before .before .before .before .before .before .before .before .before .before .before .before .before .before .before .before .before .before .before .before .before .before .before .before .before .before .before .before .before .before .before .before .before .before .args in
-    candidate-stopped (a .limit) (a .vertex-words .now) (a .ends .now) (a .lens .now) (a .m) (slices (a .edges .now) (a .words .now) (a .reals .now) (a .keys .now) (a .events .now) (a .vertex .now)) (cuts (a .pts .now) (a .out .now) (a .keep .now) (a .next .now)) (a .made) (a .queued) (a .id) (a .w) (c .before .before .before .before .before .before .before .before .before .before .before .before .before .before .before .before .before .before .before .before .before .before .before .before .before .before .before .before .before .before .before .before .before .before .before .before .before .before .before .read-f64 .result) (c .before .before .before .before .before .before .before .before .before .before .before .before .before .before .before .before .before .before .before .before .before .before .before .before .before .before .before .before .before .before .before .before .before .before .before .before .before .before .before .read-f64 .ensures) (c .before .before .before .before .before .before .before .before .before .before .before .before .before .before .before .before .before .before .before .before .before .before .before .before .before .before .before .before .before .before .before .before .before .before .before .before .before .before .refusal .result) (c .before .before .before .before .before .before .before .before .before .before .before .before .before .before .before .before .before .before .before .before .before .before .before .before .before .before .before .before .before .before .before .before .before .before .before .before .before .before .refusal .ensures) (c .before .before .before .before .before .before .before .before .before .before .before .before .before .before .before .before .before .before .before .before .before .before .before .before .before .before .before .before .before .before .before .before .before .before .before .before .before .if1 .left) (c .before .before .before .before .before .before .before .before .before .before .before .before .before .before .before .before .before .before .before .before .before .before .before .before .before .before .before .before .before .before .before .before .before .before .before .before .read-u32 .result) (c .before .before .before .before .before .before .before .before .before .before .before .before .before .before .before .before .before .before .before .before .before .before .before .before .before .before .before .before .before .before .before .before .before .before .before .read-u322 .result) (c .before .before .before .before .before .before .before .before .before .before .before .before .before .before .before .before .before .before .before .before .before .before .before .before .before .before .before .before .before .before .before .before .before .before .before .before .read-u32 .ensures) (c .before .before .before .before .before .before .before .before .before .before .before .before .before .before .before .before .before .before .before .before .before .before .before .before .before .before .before .before .before .before .before .before .before .before .before .read-u322 .ensures) (c .before .before .added .given .0 .0) (c .lack-number .result) (c .lack-number .ensures) (slices (c .before .before .before .before .before .before .before .before .before .before .before .before .before .before .before .before .before .before .before .before .before .before .before .before .add .last .0) (c .before .before .before .before .before .before .before .before .before .before .before .before .before .before .before .before .before .before .before .before .before .before .before .before .add .last .1 .0) (c .before .before .before .before .before .before .before .before .before .before .before .before .before .before .before .before .before .before .before .before .before .before .before .before .add .last .1 .1 .0) (c .before .before .before .before .before .before .before .before .before .before .before .before .before .before .before .before .before .before .before .before .before .before .before .before .add .last .1 .1 .1 .0) (c .before .before .before .before .before .before .before .before .before .before .before .before .before .before .before .before .before .before .before .before .before .before .before .before .add .last .1 .1 .1 .1 .0) (c .before .before .before .before .before .before .before .before .before .before .before .before .before .before .before .before .before .before .before .before .before .before .before .before .add .last .1 .1 .1 .1 .1 .0)) (rw (c .before .before .added .given .1) at (c .before .before .before .before .before .before .before .before .before .before .before .before .before .before .before .before .before .before .before .before .before .before .before .before .add .ensures .adds))
+    let at-added = c .before .before in
+    let at-add = at-added .before .before .before .before .before .before .before .before .before .before .before .before .before .before .before .before .before .before .before .before .before .before in
+    let at-read-u322 = at-add .before .before .before .before .before .before .before .before .before .before .before in
+    let at-read-u32 = at-read-u322 .before in
+    let at-if1 = at-read-u32 .before in
+    let at-refusal = at-if1 .before in
+    let at-read-f64 = at-refusal .before in
+    let start = at-read-f64 .before .before .before .before .before .before .before .before .before .before .before .before .before .before in
+    let lack-number = c .lack-number in
+    let added = at-added .added in
+    let add = at-add .add in
+    let read-u322 = at-read-u322 .read-u322 in
+    let read-u32 = at-read-u32 .read-u32 in
+    let refusal = at-refusal .refusal in
+    let read-f64 = at-read-f64 .read-f64 in
+    let a = start .args in
+    candidate-stopped (a .limit) (a .vertex-words .now) (a .ends .now) (a .lens .now) (a .m)
+    (slices (a .edges .now) (a .words .now) (a .reals .now) (a .keys .now) (a .events .now) (a .vertex .now)) (cuts (a .pts .now) (a .out .now) (a .keep .now) (a .next .now)) (a .made)
+    (a .queued) (a .id) (a .w) (read-f64 .result) (read-f64 .ensures) (refusal .result) (refusal .ensures) (at-if1 .if1 .left) (read-u32 .result) (read-u322 .result) (read-u32 .ensures)
+    (read-u322 .ensures) (added .given .0 .0) (lack-number .result) (lack-number .ensures)
+    (slices (add .last .0) (add .last .1 .0) (add .last .1 .1 .0) (add .last .1 .1 .1 .0) (add .last .1 .1 .1 .1 .0) (add .last .1 .1 .1 .1 .1 .0))
+    (rw (added .given .1) at (add .ensures .adds))
 
 same-length-11 : tie.Need-same-length-11
 same-length-11 c = search needs
@@ -103,8 +141,26 @@ same-length-20 c = search needs
 
 returns-3 : tie.Need-returns-3
 returns-3 c =
-    let a = c .before .before .before .before .before .before .before .before .before .before .before .before .before .before .before .before .before .before .before .before .before .before .before .before .before .before .before .before .before .before .before .before .before .before .before .before .before .before .before .before .before .before .before .before .before .before .before .before .before .before .before .before .args in
-    candidate-went (a .limit) (a .vertex-words .now) (a .ends .now) (a .lens .now) (a .m) (slices (a .edges .now) (a .words .now) (a .reals .now) (a .keys .now) (a .events .now) (a .vertex .now)) (cuts (a .pts .now) (a .out .now) (a .keep .now) (a .next .now)) (a .made) (a .queued) (a .id) (a .w) (c .before .before .before .before .before .before .before .before .before .before .before .before .before .before .before .before .before .before .before .before .before .before .before .before .before .before .before .before .before .before .before .before .before .before .before .before .before .before .read-f64 .result) (c .before .before .before .before .before .before .before .before .before .before .before .before .before .before .before .before .before .before .before .before .before .before .before .before .before .before .before .before .before .before .before .before .before .before .before .before .before .before .read-f64 .ensures) (c .before .before .before .before .before .before .before .before .before .before .before .before .before .before .before .before .before .before .before .before .before .before .before .before .before .before .before .before .before .before .before .before .before .before .before .before .before .refusal .result) (c .before .before .before .before .before .before .before .before .before .before .before .before .before .before .before .before .before .before .before .before .before .before .before .before .before .before .before .before .before .before .before .before .before .before .before .before .before .refusal .ensures) (c .before .before .before .before .before .before .before .before .before .before .before .before .before .before .before .before .before .before .before .before .before .before .before .before .before .before .before .before .before .before .before .before .before .before .before .before .if1 .left) (c .before .before .before .before .before .before .before .before .before .before .before .before .before .before .before .before .before .before .before .before .before .before .before .before .before .before .before .before .before .before .before .before .before .before .before .read-u32 .result) (c .before .before .before .before .before .before .before .before .before .before .before .before .before .before .before .before .before .before .before .before .before .before .before .before .before .before .before .before .before .before .before .before .before .before .read-u322 .result) (c .before .before .before .before .before .before .before .before .before .before .before .before .before .before .before .before .before .before .before .before .before .before .before .before .before .before .before .before .before .before .before .before .before .before .before .read-u32 .ensures) (c .before .before .before .before .before .before .before .before .before .before .before .before .before .before .before .before .before .before .before .before .before .before .before .before .before .before .before .before .before .before .before .before .before .before .read-u322 .ensures) (c .before .added2 .given .0 .0) (slices (c .before .before .before .before .before .before .before .before .before .before .before .before .before .before .before .before .before .before .before .before .before .before .before .add .last .0) (c .before .before .before .before .before .before .before .before .before .before .before .before .before .before .before .before .before .before .before .before .before .before .before .add .last .1 .0) (c .before .before .before .before .before .before .before .before .before .before .before .before .before .before .before .before .before .before .before .before .before .before .before .add .last .1 .1 .0) (c .before .before .before .before .before .before .before .before .before .before .before .before .before .before .before .before .before .before .before .before .before .before .before .add .last .1 .1 .1 .0) (c .before .before .before .before .before .before .before .before .before .before .before .before .before .before .before .before .before .before .before .before .before .before .before .add .last .1 .1 .1 .1 .0) (c .before .before .before .before .before .before .before .before .before .before .before .before .before .before .before .before .before .before .before .before .before .before .before .add .last .1 .1 .1 .1 .1 .0)) (rw (c .before .added2 .given .1) at (c .before .before .before .before .before .before .before .before .before .before .before .before .before .before .before .before .before .before .before .before .before .before .before .add .ensures .bounded)) (rw (c .before .added2 .given .1) at (c .before .before .before .before .before .before .before .before .before .before .before .before .before .before .before .before .before .before .before .before .before .before .before .add .ensures .adds))
+    let at-added2 = c .before in
+    let at-add = at-added2 .before .before .before .before .before .before .before .before .before .before .before .before .before .before .before .before .before .before .before .before .before .before in
+    let at-read-u322 = at-add .before .before .before .before .before .before .before .before .before .before .before in
+    let at-read-u32 = at-read-u322 .before in
+    let at-if1 = at-read-u32 .before in
+    let at-refusal = at-if1 .before in
+    let at-read-f64 = at-refusal .before in
+    let start = at-read-f64 .before .before .before .before .before .before .before .before .before .before .before .before .before .before in
+    let added2 = at-added2 .added2 in
+    let add = at-add .add in
+    let read-u322 = at-read-u322 .read-u322 in
+    let read-u32 = at-read-u32 .read-u32 in
+    let refusal = at-refusal .refusal in
+    let read-f64 = at-read-f64 .read-f64 in
+    let a = start .args in
+    candidate-went (a .limit) (a .vertex-words .now) (a .ends .now) (a .lens .now) (a .m)
+    (slices (a .edges .now) (a .words .now) (a .reals .now) (a .keys .now) (a .events .now) (a .vertex .now)) (cuts (a .pts .now) (a .out .now) (a .keep .now) (a .next .now)) (a .made)
+    (a .queued) (a .id) (a .w) (read-f64 .result) (read-f64 .ensures) (refusal .result) (refusal .ensures) (at-if1 .if1 .left) (read-u32 .result) (read-u322 .result) (read-u32 .ensures)
+    (read-u322 .ensures) (added2 .given .0 .0) (slices (add .last .0) (add .last .1 .0) (add .last .1 .1 .0) (add .last .1 .1 .1 .0) (add .last .1 .1 .1 .1 .0)
+    (add .last .1 .1 .1 .1 .1 .0)) (rw (added2 .given .1) at (add .ensures .bounded)) (rw (added2 .given .1) at (add .ensures .adds))
 
 pub add-candidate-spec : {M : Type 1} → statement M
 add-candidate-spec =

@@ -62,8 +62,19 @@ same-length-10 c = search needs
 
 returns : tie.Need-returns
 returns c =
-    let a = c .before .before .before .before .before .before .before .before .before .before .before .before .before .before .before .before .before .before .before .before .before .before .before .before .before .before .before .before .before .before .before .before .before .before .before .before .before .before .before .before .before .before .before .before .before .before .before .args in
-    of-op (settingOf (cuts (a .pts .now) (a .out .now) (a .keep .now) (a .next .now)) (slices (a .edges .now) (a .words .now) (a .reals .now) (a .keys .now) (a .events .now) (a .vertex .now)) (a .limit) (a .vertex-words .now) (a .ends .now) (a .lens .now) (a .m)) (a .made) (a .queued) (a .op) (Add (c .before .before .before .before .before .before .before .before .before .before .before .before .before .before .before .before .before .before .before .before .before .before .before .before .before .before .before .before .before .before .before .before .op .given .0 .0) (c .before .before .before .before .before .before .before .before .before .before .before .before .before .before .before .before .before .before .before .before .before .before .before .before .before .before .before .before .before .before .before .before .op .given .0 .1 .0)) (c .before .before .before .before .before .before .before .before .before .before .before .before .before .before .before .before .before .before .before .before .before .before .before .before .before .before .before .before .before .before .before .before .op .given .1) (slices (a .edges .now) (a .words .now) (a .reals .now) (a .keys .now) (a .events .now) (a .vertex .now)) (c .before .before .before .before .before .before .before .before .before .before .before .before .before .before .before .before .before .before .before .before .add-candidate .result) (slices (c .before .before .before .before .before .before .before .before .before .before .before .before .before .before .before .before .before .before .before .before .add-candidate .last .1 .1 .1 .1 .1 .1 .1 .0) (c .before .before .before .before .before .before .before .before .before .before .before .before .before .before .before .before .before .before .before .before .add-candidate .last .1 .1 .1 .1 .1 .1 .1 .1 .0) (c .before .before .before .before .before .before .before .before .before .before .before .before .before .before .before .before .before .before .before .before .add-candidate .last .1 .1 .1 .1 .1 .1 .1 .1 .1 .0) (c .before .before .before .before .before .before .before .before .before .before .before .before .before .before .before .before .before .before .before .before .add-candidate .last .1 .1 .1 .1 .1 .1 .1 .1 .1 .1 .0) (c .before .before .before .before .before .before .before .before .before .before .before .before .before .before .before .before .before .before .before .before .add-candidate .last .1 .1 .1 .1 .1 .1 .1 .1 .1 .1 .1 .0) (c .before .before .before .before .before .before .before .before .before .before .before .before .before .before .before .before .before .before .before .before .add-candidate .last .1 .1 .1 .1 .1 .1 .1 .1 .1 .1 .1 .1 .0)) (c .before .before .before .before .before .before .before .before .before .before .before .before .before .before .before .before .before .before .before .before .add-candidate .ensures)
+    let at-add-candidate = c .before .before .before .before .before .before .before .before .before .before .before .before .before .before .before .before .before .before .before .before
+    in
+    let at-op = at-add-candidate .before .before .before .before .before .before .before .before .before .before .before .before in
+    let start = at-op .before .before .before .before .before .before .before .before .before .before .before .before .before .before .before in
+    let add-candidate = at-add-candidate .add-candidate in
+    let op = at-op .op in
+    let a = start .args in
+    let the-slices = slices (a .edges .now) (a .words .now) (a .reals .now) (a .keys .now) (a .events .now) (a .vertex .now) in
+    of-op (settingOf (cuts (a .pts .now) (a .out .now) (a .keep .now) (a .next .now)) the-slices (a .limit) (a .vertex-words .now) (a .ends .now) (a .lens .now) (a .m)) (a .made)
+    (a .queued) (a .op) (Add (op .given .0 .0) (op .given .0 .1 .0)) (op .given .1) the-slices (add-candidate .result)
+    (slices (add-candidate .last .1 .1 .1 .1 .1 .1 .1 .0) (add-candidate .last .1 .1 .1 .1 .1 .1 .1 .1 .0) (add-candidate .last .1 .1 .1 .1 .1 .1 .1 .1 .1 .0)
+    (add-candidate .last .1 .1 .1 .1 .1 .1 .1 .1 .1 .1 .0) (add-candidate .last .1 .1 .1 .1 .1 .1 .1 .1 .1 .1 .1 .0) (add-candidate .last .1 .1 .1 .1 .1 .1 .1 .1 .1 .1 .1 .1 .0))
+    (add-candidate .ensures)
 
 same-length-11 : tie.Need-same-length-11
 same-length-11 c = search needs
@@ -99,13 +110,27 @@ same-length-16 c = search needs
 
 returns-3 : tie.Need-returns-3
 returns-3 c =
-    let a = c .before .before .before .before .before .before .before .before .before .before .before .before .before .before .before .before .before .before .before .before .before .before .before .before .before .before .args in
-    of-op (settingOf (cuts (a .pts .now) (a .out .now) (a .keep .now) (a .next .now)) (slices (a .edges .now) (a .words .now) (a .reals .now) (a .keys .now) (a .events .now) (a .vertex .now)) (a .limit) (a .vertex-words .now) (a .ends .now) (a .lens .now) (a .m)) (a .made) (a .queued) (a .op) (Touch (c .before .before .before .before .before .before .before .before .before .before .before .op2 .given .0 .0) (c .before .before .before .before .before .before .before .before .before .before .before .op2 .given .0 .1 .0)) (c .before .before .before .before .before .before .before .before .before .before .before .op2 .given .1) (slices (a .edges .now) (a .words .now) (a .reals .now) (a .keys .now) (a .events .now) (a .vertex .now)) (c .before .before .before .before .before .before .touch .result) (slices (a .edges .now) (a .words .now) (a .reals .now) (c .before .before .before .before .before .before .touch .last .1 .1 .1 .1 .0) (c .before .before .before .before .before .before .touch .last .1 .1 .1 .1 .1 .0) (c .before .before .before .before .before .before .touch .last .1 .1 .1 .1 .1 .1 .0)) (op-touch (settingOf (cuts (a .pts .now) (a .out .now) (a .keep .now) (a .next .now)) (slices (a .edges .now) (a .words .now) (a .reals .now) (a .keys .now) (a .events .now) (a .vertex .now)) (a .limit) (a .vertex-words .now) (a .ends .now) (a .lens .now) (a .m)) (a .made) (a .queued) (c .before .before .before .before .before .before .before .before .before .before .before .before .before .before .before .before .before .before .before .before .before .before .before .before .before .before .pre .fits) (a .edges .now) (a .words .now) (a .reals .now) (a .keys .now) (a .events .now) (a .vertex .now) (c .before .before .before .before .before .before .before .before .before .before .before .op2 .given .0 .0 .0) (c .before .before .before .before .before .before .before .before .before .before .before .op2 .given .0 .1 .0) refl (c .before .before .before .before .before .before .touch .result) (c .before .before .before .before .before .before .touch .last .1 .1 .1 .1 .0) (c .before .before .before .before .before .before .touch .last .1 .1 .1 .1 .1 .0) (c .before .before .before .before .before .before .touch .last .1 .1 .1 .1 .1 .1 .0) (c .before .before .before .before .before .before .touch .ensures))
+    let at-touch = c .before .before .before .before .before .before in
+    let at-op2 = at-touch .before .before .before .before .before in
+    let start = at-op2 .before .before .before .before .before .before .before .before .before .before .before .before .before .before .before in
+    let touch = at-touch .touch in
+    let op2 = at-op2 .op2 in
+    let a = start .args in
+    let the-settingOf = settingOf (cuts (a .pts .now) (a .out .now) (a .keep .now) (a .next .now))
+    (slices (a .edges .now) (a .words .now) (a .reals .now) (a .keys .now) (a .events .now) (a .vertex .now)) (a .limit) (a .vertex-words .now) (a .ends .now) (a .lens .now) (a .m) in
+    of-op the-settingOf (a .made) (a .queued) (a .op) (Touch (op2 .given .0 .0) (op2 .given .0 .1 .0)) (op2 .given .1)
+    (slices (a .edges .now) (a .words .now) (a .reals .now) (a .keys .now) (a .events .now) (a .vertex .now)) (touch .result)
+    (slices (a .edges .now) (a .words .now) (a .reals .now) (touch .last .1 .1 .1 .1 .0) (touch .last .1 .1 .1 .1 .1 .0) (touch .last .1 .1 .1 .1 .1 .1 .0))
+    (op-touch the-settingOf (a .made) (a .queued) (start .pre .fits) (a .edges .now) (a .words .now) (a .reals .now) (a .keys .now) (a .events .now) (a .vertex .now) (op2 .given .0 .0 .0)
+    (op2 .given .0 .1 .0) refl (touch .result) (touch .last .1 .1 .1 .1 .0) (touch .last .1 .1 .1 .1 .1 .0) (touch .last .1 .1 .1 .1 .1 .1 .0) (touch .ensures))
 
 returns-4 : tie.Need-returns-4
 returns-4 c =
-    let a = c .before .before .before .before .before .before .before .before .before .before .before .before .before .before .before .args in
-    of-op (settingOf (cuts (a .pts .now) (a .out .now) (a .keep .now) (a .next .now)) (slices (a .edges .now) (a .words .now) (a .reals .now) (a .keys .now) (a .events .now) (a .vertex .now)) (a .limit) (a .vertex-words .now) (a .ends .now) (a .lens .now) (a .m)) (a .made) (a .queued) (a .op) Unknown (c .enum-told2 .given .1) (slices (a .edges .now) (a .words .now) (a .reals .now) (a .keys .now) (a .events .now) (a .vertex .now)) (Stopped 70) (slices (a .edges .now) (a .words .now) (a .reals .now) (a .keys .now) (a .events .now) (a .vertex .now)) (op-unknown (settingOf (cuts (a .pts .now) (a .out .now) (a .keep .now) (a .next .now)) (slices (a .edges .now) (a .words .now) (a .reals .now) (a .keys .now) (a .events .now) (a .vertex .now)) (a .limit) (a .vertex-words .now) (a .ends .now) (a .lens .now) (a .m)) (a .made) (a .queued) (slices (a .edges .now) (a .words .now) (a .reals .now) (a .keys .now) (a .events .now) (a .vertex .now)))
+    let start = c .before .before .before .before .before .before .before .before .before .before .before .before .before .before .before in
+    let a = start .args in
+    let the-slices = slices (a .edges .now) (a .words .now) (a .reals .now) (a .keys .now) (a .events .now) (a .vertex .now) in
+    let the-settingOf = settingOf (cuts (a .pts .now) (a .out .now) (a .keep .now) (a .next .now)) the-slices (a .limit) (a .vertex-words .now) (a .ends .now) (a .lens .now) (a .m) in
+    of-op the-settingOf (a .made) (a .queued) (a .op) Unknown (c .enum-told2 .given .1) the-slices (Stopped 70) the-slices (op-unknown the-settingOf (a .made) (a .queued) the-slices)
 
 pub operate-spec : {M : Type 1} → statement M
 operate-spec =

@@ -29,7 +29,15 @@ same-length-3 : tie.Need-same-length-3
 same-length-3 c = search needs
 
 returns-2 : tie.Need-returns-2
-returns-2 c = let a = c .before .before .before .before .before .before .before .before .before .before .before .before .before .before .before .before .before .before .before .args in touch-full (a .v .0) (a .d) (a .limit) (a .vertex-words .now) (a .made) (a .queued) (a .keys .now) (a .events .now) (a .vertex .now) (omega (arith, c .before .before .before .before .before .before .before .before .before .before .before .before .if1 .left, c .before .before .before .before .before .before .before .before .before .before .before .before .before .before .slots .ensures)) (c .before .before .before .before .before .before .before .before .touch .last .1 .1 .0) (c .before .before .before .before .before .before .before .before .touch .last .1 .1 .1 .0) (c .before .before .before .before .before .before .before .before .touch .last .0) (rw (c .enum-told .given .1) at (c .before .before .before .before .before .before .before .before .touch .ensures))
+returns-2 c =
+    let at-touch = c .before .before .before .before .before .before .before .before in
+    let at-if1 = at-touch .before .before .before .before in
+    let at-slots = at-if1 .before .before in
+    let start = at-slots .before .before .before .before .before in
+    let a = start .args in
+    touch-full (a .v .0) (a .d) (a .limit) (a .vertex-words .now) (a .made) (a .queued) (a .keys .now) (a .events .now) (a .vertex .now)
+    (omega (arith, at-if1 .if1 .left, at-slots .slots .ensures)) (at-touch .touch .last .1 .1 .0) (at-touch .touch .last .1 .1 .1 .0) (at-touch .touch .last .0)
+    (rw (c .enum-told .given .1) at (at-touch .touch .ensures))
 
 same-length-4 : tie.Need-same-length-4
 same-length-4 c = search needs
@@ -41,7 +49,17 @@ same-length-6 : tie.Need-same-length-6
 same-length-6 c = search needs
 
 returns-3 : tie.Need-returns-3
-returns-3 c = let a = c .before .before .before .before .before .before .before .before .before .before .before .before .before .before .before .before .before .before .before .before .args in touch-queued (a .v .0) (a .d) (a .limit) (a .vertex-words .now) (a .made) (a .queued) (a .keys .now) (a .events .now) (a .vertex .now) (omega (arith, c .before .before .before .before .before .before .before .before .before .before .before .before .before .if1 .left, c .before .before .before .before .before .before .before .before .before .before .before .before .before .before .before .slots .ensures)) (c .before .before .before .before .before .before .before .before .before .touch .last .1 .1 .0) (c .before .before .before .before .before .before .before .before .before .touch .last .1 .1 .1 .0) (c .before .before .before .before .before .before .before .before .before .touch .last .0) (c .before .touched .given .0 .0) (rw (c .before .touched .given .1) at (c .before .before .before .before .before .before .before .before .before .touch .ensures))
+returns-3 c =
+    let at-touched = c .before in
+    let at-touch = at-touched .before .before .before .before .before .before .before .before in
+    let at-if1 = at-touch .before .before .before .before in
+    let at-slots = at-if1 .before .before in
+    let start = at-slots .before .before .before .before .before in
+    let touched = at-touched .touched in
+    let a = start .args in
+    touch-queued (a .v .0) (a .d) (a .limit) (a .vertex-words .now) (a .made) (a .queued) (a .keys .now) (a .events .now) (a .vertex .now)
+    (omega (arith, at-if1 .if1 .left, at-slots .slots .ensures)) (at-touch .touch .last .1 .1 .0) (at-touch .touch .last .1 .1 .1 .0) (at-touch .touch .last .0) (touched .given .0 .0)
+    (rw (touched .given .1) at (at-touch .touch .ensures))
 
 pub touch-spec : {M : Type 1} → statement M
 touch-spec =
