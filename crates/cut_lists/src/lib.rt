@@ -1,6 +1,7 @@
-// The Rust's lists `next` and `pieces` of `add` in lent buffers, two numbers an interval.
-
+// A new window meets an existing one of its edge: what it keeps and what it leaves of the other, the Rust's lists `next` and `pieces` of `add`, in lent buffers
+// of two numbers an interval.
 use better::Listed;
+use source::Src;
 ghost use mathlib.Core.Path.{_≡_};
 ghost use mathlib.Core.Bool.{cond};
 ghost use mathlib.Core.List.{[], _∷_, _++_};
@@ -10,6 +11,8 @@ ghost use lib.Ieee.{nan};
 ghost use Rattle.better.specs.Stretches.{interval};
 ghost use Rattle.better.specs.Buffers.{pairs, HoldsPairs, hasEntries, refusalNumber};
 ghost use Rattle.trim_model.specs.Intervals.{pushIf, cuts, nextOf, next, pieces};
+ghost use Rattle.buffers.specs.Lent.{given, left};
+ghost use Rattle.cut_lists.specs.Cut.{Sizes, Meets};
 
 // Where interval i of a buffer starts, and where it ends.
 pub fn from_of(buffer: &[f64], i: usize) -> f64
@@ -115,7 +118,7 @@ fn push_next(
 
 // What the new window keeps of the k intervals of `keep`, where it is shorter than the window from lo to hi along the m of `better`. The answer is
 // `Full` where that outgrows out.
-pub fn next(
+pub fn next_keep(
     keep: &[f64],
     k: usize,
     better: &[f64],
@@ -162,4 +165,62 @@ pub fn pieces(better: &[f64], m: usize, b0: f64, b1: f64, tiny: f64, out: &mut [
         i += 1;
     }
     push_if(b1 - at > tiny, out, n, at, b1)
+}
+
+// One of the lists outgrew its buffer; or so many intervals are kept, the new window is shorter along so many stretches, and the existing one is left in
+// so many pieces.
+pub enum Met {
+    Full,
+    Left {
+        kept: usize,
+        lost: usize,
+        pieces: usize,
+    },
+}
+
+// The new window, whose source is p, and an existing one from b0 to b1, whose source is q, share the stretch from lo to hi. The k intervals of `keep` become
+// what the new one keeps; `out` has then the stretches where it is shorter, and `next`, if there are any, the pieces of the other. What else `pts`, `out` and
+// `next` hold then is left free: they are scratch space.
+pub fn cut(
+    p: Src,
+    q: Src,
+    lo: f64,
+    hi: f64,
+    b0: f64,
+    b1: f64,
+    tiny: f64,
+    pts: &mut [f64],
+    out: &mut [f64],
+    keep: &mut [f64],
+    k: usize,
+    next: &mut [f64],
+) -> Met
+    requires { ⌜ Sizes (length (now pts)) (now out) (now keep) (now next) × (k ≤ length (now pts)) ⌝ }
+    ensures { λ r. ⌜ Meets p q lo hi b0 b1 tiny (length (given pts)) (pairs k (given keep)) r (left keep) (left next) ⌝ }
+{
+    let better = better::better(p, q, lo, hi, pts, out);
+    let Listed::Entries(m) = better else {
+        return Met::Full;
+    };
+    let left = next_keep(keep, k, out, m, lo, hi, next);
+    let Listed::Entries(kept) = left else {
+        return Met::Full;
+    };
+    copy(next, kept, keep);
+    if m == 0 {
+        return Met::Left {
+            kept,
+            lost: 0,
+            pieces: 0,
+        };
+    }
+    let rest = pieces(out, m, b0, b1, tiny, next);
+    let Listed::Entries(n) = rest else {
+        return Met::Full;
+    };
+    Met::Left {
+        kept,
+        lost: m,
+        pieces: n,
+    }
 }

@@ -37,7 +37,7 @@ use Rattle.live_windows.specs.Live.{Holds, Fronted, liveOf, lastLink}
 use Rattle.trim_split.specs.Running.{Place, stockOf, End, stopped, at, Untouched}
 use Rattle.trim_split.specs.declared.Counts.{Counts}
 use Rattle.trim_split.specs.declared.Made.{Made}
-use Rattle.trim_cut.specs.Cut.{Sizes}
+use Rattle.cut_lists.specs.Cut.{Sizes}
 use Rattle.trim_split.proofs.Untouched.{untouched-same, untouched-then}
 use Rattle.trim_split.proofs.Loops.{Slices, slices, SameLengths, same-windows, windowsOf, placeOf, ReadyIn, ready-same}
 use Rattle.trim_visit.specs.declared.Visited.the-variants.{Stopped, Went}
@@ -46,7 +46,8 @@ use Rattle.trim_keep.specs.Keeping.{Seats, Bounded}
 use Rattle.trim.specs.declared.Added.{Added}
 use Rattle.trim.specs.declared.Added.the-variants.{Went as Went₁}
 use Rattle.trim.specs.Adding.{candidateOf, newOf, Given, Says, Admits, Adds, Unchanged}
-use Rattle.trim.specs.Buffers.{Slices as Slices₁, Cuts}
+use Rattle.trim.specs.Buffers.{Slices as Slices₁}
+use Rattle.cut_lists.specs.Buffers.{Cuts}
 use Rattle.trim.proofs.Front.{tidy-leads}
 use Rattle.trim.proofs.Adding.{no-cuts, visit-stopped, all-seated}
 
@@ -215,7 +216,7 @@ unchanged counts b x = record { answer = refl; slices = refl; cuts = refl }
 pub seat-ready : (e made before made′ last k cuts : ℕ) (s s′ : Slices) → SameLengths s s′ → ReadyIn e made 0 s → before ≤ made → (made′ ≤ windowsOf s) × ((last ≤ made′) × ((k ≤ cuts) × (made ≤ made′))) → ReadyIn e made′ before s′
 seat-ready e made before made′ last k cuts s s′ same r i h = ready-same e made′ before s s′ same (r .edge) (h .0) (le-trans i (h .1 .1 .1))
 
-pub kept-fit : (size k : ℕ) (keep out next keep′ : List Float) → Sizes size keep out next → length keep′ ≡ length keep → k ≤ size → k + k ≤ length keep′
+pub kept-fit : (size k : ℕ) (out keep next keep′ : List Float) → Sizes size out keep next → length keep′ ≡ length keep → k ≤ size → k + k ≤ length keep′
 kept-fit size k keep out next keep′ h same i = omega (arith, h .keeps, same, i)
 
 pub bounded-in : (s s′ : Slices) (r : Made) → SameLengths s s′ → Bounded (windowsOf s′) r → Bounded (windowsOf s) r

@@ -22,7 +22,8 @@ use Rattle.trim_state.specs.Follows.{Follows}
 use Rattle.live_windows.specs.Live.{Holds}
 use Rattle.trim_split.specs.Running.{Place, place, stockOf, End, stopped, at, Untouched}
 use Rattle.trim_split.specs.declared.Counts.{Counts}
-use Rattle.trim.specs.Buffers.{Slices, Cuts}
+use Rattle.trim.specs.Buffers.{Slices}
+use Rattle.cut_lists.specs.Buffers.{Cuts}
 use Rattle.trim.specs.declared.Added.{Added}
 use Rattle.trim.specs.declared.Added.the-variants.{Stopped, Went}
 

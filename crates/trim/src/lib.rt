@@ -15,11 +15,12 @@ ghost use Rattle.source.specs.Distance.{lowestOf};
 ghost use Rattle.better.specs.Stretches.{interval};
 ghost use Rattle.better.specs.Buffers.{pairs};
 ghost use Rattle.trim_model.specs.Intervals.{tinyOf};
-ghost use Rattle.trim_cut.specs.Cut.{Sizes};
+ghost use Rattle.cut_lists.specs.Cut.{Sizes};
 ghost use Rattle.trim_split.specs.Running.{Ready, roomFor, placeBefore, endAfter, endOf};
 ghost use Rattle.trim_keep.specs.Keeping.{Bounded};
 ghost use Rattle.trim.specs.Adding.{newOf, Admits, AddsTo};
-ghost use Rattle.trim.specs.Buffers.{before, after, cutsBefore, cutsAfter};
+ghost use Rattle.trim.specs.Buffers.{before, after};
+ghost use Rattle.cut_lists.specs.Buffers.{cutsBefore, cutsAfter};
 ghost use Rattle.buffers.specs.Lent.{given, left};
 
 // What there is no slot for; or how many windows and events there are now.
@@ -56,7 +57,7 @@ fn admit(
     tiny: f64,
     limit: f64,
 ) -> Made
-    requires { ⌜ Ready (e .id .0) (counts .made) 0 (now edges) (now words) (now reals) × Sizes (length (now pts)) (now keep) (now out) (now next) ⌝ }
+    requires { ⌜ Ready (e .id .0) (counts .made) 0 (now edges) (now words) (now reals) × Sizes (length (now pts)) (now out) (now keep) (now next) ⌝ }
     ensures { λ r. ⌜ Bounded (roomFor words reals) r × (w .win .low ≡ lowestOf (w .win .src) (w .win .b0) (w .win .b1) → tiny ≡ tinyOf (e .len) →
         Admits (length (given pts)) (roomFor words reals) limit (given «vertex_words») e (newOf w)
         (placeBefore edges words reals keys events (counts .made) (counts .queued) 0 (given vertex))
@@ -74,9 +75,9 @@ fn admit(
         reals,
         keys,
         events,
-        keep,
         pts,
         out,
+        keep,
         next,
         counts,
         e.id,
@@ -125,7 +126,7 @@ pub fn add(
     w: NewWindow,
     limit: f64,
 ) -> Added
-    requires { ⌜ Ready (e .id .0) (counts .made) 0 (now edges) (now words) (now reals) × Sizes (length (now pts)) (now keep) (now out) (now next) ⌝ }
+    requires { ⌜ Ready (e .id .0) (counts .made) 0 (now edges) (now words) (now reals) × Sizes (length (now pts)) (now out) (now keep) (now next) ⌝ }
     ensures { λ r. ⌜ AddsTo limit (given «vertex_words») e w counts (before edges words reals keys events vertex) (cutsBefore pts out keep next)
         r (after edges words reals keys events vertex) (cutsAfter pts out keep next) ⌝ }
 {

@@ -7,7 +7,8 @@ use lib.Ieee.{Float}
 use Rattle.trim_list.specs.declared.Ran.{Ran}
 use Rattle.trim_list.specs.declared.Ran.the-variants.{Done, Ended}
 use Rattle.trim_list.specs.Lists.{RunWhole}
-use Rattle.trim.specs.Buffers.{Slices, Cuts}
+use Rattle.trim.specs.Buffers.{Slices}
+use Rattle.cut_lists.specs.Buffers.{Cuts}
 
 -- the number that is answered, and what two numbers then hold, as far as they are lent
 unfoldable pub toldOf : Ran → List ℕ → ℕ × List ℕ

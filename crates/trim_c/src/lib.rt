@@ -2,7 +2,8 @@
 use buffers::write_u32;
 use trim_list::Ran;
 ghost use Rattle.buffers.specs.Lent.{given};
-ghost use Rattle.trim.specs.Buffers.{before, after, cutsBefore, cutsAfter};
+ghost use Rattle.trim.specs.Buffers.{before, after};
+ghost use Rattle.cut_lists.specs.Buffers.{cutsBefore, cutsAfter};
 ghost use mathlib.Core.Path.{_≡_};
 ghost use Rattle.trim_c.specs.Exports.{toldOf, Answered};
 

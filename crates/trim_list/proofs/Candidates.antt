@@ -20,7 +20,7 @@ use Rattle.chains.specs.Chains.{links}
 use Rattle.trim_model.specs.Model.{Candidate}
 use Rattle.trim_state.specs.State.{State, Result, stopped, went, addOf}
 use Rattle.trim_state.specs.Follows.{Follows}
-use Rattle.trim_cut.specs.Cut.{Sizes}
+use Rattle.cut_lists.specs.Cut.{Sizes}
 use Rattle.trim_split.proofs.Untouched.{untouched-wider}
 use Rattle.trim_split.specs.Running.{Ready as Running·Ready}
 use Rattle.trim_split.specs.declared.Counts.{Counts}
@@ -33,7 +33,8 @@ use Rattle.trim_run.specs.Represents.{Checked}
 use Rattle.trim_run.proofs.Follow.{proper}
 use Rattle.trim_list.specs.declared.Step.the-variants.{Stopped, Went}
 use Rattle.trim_list.specs.Lists.{Setting, settingOf, Ready, Stands, placeIn, Says, Operated}
-use Rattle.trim.specs.Buffers.{Slices, Cuts}
+use Rattle.trim.specs.Buffers.{Slices}
+use Rattle.cut_lists.specs.Buffers.{Cuts}
 
 -- ---- by the answers of two tests
 refused : (a b : Bool) (n : ℕ) (r : Result) → n ≡ cond a (cond b 0 72) 71 → n ≢ 0 → cond a (cond b r (stopped 72)) (stopped 71) ≡ stopped n
@@ -141,5 +142,5 @@ module _ (limit : Float) (flags ends : List ℕ) (lens : List Float) (m : ℕ) (
     pub candidate-ready : Ready m made b x → Running·Ready (c .edge) made 0 (b .edges) (b .words) (b .reals)
     candidate-ready r = record { fits = r .fits; linked = omega arith; edge = omega (arith, candidate-there, r .edges) }
 
-pub candidate-sizes : (m made : ℕ) (b : Slices) (x : Cuts) → Ready m made b x → Sizes (length (x .pts)) (x .keep) (x .out) (x .next)
+pub candidate-sizes : (m made : ℕ) (b : Slices) (x : Cuts) → Ready m made b x → Sizes (length (x .pts)) (x .out) (x .keep) (x .next)
 candidate-sizes m made b x r = record { keeps = r .keeps; outs = r .outs; nexts = r .nexts }

@@ -27,7 +27,8 @@ use Rattle.trim_list.specs.declared.Step.{Step}
 use Rattle.trim_list.specs.declared.Step.the-variants.{Stopped, Went}
 use Rattle.trim_list.specs.declared.Ran.the-variants.{Done, Ended}
 use Rattle.trim_list.specs.Lists.{meshOf, Setting, settingOf, Ready, Stands, Goes, Operated, runOf, Finishes, Ends, Runs, placeIn}
-use Rattle.trim.specs.Buffers.{Slices, Cuts}
+use Rattle.trim.specs.Buffers.{Slices}
+use Rattle.cut_lists.specs.Buffers.{Cuts}
 
 -- ---- lists of operations
 candidates-last : (os : List Operation) (o : Operation) → candidates (os ++ (o ∷ [])) ≡ candidates os ++ candidateOf o

@@ -18,7 +18,8 @@ use Rattle.contents.proofs.Forgotten.{heads-only}
 use Rattle.trim_list.specs.declared.Ran.{Ran}
 use Rattle.trim_list.specs.declared.Ran.the-variants.{Done, Ended}
 use Rattle.trim_list.specs.Lists.{meshOf, Setting, settingOf, Ready, Finishes, Ends, Runs, placeIn, edgeCount, operationCount, cutCount, lentSetting, cleared, ZeroSlices, ZeroCuts, RunWhole}
-use Rattle.trim.specs.Buffers.{Slices, slices, Cuts, cuts}
+use Rattle.trim.specs.Buffers.{Slices, slices}
+use Rattle.cut_lists.specs.Buffers.{Cuts, cutBuffers}
 use Rattle.trim_list.proofs.Loop.{SameLengths, SameCuts}
 
 -- ---- counts
@@ -67,7 +68,7 @@ next-fit c x h = two-slots x (length (c .next)) (least-fourth (slotsOf (length (
 
 -- ---- the parts of the cut buffers that are used
 abbrev pub parts : ℕ → Cuts → Cuts
-parts x c = cuts (take x (c .pts)) (take (2 * x) (c .out)) (take (2 * x) (c .keep)) (take (2 * x) (c .next))
+parts x c = cutBuffers (take x (c .pts)) (take (2 * x) (c .out)) (take (2 * x) (c .keep)) (take (2 * x) (c .next))
 
 twice : (x a b : ℕ) → a ≡ 2 * x → b ≡ x → a ≡ b + b
 twice x a b h k = omega (arith, h, k)

@@ -17,7 +17,8 @@ use Rattle.actions.specs.Actions as actions
 use Rattle.trim_state.specs.State.{State, Result, stopped, went, Mesh}
 use Rattle.trim_state.specs.Follows.{Follows}
 use Rattle.trim_split.specs.Running.{Place, place, Untouched}
-use Rattle.trim.specs.Buffers.{Slices, slices, Cuts}
+use Rattle.trim.specs.Buffers.{Slices, slices}
+use Rattle.cut_lists.specs.Buffers.{Cuts}
 use Rattle.trim_run.specs.Operations.{Operation, touch, operations, candidates, DoublesOf}
 use Rattle.trim_run.specs.Run.{operate, Run, ran, ended, runFrom, start}
 use Rattle.trim_run.specs.Demand3.{Demand3}

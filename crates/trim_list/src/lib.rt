@@ -17,7 +17,8 @@ ghost use Rattle.trim_run.specs.Operations.{asCandidate, asOperation};
 ghost use Rattle.trim_run.specs.Operations.{add as Operations·add};
 ghost use Rattle.trim_list.specs.Lists.{settingOf, Ready, Operated, Runs, placeIn, Touches, PopsFirst, edgeCount, cutCount, operationCount, lentSetting, ZeroSlices, ZeroCuts, RunWhole};
 ghost use Rattle.buffers.specs.Lent.{given};
-ghost use Rattle.trim.specs.Buffers.{slices, cuts, before, after, cutsBefore, cutsAfter};
+ghost use Rattle.trim.specs.Buffers.{slices, before, after};
+ghost use Rattle.cut_lists.specs.Buffers.{cutBuffers, cutsBefore, cutsAfter};
 
 // An operation is refused by its number; or so many windows are made and so many events queued.
 pub enum Step {
@@ -139,7 +140,7 @@ fn add_candidate(
     made: u32,
     queued: u32,
 ) -> Step
-    requires { ⌜ Ready m made (slices (now edges) (now words) (now reals) (now keys) (now events) (now vertex)) (cuts (now pts) (now out) (now keep) (now next)) ⌝ }
+    requires { ⌜ Ready m made (slices (now edges) (now words) (now reals) (now keys) (now events) (now vertex)) (cutBuffers (now pts) (now out) (now keep) (now next)) ⌝ }
     ensures { λ r. ⌜ Operated (settingOf (cutsBefore pts out keep next) (before edges words reals keys events vertex) limit (given «vertex_words») (given ends) (given lens) m)
         (Operations·add (asCandidate (id .0) w)) made queued (before edges words reals keys events vertex) r (after edges words reals keys events vertex) ⌝ }
 {
@@ -203,7 +204,7 @@ fn operate(
     made: u32,
     queued: u32,
 ) -> Step
-    requires { ⌜ Ready m made (slices (now edges) (now words) (now reals) (now keys) (now events) (now vertex)) (cuts (now pts) (now out) (now keep) (now next)) ⌝ }
+    requires { ⌜ Ready m made (slices (now edges) (now words) (now reals) (now keys) (now events) (now vertex)) (cutBuffers (now pts) (now out) (now keep) (now next)) ⌝ }
     ensures { λ r. ⌜ Operated (settingOf (cutsBefore pts out keep next) (before edges words reals keys events vertex) limit (given «vertex_words») (given ends) (given lens) m)
         (asOperation op) made queued (before edges words reals keys events vertex) r (after edges words reals keys events vertex) ⌝ }
 {
@@ -269,7 +270,7 @@ fn run_all(
     keep: &mut [f64],
     next: &mut [f64],
 ) -> Ran
-    requires { ⌜ Ready m 0 (slices (now edges) (now words) (now reals) (now keys) (now events) (now vertex)) (cuts (now pts) (now out) (now keep) (now next)) × ((e : ℕ) → headOf (now edges) e ≡ 0) ⌝ }
+    requires { ⌜ Ready m 0 (slices (now edges) (now words) (now reals) (now keys) (now events) (now vertex)) (cutBuffers (now pts) (now out) (now keep) (now next)) × ((e : ℕ) → headOf (now edges) e ≡ 0) ⌝ }
     ensures { λ r. ⌜ Runs (settingOf (cutsBefore pts out keep next) (before edges words reals keys events vertex) limit (given «vertex_words») (given ends) (given lens) m)
         (given ops) (given args) n (placeIn 0 0 (before edges words reals keys events vertex)) r (after edges words reals keys events vertex) ⌝ }
 {
@@ -332,7 +333,7 @@ fn run_parts(
     keep: &mut [f64],
     next: &mut [f64],
 ) -> Ran
-    requires { ⌜ (m ≡ edgeCount (now ends) (now lens) (now edges)) × ((x ≡ cutCount (cuts (now pts) (now out) (now keep) (now next))) × ((n ≡ operationCount (now ops) (now args)) × ((e : ℕ) → headOf (now edges) e ≡ 0))) ⌝ }
+    requires { ⌜ (m ≡ edgeCount (now ends) (now lens) (now edges)) × ((x ≡ cutCount (cutBuffers (now pts) (now out) (now keep) (now next))) × ((n ≡ operationCount (now ops) (now args)) × ((e : ℕ) → headOf (now edges) e ≡ 0))) ⌝ }
     ensures { λ r. ⌜ Runs (lentSetting (cutsBefore pts out keep next) (before edges words reals keys events vertex) limit (given «vertex_words») (given ends) (given lens))
         (given ops) (given args) (operationCount (given ops) (given args)) (placeIn 0 0 (before edges words reals keys events vertex)) r (after edges words reals keys events vertex) ⌝ }
 {

@@ -27,7 +27,7 @@ use Rattle.trim_state.specs.State.{put}
 use Rattle.trim_state.specs.Trace.{splitting, losing, visiting}
 use Rattle.trim_state.proofs.Turns.{visiting-untouched, visiting-met, losing-none, losing-some}
 use Rattle.live_windows.specs.Live.{Holds, lastLink}
-use Rattle.trim_cut.specs.Cut.{lossLengths, lengths}
+use Rattle.cut_lists.specs.Cut.{lossLengths, lengths}
 use Rattle.trim_split.specs.Running.{Place, stockOf, End, stopped, at, Ran, Does}
 use Rattle.live_windows.proofs.Lists.{last-snoc}
 use Rattle.trim_split.proofs.Untouched.{untouched-same}

@@ -18,7 +18,8 @@ use Rattle.chains.specs.Chains.{links}
 use Rattle.trim_model.specs.Windows.{Window}
 use Rattle.trim_model.specs.Add.{visit}
 use Rattle.live_windows.specs.Live.{liveOf, Follows, Loads}
-use Rattle.trim_cut.specs.Cut.{Sizes}
+use Rattle.cut_lists.specs.Cut.{Sizes}
+use Rattle.cut_lists.specs.Buffers.{Cuts}
 use Rattle.trim_split.specs.declared.Counts.{Counts}
 use Rattle.trim_split.specs.Running.{End, stopped, at}
 use Rattle.trim_split.proofs.Loops.{Slices, SameLengths, same-refl, same-trans, same-windows, windowsOf, placeOf, ReadyIn, ready-same}
@@ -28,24 +29,14 @@ use Rattle.trim_visit.specs.Visiting.{from, Kept, Visits1, VisitsAll}
 use Rattle.trim_visit.proofs.Lists.{visit-grows}
 use Rattle.trim_visit.proofs.Turns.{all-spent, all-end, all-over, all-stop, all-turn}
 
--- what the cut buffers hold
-pub record Cuts : Type 0 where
-  pub keep : List Float
-  pub pts : List Float
-  pub out : List Float
-  pub next : List Float
-
-abbrev pub cutSlices : List Float → List Float → List Float → List Float → Cuts
-cutSlices keep pts out next = record { keep = keep; pts = pts; out = out; next = next }
-
 pub record SameCuts (c c′ : Cuts) : Type 0 where
-  pub keep : length (c′ .keep) ≡ length (c .keep)
   pub pts : length (c′ .pts) ≡ length (c .pts)
   pub out : length (c′ .out) ≡ length (c .out)
+  pub keep : length (c′ .keep) ≡ length (c .keep)
   pub next : length (c′ .next) ≡ length (c .next)
 
 abbrev pub SizesOf : Cuts → Type 0
-SizesOf c = Sizes (length (c .pts)) (c .keep) (c .out) (c .next)
+SizesOf c = Sizes (length (c .pts)) (c .out) (c .keep) (c .next)
 
 cuts-trans : (c c′ c″ : Cuts) → SameCuts c c′ → SameCuts c′ c″ → SameCuts c c″
 cuts-trans c c′ c″ h k = record { keep = k .keep ∙ h .keep; pts = k .pts ∙ h .pts; out = k .out ∙ h .out; next = k .next ∙ h .next }

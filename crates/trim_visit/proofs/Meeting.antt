@@ -15,12 +15,12 @@ use Rattle.trim_model.specs.Add.{sharedLo, sharedHi, visit}
 use Rattle.trim_model.specs.Claim.{Any}
 use Rattle.trim_state.specs.Trace.{splitting}
 use Rattle.live_windows.specs.Live.{liveOf}
-use Rattle.trim_cut.specs.Cut.{lengths, Leaves}
+use Rattle.cut_lists.specs.Cut.{lengths, Leaves}
 use Rattle.trim_split.specs.Running.{End, stopped, at, Does}
 use Rattle.trim_split.proofs.Loops.{Slices, windowsOf, placeOf}
 use Rattle.trim_visit.specs.Visiting.{from, Kept, Visits1}
 use Rattle.trim_visit.proofs.Lists.{turn-untouched, kept-untouched, turn-full, turn-none, kept-none, turn-split, kept-split}
-use Rattle.trim_visit.proofs.Loop.{Cuts}
+use Rattle.cut_lists.specs.Buffers.{Cuts}
 
 module _ (e : ℕ) (t : Float) (w x : WindowRecord) (id made queued last k : ℕ) (s : Slices) (c : Cuts) (fits : made ≤ windowsOf s) (inside : id < made) where
   abbrev new : Window

@@ -2,7 +2,7 @@
 use buffers::EdgeId;
 use buffers::Lack;
 use buffers::WindowId;
-use trim_cut::Met;
+use cut_lists::Met;
 use trim_split::Counts;
 use trim_split::Made;
 use windows::WindowRecord;
@@ -16,7 +16,7 @@ ghost use Rattle.better.specs.Buffers.{pairs};
 ghost use Rattle.trim_model.specs.Windows.{Window};
 ghost use Rattle.trim_model.specs.Add.{visit as Add·visit};
 ghost use Rattle.live_windows.specs.Live.{liveOf};
-ghost use Rattle.trim_cut.specs.Cut.{Sizes};
+ghost use Rattle.cut_lists.specs.Cut.{Sizes};
 ghost use Rattle.trim_split.specs.Running.{Ready, roomFor, placeBefore, endAfter};
 ghost use Rattle.trim_visit.specs.Visiting.{from, endOf, Keeps, Bounded, Visits1, VisitsAll};
 
@@ -34,9 +34,9 @@ fn visit(
     reals: &mut [f64],
     keys: &mut [f64],
     events: &mut [u32],
-    keep: &mut [f64],
     pts: &mut [f64],
     out: &mut [f64],
+    keep: &mut [f64],
     next: &mut [f64],
     counts: Counts,
     e: EdgeId,
@@ -47,7 +47,7 @@ fn visit(
     w: WindowRecord,
     tiny: f64,
 ) -> Visited
-    requires { ⌜ Ready (e .0) (counts .made) before (now edges) (now words) (now reals) × ((id .0 < counts .made) × (Sizes (length (now pts)) (now keep) (now out) (now next) × (k ≤ length (now pts)))) ⌝ }
+    requires { ⌜ Ready (e .0) (counts .made) before (now edges) (now words) (now reals) × ((id .0 < counts .made) × (Sizes (length (now pts)) (now out) (now keep) (now next) × (k ≤ length (now pts)))) ⌝ }
     ensures { λ r. ⌜ Keeps (length (given pts)) r (left keep) (Add·visit betterOf tiny (liveOf w 0) (liveOf x (id .0)) (from (pairs k (given keep)) (counts .made))) × ((limit : Float) (flags : List ℕ) (vertex : List Float) →
         Visits1 (length (given pts)) (roomFor words reals) limit flags (e .0) tiny (liveOf w 0) (pairs k (given keep)) (liveOf x (id .0))
         (placeBefore edges words reals keys events (counts .made) (counts .queued) before vertex)
@@ -62,7 +62,7 @@ fn visit(
     }
     let p = new.src;
     let q = old.src;
-    let met = trim_cut::cut(p, q, lo, hi, old.b0, old.b1, tiny, keep, k, pts, out, next);
+    let met = cut_lists::cut(p, q, lo, hi, old.b0, old.b1, tiny, pts, out, keep, k, next);
     let Met::Left { kept, lost, pieces } = met else {
         return Visited::Stopped(Lack::Cuts);
     };
@@ -96,9 +96,9 @@ pub fn visits(
     reals: &mut [f64],
     keys: &mut [f64],
     events: &mut [u32],
-    keep: &mut [f64],
     pts: &mut [f64],
     out: &mut [f64],
+    keep: &mut [f64],
     next: &mut [f64],
     counts: Counts,
     e: EdgeId,
@@ -107,7 +107,7 @@ pub fn visits(
     w: WindowRecord,
     tiny: f64,
 ) -> Visited
-    requires { ⌜ Ready (e .0) (counts .made) before (now edges) (now words) (now reals) × (Sizes (length (now pts)) (now keep) (now out) (now next) × (k ≤ length (now pts))) ⌝ }
+    requires { ⌜ Ready (e .0) (counts .made) before (now edges) (now words) (now reals) × (Sizes (length (now pts)) (now out) (now keep) (now next) × (k ≤ length (now pts))) ⌝ }
     ensures { λ r. ⌜ Bounded (length (given pts)) (roomFor words reals) (counts .made) r × ((limit : Float) (flags : List ℕ) (vertex : List Float) →
         VisitsAll (length (given pts)) (roomFor words reals) limit flags (e .0) tiny (liveOf w 0) (λ zs. length zs ≤ counts .made) (pairs k (given keep))
         (placeBefore edges words reals keys events (counts .made) (counts .queued) before vertex) r
@@ -134,9 +134,9 @@ pub fn visits(
                 reals,
                 keys,
                 events,
-                keep,
                 pts,
                 out,
+                keep,
                 next,
                 now,
                 e,

@@ -4,7 +4,7 @@ use lib.ListN.{length}
 use Rattle.buffers.specs.Lack.{lackNumber}
 use Rattle.trim_split.specs.Running.{stopped, at}
 use Rattle.trim_split.proofs.Loops.{slices, windowsOf, placeOf}
-use Rattle.trim.specs.Buffers.{cuts}
+use Rattle.cut_lists.specs.Buffers.{cutBuffers}
 use Rattle.trim.specs.Buffers.{slices as Buffers·slices}
 use Rattle.trim.proofs.Calls.{add-narrow, add-far, add-admitted, add-not-skipped, add-went, unchanged}
 use borrow.Author.Needs.{needs}
@@ -22,7 +22,7 @@ returns c =
       bounded = start .pre .0 .fits;
       adds = add-narrow size (windowsOf s) (a .limit) (a .vertex-words .now) (a .e) (a .w) p (c .if1 .taken);
       skips = λ z. unchanged (a .counts)
-          (Buffers·slices (a .edges .now) (a .words .now) (a .reals .now) (a .keys .now) (a .events .now) (a .vertex .now)) (cuts (a .pts .now) (a .out .now) (a .keep .now) (a .next .now));
+          (Buffers·slices (a .edges .now) (a .words .now) (a .reals .now) (a .keys .now) (a .events .now) (a .vertex .now)) (cutBuffers (a .pts .now) (a .out .now) (a .keep .now) (a .next .now));
     }
 
 lowest-requires : tie.Need-lowest-requires
@@ -43,7 +43,7 @@ returns-2 c =
       adds = add-far size (windowsOf s) (a .limit) (a .vertex-words .now) (a .e) (a .w) p (lowest .result) (lowest .ensures) (at-if1 .if1 .left)
           (c .if2 .taken);
       skips = λ z. unchanged (a .counts) (Buffers·slices (a .edges .now) (a .words .now) (a .reals .now) (a .keys .now) (a .events .now) (a .vertex .now))
-          (cuts (a .pts .now) (a .out .now) (a .keep .now) (a .next .now));
+          (cutBuffers (a .pts .now) (a .out .now) (a .keep .now) (a .next .now));
     }
 
 admit-requires : tie.Need-admit-requires

@@ -53,7 +53,7 @@ keep-parts-requires c κs =
             events = visits .kept .1 .1 .1 .1 .0;
           }) (start .pre .0) (pass-front .ensures .made) b,
       kept-fit (length (a .pts .now)) (visited2 .given .0 .1 .1 .0) (a .keep .now) (a .out .now) (a .next .now)
-          (visits .last .1 .1 .1 .1 .1 .0) (start .pre .1) (visits .kept .1 .1 .1 .1 .1 .0 ∙ at-whole .whole .kept .0) (b .1 .1 .0),
+          (visits .last .1 .1 .1 .1 .1 .1 .1 .0) (start .pre .1) (visits .kept .1 .1 .1 .1 .1 .1 .1 .0 ∙ at-whole .whole .kept .0) (b .1 .1 .0),
     )
 
 same-length : tie.Need-same-length
@@ -82,7 +82,7 @@ same-length-8 c =
     let at-visits = c .before .before .before .before .before .before .before .before .before .before .before .before .before .before .before .before .before .before .before .before .before
     in
     let at-whole = at-visits .before .before .before .before .before .before .before .before .before .before .before .before .before .before .before .before .before .before in
-    at-visits .visits .kept .1 .1 .1 .1 .1 .0 ∙ at-whole .whole .kept .0
+    at-visits .visits .kept .1 .1 .1 .1 .1 .1 .1 .0 ∙ at-whole .whole .kept .0
 
 same-length-9 : tie.Need-same-length-9
 same-length-9 c = search needs
@@ -103,7 +103,7 @@ returns-2 c =
       tt,
       admit-stopped (length (a .pts .now)) (a .limit) (a .vertex-words .now) (a .e) (a .w) (a .counts .made) (a .counts .queued)
           (slices (a .edges .now) (a .words .now) (a .reals .now) (a .keys .now) (a .events .now)) (a .vertex .now) (a .tiny) (at-if1 .if1 .left) (pass-front .result) (pass-front .last .0)
-          (pass-front .ensures) (whole .last .0) (whole .ensures) (visited .given .0 .0) (visits .last .1 .1 .1 .1 .1 .0) (rw (visited .given .1) at (visits .ensures .1)),
+          (pass-front .ensures) (whole .last .0) (whole .ensures) (visited .given .0 .0) (visits .last .1 .1 .1 .1 .1 .1 .1 .0) (rw (visited .given .1) at (visits .ensures .1)),
     )
 
 same-length-10 : tie.Need-same-length-10
@@ -150,7 +150,7 @@ same-length-18 : tie.Need-same-length-18
 same-length-18 c =
     let at-visits = c .before .before .before .before .before .before .before .before .before .before .before .before .before .before .before .before .before .before .before .before .before .before .before .before .before .before .before .before .before .before .before .before .before .before .before .before .before .before .before .before .before in
     let at-whole = at-visits .before .before .before .before .before .before .before .before .before .before .before .before .before .before .before .before .before .before in
-    at-visits .visits .kept .1 .1 .1 .1 .1 .0 ∙ at-whole .whole .kept .0
+    at-visits .visits .kept .1 .1 .1 .1 .1 .1 .1 .0 ∙ at-whole .whole .kept .0
 
 same-length-19 : tie.Need-same-length-19
 same-length-19 c = search needs
@@ -182,7 +182,7 @@ returns-3 c =
           }) (keep-parts .ensures .0),
       admit-seated (length (a .pts .now)) (a .limit) (a .vertex-words .now) (a .e) (a .w) (a .counts .made) (a .counts .queued) the-slices-2 (a .vertex .now)
           (a .tiny) (at-if1 .if1 .left) (pass-front .result) (pass-front .last .0) (pass-front .ensures) (whole .last .0) (whole .ensures) (visited2 .given .0 .0) (visited2 .given .0 .1 .0)
-          (visited2 .given .0 .1 .1 .0) the-slices (visits .last .1 .1 .1 .1 .1 .0)
+          (visited2 .given .0 .1 .1 .0) the-slices (visits .last .1 .1 .1 .1 .1 .1 .1 .0)
           (record {
             edges = visits .kept .0 ∙ pass-front .kept .0;
             words = visits .kept .1 .0;

@@ -1,5 +1,6 @@
 -- `trim_list::add_candidate` meets its contract. Assumes nothing.
-use Rattle.trim.specs.Buffers.{slices, cuts}
+use Rattle.trim.specs.Buffers.{slices}
+use Rattle.cut_lists.specs.Buffers.{cutBuffers}
 use Rattle.trim_list.proofs.Candidates.{candidate-refused, candidate-ready, candidate-sizes, candidate-stopped, candidate-went}
 use borrow.Author.Needs.{needs}
 use Rattle.trim_list.proofs.add_candidate.Statement.{statement}
@@ -20,7 +21,7 @@ returns c =
     let read-f64 = at-read-f64 .read-f64 in
     let a = start .args in
     candidate-refused (a .limit) (a .vertex-words .now) (a .ends .now) (a .lens .now) (a .m)
-    (slices (a .edges .now) (a .words .now) (a .reals .now) (a .keys .now) (a .events .now) (a .vertex .now)) (cuts (a .pts .now) (a .out .now) (a .keep .now) (a .next .now)) (a .made)
+    (slices (a .edges .now) (a .words .now) (a .reals .now) (a .keys .now) (a .events .now) (a .vertex .now)) (cutBuffers (a .pts .now) (a .out .now) (a .keep .now) (a .next .now)) (a .made)
     (a .queued) (a .id) (a .w) (read-f64 .result) (read-f64 .ensures) (refusal .result) (refusal .ensures) (c .if1 .taken)
 
 read-u32-requires : tie.Need-read-u32-requires
@@ -38,7 +39,7 @@ add-requires c κs =
     let refusal = at-refusal .refusal in
     let read-f64 = at-read-f64 .read-f64 in
     let a = start .args in
-    let the-cuts = cuts (a .pts .now) (a .out .now) (a .keep .now) (a .next .now) in
+    let the-cuts = cutBuffers (a .pts .now) (a .out .now) (a .keep .now) (a .next .now) in
     let the-slices = slices (a .edges .now) (a .words .now) (a .reals .now) (a .keys .now) (a .events .now) (a .vertex .now) in (
       candidate-ready (a .limit) (a .vertex-words .now) (a .ends .now) (a .lens .now) (a .m) the-slices the-cuts (a .made) (a .queued) (a .id) (a .w) (read-f64 .result) (read-f64 .ensures)
           (refusal .result) (refusal .ensures) (at-if1 .if1 .left) (start .pre),
@@ -103,7 +104,7 @@ returns-2 c =
     let read-f64 = at-read-f64 .read-f64 in
     let a = start .args in
     candidate-stopped (a .limit) (a .vertex-words .now) (a .ends .now) (a .lens .now) (a .m)
-    (slices (a .edges .now) (a .words .now) (a .reals .now) (a .keys .now) (a .events .now) (a .vertex .now)) (cuts (a .pts .now) (a .out .now) (a .keep .now) (a .next .now)) (a .made)
+    (slices (a .edges .now) (a .words .now) (a .reals .now) (a .keys .now) (a .events .now) (a .vertex .now)) (cutBuffers (a .pts .now) (a .out .now) (a .keep .now) (a .next .now)) (a .made)
     (a .queued) (a .id) (a .w) (read-f64 .result) (read-f64 .ensures) (refusal .result) (refusal .ensures) (at-if1 .if1 .left) (read-u32 .result) (read-u322 .result) (read-u32 .ensures)
     (read-u322 .ensures) (added .given .0 .0) (lack-number .result) (lack-number .ensures)
     (slices (add .last .0) (add .last .1 .0) (add .last .1 .1 .0) (add .last .1 .1 .1 .0) (add .last .1 .1 .1 .1 .0) (add .last .1 .1 .1 .1 .1 .0))
@@ -157,7 +158,7 @@ returns-3 c =
     let read-f64 = at-read-f64 .read-f64 in
     let a = start .args in
     candidate-went (a .limit) (a .vertex-words .now) (a .ends .now) (a .lens .now) (a .m)
-    (slices (a .edges .now) (a .words .now) (a .reals .now) (a .keys .now) (a .events .now) (a .vertex .now)) (cuts (a .pts .now) (a .out .now) (a .keep .now) (a .next .now)) (a .made)
+    (slices (a .edges .now) (a .words .now) (a .reals .now) (a .keys .now) (a .events .now) (a .vertex .now)) (cutBuffers (a .pts .now) (a .out .now) (a .keep .now) (a .next .now)) (a .made)
     (a .queued) (a .id) (a .w) (read-f64 .result) (read-f64 .ensures) (refusal .result) (refusal .ensures) (at-if1 .if1 .left) (read-u32 .result) (read-u322 .result) (read-u32 .ensures)
     (read-u322 .ensures) (added2 .given .0 .0) (slices (add .last .0) (add .last .1 .0) (add .last .1 .1 .0) (add .last .1 .1 .1 .0) (add .last .1 .1 .1 .1 .0)
     (add .last .1 .1 .1 .1 .1 .0)) (rw (added2 .given .1) at (add .ensures .bounded)) (rw (added2 .given .1) at (add .ensures .adds))

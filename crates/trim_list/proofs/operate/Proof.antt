@@ -3,7 +3,8 @@ use mathlib.Core.Path.{refl}
 use Rattle.trim_run.specs.declared.Op.the-variants.{Add, Pop, Touch, Unknown}
 use Rattle.trim_list.specs.declared.Step.the-variants.{Stopped, Went}
 use Rattle.trim_list.specs.Lists.{settingOf}
-use Rattle.trim.specs.Buffers.{slices, cuts}
+use Rattle.trim.specs.Buffers.{slices}
+use Rattle.cut_lists.specs.Buffers.{cutBuffers}
 use Rattle.trim_list.proofs.Steps.{of-op, op-unknown, op-pop, op-touch}
 use borrow.Author.Needs.{needs}
 use Rattle.trim_list.proofs.operate.Statement.{statement}
@@ -70,7 +71,7 @@ returns c =
     let op = at-op .op in
     let a = start .args in
     let the-slices = slices (a .edges .now) (a .words .now) (a .reals .now) (a .keys .now) (a .events .now) (a .vertex .now) in
-    of-op (settingOf (cuts (a .pts .now) (a .out .now) (a .keep .now) (a .next .now)) the-slices (a .limit) (a .vertex-words .now) (a .ends .now) (a .lens .now) (a .m)) (a .made)
+    of-op (settingOf (cutBuffers (a .pts .now) (a .out .now) (a .keep .now) (a .next .now)) the-slices (a .limit) (a .vertex-words .now) (a .ends .now) (a .lens .now) (a .m)) (a .made)
     (a .queued) (a .op) (Add (op .given .0 .0) (op .given .0 .1 .0)) (op .given .1) the-slices (add-candidate .result)
     (slices (add-candidate .last .1 .1 .1 .1 .1 .1 .1 .0) (add-candidate .last .1 .1 .1 .1 .1 .1 .1 .1 .0) (add-candidate .last .1 .1 .1 .1 .1 .1 .1 .1 .1 .0)
     (add-candidate .last .1 .1 .1 .1 .1 .1 .1 .1 .1 .1 .0) (add-candidate .last .1 .1 .1 .1 .1 .1 .1 .1 .1 .1 .1 .0) (add-candidate .last .1 .1 .1 .1 .1 .1 .1 .1 .1 .1 .1 .1 .0))
@@ -93,7 +94,7 @@ returns-2 c =
     let a = s .args in
     let p = popped .pop-first in
     let before = slices (a .edges .now) (a .words .now) (a .reals .now) (a .keys .now) (a .events .now) (a .vertex .now) in
-    let setting = settingOf (cuts (a .pts .now) (a .out .now) (a .keep .now) (a .next .now)) before (a .limit) (a .vertex-words .now) (a .ends .now) (a .lens .now) (a .m) in
+    let setting = settingOf (cutBuffers (a .pts .now) (a .out .now) (a .keep .now) (a .next .now)) before (a .limit) (a .vertex-words .now) (a .ends .now) (a .lens .now) (a .m) in
     of-op setting (a .made) (a .queued) (a .op) Pop (told .enum-told .given .1) before (Went (a .made) (p .result))
     (slices (a .edges .now) (p .last .0) (a .reals .now) (p .last .1 .0) (p .last .1 .1 .0) (a .vertex .now))
     (op-pop setting (a .made) (a .queued) (s .pre .fits) (a .edges .now) (a .words .now) (a .reals .now) (a .keys .now) (a .events .now) (a .vertex .now) (s .pre .fits)
@@ -116,7 +117,7 @@ returns-3 c =
     let touch = at-touch .touch in
     let op2 = at-op2 .op2 in
     let a = start .args in
-    let the-settingOf = settingOf (cuts (a .pts .now) (a .out .now) (a .keep .now) (a .next .now))
+    let the-settingOf = settingOf (cutBuffers (a .pts .now) (a .out .now) (a .keep .now) (a .next .now))
     (slices (a .edges .now) (a .words .now) (a .reals .now) (a .keys .now) (a .events .now) (a .vertex .now)) (a .limit) (a .vertex-words .now) (a .ends .now) (a .lens .now) (a .m) in
     of-op the-settingOf (a .made) (a .queued) (a .op) (Touch (op2 .given .0 .0) (op2 .given .0 .1 .0)) (op2 .given .1)
     (slices (a .edges .now) (a .words .now) (a .reals .now) (a .keys .now) (a .events .now) (a .vertex .now)) (touch .result)
@@ -129,7 +130,7 @@ returns-4 c =
     let start = c .before .before .before .before .before .before .before .before .before .before .before .before .before .before .before in
     let a = start .args in
     let the-slices = slices (a .edges .now) (a .words .now) (a .reals .now) (a .keys .now) (a .events .now) (a .vertex .now) in
-    let the-settingOf = settingOf (cuts (a .pts .now) (a .out .now) (a .keep .now) (a .next .now)) the-slices (a .limit) (a .vertex-words .now) (a .ends .now) (a .lens .now) (a .m) in
+    let the-settingOf = settingOf (cutBuffers (a .pts .now) (a .out .now) (a .keep .now) (a .next .now)) the-slices (a .limit) (a .vertex-words .now) (a .ends .now) (a .lens .now) (a .m) in
     of-op the-settingOf (a .made) (a .queued) (a .op) Unknown (c .enum-told2 .given .1) the-slices (Stopped 70) the-slices (op-unknown the-settingOf (a .made) (a .queued) the-slices)
 
 pub operate-spec : {M : Type 1} → statement M

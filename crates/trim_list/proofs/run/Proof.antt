@@ -1,6 +1,7 @@
 -- `trim_list::run` meets its contract. Assumes nothing.
 use mathlib.Core.Path.{_∙_}
-use Rattle.trim.specs.Buffers.{slices, cuts}
+use Rattle.trim.specs.Buffers.{slices}
+use Rattle.cut_lists.specs.Buffers.{cutBuffers}
 use Rattle.trim_list.proofs.Whole.{edges-same, heads-zero, zeros-stay, whole-done, whole-ended}
 use borrow.Author.Needs.{needs}
 use Rattle.trim_list.proofs.run.Statement.{statement}
@@ -126,13 +127,13 @@ returns c =
     let zero-u32 = at-zero-u32 .zero-u32 in
     let a = start .args in
     whole-done (a .limit) (a .vertex-words .now) (a .ends .now) (a .lens .now) (a .ops .now) (a .args .now)
-    (slices (a .edges .now) (a .words .now) (a .reals .now) (a .keys .now) (a .events .now) (a .vertex .now)) (cuts (a .pts .now) (a .out .now) (a .keep .now) (a .next .now))
+    (slices (a .edges .now) (a .words .now) (a .reals .now) (a .keys .now) (a .events .now) (a .vertex .now)) (cutBuffers (a .pts .now) (a .out .now) (a .keep .now) (a .next .now))
     (zero-u32 .last .0) (zero-u322 .last .0) (zero-f64 .last .0) (zero-u32 .ensures) (zero-u322 .ensures) (zero-f64 .ensures) (run-parts .result)
     (slices (run-parts .last .1 .1 .1 .1 .1 .1 .1 .1 .1 .0) (run-parts .last .1 .1 .1 .1 .1 .1 .1 .1 .1 .1 .0) (run-parts .last .1 .1 .1 .1 .1 .1 .1 .1 .1 .1 .1 .0)
     (run-parts .last .1 .1 .1 .1 .1 .1 .1 .1 .1 .1 .1 .1 .0) (run-parts .last .1 .1 .1 .1 .1 .1 .1 .1 .1 .1 .1 .1 .1 .0) (run-parts .last .1 .1 .1 .1 .1 .1 .1 .1 .1 .1 .1 .1 .1 .1 .0))
-    (run-parts .ensures) (cuts (run-parts .last .1 .1 .1 .1 .1 .1 .1 .1 .1 .1 .1 .1 .1 .1 .1 .0) (run-parts .last .1 .1 .1 .1 .1 .1 .1 .1 .1 .1 .1 .1 .1 .1 .1 .1 .0)
+    (run-parts .ensures) (cutBuffers (run-parts .last .1 .1 .1 .1 .1 .1 .1 .1 .1 .1 .1 .1 .1 .1 .1 .0) (run-parts .last .1 .1 .1 .1 .1 .1 .1 .1 .1 .1 .1 .1 .1 .1 .1 .1 .0)
     (run-parts .last .1 .1 .1 .1 .1 .1 .1 .1 .1 .1 .1 .1 .1 .1 .1 .1 .1 .0) (run-parts .last .1 .1 .1 .1 .1 .1 .1 .1 .1 .1 .1 .1 .1 .1 .1 .1 .1 .1 .0))
-    (cuts (zero-cuts .last .0) (zero-cuts .last .1 .0) (zero-cuts .last .1 .1 .0) (zero-cuts .last .1 .1 .1 .0))
+    (cutBuffers (zero-cuts .last .0) (zero-cuts .last .1 .0) (zero-cuts .last .1 .1 .0) (zero-cuts .last .1 .1 .1 .0))
     (record {
       pts = run-parts .kept .1 .1 .1 .1 .1 .1 .1 .1 .1 .1 .1 .1 .1 .1 .1 .0;
       out = run-parts .kept .1 .1 .1 .1 .1 .1 .1 .1 .1 .1 .1 .1 .1 .1 .1 .1 .0;
@@ -234,13 +235,13 @@ returns-2 c =
     let zero-u32 = at-zero-u32 .zero-u32 in
     let a = start .args in
     whole-ended (a .limit) (a .vertex-words .now) (a .ends .now) (a .lens .now) (a .ops .now) (a .args .now)
-    (slices (a .edges .now) (a .words .now) (a .reals .now) (a .keys .now) (a .events .now) (a .vertex .now)) (cuts (a .pts .now) (a .out .now) (a .keep .now) (a .next .now))
+    (slices (a .edges .now) (a .words .now) (a .reals .now) (a .keys .now) (a .events .now) (a .vertex .now)) (cutBuffers (a .pts .now) (a .out .now) (a .keep .now) (a .next .now))
     (zero-u32 .last .0) (zero-u322 .last .0) (zero-f64 .last .0) (zero-u32 .ensures) (zero-u322 .ensures) (zero-f64 .ensures) (run-parts .result)
     (slices (run-parts .last .1 .1 .1 .1 .1 .1 .1 .1 .1 .0) (run-parts .last .1 .1 .1 .1 .1 .1 .1 .1 .1 .1 .0) (run-parts .last .1 .1 .1 .1 .1 .1 .1 .1 .1 .1 .1 .0)
     (run-parts .last .1 .1 .1 .1 .1 .1 .1 .1 .1 .1 .1 .1 .0) (run-parts .last .1 .1 .1 .1 .1 .1 .1 .1 .1 .1 .1 .1 .1 .0) (run-parts .last .1 .1 .1 .1 .1 .1 .1 .1 .1 .1 .1 .1 .1 .1 .0))
-    (run-parts .ensures) (cuts (run-parts .last .1 .1 .1 .1 .1 .1 .1 .1 .1 .1 .1 .1 .1 .1 .1 .0) (run-parts .last .1 .1 .1 .1 .1 .1 .1 .1 .1 .1 .1 .1 .1 .1 .1 .1 .0)
+    (run-parts .ensures) (cutBuffers (run-parts .last .1 .1 .1 .1 .1 .1 .1 .1 .1 .1 .1 .1 .1 .1 .1 .0) (run-parts .last .1 .1 .1 .1 .1 .1 .1 .1 .1 .1 .1 .1 .1 .1 .1 .1 .0)
     (run-parts .last .1 .1 .1 .1 .1 .1 .1 .1 .1 .1 .1 .1 .1 .1 .1 .1 .1 .0) (run-parts .last .1 .1 .1 .1 .1 .1 .1 .1 .1 .1 .1 .1 .1 .1 .1 .1 .1 .1 .0))
-    (cuts (zero-cuts .last .0) (zero-cuts .last .1 .0) (zero-cuts .last .1 .1 .0) (zero-cuts .last .1 .1 .1 .0))
+    (cutBuffers (zero-cuts .last .0) (zero-cuts .last .1 .0) (zero-cuts .last .1 .1 .0) (zero-cuts .last .1 .1 .1 .0))
     (record {
       pts = run-parts .kept .1 .1 .1 .1 .1 .1 .1 .1 .1 .1 .1 .1 .1 .1 .1 .0;
       out = run-parts .kept .1 .1 .1 .1 .1 .1 .1 .1 .1 .1 .1 .1 .1 .1 .1 .1 .0;

@@ -3,7 +3,8 @@
 use Prim.Native.Nat.{_+_, _-_}
 use mathlib.Core.Path.{_∙_}
 use native.Mathlib.Omega.{arith}
-use Rattle.trim.specs.Buffers.{slices, cuts}
+use Rattle.trim.specs.Buffers.{slices}
+use Rattle.cut_lists.specs.Buffers.{cutBuffers}
 use Rattle.trim_list.proofs.Loop.{Inv, inv-start, inv-ready, inv-stopped, inv-next, inv-done}
 use borrow.Author.Needs.{needs}
 use Rattle.trim_list.proofs.run_all.Statement.{statement}
@@ -22,7 +23,7 @@ loop-holds c =
     let start = c .before .before .before .before .before .before .before .before .before .before .before .before .before .before .before in
     let a = start .args in
     inv-start (a .limit) (a .vertex-words .now) (a .ends .now) (a .lens .now) (a .m) (a .ops .now) (a .args .now) (a .n)
-    (slices (a .edges .now) (a .words .now) (a .reals .now) (a .keys .now) (a .events .now) (a .vertex .now)) (cuts (a .pts .now) (a .out .now) (a .keep .now) (a .next .now))
+    (slices (a .edges .now) (a .words .now) (a .reals .now) (a .keys .now) (a .events .now) (a .vertex .now)) (cutBuffers (a .pts .now) (a .out .now) (a .keep .now) (a .next .now))
     (start .pre .0) (start .pre .1)
 
 operation-at-requires : tie.Need-operation-at-requires Inv-loop μ-loop
@@ -35,9 +36,9 @@ operate-requires c κs =
     let loop = at-loop .loop in
     let a = start .args in
     inv-ready (a .limit) (a .vertex-words .now) (a .ends .now) (a .lens .now) (a .m) (a .ops .now) (a .args .now) (a .n)
-    (slices (a .edges .now) (a .words .now) (a .reals .now) (a .keys .now) (a .events .now) (a .vertex .now)) (cuts (a .pts .now) (a .out .now) (a .keep .now) (a .next .now))
+    (slices (a .edges .now) (a .words .now) (a .reals .now) (a .keys .now) (a .events .now) (a .vertex .now)) (cutBuffers (a .pts .now) (a .out .now) (a .keep .now) (a .next .now))
     (start .pre .0) (loop .k) (loop .made) (loop .queued) (slices (loop .edges) (loop .words) (loop .reals) (loop .keys) (loop .events) (loop .vertex))
-    (cuts (loop .pts) (loop .out) (loop .keep) (loop .next)) (loop .inv)
+    (cutBuffers (loop .pts) (loop .out) (loop .keep) (loop .next)) (loop .inv)
 
 enum-known-step : tie.Need-enum-known-step Inv-loop μ-loop
 enum-known-step c = search needs
@@ -116,9 +117,9 @@ returns c =
     let loop = at-loop .loop in
     let a = start .args in
     inv-stopped (a .limit) (a .vertex-words .now) (a .ends .now) (a .lens .now) (a .m) (a .ops .now) (a .args .now) (a .n)
-    (slices (a .edges .now) (a .words .now) (a .reals .now) (a .keys .now) (a .events .now) (a .vertex .now)) (cuts (a .pts .now) (a .out .now) (a .keep .now) (a .next .now))
+    (slices (a .edges .now) (a .words .now) (a .reals .now) (a .keys .now) (a .events .now) (a .vertex .now)) (cutBuffers (a .pts .now) (a .out .now) (a .keep .now) (a .next .now))
     (start .pre .0) (loop .k) (loop .made) (loop .queued) (slices (loop .edges) (loop .words) (loop .reals) (loop .keys) (loop .events) (loop .vertex))
-    (cuts (loop .pts) (loop .out) (loop .keep) (loop .next)) (loop .inv) (at-loop-test .loop-test .taken) (operation-at .result) (operation-at .ensures) (operate .result)
+    (cutBuffers (loop .pts) (loop .out) (loop .keep) (loop .next)) (loop .inv) (at-loop-test .loop-test .taken) (operation-at .result) (operation-at .ensures) (operate .result)
     (slices (operate .last .1 .1 .1 .1 .1 .1 .0) (operate .last .1 .1 .1 .1 .1 .1 .1 .0) (operate .last .1 .1 .1 .1 .1 .1 .1 .1 .0) (operate .last .1 .1 .1 .1 .1 .1 .1 .1 .1 .0)
     (operate .last .1 .1 .1 .1 .1 .1 .1 .1 .1 .1 .0) (operate .last .1 .1 .1 .1 .1 .1 .1 .1 .1 .1 .1 .0)) (operate .ensures) (step .given .0 .0) (step .given .1)
 
@@ -148,12 +149,12 @@ loop-again c =
     let loop = at-loop .loop in
     let a = start .args in
     inv-next (a .limit) (a .vertex-words .now) (a .ends .now) (a .lens .now) (a .m) (a .ops .now) (a .args .now) (a .n)
-    (slices (a .edges .now) (a .words .now) (a .reals .now) (a .keys .now) (a .events .now) (a .vertex .now)) (cuts (a .pts .now) (a .out .now) (a .keep .now) (a .next .now))
+    (slices (a .edges .now) (a .words .now) (a .reals .now) (a .keys .now) (a .events .now) (a .vertex .now)) (cutBuffers (a .pts .now) (a .out .now) (a .keep .now) (a .next .now))
     (start .pre .0) (loop .k) (loop .made) (loop .queued) (slices (loop .edges) (loop .words) (loop .reals) (loop .keys) (loop .events) (loop .vertex))
-    (cuts (loop .pts) (loop .out) (loop .keep) (loop .next)) (loop .inv) (at-loop-test .loop-test .taken) (operation-at .result) (operation-at .ensures) (operate .result)
+    (cutBuffers (loop .pts) (loop .out) (loop .keep) (loop .next)) (loop .inv) (at-loop-test .loop-test .taken) (operation-at .result) (operation-at .ensures) (operate .result)
     (slices (operate .last .1 .1 .1 .1 .1 .1 .0) (operate .last .1 .1 .1 .1 .1 .1 .1 .0) (operate .last .1 .1 .1 .1 .1 .1 .1 .1 .0) (operate .last .1 .1 .1 .1 .1 .1 .1 .1 .1 .0)
     (operate .last .1 .1 .1 .1 .1 .1 .1 .1 .1 .1 .0) (operate .last .1 .1 .1 .1 .1 .1 .1 .1 .1 .1 .1 .0)) (operate .ensures) (step2 .given .0 .0) (step2 .given .0 .1 .0) (loop .k + 1)
-    (omega arith) (step2 .given .1) (cuts (operate .last .1 .1 .1 .1 .1 .1 .1 .1 .1 .1 .1 .1 .0) (operate .last .1 .1 .1 .1 .1 .1 .1 .1 .1 .1 .1 .1 .1 .0)
+    (omega arith) (step2 .given .1) (cutBuffers (operate .last .1 .1 .1 .1 .1 .1 .1 .1 .1 .1 .1 .1 .0) (operate .last .1 .1 .1 .1 .1 .1 .1 .1 .1 .1 .1 .1 .1 .0)
     (operate .last .1 .1 .1 .1 .1 .1 .1 .1 .1 .1 .1 .1 .1 .1 .0) (operate .last .1 .1 .1 .1 .1 .1 .1 .1 .1 .1 .1 .1 .1 .1 .1 .0))
     (record {
       edges = operate .kept .1 .1 .1 .1 .1 .1 .0 ∙ loop .inv .same .edges;
@@ -211,9 +212,9 @@ returns-2 c =
     let loop = at-loop .loop in
     let a = start .args in
     inv-done (a .limit) (a .vertex-words .now) (a .ends .now) (a .lens .now) (a .m) (a .ops .now) (a .args .now) (a .n)
-    (slices (a .edges .now) (a .words .now) (a .reals .now) (a .keys .now) (a .events .now) (a .vertex .now)) (cuts (a .pts .now) (a .out .now) (a .keep .now) (a .next .now))
+    (slices (a .edges .now) (a .words .now) (a .reals .now) (a .keys .now) (a .events .now) (a .vertex .now)) (cutBuffers (a .pts .now) (a .out .now) (a .keep .now) (a .next .now))
     (start .pre .0) (loop .k) (loop .made) (loop .queued) (slices (loop .edges) (loop .words) (loop .reals) (loop .keys) (loop .events) (loop .vertex))
-    (cuts (loop .pts) (loop .out) (loop .keep) (loop .next)) (loop .inv) (c .loop-test .left)
+    (cutBuffers (loop .pts) (loop .out) (loop .keep) (loop .next)) (loop .inv) (c .loop-test .left)
 
 pub run-all-spec : {M : Type 1} → statement M
 run-all-spec =

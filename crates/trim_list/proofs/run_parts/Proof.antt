@@ -3,7 +3,8 @@ use Prim.Native.Nat.{_*_}
 use mathlib.Core.Path.{sym}
 use lib.Seq.{length-take-le}
 use Rattle.trim_list.specs.Lists.{placeIn}
-use Rattle.trim.specs.Buffers.{slices, cuts}
+use Rattle.trim.specs.Buffers.{slices}
+use Rattle.cut_lists.specs.Buffers.{cutBuffers}
 use Rattle.trim_list.proofs.Whole.{pts-fit, out-fit, keep-fit, next-fit, parts-ready, parts-run}
 use borrow.Author.Needs.{needs}
 use Rattle.trim_list.proofs.run_parts.Statement.{statement}
@@ -15,49 +16,49 @@ mul-double c = search needs
 slice-relend-prefix-run-all : tie.Need-slice-relend-prefix-run-all
 slice-relend-prefix-run-all c =
     let a = c .before .before .before .before .before .before .before .before .before .before .before .before .before .before .before .before .before .before .before .before .before .args in
-    pts-fit (cuts (a .pts .now) (a .out .now) (a .keep .now) (a .next .now)) (a .x) (c .before .before .before .before .before .before .before .before .before .before .before .before .before .before .before .before .before .before .before .before .before .pre .1 .0)
+    pts-fit (cutBuffers (a .pts .now) (a .out .now) (a .keep .now) (a .next .now)) (a .x) (c .before .before .before .before .before .before .before .before .before .before .before .before .before .before .before .before .before .before .before .before .before .pre .1 .0)
 
 slice-aggregate-run-all : tie.Need-slice-aggregate-run-all
 slice-aggregate-run-all c =
     let a = c .before .before .before .before .before .before .before .before .before .before .before .before .before .before .before .before .before .before .before .before .before .before .args in
-    sym (length-take-le (a .x) (a .pts .now) (pts-fit (cuts (a .pts .now) (a .out .now) (a .keep .now) (a .next .now)) (a .x) (c .before .before .before .before .before .before .before .before .before .before .before .before .before .before .before .before .before .before .before .before .before .before .pre .1 .0)))
+    sym (length-take-le (a .x) (a .pts .now) (pts-fit (cutBuffers (a .pts .now) (a .out .now) (a .keep .now) (a .next .now)) (a .x) (c .before .before .before .before .before .before .before .before .before .before .before .before .before .before .before .before .before .before .before .before .before .before .pre .1 .0)))
 
 slice-relend-prefix-run-all-2 : tie.Need-slice-relend-prefix-run-all-2
 slice-relend-prefix-run-all-2 c =
     let a = c .before .before .before .before .before .before .before .before .before .before .before .before .before .before .before .before .before .before .before .before .before .before .args in
-    out-fit (cuts (a .pts .now) (a .out .now) (a .keep .now) (a .next .now)) (a .x) (c .before .before .before .before .before .before .before .before .before .before .before .before .before .before .before .before .before .before .before .before .before .before .pre .1 .0)
+    out-fit (cutBuffers (a .pts .now) (a .out .now) (a .keep .now) (a .next .now)) (a .x) (c .before .before .before .before .before .before .before .before .before .before .before .before .before .before .before .before .before .before .before .before .before .before .pre .1 .0)
 
 slice-aggregate-run-all-2 : tie.Need-slice-aggregate-run-all-2
 slice-aggregate-run-all-2 c =
     let a = c .before .before .before .before .before .before .before .before .before .before .before .before .before .before .before .before .before .before .before .before .before .before .before .args in
-    sym (length-take-le (2 * a .x) (a .out .now) (out-fit (cuts (a .pts .now) (a .out .now) (a .keep .now) (a .next .now)) (a .x) (c .before .before .before .before .before .before .before .before .before .before .before .before .before .before .before .before .before .before .before .before .before .before .before .pre .1 .0)))
+    sym (length-take-le (2 * a .x) (a .out .now) (out-fit (cutBuffers (a .pts .now) (a .out .now) (a .keep .now) (a .next .now)) (a .x) (c .before .before .before .before .before .before .before .before .before .before .before .before .before .before .before .before .before .before .before .before .before .before .before .pre .1 .0)))
 
 slice-relend-prefix-run-all-3 : tie.Need-slice-relend-prefix-run-all-3
 slice-relend-prefix-run-all-3 c =
     let a = c .before .before .before .before .before .before .before .before .before .before .before .before .before .before .before .before .before .before .before .before .before .before .before .args in
-    keep-fit (cuts (a .pts .now) (a .out .now) (a .keep .now) (a .next .now)) (a .x) (c .before .before .before .before .before .before .before .before .before .before .before .before .before .before .before .before .before .before .before .before .before .before .before .pre .1 .0)
+    keep-fit (cutBuffers (a .pts .now) (a .out .now) (a .keep .now) (a .next .now)) (a .x) (c .before .before .before .before .before .before .before .before .before .before .before .before .before .before .before .before .before .before .before .before .before .before .before .pre .1 .0)
 
 slice-aggregate-run-all-3 : tie.Need-slice-aggregate-run-all-3
 slice-aggregate-run-all-3 c =
     let a = c .before .before .before .before .before .before .before .before .before .before .before .before .before .before .before .before .before .before .before .before .before .before .before .before .args in
-    sym (length-take-le (2 * a .x) (a .keep .now) (keep-fit (cuts (a .pts .now) (a .out .now) (a .keep .now) (a .next .now)) (a .x) (c .before .before .before .before .before .before .before .before .before .before .before .before .before .before .before .before .before .before .before .before .before .before .before .before .pre .1 .0)))
+    sym (length-take-le (2 * a .x) (a .keep .now) (keep-fit (cutBuffers (a .pts .now) (a .out .now) (a .keep .now) (a .next .now)) (a .x) (c .before .before .before .before .before .before .before .before .before .before .before .before .before .before .before .before .before .before .before .before .before .before .before .before .pre .1 .0)))
 
 slice-relend-prefix-run-all-4 : tie.Need-slice-relend-prefix-run-all-4
 slice-relend-prefix-run-all-4 c =
     let a = c .before .before .before .before .before .before .before .before .before .before .before .before .before .before .before .before .before .before .before .before .before .before .before .before .args in
-    next-fit (cuts (a .pts .now) (a .out .now) (a .keep .now) (a .next .now)) (a .x) (c .before .before .before .before .before .before .before .before .before .before .before .before .before .before .before .before .before .before .before .before .before .before .before .before .pre .1 .0)
+    next-fit (cutBuffers (a .pts .now) (a .out .now) (a .keep .now) (a .next .now)) (a .x) (c .before .before .before .before .before .before .before .before .before .before .before .before .before .before .before .before .before .before .before .before .before .before .before .before .pre .1 .0)
 
 slice-aggregate-run-all-4 : tie.Need-slice-aggregate-run-all-4
 slice-aggregate-run-all-4 c =
     let a = c .before .before .before .before .before .before .before .before .before .before .before .before .before .before .before .before .before .before .before .before .before .before .before .before .before .args in
-    sym (length-take-le (2 * a .x) (a .next .now) (next-fit (cuts (a .pts .now) (a .out .now) (a .keep .now) (a .next .now)) (a .x) (c .before .before .before .before .before .before .before .before .before .before .before .before .before .before .before .before .before .before .before .before .before .before .before .before .before .pre .1 .0)))
+    sym (length-take-le (2 * a .x) (a .next .now) (next-fit (cutBuffers (a .pts .now) (a .out .now) (a .keep .now) (a .next .now)) (a .x) (c .before .before .before .before .before .before .before .before .before .before .before .before .before .before .before .before .before .before .before .before .before .before .before .before .before .pre .1 .0)))
 
 run-all-requires : tie.Need-run-all-requires
 run-all-requires c κs =
     let start = c .before .before .before .before .before .before .before .before .before .before .before .before .before .before .before .before .before .before .before .before .before .before .before .before .before in
     let a = start .args in (
       parts-ready (a .ends .now) (a .lens .now) (slices (a .edges .now) (a .words .now) (a .reals .now) (a .keys .now) (a .events .now) (a .vertex .now))
-          (cuts (a .pts .now) (a .out .now) (a .keep .now) (a .next .now)) (a .m) (a .x) (start .pre .0) (start .pre .1 .0),
+          (cutBuffers (a .pts .now) (a .out .now) (a .keep .now) (a .next .now)) (a .m) (a .x) (start .pre .0) (start .pre .1 .0),
       start .pre .1 .1 .1,
     )
 
@@ -98,7 +99,7 @@ returns c =
     let run-all = at-run-all .run-all in
     let a = start .args in
     let the-slices = slices (a .edges .now) (a .words .now) (a .reals .now) (a .keys .now) (a .events .now) (a .vertex .now) in
-    parts-run (a .ends .now) (a .lens .now) the-slices (cuts (a .pts .now) (a .out .now) (a .keep .now) (a .next .now)) (a .m) (a .x) (start .pre .0) (start .pre .1 .0) (a .limit)
+    parts-run (a .ends .now) (a .lens .now) the-slices (cutBuffers (a .pts .now) (a .out .now) (a .keep .now) (a .next .now)) (a .m) (a .x) (start .pre .0) (start .pre .1 .0) (a .limit)
     (a .vertex-words .now) (a .ops .now) (a .args .now) (a .n) (start .pre .1 .1 .0) (placeIn 0 0 the-slices) (run-all .result)
     (slices (run-all .last .1 .1 .1 .1 .1 .1 .1 .1 .0) (run-all .last .1 .1 .1 .1 .1 .1 .1 .1 .1 .0) (run-all .last .1 .1 .1 .1 .1 .1 .1 .1 .1 .1 .0)
     (run-all .last .1 .1 .1 .1 .1 .1 .1 .1 .1 .1 .1 .0) (run-all .last .1 .1 .1 .1 .1 .1 .1 .1 .1 .1 .1 .1 .0) (run-all .last .1 .1 .1 .1 .1 .1 .1 .1 .1 .1 .1 .1 .1 .0)) (run-all .ensures)

@@ -8,7 +8,7 @@ use lib.Ieee.{Float, nan}
 use Rattle.buffers.specs.Lack.{lackNumber}
 use Rattle.trim_split.specs.Running.{stopped, at}
 use Rattle.trim_split.proofs.Loops.{slices, placeOf}
-use Rattle.trim_visit.proofs.Loop.{cutSlices}
+use Rattle.cut_lists.specs.Buffers.{cutBuffers}
 use Rattle.trim_visit.proofs.Meeting.{visit-passes, keeps-passes, visit-full, visit-none, keeps-none, pieces-fit, visit-split, keeps-split}
 use borrow.Author.Needs.{needs}
 use Rattle.trim_visit.proofs.visit.Statement.{statement}
@@ -33,12 +33,12 @@ returns c =
     let min = at-min .min in
     let max = at-max .max in
     let a = start .args in
-    let the-cutSlices = cutSlices (a .keep .now) (a .pts .now) (a .out .now) (a .next .now) in
+    let the-cuts = cutBuffers (a .pts .now) (a .out .now) (a .keep .now) (a .next .now) in
     let the-slices = slices (a .edges .now) (a .words .now) (a .reals .now) (a .keys .now) (a .events .now) in (
-      keeps-passes (a .e .0) (a .tiny) (a .w) (a .x) (a .id .0) (a .counts .made) (a .counts .queued) (a .before) (a .k) the-slices the-cutSlices (start .pre .0 .fits) (start .pre .1 .0)
+      keeps-passes (a .e .0) (a .tiny) (a .w) (a .x) (a .id .0) (a .counts .made) (a .counts .queued) (a .before) (a .k) the-slices the-cuts (start .pre .0 .fits) (start .pre .1 .0)
           (max .result) (min .result) (max .ensures) (min .ensures) (if1 .taken) (start .pre .1 .1 .1) nan,
       visit-passes (a .e .0) (a .tiny) (a .w) (a .x) (a .id .0) (a .counts .made)
-          (a .counts .queued) (a .before) (a .k) the-slices the-cutSlices (start .pre .0 .fits) (start .pre .1 .0) (max .result) (min .result) (max .ensures) (min .ensures) (if1 .taken)
+          (a .counts .queued) (a .before) (a .k) the-slices the-cuts (start .pre .0 .fits) (start .pre .1 .0) (max .result) (min .result) (max .ensures) (min .ensures) (if1 .taken)
           (a .id .0 + 1) (add-one (a .id .0)),
     )
 
@@ -75,7 +75,7 @@ returns-2 c =
     let a = start .args in (
       tt,
       visit-full (a .e .0) (a .tiny) (a .w) (a .x) (a .id .0) (a .counts .made) (a .counts .queued) (a .before) (a .k)
-          (slices (a .edges .now) (a .words .now) (a .reals .now) (a .keys .now) (a .events .now)) (cutSlices (a .keep .now) (a .pts .now) (a .out .now) (a .next .now)) (start .pre .0 .fits)
+          (slices (a .edges .now) (a .words .now) (a .reals .now) (a .keys .now) (a .events .now)) (cutBuffers (a .pts .now) (a .out .now) (a .keep .now) (a .next .now)) (start .pre .0 .fits)
           (start .pre .1 .0) (max .result) (min .result) (max .ensures) (min .ensures) (at-if1 .if1 .left) (rw (c .enum-told .given .1) at (at-cut .cut .ensures)),
     )
 
@@ -113,14 +113,14 @@ returns-3 c =
     let max = at-max .max in
     let a = start .args in
     let the-cut = cut .last .1 .1 .1 .1 .1 .1 .1 .1 .1 .1 .1 .0 in
-    let the-cutSlices = cutSlices (a .keep .now) (a .pts .now) (a .out .now) (a .next .now) in
+    let the-cuts = cutBuffers (a .pts .now) (a .out .now) (a .keep .now) (a .next .now) in
     let the-slices = slices (a .edges .now) (a .words .now) (a .reals .now) (a .keys .now) (a .events .now) in (
-      keeps-none (a .e .0) (a .tiny) (a .w) (a .x) (a .id .0) (a .counts .made) (a .counts .queued) (a .before) (a .k) the-slices the-cutSlices (start .pre .0 .fits) (start .pre .1 .0)
-          (max .result) (min .result) (max .ensures) (min .ensures) (if1 .left) (met .given .0 .0) (met .given .0 .1 .0) (met .given .0 .1 .1 .0) (cut .last .1 .1 .1 .1 .1 .1 .1 .0) the-cut
+      keeps-none (a .e .0) (a .tiny) (a .w) (a .x) (a .id .0) (a .counts .made) (a .counts .queued) (a .before) (a .k) the-slices the-cuts (start .pre .0 .fits) (start .pre .1 .0)
+          (max .result) (min .result) (max .ensures) (min .ensures) (if1 .left) (met .given .0 .0) (met .given .0 .1 .0) (met .given .0 .1 .1 .0) (cut .last .1 .1 .1 .1 .1 .1 .1 .1 .1 .0) the-cut
           (rw (met .given .1) at (cut .ensures)) (if2 .taken) nan,
       visit-none (a .e .0) (a .tiny) (a .w) (a .x) (a .id .0) (a .counts .made) (a .counts .queued) (a .before) (a .k) the-slices
-          the-cutSlices (start .pre .0 .fits) (start .pre .1 .0) (max .result) (min .result) (max .ensures) (min .ensures) (if1 .left) (met .given .0 .0) (met .given .0 .1 .0)
-          (met .given .0 .1 .1 .0) (cut .last .1 .1 .1 .1 .1 .1 .1 .0) the-cut (rw (met .given .1) at (cut .ensures)) (if2 .taken) (a .id .0 + 1) (add-one (a .id .0)),
+          the-cuts (start .pre .0 .fits) (start .pre .1 .0) (max .result) (min .result) (max .ensures) (min .ensures) (if1 .left) (met .given .0 .0) (met .given .0 .1 .0)
+          (met .given .0 .1 .1 .0) (cut .last .1 .1 .1 .1 .1 .1 .1 .1 .1 .0) the-cut (rw (met .given .1) at (cut .ensures)) (if2 .taken) (a .id .0 + 1) (add-one (a .id .0)),
     )
 
 split-window-requires : tie.Need-split-window-requires
@@ -141,9 +141,9 @@ split-window-requires c κs =
       (
         start .pre .1 .0,
         pieces-fit (a .e .0) (a .tiny) (a .w) (a .x) (a .id .0) (a .counts .made) (a .counts .queued) (a .before) (a .k)
-            (slices (a .edges .now) (a .words .now) (a .reals .now) (a .keys .now) (a .events .now)) (cutSlices (a .keep .now) (a .pts .now) (a .out .now) (a .next .now)) (start .pre .0 .fits)
+            (slices (a .edges .now) (a .words .now) (a .reals .now) (a .keys .now) (a .events .now)) (cutBuffers (a .pts .now) (a .out .now) (a .keep .now) (a .next .now)) (start .pre .0 .fits)
             (start .pre .1 .0) (max .result) (min .result) (max .ensures) (min .ensures) (at-if1 .if1 .left) (met .given .0 .0) (met .given .0 .1 .0) (met .given .0 .1 .1 .0)
-            (cut .last .1 .1 .1 .1 .1 .1 .1 .0) (cut .last .1 .1 .1 .1 .1 .1 .1 .1 .1 .1 .1 .0) (rw (met .given .1) at (cut .ensures)) (at-if2 .if2 .left)
+            (cut .last .1 .1 .1 .1 .1 .1 .1 .1 .1 .0) (cut .last .1 .1 .1 .1 .1 .1 .1 .1 .1 .1 .1 .0) (rw (met .given .1) at (cut .ensures)) (at-if2 .if2 .left)
             (cut .kept .1 .1 .1 .1 .1 .1 .1 .1 .1 .1 .1 .0 ∙ start .pre .1 .1 .0 .nexts),
       ),
     )
@@ -200,9 +200,9 @@ returns-4 c =
     let a = start .args in (
       tt,
       visit-split (a .e .0) (a .tiny) (a .w) (a .x) (a .id .0) (a .counts .made) (a .counts .queued) (a .before) (a .k)
-          (slices (a .edges .now) (a .words .now) (a .reals .now) (a .keys .now) (a .events .now)) (cutSlices (a .keep .now) (a .pts .now) (a .out .now) (a .next .now)) (start .pre .0 .fits)
+          (slices (a .edges .now) (a .words .now) (a .reals .now) (a .keys .now) (a .events .now)) (cutBuffers (a .pts .now) (a .out .now) (a .keep .now) (a .next .now)) (start .pre .0 .fits)
           (start .pre .1 .0) (max .result) (min .result) (max .ensures) (min .ensures) (at-if1 .if1 .left) (met .given .0 .0) (met .given .0 .1 .0) (met .given .0 .1 .1 .0)
-          (cut .last .1 .1 .1 .1 .1 .1 .1 .0) (cut .last .1 .1 .1 .1 .1 .1 .1 .1 .1 .1 .1 .0) (rw (met .given .1) at (cut .ensures)) (at-if2 .if2 .left)
+          (cut .last .1 .1 .1 .1 .1 .1 .1 .1 .1 .0) (cut .last .1 .1 .1 .1 .1 .1 .1 .1 .1 .1 .1 .0) (rw (met .given .1) at (cut .ensures)) (at-if2 .if2 .left)
           (λ (vertex : List Float). stopped (lackNumber (left .given .0 .0))) (rw (left .given .1) at (at-split-window .split-window .ensures .1)),
     )
 
@@ -254,14 +254,14 @@ returns-5 c =
     let max = at-max .max in
     let a = start .args in
     let the-cut = cut .last .1 .1 .1 .1 .1 .1 .1 .1 .1 .1 .1 .0 in
-    let the-cutSlices = cutSlices (a .keep .now) (a .pts .now) (a .out .now) (a .next .now) in
+    let the-cuts = cutBuffers (a .pts .now) (a .out .now) (a .keep .now) (a .next .now) in
     let the-slices = slices (a .edges .now) (a .words .now) (a .reals .now) (a .keys .now) (a .events .now) in (
-      keeps-split (a .e .0) (a .tiny) (a .w) (a .x) (a .id .0) (a .counts .made) (a .counts .queued) (a .before) (a .k) the-slices the-cutSlices (start .pre .0 .fits) (start .pre .1 .0)
-          (max .result) (min .result) (max .ensures) (min .ensures) (if1 .left) (met .given .0 .0) (met .given .0 .1 .0) (met .given .0 .1 .1 .0) (cut .last .1 .1 .1 .1 .1 .1 .1 .0) the-cut
+      keeps-split (a .e .0) (a .tiny) (a .w) (a .x) (a .id .0) (a .counts .made) (a .counts .queued) (a .before) (a .k) the-slices the-cuts (start .pre .0 .fits) (start .pre .1 .0)
+          (max .result) (min .result) (max .ensures) (min .ensures) (if1 .left) (met .given .0 .0) (met .given .0 .1 .0) (met .given .0 .1 .1 .0) (cut .last .1 .1 .1 .1 .1 .1 .1 .1 .1 .0) the-cut
           (rw (met .given .1) at (cut .ensures)) (if2 .left) (left2 .given .0 .0 .made) (rw (left2 .given .1) at (split-window .ensures .0)) nan,
       visit-split (a .e .0) (a .tiny) (a .w) (a .x)
-          (a .id .0) (a .counts .made) (a .counts .queued) (a .before) (a .k) the-slices the-cutSlices (start .pre .0 .fits) (start .pre .1 .0) (max .result) (min .result) (max .ensures)
-          (min .ensures) (if1 .left) (met .given .0 .0) (met .given .0 .1 .0) (met .given .0 .1 .1 .0) (cut .last .1 .1 .1 .1 .1 .1 .1 .0) the-cut (rw (met .given .1) at (cut .ensures))
+          (a .id .0) (a .counts .made) (a .counts .queued) (a .before) (a .k) the-slices the-cuts (start .pre .0 .fits) (start .pre .1 .0) (max .result) (min .result) (max .ensures)
+          (min .ensures) (if1 .left) (met .given .0 .0) (met .given .0 .1 .0) (met .given .0 .1 .1 .0) (cut .last .1 .1 .1 .1 .1 .1 .1 .1 .1 .0) the-cut (rw (met .given .1) at (cut .ensures))
           (if2 .left) (λ (vertex : List Float). at
           (placeOf (slices (split-window .last .0) (split-window .last .1 .0) (split-window .last .1 .1 .0) (split-window .last .1 .1 .1 .0) (split-window .last .1 .1 .1 .1 .0))
           (left2 .given .0 .0 .made) (left2 .given .0 .0 .queued) (left2 .given .0 .1 .0) vertex)) (rw (left2 .given .1) at (split-window .ensures .1)),

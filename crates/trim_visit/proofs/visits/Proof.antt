@@ -5,23 +5,24 @@ use native.Mathlib.Omega.{arith}
 use lib.Ieee.{nan}
 use Rattle.live_windows.specs.Live.{liveOf}
 use Rattle.trim_split.proofs.Loops.{slices}
-use Rattle.trim_visit.proofs.Loop.{cutSlices, VisitsInv, visits-start, visits-ready, visits-sizes, visits-few, visits-inside, visits-spent, visits-end, visits-over, visits-stopped, visits-next}
+use Rattle.trim_visit.proofs.Loop.{VisitsInv, visits-start, visits-ready, visits-sizes, visits-few, visits-inside, visits-spent, visits-end, visits-over, visits-stopped, visits-next}
+use Rattle.cut_lists.specs.Buffers.{cutBuffers}
 use borrow.Author.Needs.{needs}
 use Rattle.trim_visit.proofs.visits.Statement.{statement}
 use Rattle.trim_visit.proofs.visits.Tie as tie
 
 abbrev Inv-loop : tie.InvT-loop
-Inv-loop edges₀ words₀ reals₀ keys₀ events₀ keep₀ pts₀ out₀ next₀ e before k w tiny end now₀ last₀ kept₀ left₀ edges words reals keys events keep pts out next now last kept left = VisitsInv (e .0) tiny (liveOf w 0) (slices edges₀ words₀ reals₀ keys₀ events₀) (cutSlices keep₀ pts₀ out₀ next₀) (now₀ .made) (now₀ .queued) last₀ kept₀ (slices edges words reals keys events) (cutSlices keep pts out next) (now .made) (now .queued) last kept left
+Inv-loop edges₀ words₀ reals₀ keys₀ events₀ pts₀ out₀ keep₀ next₀ e before k w tiny end now₀ last₀ kept₀ left₀ edges words reals keys events pts out keep next now last kept left = VisitsInv (e .0) tiny (liveOf w 0) (slices edges₀ words₀ reals₀ keys₀ events₀) (cutBuffers pts₀ out₀ keep₀ next₀) (now₀ .made) (now₀ .queued) last₀ kept₀ (slices edges words reals keys events) (cutBuffers pts out keep next) (now .made) (now .queued) last kept left
 
 abbrev μ-loop : tie.MeasureT-loop
-μ-loop edges₀ words₀ reals₀ keys₀ events₀ keep₀ pts₀ out₀ next₀ e before k w tiny end now₀ last₀ kept₀ left₀ edges words reals keys events keep pts out next now last kept left = left
+μ-loop edges₀ words₀ reals₀ keys₀ events₀ pts₀ out₀ keep₀ next₀ e before k w tiny end now₀ last₀ kept₀ left₀ edges words reals keys events pts out keep next now last kept left = left
 
 loop-holds : tie.Need-loop-holds Inv-loop μ-loop
 loop-holds c =
     let start = c .before .before .before .before .before .before .before .before .before .before .before in
     let a = start .args in
     visits-start (a .e .0) (a .tiny) (liveOf (a .w) 0) (slices (a .edges .now) (a .words .now) (a .reals .now) (a .keys .now) (a .events .now))
-    (cutSlices (a .keep .now) (a .pts .now) (a .out .now) (a .next .now)) (a .counts .made) (a .counts .queued) (a .before) (a .k) (start .pre .0) (start .pre .1 .0) (start .pre .1 .1)
+    (cutBuffers (a .pts .now) (a .out .now) (a .keep .now) (a .next .now)) (a .counts .made) (a .counts .queued) (a .before) (a .k) (start .pre .0) (start .pre .1 .0) (start .pre .1 .1)
 
 next-link-requires : tie.Need-next-link-requires Inv-loop μ-loop
 next-link-requires c κs = search needs
@@ -42,13 +43,13 @@ same-length-5 : tie.Need-same-length-5 Inv-loop μ-loop
 same-length-5 c = c .before .before .before .before .before .before .loop .inv .same .events
 
 same-length-6 : tie.Need-same-length-6 Inv-loop μ-loop
-same-length-6 c = c .before .before .before .before .before .before .loop .inv .same-cuts .keep
+same-length-6 c = c .before .before .before .before .before .before .loop .inv .same-cuts .pts
 
 same-length-7 : tie.Need-same-length-7 Inv-loop μ-loop
-same-length-7 c = c .before .before .before .before .before .before .loop .inv .same-cuts .pts
+same-length-7 c = c .before .before .before .before .before .before .loop .inv .same-cuts .out
 
 same-length-8 : tie.Need-same-length-8 Inv-loop μ-loop
-same-length-8 c = c .before .before .before .before .before .before .loop .inv .same-cuts .out
+same-length-8 c = c .before .before .before .before .before .before .loop .inv .same-cuts .keep
 
 same-length-9 : tie.Need-same-length-9 Inv-loop μ-loop
 same-length-9 c = c .before .before .before .before .before .before .loop .inv .same-cuts .next
@@ -63,8 +64,8 @@ returns c =
     let a = start .args in (
       (loop .inv .fits, (loop .inv .linked, (loop .inv .few, loop .inv .grown))),
       visits-end (a .e .0) (a .tiny) (liveOf (a .w) 0)
-          (slices (a .edges .now) (a .words .now) (a .reals .now) (a .keys .now) (a .events .now)) (cutSlices (a .keep .now) (a .pts .now) (a .out .now) (a .next .now)) (a .counts .made)
-          (a .counts .queued) (a .before) (a .k) (slices (loop .edges) (loop .words) (loop .reals) (loop .keys) (loop .events)) (cutSlices (loop .keep) (loop .pts) (loop .out) (loop .next))
+          (slices (a .edges .now) (a .words .now) (a .reals .now) (a .keys .now) (a .events .now)) (cutBuffers (a .pts .now) (a .out .now) (a .keep .now) (a .next .now)) (a .counts .made)
+          (a .counts .queued) (a .before) (a .k) (slices (loop .edges) (loop .words) (loop .reals) (loop .keys) (loop .events)) (cutBuffers (loop .pts) (loop .out) (loop .keep) (loop .next))
           (loop .now) (loop .last) (loop .kept) (loop .left) (loop .inv) (next-link .result) (next-link .ensures) (c .if1 .taken),
     )
 
@@ -80,8 +81,8 @@ load-requires c κs =
     let a = start .args in
     let l = at-loop .loop in
     let r = visits-ready (a .e .0) (a .tiny) (liveOf (a .w) 0) (slices (a .edges .now) (a .words .now) (a .reals .now) (a .keys .now) (a .events .now))
-    (cutSlices (a .keep .now) (a .pts .now) (a .out .now) (a .next .now)) (a .counts .made) (a .counts .queued) (a .before) (a .k)
-    (slices (l .edges) (l .words) (l .reals) (l .keys) (l .events)) (cutSlices (l .keep) (l .pts) (l .out) (l .next)) (l .now) (l .last) (l .kept) (l .left) (l .inv) in
+    (cutBuffers (a .pts .now) (a .out .now) (a .keep .now) (a .next .now)) (a .counts .made) (a .counts .queued) (a .before) (a .k)
+    (slices (l .edges) (l .words) (l .reals) (l .keys) (l .events)) (cutBuffers (l .pts) (l .out) (l .keep) (l .next)) (l .now) (l .last) (l .kept) (l .left) (l .inv) in
     omega (arith, r .fits, at-next-link .next-link .ensures .made, at-if1 .if1 .left)
 
 visit-requires : tie.Need-visit-requires Inv-loop μ-loop
@@ -95,21 +96,21 @@ visit-requires c κs =
     let next-link = at-next-link .next-link in
     let loop = at-loop .loop in
     let a = start .args in
-    let the-cutSlices-2 = cutSlices (loop .keep) (loop .pts) (loop .out) (loop .next) in
-    let the-cutSlices = cutSlices (a .keep .now) (a .pts .now) (a .out .now) (a .next .now) in
+    let the-cuts-2 = cutBuffers (loop .pts) (loop .out) (loop .keep) (loop .next) in
+    let the-cuts = cutBuffers (a .pts .now) (a .out .now) (a .keep .now) (a .next .now) in
     let the-slices-2 = slices (loop .edges) (loop .words) (loop .reals) (loop .keys) (loop .events) in
     let the-slices = slices (a .edges .now) (a .words .now) (a .reals .now) (a .keys .now) (a .events .now) in (
-      visits-ready (a .e .0) (a .tiny) (liveOf (a .w) 0) the-slices the-cutSlices (a .counts .made) (a .counts .queued) (a .before) (a .k) the-slices-2 the-cutSlices-2 (loop .now)
+      visits-ready (a .e .0) (a .tiny) (liveOf (a .w) 0) the-slices the-cuts (a .counts .made) (a .counts .queued) (a .before) (a .k) the-slices-2 the-cuts-2 (loop .now)
           (loop .last) (loop .kept) (loop .left) (loop .inv),
       (
-        visits-inside (a .e .0) (a .tiny) (liveOf (a .w) 0) the-slices the-cutSlices (a .counts .made) (a .counts .queued) (a .before)
-            (a .k) the-slices-2 the-cutSlices-2 (loop .now) (loop .last) (loop .kept) (loop .left) (loop .inv) (next-link .result) (next-link .ensures) (next-link .result - 1)
+        visits-inside (a .e .0) (a .tiny) (liveOf (a .w) 0) the-slices the-cuts (a .counts .made) (a .counts .queued) (a .before)
+            (a .k) the-slices-2 the-cuts-2 (loop .now) (loop .last) (loop .kept) (loop .left) (loop .inv) (next-link .result) (next-link .ensures) (next-link .result - 1)
             (omega (arith, at-if1 .if1 .left)) (load .result) (load .ensures),
         (
-          visits-sizes (a .e .0) (a .tiny) (liveOf (a .w) 0) the-slices the-cutSlices (a .counts .made) (a .counts .queued)
-              (a .before) (a .k) the-slices-2 the-cutSlices-2 (loop .now) (loop .last) (loop .kept) (loop .left) (loop .inv),
-          visits-few (a .e .0) (a .tiny) (liveOf (a .w) 0) the-slices the-cutSlices
-              (a .counts .made) (a .counts .queued) (a .before) (a .k) the-slices-2 the-cutSlices-2 (loop .now) (loop .last) (loop .kept) (loop .left) (loop .inv),
+          visits-sizes (a .e .0) (a .tiny) (liveOf (a .w) 0) the-slices the-cuts (a .counts .made) (a .counts .queued)
+              (a .before) (a .k) the-slices-2 the-cuts-2 (loop .now) (loop .last) (loop .kept) (loop .left) (loop .inv),
+          visits-few (a .e .0) (a .tiny) (liveOf (a .w) 0) the-slices the-cuts
+              (a .counts .made) (a .counts .queued) (a .before) (a .k) the-slices-2 the-cuts-2 (loop .now) (loop .last) (loop .kept) (loop .left) (loop .inv),
         ),
       ),
     )
@@ -157,21 +158,21 @@ same-length-15 c =
     let at-visit = c .before .before .before .before .before .before .before .before .before .before .before .before .before .before .before .before .before .before .before .before .before
     in
     let at-loop = at-visit .before .before .before .before .before .before .before .before .before .before .before .before .before .before .before .before .before .before .before .before .before .before in
-    at-visit .visit .kept .1 .1 .1 .1 .1 .0 ∙ at-loop .loop .inv .same-cuts .keep
+    at-visit .visit .kept .1 .1 .1 .1 .1 .0 ∙ at-loop .loop .inv .same-cuts .pts
 
 same-length-16 : tie.Need-same-length-16 Inv-loop μ-loop
 same-length-16 c =
     let at-visit = c .before .before .before .before .before .before .before .before .before .before .before .before .before .before .before .before .before .before .before .before .before
     in
     let at-loop = at-visit .before .before .before .before .before .before .before .before .before .before .before .before .before .before .before .before .before .before .before .before .before .before in
-    at-visit .visit .kept .1 .1 .1 .1 .1 .1 .0 ∙ at-loop .loop .inv .same-cuts .pts
+    at-visit .visit .kept .1 .1 .1 .1 .1 .1 .0 ∙ at-loop .loop .inv .same-cuts .out
 
 same-length-17 : tie.Need-same-length-17 Inv-loop μ-loop
 same-length-17 c =
     let at-visit = c .before .before .before .before .before .before .before .before .before .before .before .before .before .before .before .before .before .before .before .before .before
     in
     let at-loop = at-visit .before .before .before .before .before .before .before .before .before .before .before .before .before .before .before .before .before .before .before .before .before .before in
-    at-visit .visit .kept .1 .1 .1 .1 .1 .1 .1 .0 ∙ at-loop .loop .inv .same-cuts .out
+    at-visit .visit .kept .1 .1 .1 .1 .1 .1 .1 .0 ∙ at-loop .loop .inv .same-cuts .keep
 
 same-length-18 : tie.Need-same-length-18 Inv-loop μ-loop
 same-length-18 c =
@@ -199,10 +200,10 @@ returns-2 c =
     let a = start .args in (
       tt,
       visits-stopped (a .e .0) (a .tiny) (liveOf (a .w) 0) (slices (a .edges .now) (a .words .now) (a .reals .now) (a .keys .now) (a .events .now))
-          (cutSlices (a .keep .now) (a .pts .now) (a .out .now) (a .next .now)) (a .counts .made) (a .counts .queued) (a .before) (a .k)
-          (slices (loop .edges) (loop .words) (loop .reals) (loop .keys) (loop .events)) (cutSlices (loop .keep) (loop .pts) (loop .out) (loop .next)) (loop .now) (loop .last) (loop .kept)
+          (cutBuffers (a .pts .now) (a .out .now) (a .keep .now) (a .next .now)) (a .counts .made) (a .counts .queued) (a .before) (a .k)
+          (slices (loop .edges) (loop .words) (loop .reals) (loop .keys) (loop .events)) (cutBuffers (loop .pts) (loop .out) (loop .keep) (loop .next)) (loop .now) (loop .last) (loop .kept)
           (loop .left) (loop .inv) (next-link .result) (next-link .ensures) (next-link .result - 1) (omega (arith, at-if1 .if1 .left)) (load .result) (load .ensures) (at-if2 .if2 .taken)
-          (visited .given .0 .0) (visit .last .1 .1 .1 .1 .1 .0) (rw (visited .given .1) at (visit .ensures .1)),
+          (visited .given .0 .0) (visit .last .1 .1 .1 .1 .1 .1 .1 .0) (rw (visited .given .1) at (visit .ensures .1)),
     )
 
 enum-known-visited-2 : tie.Need-enum-known-visited-2 Inv-loop μ-loop
@@ -232,14 +233,14 @@ loop-again c =
     let loop = at-loop .loop in
     let a = start .args in
     visits-next (a .e .0) (a .tiny) (liveOf (a .w) 0) (slices (a .edges .now) (a .words .now) (a .reals .now) (a .keys .now) (a .events .now))
-    (cutSlices (a .keep .now) (a .pts .now) (a .out .now) (a .next .now)) (a .counts .made) (a .counts .queued) (a .before) (a .k)
-    (slices (loop .edges) (loop .words) (loop .reals) (loop .keys) (loop .events)) (cutSlices (loop .keep) (loop .pts) (loop .out) (loop .next)) (loop .now) (loop .last) (loop .kept)
+    (cutBuffers (a .pts .now) (a .out .now) (a .keep .now) (a .next .now)) (a .counts .made) (a .counts .queued) (a .before) (a .k)
+    (slices (loop .edges) (loop .words) (loop .reals) (loop .keys) (loop .events)) (cutBuffers (loop .pts) (loop .out) (loop .keep) (loop .next)) (loop .now) (loop .last) (loop .kept)
     (loop .left) (loop .inv) (next-link .result) (next-link .ensures) (next-link .result - 1) (omega (arith, at-if1 .if1 .left)) (load .result) (load .ensures) (at-if2 .if2 .taken)
     (slices (visit .last .0) (visit .last .1 .0) (visit .last .1 .1 .0) (visit .last .1 .1 .1 .0) (visit .last .1 .1 .1 .1 .0))
-    (cutSlices (visit .last .1 .1 .1 .1 .1 .0) (visit .last .1 .1 .1 .1 .1 .1 .0) (visit .last .1 .1 .1 .1 .1 .1 .1 .0) (visit .last .1 .1 .1 .1 .1 .1 .1 .1 .0)) (visited2 .given .0 .0)
+    (cutBuffers (visit .last .1 .1 .1 .1 .1 .0) (visit .last .1 .1 .1 .1 .1 .1 .0) (visit .last .1 .1 .1 .1 .1 .1 .1 .0) (visit .last .1 .1 .1 .1 .1 .1 .1 .1 .0)) (visited2 .given .0 .0)
     (visited2 .given .0 .1 .0) (visited2 .given .0 .1 .1 .0) (loop .left - 1)
     (record { edges = visit .kept .0; words = visit .kept .1 .0; reals = visit .kept .1 .1 .0; keys = visit .kept .1 .1 .1 .0; events = visit .kept .1 .1 .1 .1 .0 })
-    (record { keep = visit .kept .1 .1 .1 .1 .1 .0; pts = visit .kept .1 .1 .1 .1 .1 .1 .0; out = visit .kept .1 .1 .1 .1 .1 .1 .1 .0; next = visit .kept .1 .1 .1 .1 .1 .1 .1 .1 .0 })
+    (record { keep = visit .kept .1 .1 .1 .1 .1 .1 .1 .0; pts = visit .kept .1 .1 .1 .1 .1 .0; out = visit .kept .1 .1 .1 .1 .1 .1 .0; next = visit .kept .1 .1 .1 .1 .1 .1 .1 .1 .0 })
     (at-loop-test .loop-test .taken) refl (rw (visited2 .given .1) at (visit .ensures .0)) (rw (visited2 .given .1) at (visit .ensures .1)) nan
 
 same-length-19 : tie.Need-same-length-19 Inv-loop μ-loop
@@ -258,13 +259,13 @@ same-length-23 : tie.Need-same-length-23 Inv-loop μ-loop
 same-length-23 c = c .before .before .before .before .before .before .before .before .before .before .before .before .loop .inv .same .events
 
 same-length-24 : tie.Need-same-length-24 Inv-loop μ-loop
-same-length-24 c = c .before .before .before .before .before .before .before .before .before .before .before .before .loop .inv .same-cuts .keep
+same-length-24 c = c .before .before .before .before .before .before .before .before .before .before .before .before .loop .inv .same-cuts .pts
 
 same-length-25 : tie.Need-same-length-25 Inv-loop μ-loop
-same-length-25 c = c .before .before .before .before .before .before .before .before .before .before .before .before .loop .inv .same-cuts .pts
+same-length-25 c = c .before .before .before .before .before .before .before .before .before .before .before .before .loop .inv .same-cuts .out
 
 same-length-26 : tie.Need-same-length-26 Inv-loop μ-loop
-same-length-26 c = c .before .before .before .before .before .before .before .before .before .before .before .before .loop .inv .same-cuts .out
+same-length-26 c = c .before .before .before .before .before .before .before .before .before .before .before .before .loop .inv .same-cuts .keep
 
 same-length-27 : tie.Need-same-length-27 Inv-loop μ-loop
 same-length-27 c = c .before .before .before .before .before .before .before .before .before .before .before .before .loop .inv .same-cuts .next
@@ -282,8 +283,8 @@ returns-3 c =
     let a = start .args in (
       (loop .inv .fits, (loop .inv .linked, (loop .inv .few, loop .inv .grown))),
       visits-over (a .e .0) (a .tiny) (liveOf (a .w) 0)
-          (slices (a .edges .now) (a .words .now) (a .reals .now) (a .keys .now) (a .events .now)) (cutSlices (a .keep .now) (a .pts .now) (a .out .now) (a .next .now)) (a .counts .made)
-          (a .counts .queued) (a .before) (a .k) (slices (loop .edges) (loop .words) (loop .reals) (loop .keys) (loop .events)) (cutSlices (loop .keep) (loop .pts) (loop .out) (loop .next))
+          (slices (a .edges .now) (a .words .now) (a .reals .now) (a .keys .now) (a .events .now)) (cutBuffers (a .pts .now) (a .out .now) (a .keep .now) (a .next .now)) (a .counts .made)
+          (a .counts .queued) (a .before) (a .k) (slices (loop .edges) (loop .words) (loop .reals) (loop .keys) (loop .events)) (cutBuffers (loop .pts) (loop .out) (loop .keep) (loop .next))
           (loop .now) (loop .last) (loop .kept) (loop .left) (loop .inv) (next-link .result) (next-link .ensures) (next-link .result - 1) (omega (arith, at-if1 .if1 .left)) (load .result)
           (load .ensures) (c .if2 .left),
     )
@@ -304,13 +305,13 @@ same-length-32 : tie.Need-same-length-32 Inv-loop μ-loop
 same-length-32 c = c .before .loop .inv .same .events
 
 same-length-33 : tie.Need-same-length-33 Inv-loop μ-loop
-same-length-33 c = c .before .loop .inv .same-cuts .keep
+same-length-33 c = c .before .loop .inv .same-cuts .pts
 
 same-length-34 : tie.Need-same-length-34 Inv-loop μ-loop
-same-length-34 c = c .before .loop .inv .same-cuts .pts
+same-length-34 c = c .before .loop .inv .same-cuts .out
 
 same-length-35 : tie.Need-same-length-35 Inv-loop μ-loop
-same-length-35 c = c .before .loop .inv .same-cuts .out
+same-length-35 c = c .before .loop .inv .same-cuts .keep
 
 same-length-36 : tie.Need-same-length-36 Inv-loop μ-loop
 same-length-36 c = c .before .loop .inv .same-cuts .next
@@ -323,8 +324,8 @@ returns-4 c =
     let a = start .args in (
       (loop .inv .fits, (loop .inv .linked, (loop .inv .few, loop .inv .grown))),
       visits-spent (a .e .0) (a .tiny) (liveOf (a .w) 0)
-          (slices (a .edges .now) (a .words .now) (a .reals .now) (a .keys .now) (a .events .now)) (cutSlices (a .keep .now) (a .pts .now) (a .out .now) (a .next .now)) (a .counts .made)
-          (a .counts .queued) (a .before) (a .k) (slices (loop .edges) (loop .words) (loop .reals) (loop .keys) (loop .events)) (cutSlices (loop .keep) (loop .pts) (loop .out) (loop .next))
+          (slices (a .edges .now) (a .words .now) (a .reals .now) (a .keys .now) (a .events .now)) (cutBuffers (a .pts .now) (a .out .now) (a .keep .now) (a .next .now)) (a .counts .made)
+          (a .counts .queued) (a .before) (a .k) (slices (loop .edges) (loop .words) (loop .reals) (loop .keys) (loop .events)) (cutBuffers (loop .pts) (loop .out) (loop .keep) (loop .next))
           (loop .now) (loop .last) (loop .kept) (loop .left) (loop .inv) (omega (arith, c .loop-test .left)),
     )
 

@@ -15,7 +15,7 @@ use Rattle.better.specs.declared.Listed.the-variants.{Full, Entries}
 use Rattle.better.proofs.Pairs.{pairs-length}
 use Rattle.trim_model.specs.Intervals.{next, pieces}
 use Rattle.trim_model.specs.Claim.{Any}
-use Rattle.trim_cut.specs.Cut.{lossLengths, lengths, Leaves}
+use Rattle.cut_lists.specs.Cut.{lossLengths, lengths, Leaves}
 
 -- intervals that a buffer of so many slots holds, or does not
 few : (l : List Float) (size n : ℕ) → length l ≡ size + size → n + n ≤ length l → n ≤ size

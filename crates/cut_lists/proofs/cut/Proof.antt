@@ -1,12 +1,12 @@
--- `trim_cut::cut` meets its contract. Assumes nothing.
+-- `cut_lists::cut` meets its contract. Assumes nothing.
 use native.Mathlib.Omega.{arith}
 use lib.ListN.{length}
 use Rattle.better.specs.Buffers.{pairs}
-use Rattle.trim_cut.proofs.Cutting.{full-better, full-next, full-pieces, none-lost, some-lost}
+use Rattle.cut_lists.proofs.Cutting.{full-better, full-next, full-pieces, none-lost, some-lost}
 use borrow.Author.Needs.{needs}
 use Rattle.better.proofs.Stored.{answers-of}
-use Rattle.trim_cut.proofs.cut.Statement.{statement}
-use Rattle.trim_cut.proofs.cut.Tie as tie
+use Rattle.cut_lists.proofs.cut.Statement.{statement}
+use Rattle.cut_lists.proofs.cut.Tie as tie
 
 better-requires : tie.Need-better-requires
 better-requires c κs = search needs
@@ -31,8 +31,8 @@ returns c =
     full-better (a .p) (a .q) (a .lo) (a .hi) (a .b0) (a .b1) (a .tiny) (length (a .pts .now)) (pairs (a .k) (a .keep .now)) (at-better .better .last .1 .1 .1 .1 .1 .0)
     (omega (arith, at-better .better .kept .1 .1 .1 .1 .1 .0, start .pre .0 .outs)) (rw (c .enum-told .given .1) at (answers-of _ _ _ _ _ _ (at-better .better .ensures .0)))
 
-next-requires : tie.Need-next-requires
-next-requires c κs =
+next-keep-requires : tie.Need-next-keep-requires
+next-keep-requires c κs =
     let a = c .before .before .before .before .before .before .before .before .before .before .before .before .before .before .before .before .before .args in
     let h = (rw (c .before .before .before .before .better2 .given .1) at (answers-of _ _ _ _ _ _ (c .before .before .before .before .before .before .before .before .before .before .better .ensures .0))) in
     (omega (arith, c .before .before .before .before .before .before .before .before .before .before .before .before .before .before .before .before .before .pre .0 .keeps, c .before .before .before .before .before .before .before .before .before .before .before .before .before .before .before .before .before .pre .1), h .1 .0)
@@ -63,15 +63,15 @@ returns-2 c =
     let start = compared .before .before .before .before .before .before .before in
     let a = start .args in
     full-next (a .p) (a .q) (a .lo) (a .hi) (a .b0) (a .b1) (a .tiny) (length (a .pts .now)) (pairs (a .k) (a .keep .now)) (compared .better .last .1 .1 .1 .1 .1 .0) (stretched .better2 .given .0 .0)
-    (rw (stretched .better2 .given .1) at (answers-of _ _ _ _ _ _ (compared .better .ensures .0))) (followed .next .last .1 .1 .1 .1 .1 .1 .0) (omega (arith, followed .next .kept .1 .1 .1 .1 .1 .1 .0, start .pre .0 .nexts))
-    (rw (c .enum-told2 .given .1) at (followed .next .ensures .0))
+    (rw (stretched .better2 .given .1) at (answers-of _ _ _ _ _ _ (compared .better .ensures .0))) (followed .next-keep .last .1 .1 .1 .1 .1 .1 .0) (omega (arith, followed .next-keep .kept .1 .1 .1 .1 .1 .1 .0, start .pre .0 .nexts))
+    (rw (c .enum-told2 .given .1) at (followed .next-keep .ensures .0))
 
 copy-requires : tie.Need-copy-requires
 copy-requires c κs =
     let at-left = c .before .before .before in
     let at-next = at-left .before .before .before .before in
     let start = at-next .before .before .before .before .before .before .before .before .before .before .before .before .before .before .before .before .before .before in
-    let next = at-next .next in
+    let next = at-next .next-keep in
     let h = (rw (at-left .left .given .1) at (next .ensures .0)) in
     let g = h .0 in
     (g, omega (arith, g, next .kept .1 .1 .1 .1 .1 .1 .0, start .pre .0 .nexts, start .pre .0 .keeps))
@@ -98,8 +98,8 @@ returns-3 c =
     let start = compared .before .before .before .before .before .before .before in
     let a = start .args in
     none-lost (a .p) (a .q) (a .lo) (a .hi) (a .b0) (a .b1) (a .tiny) (length (a .pts .now)) (pairs (a .k) (a .keep .now)) (compared .better .last .1 .1 .1 .1 .1 .0) (stretched .better2 .given .0 .0)
-    (rw (stretched .better2 .given .1) at (answers-of _ _ _ _ _ _ (compared .better .ensures .0))) (omega (arith, compared .better .kept .1 .1 .1 .1 .1 .0, start .pre .0 .outs)) (followed .next .last .1 .1 .1 .1 .1 .1 .0) (copied .copy .last .1 .1 .0)
-    (omega (arith, followed .next .kept .1 .1 .1 .1 .1 .1 .0, start .pre .0 .nexts)) (entries .left .given .0 .0) (rw (entries .left .given .1) at (followed .next .ensures .0)) (copied .copy .ensures) (c .if1 .taken) (followed .next .last .1 .1 .1 .1 .1 .1 .0)
+    (rw (stretched .better2 .given .1) at (answers-of _ _ _ _ _ _ (compared .better .ensures .0))) (omega (arith, compared .better .kept .1 .1 .1 .1 .1 .0, start .pre .0 .outs)) (followed .next-keep .last .1 .1 .1 .1 .1 .1 .0) (copied .copy .last .1 .1 .0)
+    (omega (arith, followed .next-keep .kept .1 .1 .1 .1 .1 .1 .0, start .pre .0 .nexts)) (entries .left .given .0 .0) (rw (entries .left .given .1) at (followed .next-keep .ensures .0)) (copied .copy .ensures) (c .if1 .taken) (followed .next-keep .last .1 .1 .1 .1 .1 .1 .0)
 
 pieces-requires : tie.Need-pieces-requires
 pieces-requires c κs =
@@ -137,7 +137,7 @@ returns-4 c =
     let a = start .args in
     full-pieces (a .p) (a .q) (a .lo) (a .hi) (a .b0) (a .b1) (a .tiny) (length (a .pts .now)) (pairs (a .k) (a .keep .now)) (compared .better .last .1 .1 .1 .1 .1 .0) (stretched .better2 .given .0 .0)
     (rw (stretched .better2 .given .1) at (answers-of _ _ _ _ _ _ (compared .better .ensures .0))) (cut-off .pieces .last .1 .1 .1 .1 .1 .0)
-    (omega (arith, cut-off .pieces .kept .1 .1 .1 .1 .1 .0, followed .next .kept .1 .1 .1 .1 .1 .1 .0, start .pre .0 .nexts)) (omega (arith, tested .if1 .left)) (rw (c .enum-told3 .given .1) at (cut-off .pieces .ensures .0))
+    (omega (arith, cut-off .pieces .kept .1 .1 .1 .1 .1 .0, followed .next-keep .kept .1 .1 .1 .1 .1 .1 .0, start .pre .0 .nexts)) (omega (arith, tested .if1 .left)) (rw (c .enum-told3 .given .1) at (cut-off .pieces .ensures .0))
 
 same-length-15 : tie.Need-same-length-15
 same-length-15 c = search needs
@@ -163,9 +163,9 @@ returns-5 c =
     let start = compared .before .before .before .before .before .before .before in
     let a = start .args in
     some-lost (a .p) (a .q) (a .lo) (a .hi) (a .b0) (a .b1) (a .tiny) (length (a .pts .now)) (pairs (a .k) (a .keep .now)) (compared .better .last .1 .1 .1 .1 .1 .0) (stretched .better2 .given .0 .0)
-    (rw (stretched .better2 .given .1) at (answers-of _ _ _ _ _ _ (compared .better .ensures .0))) (omega (arith, compared .better .kept .1 .1 .1 .1 .1 .0, start .pre .0 .outs)) (followed .next .last .1 .1 .1 .1 .1 .1 .0) (copied .copy .last .1 .1 .0)
-    (omega (arith, followed .next .kept .1 .1 .1 .1 .1 .1 .0, start .pre .0 .nexts)) (entries .left .given .0 .0) (rw (entries .left .given .1) at (followed .next .ensures .0)) (copied .copy .ensures) (cut-off .pieces .last .1 .1 .1 .1 .1 .0)
-    (omega (arith, cut-off .pieces .kept .1 .1 .1 .1 .1 .0, followed .next .kept .1 .1 .1 .1 .1 .1 .0, start .pre .0 .nexts)) (remaining .rest .given .0 .0) (rw (remaining .rest .given .1) at (cut-off .pieces .ensures .0))
+    (rw (stretched .better2 .given .1) at (answers-of _ _ _ _ _ _ (compared .better .ensures .0))) (omega (arith, compared .better .kept .1 .1 .1 .1 .1 .0, start .pre .0 .outs)) (followed .next-keep .last .1 .1 .1 .1 .1 .1 .0) (copied .copy .last .1 .1 .0)
+    (omega (arith, followed .next-keep .kept .1 .1 .1 .1 .1 .1 .0, start .pre .0 .nexts)) (entries .left .given .0 .0) (rw (entries .left .given .1) at (followed .next-keep .ensures .0)) (copied .copy .ensures) (cut-off .pieces .last .1 .1 .1 .1 .1 .0)
+    (omega (arith, cut-off .pieces .kept .1 .1 .1 .1 .1 .0, followed .next-keep .kept .1 .1 .1 .1 .1 .1 .0, start .pre .0 .nexts)) (remaining .rest .given .0 .0) (rw (remaining .rest .given .1) at (cut-off .pieces .ensures .0))
 
 pub cut-spec : {M : Type 1} → statement M
 cut-spec =
@@ -177,7 +177,7 @@ cut-spec =
     same-length
     same-length-2
     returns
-    next-requires
+    next-keep-requires
     enum-known-left
     enum-told-2
     same-length-3

@@ -1,4 +1,4 @@
--- `cut_lists::next` meets its contract. The invariant: what the loop comes to from here is what it came to at first. Assumes nothing.
+-- `cut_lists::next_keep` meets its contract. The invariant: what the loop comes to from here is what it came to at first. Assumes nothing.
 use Prim.Native.Nat.{_+_, _-_, _≤_}
 use mathlib.Core.Path.{_≡_, refl, sym, ap, _∙_}
 use mathlib.Core.List.{List, _++_}
@@ -11,8 +11,8 @@ use Rattle.better.specs.Buffers.{pairs}
 use Rattle.trim_model.specs.Intervals.{next}
 use Rattle.better.proofs.Stored.{numbered}
 use Rattle.cut_lists.proofs.Pushes.{next-turn, next-full, next-done}
-use Rattle.cut_lists.proofs.next.Statement.{statement}
-use Rattle.cut_lists.proofs.next.Tie as tie
+use Rattle.cut_lists.proofs.next_keep.Statement.{statement}
+use Rattle.cut_lists.proofs.next_keep.Tie as tie
 
 abbrev Inv-loop : tie.InvT-loop
 Inv-loop keep k better m lo hi out₀ n₀ i₀ out n i = (i ≤ k) × (n + n ≤ length out) × (length out ≡ length out₀) × (next lo hi (pairs m better) (pairs k keep) ≡ pairs n out ++ next lo hi (pairs m better) (drop i (pairs k keep)))
@@ -92,8 +92,8 @@ returns-2 c =
     numbered (Entries (i .loop .n)) (a .out .now) (i .loop .out) (next (a .lo) (a .hi) better (pairs (a .k) (a .keep .now))) (i .loop .inv .2)
     (i .loop .inv .1, sym (i .loop .inv .3 ∙ next-done (a .keep .now) (a .k) (i .loop .i) (pairs (i .loop .n) (i .loop .out)) (a .lo) (a .hi) better (c .loop-test .left)))
 
-pub next-spec : {M : Type 1} → statement M
-next-spec =
+pub next-keep-spec : {M : Type 1} → statement M
+next-keep-spec =
     tie.close
     (tie.spec
     Inv-loop

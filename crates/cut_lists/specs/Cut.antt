@@ -11,13 +11,13 @@ use Rattle.better.specs.Buffers.{pairs}
 use Rattle.better.specs.Claim.{All}
 use Rattle.trim_model.specs.Intervals.{next, pieces}
 use Rattle.trim_model.specs.Claim.{Any}
-use Rattle.trim_cut.specs.declared.Met.{Met}
-use Rattle.trim_cut.specs.declared.Met.the-variants.{Full, Left}
+use Rattle.cut_lists.specs.declared.Met.{Met}
+use Rattle.cut_lists.specs.declared.Met.the-variants.{Full, Left}
 
 -- the buffers of the lists have so many slots each, two numbers to a slot but for `pts`
-pub record Sizes (size : ℕ) (keep out next : List Float) : Type 0 where
-  pub keeps : length keep ≡ size + size
+pub record Sizes (size : ℕ) (out keep next : List Float) : Type 0 where
   pub outs : length out ≡ size + size
+  pub keeps : length keep ≡ size + size
   pub nexts : length next ≡ size + size
 
 -- how many entries the list `pieces` comes to, if it is made
