@@ -7,10 +7,11 @@ use Prim.Native.Nat.{ℕ, zero, suc, _-_}
 use native.Mathlib.Omega.{arith}
 use mathlib.Core.Path.{_≡_, refl}
 use mathlib.Core.Logic.{_≢_}
-use mathlib.Core.Bool.{Bool, true, false, not, _&&_, _||_}
+use mathlib.Core.Bool.{true, false, _&&_, _||_}
 use lib.Dec.{T}
 use lib.Ieee.{Float, binary64, lt, fits}
 use lib.Ieee.Fits.{div-fits, and-l, and-r}
+use Rattle.nat_laws.proofs.Tests.{branch}
 use Rattle.float64.specs.Scalar.{two}
 use Rattle.float64.specs.Notation.{_⊕_, _⊘_, if_then_else_}
 use Rattle.source.specs.declared.Src.{Src}
@@ -18,11 +19,6 @@ use Rattle.better.specs.declared.Compared.{Compared}
 use Rattle.better.specs.declared.Cut.{Cut}
 use Rattle.better.specs.declared.Cut.the-variants.{Nowhere, At}
 use Rattle.better.specs.Cutting.{signOf, sameOf, changeOf, halveOf, strictly, cutOf}
-
--- what holds either way of a test
-pub branch : {A : Type 0} (P : A → Type 0) (b : Bool) {x y : A} → (T b → P x) → (T (not b) → P y) → P (if b then x else y)
-branch P true f g = f tt
-branch P false f g = g tt
 
 abbrev pub Double : Float → Type 0
 Double x = T (fits binary64 x)

@@ -5,3 +5,4 @@ pub mod Stretches
 pub mod Buffers
 pub mod Pairs
 pub mod Stored
+pub mod Decimal

@@ -13,16 +13,12 @@ use mathlib.Core.Bool.{true, false}
 use mathlib.Core.List.{List, [], _∷_, _++_, append-assoc}
 use lib.ListN.{length, take, drop, getD, set, length-append, length-take, length-set, drop-of-length-le}
 use lib.Seq.{getD-set-same, getD-set-other, getD-take, drop-cons}
-use mathlib.Core.Logic.{inr}
 use lib.Ieee.{Float, nan, eq}
-use Rattle.better.specs.Stretches.{Interval, interval, joined, shorterBetween, stretches, outOf, betterOf}
-use Rattle.better.specs.Points.{ptsOf, walkOf}
+use Rattle.nat_laws.proofs.Tests.{branch}
+use Rattle.better.specs.Stretches.{Interval, interval, joined, shorterBetween, stretches, outOf}
 use Rattle.float64.specs.Notation.{if_then_else_}
 use Rattle.source.specs.declared.Src.{Src}
-use Rattle.better.specs.declared.Listed.{Listed}
-use Rattle.better.specs.declared.Listed.the-variants.{Full, Entries}
-use Rattle.better.proofs.Cutting.{branch}
-use Rattle.better.specs.Buffers.{pairs, endsAt, HoldsPairs, Answers}
+use Rattle.better.specs.Buffers.{pairs, endsAt}
 
 pub pairs-length : (m : ℕ) (l : List Float) → length (pairs m l) ≡ m
 pairs-length zero l = refl

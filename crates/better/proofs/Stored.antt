@@ -15,13 +15,12 @@ use lib.Dec.{leb}
 use lib.ListN.{length, take, drop, getD, length-append, take-append-drop}
 use lib.Seq.{take-append-seam, drop-drop}
 use lib.Ieee.{Float, nan, eq}
+use Rattle.nat_laws.proofs.Tests.{branch}
 use Rattle.source.specs.declared.Src.{Src}
-use Rattle.float64.specs.Notation.{if_then_else_}
 use Rattle.better.specs.declared.Listed.{Listed}
 use Rattle.better.specs.declared.Listed.the-variants.{Full, Entries}
 use Rattle.better.specs.Stretches.{Interval, interval, joined, shorterBetween, stretches}
 use Rattle.better.specs.Buffers.{pairs, HoldsPairs, Answers, refusalNumber, stored, hasEntries, bettering}
-use Rattle.better.proofs.Cutting.{branch}
 use Rattle.better.proofs.Pairs.{step, rest, pairs-length, joined-more}
 
 pairs-cons : (m : ℕ) (a b : Float) (l : List Float) → pairs (suc m) (a ∷ b ∷ l) ≡ interval a b ∷ pairs m l

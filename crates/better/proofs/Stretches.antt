@@ -7,6 +7,8 @@ use mathlib.Core.List.{List, [], _∷_}
 use mathlib.Core.Bool.{Bool, true, false, not}
 use lib.Dec.{T, T-not}
 use lib.Ieee.{Float, lt, le, eq}
+use Rattle.nat_laws.proofs.Lists.{all-map}
+use Rattle.nat_laws.proofs.Tests.{branch}
 use Rattle.float_laws.proofs.Order.{Number, finite-number, le-refl, le-trans, lt-trans, lt-le-trans, le-antisym, le-or-lt, not-le-lt}
 use Rattle.float64.specs.Scalar.{two}
 use Rattle.float64.specs.Notation.{_⊕_, _⊘_, if_then_else_}
@@ -16,8 +18,7 @@ use Rattle.better.specs.Cutting.{shorter}
 use Rattle.better.specs.Points.{ptsOf, walkOf}
 use Rattle.better.specs.Stretches.{Interval, interval, joined, shorterBetween, stretches, outOf, betterOf}
 use Rattle.better.specs.Claim.{All, Pairs, Point, Stretch, Separates}
-use Rattle.better.proofs.Cutting.{branch}
-use Rattle.better.proofs.Points.{Rising, Le, Rises, Inside, all-map, pts-all, pts-rises, walk-all, walk-rises}
+use Rattle.better.proofs.Points.{Rising, Le, Rises, Inside, pts-all, pts-rises, walk-all, walk-rises}
 
 abbrev Apart : Interval → Interval → Type 0
 Apart g h = T (lt (g .to) (h .from))

@@ -2,6 +2,7 @@
 use mathlib.Core.Bool.{not, _||_}
 use lib.Ieee.{Float, binary64, neg, lt, le, eq, ne}
 use lib.Ieee.Fits.{div-fits}
+use Rattle.nat_laws.proofs.Tests.{branch}
 use Rattle.root_spec.specs.Root.{sqrtOf}
 use Rattle.float64.specs.Scalar.{zero, two, maxOf, absOf, signumOf, isFinite}
 use Rattle.float64.specs.Notation.{_⊕_, _⊖_, _⊗_, _⊘_}
@@ -13,7 +14,7 @@ use Rattle.source.specs.Quadratic.{half, four, negligible, rootsOf}
 use Rattle.source.specs.Distance.{tiesOf, tiesOfPoints, tiesOfPointLine}
 use Rattle.better.specs.Points.{cuts}
 use Rattle.better.specs.Claim.{All}
-use Rattle.better.proofs.Cutting.{branch, Double}
+use Rattle.better.proofs.Cutting.{Double}
 
 abbrev Doubles : RealRoots → Type 0
 Doubles None = Unit {0}

@@ -2,10 +2,9 @@
 -- computed is above tiny then, so both ends are finite. For whatever is offered that way: by insertion, by a vertex and by propagation. Assumes nothing.
 --     admitted-inside, admitted-proper; offered-proper (what source_windows and propagation offer), clipped-proper (x.max(0.) and y.min(l)), whole-proper (the whole edge, 0 and l); length-point (of an edge of a checked mesh)
 use Prim.Native.Nat.{ℕ}
-use mathlib.Core.Bool.{Bool, true, false, not, _||_}
+use mathlib.Core.Bool.{not}
 use lib.Dec.{T}
 use lib.Ieee.{Float, binary64, lt, le, fits}
-use lib.Ieee.Bits.{ofBits-fits}
 use mathlib.Core.Path.{_≡_, subst, sym}
 use Rattle.float64.specs.Scalar.{zero, minOf, maxOf}
 use Rattle.source.specs.Distance.{lowestOf}
@@ -21,19 +20,16 @@ use Rattle.trim_model.specs.Intervals.{width, tinyOf}
 use Rattle.trim_model.specs.Model.{Candidate, admits}
 use Rattle.trim_model.specs.Claim.{Proper}
 use Rattle.trim_model.proofs.Ranks.{tiny-nonneg}
+use Rattle.trim_model.proofs.Model.{not-or}
 
 -- the length of an edge of a checked mesh is such a length
 pub length-point : (l : Float) → EdgeLength l → Point l
 length-point l h = record { number = h .number; double = h .double }
 
-neither : (a b : Bool) → T (not (a || b)) → T (not a)
-neither true b h = h
-neither false b h = tt
-
 module _ (limit : Float) (len : ℕ → Float) (c : Candidate) (long : Point (len (c .edge))) (above : T (lt zero (len (c .edge)))) (offered : T (admits limit len c)) where
   -- not at most tiny
   wide : T (not (le (width (c .b0) (c .b1)) (tinyOf (len (c .edge)))))
-  wide = neither (le (width (c .b0) (c .b1)) (tinyOf (len (c .edge)))) (lt limit (lowestOf (c .src) (c .b0) (c .b1))) offered
+  wide = not-or (le (width (c .b0) (c .b1)) (tinyOf (len (c .edge)))) (lt limit (lowestOf (c .src) (c .b0) (c .b1))) offered
 
   module _ (start : Start (c .b0)) (end : End (len (c .edge)) (c .b1)) where
     pub admitted-inside : Inside (len (c .edge)) (c .b0) (c .b1)

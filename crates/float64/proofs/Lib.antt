@@ -1,3 +1,4 @@
 pub mod Bits
 pub mod Scalar
 pub mod TotalOrder
+pub mod Decimal

@@ -12,7 +12,7 @@ use lib.Ieee.Fits.{inf-fits}
 use lib.Ieee.Compare.{differs-from-itself}
 use Rattle.root_spec.proofs.Floats.{no-nan}
 use borrow.Author.Tests.{lt-ltb, le-ltb}
-use Rattle.float64.specs.Scalar.{zero, one, two, negative, absOf, isFinite}
+use Rattle.float64.specs.Scalar.{zero, one, negative, absOf, isFinite}
 use Rattle.float64.specs.TotalOrder.{half}
 use Rattle.root_spec.proofs.Units.{fits-either}
 use Rattle.float64.proofs.Bits.{toBits-fin, pattern-small, fin-below}
@@ -51,10 +51,6 @@ zero-is = refl
 pub one-is : one ≡ fin false 1 (pos 0)
 unfolding ofBits
 one-is = refl
-
-pub two-is : two ≡ fin false 1 (pos 1)
-unfolding ofBits
-two-is = refl
 
 -- ---- the sign's bit
 pub sign-bit : (x : Float) → T (fits binary64 x) → isNan x ≡ false → ltb (toBits binary64 x) half ≡ not (negative x)

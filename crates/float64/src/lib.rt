@@ -1,18 +1,8 @@
 // The functions of f64 that the operators do not give, and the total order of its values.
 
 ghost use mathlib.Core.Path.{_≡_};
-ghost use lib.Ieee.{isNan};
 ghost use Rattle.float64.specs.Scalar.{minOf, maxOf, absOf, signumOf, clampOf, isFinite};
 ghost use Rattle.float64.specs.TotalOrder.{totalKey, totalLess};
-
-pub fn is_nan(x: f64) -> bool
-    ensures { λ r. ⌜ r ≡ isNan x ⌝ }
-{
-    if x != x {
-        return true;
-    }
-    false
-}
 
 pub fn is_finite(x: f64) -> bool
     ensures { λ r. ⌜ r ≡ isFinite x ⌝ }

@@ -1,6 +1,6 @@
 -- One over a number that is bounded from below, as computed. Assumes nothing.
 --     reciprocal-from-zero, reciprocal-upto (0 < a ≤ x gives 0 ≤ 1 / x ≤ 1 / a)
-use Prim.Native.Nat.{ℕ, zero, suc, _*_, _≤_, _<_}
+use Prim.Native.Nat.{ℕ, zero, suc, _*_, _≤_}
 use mathlib.Core.Bool.{Bool, true, false, cond}
 use mathlib.Core.Path.{_≡_, sym, ap, _∙_, subst}
 use native.Mathlib.Nat.{mul-pos, mul-comm, zero-lt-suc}
@@ -8,14 +8,14 @@ use native.Mathlib.Omega.{arith}
 use lib.Dec.{T, ltb→lt, eqb·suc-zero}
 use lib.IntN.{ℤ}
 use lib.Ieee.{Float, nan, inf, fin, Format, up, down, round, div, lt, le, ofBits}
-use lib.Ieee.Fits.{up-pos, down-pos}
+use lib.Ieee.Fits.{up-pos}
 use lib.Ieee.Order.{round-mono}
 use lib.Ieee.Scale.{finite}
 use Rattle.float64.specs.Scalar as scalar
 use Rattle.float64.proofs.Scalar.{one-is}
-use Rattle.float_laws.proofs.Signed.{signed}
 use Rattle.float_laws.proofs.Order.{lt-le-trans}
 use Rattle.float_laws.proofs.Round.{round-nonneg}
+use Rattle.float_laws.proofs.RootOrder.{le-fractions}
 
 -- a finite number above zero has a plus sign and a significand above zero
 above : (P : Float → Type 0) → ((m : ℕ) (e : ℤ) → P (fin false (suc m) e)) → (x : Float) → T (finite x) → T (lt scalar.zero x) → P x
@@ -38,10 +38,6 @@ reciprocal-from-zero f = above (λ (x : Float). T (le scalar.zero (div f scalar.
 crossed : (M N p q : ℕ) → M * q ≤ N * p → 1 * 1 * q * (M * 1) ≤ 1 * 1 * p * (N * 1)
 crossed M N p q h = omega (arith, mul-comm M q, mul-comm N p)
 
-values : (m : ℕ) (e : ℤ) (n : ℕ) (d : ℤ) → T (le (fin false m e) (fin false n d)) → m * up e * down d ≤ n * up d * down e
-unfolding le
-values m e n d h = signed false (m * up e * down d) false (n * up d * down e) h
-
 pub reciprocal-upto : (f : Format) (a x : Float) → T (finite a) → T (finite x) → T (lt scalar.zero a) → T (le a x) → T (le (div f scalar.one x) (div f scalar.one a))
 reciprocal-upto f a x F G h k =
     above (λ (v : Float). T (le v x) → T (le (div f scalar.one x) (div f scalar.one v)))
@@ -49,6 +45,6 @@ reciprocal-upto f a x F G h k =
     (λ n d i. subst (λ (v : Float). T (le v (div f scalar.one (fin false (suc m) e)))) (sym (one-over f n d))
     (subst (λ (v : Float). T (le (round f false (1 * 1 * down d) (suc n * up d * 1)) v)) (sym (one-over f m e))
     (round-mono f (1 * 1 * down d) (suc n * up d * 1) (1 * 1 * down e) (suc m * up e * 1) (omega (arith, mul-pos (zero-lt-suc n) (up-pos d))) (omega (arith, mul-pos (zero-lt-suc m) (up-pos e)))
-    (crossed (suc m * up e) (suc n * up d) (down e) (down d) (values (suc m) e (suc n) d i)))))
+    (crossed (suc m * up e) (suc n * up d) (down e) (down d) (le-fractions (suc m) e (suc n) d i)))))
     x G (lt-le-trans scalar.zero a x h k))
     a F h k

@@ -8,5 +8,3 @@ pub mod Product
 pub mod Roots
 pub mod RootOrder
 pub mod MinMax
-pub mod Bounds
-pub mod Middle

@@ -13,14 +13,11 @@ use lib.Dec.{T, T-not, not-T}
 use lib.Ieee.{Float, nan, inf, fin, Format, up, down, lt, le, neg, isNan, fits, ofBits}
 use lib.Ieee.Bits.{is-true, is-false}
 use lib.Ieee.Scale.{finite}
+use Rattle.nat_laws.proofs.Tests.{by-cases}
 use Rattle.float64.specs.Scalar.{zero, minOf, maxOf, clampOf, absOf}
 use Rattle.float_laws.proofs.Signed.{unsigned, signed-refl}
 use Rattle.float_laws.proofs.Order.{Number, le-refl, le-trans, lt-le, lt-le-trans, not-lt-le, lt-not-le, le-or-lt, le-number-l, le-number-r, neg-le, neg-neg, neg-number}
 use Rattle.float_laws.proofs.Rank.{Held, rank, le-rank, lt-rank}
-
-pub by-cases : (P : Bool → Type 0) (b : Bool) → (T b → P true) → (T (not b) → P false) → P b
-by-cases P true f g = f tt
-by-cases P false f g = g tt
 
 -- ---- one argument for both: the order goes up for the smaller of two, and down for the larger
 record Way (before upto : Float → Float → Bool) : Type 0 where

@@ -80,9 +80,10 @@ minus-zero : (e : ℤ) → T (le (fin true 0 e) scalar.zero)
 unfolding le ofBits
 minus-zero e = unsigned true (0 * up e * 1) false (0 * 1 * down e) tt
 
-values : (m : ℕ) (e : ℤ) (n : ℕ) (d : ℤ) → T (le (fin false m e) (fin false n d)) → m * up e * down d ≤ n * up d * down e
+-- of two finite values from 0 on, as fractions
+pub le-fractions : (m : ℕ) (e : ℤ) (n : ℕ) (d : ℤ) → T (le (fin false m e) (fin false n d)) → m * up e * down d ≤ n * up d * down e
 unfolding le
-values m e n d h = signed false (m * up e * down d) false (n * up d * down e) h
+le-fractions m e n d h = signed false (m * up e * down d) false (n * up d * down e) h
 
 not-above : (m : ℕ) (e : ℤ) (n : ℕ) (d : ℤ) → T (le (fin false m e) (fin true n d)) → m ≡ 0
 unfolding le
@@ -104,7 +105,7 @@ sqrt-mono f (inf true) (fin t n d) p q h k = absurd (no-minus h)
 sqrt-mono f (inf false) (fin t n d) p q h k = absurd (past-infinity t n d k)
 sqrt-mono f (fin true m e) (fin t n d) p q h k = from-minus-zero f m e (sqrtOf f (fin t n d)) (no-sign m e h) (sqrt-nonneg f (fin t n d) (order.le-trans scalar.zero (fin true m e) (fin t n d) h k))
 sqrt-mono f (fin false m e) (fin true n d) p q h k = between-zeros f m e n d (not-above m e n d k) (no-sign n d (order.le-trans scalar.zero (fin false m e) (fin true n d) h k)) k
-sqrt-mono f (fin false m e) (fin false n d) p q h k = finite-mono f m e n d p q (values m e n d k)
+sqrt-mono f (fin false m e) (fin false n d) p q h k = finite-mono f m e n d p q (le-fractions m e n d k)
 
 -- ---- a root beside a bound
 -- what has a root is not below zero

@@ -1,6 +1,6 @@
--- Rounding: it keeps the order of fractions of any sign, gives a value that the format holds back as one that compares equal, and overflows at the latest from 2 ^ (emax + 1) on. Assumes nothing.
---     round-not (the sign goes through), round-signed (a ≤ b gives round a ≤ round b), round-nonneg, units-nonneg, round-zero, round-own (a value that fits), round-over
-use Prim.Native.Nat.{ℕ, zero, suc, _+_, _-_, _*_, _/_, _%_, _^_, _≤_, _<_, zero-le, compare}
+-- Rounding: it keeps the order of fractions of any sign, and gives a value that the format holds back as one that compares equal. Assumes nothing.
+--     round-not (the sign goes through), round-signed (a ≤ b gives round a ≤ round b), round-nonneg, units-nonneg, round-zero, round-own (a value that fits)
+use Prim.Native.Nat.{ℕ, zero, suc, _+_, _-_, _*_, _/_, _%_, _^_, _<_, zero-le, compare}
 use mathlib.Core.Bool.{Bool, true, false, not, cond}
 use mathlib.Core.Path.{_≡_, refl, sym, ap, _∙_, subst}
 use native.Mathlib.Nat.{le-trans, le-of-eq, mul-one, zero-mul}
@@ -106,21 +106,3 @@ round-signed f false true a b c d C D h =
     rw (x, y, round-zero f false c C, round-zero f true d D) zeros
 round-signed f true false a b c d C D h = rw (round-neg f a c) (across (round f false a c) (round f false b d) (round-nonneg f a c) (round-nonneg f b d))
 round-signed f true true a b c d C D h = rw (round-neg f a c, round-neg f b d) (neg-le (round f false b d) (round f false a c) (round-mono f b d a c D C h))
-
--- ---- overflow
-one-over : (f : Format) → round f false (2 ^ suc (emax f)) 1 ≡ inf false
-unfolding round
-one-over binary32 = refl
-one-over binary64 = refl
-
-at-top : (x : Float) → T (le (inf false) x) → x ≡ inf false
-unfolding le
-at-top nan h = absurd h
-at-top (inf true) h = absurd h
-at-top (inf false) h = refl
-at-top (fin s m e) h = absurd h
-
-pub round-over : (f : Format) (a c : ℕ) → 0 < c → 2 ^ suc (emax f) * c ≤ a → round f false a c ≡ inf false
-round-over f a c C h =
-    at-top (round f false a c)
-    (subst (λ (v : Float). T (le v (round f false a c))) (one-over f) (round-mono f (2 ^ suc (emax f)) 1 a c (lit< tt) C (le-trans h (le-of-eq (sym (mul-one a))))))

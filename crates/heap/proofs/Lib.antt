@@ -1,4 +1,5 @@
 pub mod OrderLaws
+pub mod Sifting
 pub mod HeapOrder
 pub mod Turns
 pub mod SameAnswers

@@ -3,3 +3,4 @@ pub mod Any
 pub mod Edge
 pub mod Sound
 pub mod Tests
+pub mod Decimal

@@ -1,9 +1,9 @@
 -- An edge between two points in range, its frame and the altitude over it: how large each number gets, step by step as the Rust computes them. Assumes nothing.
 --     number-in-range, vertex-in-range (what check 4 says); length-of, unit-of, altitude-finite, normal-of; along-within, across-within (coordinates in a frame); unit-finite, normal-finite, along-finite, across-finite
 use Prim.Native.Nat.{ℕ, _+_, _*_, _<_}
-use mathlib.Core.Bool.{Bool, true, false, and-eq-true-iff}
+use mathlib.Core.Bool.{false, and-eq-true-iff}
 use mathlib.Core.List.{List}
-use mathlib.Core.Path.{_≡_, refl, sym, subst}
+use mathlib.Core.Path.{_≡_}
 use native.Mathlib.Omega.{arith}
 use borrow.Author.Tests.{not-false}
 use lib.Dec.{T}
@@ -11,6 +11,7 @@ use lib.ListN.{length, getD}
 use lib.Ieee.{Float, nan, binary64, ofBits, neg, add, mul, div, lt, le, fits}
 use lib.Ieee.Bits.{ofBits-fits}
 use lib.Ieee.Scale.{finite}
+use Rattle.nat_laws.proofs.Tests.{holds}
 use Rattle.root_spec.specs.Root.{sqrtOf}
 use Rattle.float64.specs.Scalar.{zero, one}
 use Rattle.float64.specs.Notation.{_⊕_, _⊗_, _⊘_}
@@ -99,9 +100,6 @@ unfolding ofBits add mul le
 coordinate-is = (tt, tt, tt, tt)
 
 -- ---- points in range
-pub holds : (b : Bool) → b ≡ true → T b
-holds b e = subst T (sym e) tt
-
 pub number-in-range : (x : Float) → outOfRange x ≡ false → Within maxCoordinate x
 unfolding outOfRange
 number-in-range x e =

@@ -1,19 +1,16 @@
 -- The frames of a mesh whose vertices are in range and whose triangles are valid and regular: lengths, unit vectors, normals and coordinates are finite. Assumes nothing.
 --     len-bounds (finite doubles from 0.001 to 3,464,102), xhat-finite, yhat-finite, coords-x-finite, coords-y-finite (of points in range)
 use Prim.Native.Nat.{ℕ, _+_, _*_, _/_, _<_}
-use mathlib.Core.Bool.{Bool, true}
 use mathlib.Core.List.{List}
-use mathlib.Core.Path.{_≡_, sym, subst}
 use native.Mathlib.Omega.{arith}
 use lib.Dec.{T}
 use lib.ListN.{length, getD}
 use lib.Ieee.{Float, le}
 use lib.Ieee.Scale.{finite}
-use Rattle.float64.specs.Scalar.{one}
-use Rattle.float64.specs.Notation.{_⊘_}
+use Rattle.nat_laws.proofs.Tests.{holds}
 use Rattle.vec3.specs.declared.Vec3.{Vec3}
-use Rattle.vec3.specs.Vec.{scaleOf, subOf, dotOf}
-use Rattle.job_checks.specs.Edge.{vertexAt, lenOf, xhatOf, perpendicularOf, altitudeOf}
+use Rattle.vec3.specs.Vec.{subOf, dotOf}
+use Rattle.job_checks.specs.Edge.{vertexAt, lenOf, xhatOf, altitudeOf}
 use Rattle.job_checks.specs.Refusals.{minLength, minAltitude}
 use Rattle.topology.specs.Checked.{ValidTriangles, VerticesInRange, RegularTriangles}
 use Rattle.topology.specs.Edges.{noEdge, corner, edges, triEdge, local}
@@ -23,7 +20,7 @@ use Rattle.topology.proofs.Edges.{tri-edge-there}
 use Rattle.topology.proofs.Frames.{edge-long, altitude-tall}
 use Rattle.topology.proofs.Sides.{local-below}
 use Rattle.mesh_laws.specs.Bounds.{VecWithin, FiniteVec, PointInRange, EdgeLength}
-use Rattle.mesh_laws.proofs.Edges.{normal, holds, vertex-in-range, length-of, unit-of, along-within, normal-of, across-within, unit-finite, normal-finite, along-finite, across-finite}
+use Rattle.mesh_laws.proofs.Edges.{normal, vertex-in-range, length-of, unit-of, along-within, normal-of, across-within, unit-finite, normal-finite, along-finite, across-finite}
 
 module _ (v : List Float) (triangles : List ℕ) (s : ValidTriangles triangles (length v / 3)) (g : VerticesInRange v) (r : RegularTriangles v triangles) where
   pub vertex-point : (k : ℕ) → k < length v / 3 → PointInRange (vertexAt v k)

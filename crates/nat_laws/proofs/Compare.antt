@@ -19,26 +19,17 @@ cmp a b = go (compare a b) (leb→le a b) (nleb→lt a b) (eqb→eq a b) (λ (e 
     go Ordering·eq h k e n = e tt
     go Ordering·gt h k e n = k tt
 
-pub cmp-lt : (a b : ℕ) → a < b → compare a b ≡ Ordering·lt
-cmp-lt a b h = go (compare a b) (cmp a b)
+-- so what is known of the two numbers says what `compare` answers
+pub compare-is : (o : Ordering) (a b : ℕ) → Cmp o a b → compare a b ≡ o
+compare-is o a b h = go (compare a b) o (cmp a b) h
   where
-    go : (o : Ordering) → Cmp o a b → o ≡ Ordering·lt
-    go Ordering·lt c = refl
-    go Ordering·eq c = let z : ⊥ = omega arith in absurd z
-    go Ordering·gt c = let z : ⊥ = omega arith in absurd z
-
-pub cmp-gt : (a b : ℕ) → b < a → compare a b ≡ Ordering·gt
-cmp-gt a b h = go (compare a b) (cmp a b)
-  where
-    go : (o : Ordering) → Cmp o a b → o ≡ Ordering·gt
-    go Ordering·lt c = let z : ⊥ = omega arith in absurd z
-    go Ordering·eq c = let z : ⊥ = omega arith in absurd z
-    go Ordering·gt c = refl
-
-pub cmp-eq : (a b : ℕ) → a ≡ b → compare a b ≡ Ordering·eq
-cmp-eq a b h = go (compare a b) (cmp a b)
-  where
-    go : (o : Ordering) → Cmp o a b → o ≡ Ordering·eq
-    go Ordering·lt c = let z : ⊥ = omega arith in absurd z
-    go Ordering·eq c = refl
-    go Ordering·gt c = let z : ⊥ = omega arith in absurd z
+    go : (p o : Ordering) → Cmp p a b → Cmp o a b → p ≡ o
+    go Ordering·lt Ordering·lt c h = refl
+    go Ordering·lt Ordering·eq c h = let z : ⊥ = omega arith in absurd z
+    go Ordering·lt Ordering·gt c h = let z : ⊥ = omega arith in absurd z
+    go Ordering·eq Ordering·lt c h = let z : ⊥ = omega arith in absurd z
+    go Ordering·eq Ordering·eq c h = refl
+    go Ordering·eq Ordering·gt c h = let z : ⊥ = omega arith in absurd z
+    go Ordering·gt Ordering·lt c h = let z : ⊥ = omega arith in absurd z
+    go Ordering·gt Ordering·eq c h = let z : ⊥ = omega arith in absurd z
+    go Ordering·gt Ordering·gt c h = refl

@@ -2,12 +2,11 @@
 use Prim.Native.Nat.{ℕ, zero, suc, _<_}
 use mathlib.Core.Bool.{Bool, true, false, cond}
 use mathlib.Core.List.{List, [], _∷_, _++_}
-use mathlib.Core.Logic.{_≢_}
 use mathlib.Core.Path.{_≡_, refl, sym, ap, _∙_}
 use native.Mathlib.Decide.{ℕ-discrete}
 use native.Mathlib.Omega.{arith}
-use lib.ListN.{length, getD, set, length-append, List·getD-append}
-use lib.Seq.{getD-at, set-at, set-append-left}
+use lib.ListN.{length, getD, length-append, List·getD-append}
+use lib.Seq.{getD-at}
 use Rattle.nat_laws.specs.Lists.{All, listOf, insertBy, sortBy}
 
 module _ {A : Type 0} where
@@ -56,20 +55,6 @@ module _ {A : Type 0} where
   listOf-same zero f g h = refl
   listOf-same (suc n) f g h =
       ap (λ l. l ++ (g n ∷ [])) (listOf-same n f g (λ j l. h j (omega arith))) ∙ ap (λ x. listOf n f ++ (x ∷ [])) (h n (omega arith))
-
-  -- those that agree but at k make lists that differ in element k alone
-  pub listOf-set : (n : ℕ) (f g : ℕ → A) (k : ℕ) → k < n → ((j : ℕ) → j < n → k ≢ j → g j ≡ f j) → listOf n g ≡ set (listOf n f) k (g k)
-  unfolding listOf
-  listOf-set zero f g k b h = absurd (omega arith)
-  listOf-set (suc n) f g k b h = go (ℕ-discrete k n) (λ l. listOf-set n f g k l (λ j m. h j (omega arith))) where
-    go : Dec (k ≡ n) → (k < n → listOf n g ≡ set (listOf n f) k (g k)) → listOf n g ++ (g n ∷ []) ≡ set (listOf n f ++ (f n ∷ [])) k (g k)
-    go (yes e) ih = rw e
-        (ap (λ l. l ++ (g n ∷ [])) (listOf-same n f g (λ j l. h j (omega arith) (λ t. omega (arith, t, e, l))))
-        ∙ sym (set-at (listOf n f) (f n) [] (g n) n (length-listOf n f)))
-    go (no e) ih =
-        ap (λ l. l ++ (g n ∷ [])) (ih (omega (arith, e)))
-        ∙ ap (λ x. set (listOf n f) k (g k) ++ (x ∷ [])) (h n (omega arith) e)
-        ∙ sym (set-append-left (listOf n f) (f n ∷ []) k (g k) (rw (length-listOf n f) (omega (arith, e))))
 
 -- what holds of each stays so where a list is put in order
 module _ {A : Type 0} (before : A → A → Bool) (P : A → Type 0) where

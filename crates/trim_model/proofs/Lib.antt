@@ -20,3 +20,4 @@ pub mod InPlace
 pub mod Flags
 pub mod Seat
 pub mod Turns
+pub mod Decimal

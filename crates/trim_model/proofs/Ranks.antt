@@ -22,7 +22,7 @@ use Rattle.float_laws.proofs.Product.{mul-nonneg}
 use Rattle.trim_model.specs.Intervals.{width, tinyOf}
 use Rattle.better.specs.Claim.{Point}
 use Rattle.better.proofs.Stretches.{number}
-pub use Rattle.float_laws.proofs.MinMax.{by-cases}
+pub use Rattle.nat_laws.proofs.Tests.{by-cases}
 
 unfoldable pub rank : Float → ℕ
 rank x = laws.rank binary64 x

@@ -2,3 +2,4 @@ pub mod Follows
 pub mod Made
 pub mod Turns
 pub mod Seated
+pub mod Decimal
