@@ -1,4 +1,3 @@
 pub mod Turns
 pub mod Paths
 pub mod OnEdges
-pub mod Counted

@@ -5,7 +5,7 @@ use mathlib.Core.Bool.{cond}
 use mathlib.Core.List.{List, [], _∷_}
 use mathlib.Core.Logic.{_≢_}
 use mathlib.Core.Path.{_≡_}
-use lib.Dec.{eqb, leb}
+use lib.Dec.{leb}
 use lib.ListN.{getD, set, length}
 use Rattle.nat_laws.specs.Lists.{All}
 use Rattle.windows.specs.Windows.{linkOf, linkWith}
@@ -31,18 +31,6 @@ nextOf words i = linkOf words i
 unfoldable pub linkIn : ℕ → ℕ → ℕ
 linkIn count l = cond (leb l count) l 0
 
--- the windows from a link on, at most n of them
-unfoldable pub chain : ℕ → ℕ → List ℕ → ℕ → List ℕ
-chain count zero w l = []
-chain count (suc n) w zero = []
-chain count (suc n) w (suc i) = i ∷ chain count n w (linkIn count (nextOf w i))
-
--- the link that n steps from a link lead to
-unfoldable pub walk : ℕ → ℕ → List ℕ → ℕ → ℕ
-walk count zero w l = l
-walk count (suc n) w zero = 0
-walk count (suc n) w (suc i) = walk count n w (linkIn count (nextOf w i))
-
 -- the link stored after `before` on the chain of edge e: the head where `before` is none, else the link of that window
 unfoldable pub linkAt : Links → ℕ → ℕ → ℕ
 linkAt b e zero = headOf (b .edges) e
@@ -51,23 +39,6 @@ linkAt b e (suc k) = nextOf (b .words) k
 unfoldable pub withLink : Links → ℕ → ℕ → ℕ → Links
 withLink b e zero v = links (set (b .edges) (6 * e + 4) v) (b .words)
 withLink b e (suc k) v = links (b .edges) (linkWith (b .words) k v)
-
--- window j is put after `before`
-unfoldable pub inserted : ℕ → Links → ℕ → ℕ → ℕ → Links
-inserted count b e before j =
-    withLink (links (b .edges) (linkWith (b .words) j (linkIn count (linkAt b e before)))) e before (suc j)
-
--- the links of the windows from l up to `stop`, at most n of them, are set to none
-unfoldable pub cleared : ℕ → ℕ → List ℕ → ℕ → ℕ → List ℕ
-cleared count zero w l stop = w
-cleared count (suc n) w zero stop = w
-cleared count (suc n) w (suc i) stop =
-    cond (eqb (suc i) stop) w (cleared count n (linkWith w i 0) (linkIn count (nextOf w i)) stop)
-
--- the run from the link after `before` up to `stop` is taken out
-unfoldable pub removed : ℕ → ℕ → Links → ℕ → ℕ → ℕ → Links
-removed count n b e before stop =
-    withLink (links (b .edges) (cleared count n (b .words) (linkIn count (linkAt b e before)) stop)) e before stop
 
 -- ---- what a chain is
 -- the windows from link l on are those of the list, and the chain ends there

@@ -8,19 +8,18 @@ use mathlib.Core.List.{List, [], _∷_, _++_}
 use mathlib.Core.Logic.{_≢_}
 use borrow.Author.Tests.{eq-eqb, ne-eqb}
 use lib.Dec.{eqb}
-use lib.ListN.{length, getD}
+use lib.ListN.{length, getD, drop}
 use lib.Seq.{drop-set-lt}
 use lib.Ieee.{Float}
 use Rattle.windows.specs.declared.WindowRecord.{WindowRecord}
 use Rattle.windows.specs.Windows.{hasFlag, windowAt, rangeWith, flagsWith, trimmedWin, trimmed, reflagged, relinked, popped, adjust}
 use Rattle.windows.proofs.WindowList.{edge-is, trim-same, trim-other, flags-same, flags-other}
-use Rattle.chains.specs.Chains.{Links, links, Path, Out, Belongs, OnEdge}
+use Rattle.chains.specs.Chains.{Links, links, Out, Belongs, OnEdge}
 use Rattle.chains.proofs.OnEdges.{flags-frame}
 use Rattle.better.specs.Claim.{All}
-use Rattle.source.specs.Distance.{lowestOf}
-use Rattle.trim_model.specs.Windows.{Window, part, unqueued}
+use Rattle.trim_model.specs.Windows.{Window, unqueued}
 use Rattle.trim_state.specs.State.{put}
-use Rattle.live_windows.specs.Live.{liveOf, nums, Alive, Complete, Stands, Holds, bare, winsOf, ranged, unqueuedIn, Loads, Trims, Unqueues}
+use Rattle.live_windows.specs.Live.{liveOf, nums, Alive, Complete, Stands, Holds, bare, ranged, unqueuedIn, Loads, Trims}
 use Rattle.live_windows.proofs.Places.{nums-cons}
 use Rattle.live_windows.proofs.Stored.{Same, same-alive, others, wins-adjust}
 use Rattle.live_windows.proofs.Standing.{at-edge, stands-put, stands-both, around, not-there, complete-at}
@@ -104,6 +103,12 @@ nums-unqueued i (u ∷ us) = head (eqb (u .num) i) ∙ ap (λ l. u .num ∷ l) (
   head true = refl
   head false = refl
 
+-- window i, on whatever edge or on none, is no more queued
+pub record Unqueues (w w′ : List ℕ) (i : ℕ) : Type 0 where
+  pub words : (n : ℕ) → i < n → drop (4 * n) w′ ≡ drop (4 * n) w
+  pub holds : (n : ℕ) (wins : List WindowRecord) (edges : List ℕ) (f : List Float) (live : ℕ → List Window) → Holds n wins (links edges w) f live
+      → Holds n (adjust i popped wins) (links edges w′) f (λ e. unqueuedIn i (live e))
+
 module _ (w : List ℕ) (i : ℕ) (alive : Bool) (there : 4 * i + 4 ≤ length w) (is : alive ≡ hasFlag (getD w (4 * i + 2) 0) 2) where
   abbrev w1 : List ℕ
   w1 = flagsWith w i alive false
@@ -154,7 +159,3 @@ module _ (w : List ℕ) (i : ℕ) (alive : Bool) (there : 4 * i + 4 ≤ length w
       flags = few-flags n w i alive false there (H .flags);
     };
   })
-
--- with the lowest value of its source a trimmed window is what the model says
-pub trim-part : (u : Window) (b0 b1 : Float) → ranged u b0 b1 (lowestOf (u .src) b0 b1) ≡ part u b0 b1 (u .num)
-trim-part u b0 b1 = refl

@@ -1,6 +1,6 @@
 -- The live windows of each edge, as the reference model has them, standing in the window buffer and its chains. Definitions only.
 use Prim.Native.Nat.{ℕ, suc, _+_, _*_, _≤_, _<_}
-use mathlib.Core.Bool.{Bool, true, false, cond}
+use mathlib.Core.Bool.{Bool, true, cond}
 use mathlib.Core.List.{List, [], _∷_, _++_}
 use mathlib.Core.Logic.{_≢_}
 use mathlib.Core.Path.{_≡_}
@@ -14,7 +14,7 @@ use Rattle.buffers.specs.declared.EdgeId.{EdgeId}
 use Rattle.source.specs.declared.Win.{Win}
 use Rattle.windows.specs.declared.Carried.{Carried}
 use Rattle.windows.specs.declared.WindowRecord.{WindowRecord}
-use Rattle.windows.specs.Windows.{flagsAt, windowAt, trimmed, relinked, dead, popped, adjust}
+use Rattle.windows.specs.Windows.{flagsAt, windowAt, trimmed, relinked, dead, adjust}
 use Rattle.chains.specs.Chains.{Links, links, linkIn, linkAt, Out, OnEdge, firstLink}
 use Rattle.better.specs.Claim.{All}
 use Rattle.trim_model.specs.Windows.{Window, unqueued, takeWhile}
@@ -157,9 +157,3 @@ pub record Kills (n : ℕ) (b b′ : Links) (e k i : ℕ) : Type 0 where
   pub outside : Outside n e b b′
   pub holds : (wins : List WindowRecord) (f : List Float) (live : ℕ → List Window) (xs : List Window) (u : Window) (zs : List Window) → Holds n wins b f live → live e ≡ xs ++ u ∷ zs → k ≡ lastLink xs → i ≡ u .num
       → Holds n (adjust i dead wins) b′ f (put e (xs ++ zs) live)
-
--- window i, on whatever edge or on none, is no more queued
-pub record Unqueues (w w′ : List ℕ) (i : ℕ) : Type 0 where
-  pub words : (n : ℕ) → i < n → drop (4 * n) w′ ≡ drop (4 * n) w
-  pub holds : (n : ℕ) (wins : List WindowRecord) (edges : List ℕ) (f : List Float) (live : ℕ → List Window) → Holds n wins (links edges w) f live
-      → Holds n (adjust i popped wins) (links edges w′) f (λ e. unqueuedIn i (live e))

@@ -119,7 +119,3 @@ module _ (triangles : List ℕ) where
 
   unfoldable pub vertexFaces : ℕ → List ℕ
   vertexFaces k = facesRound k (length triangles)
-
--- the Rust's pseudo, from a job's flags: vertex k passes distances round itself
-unfoldable pub pseudo : List ℕ → ℕ → Bool
-pseudo flags k = eqb (getD flags k 0) 1

@@ -3,19 +3,17 @@ use Prim.Native.Nat.{ℕ, suc, _+_, _*_, _<_, _≤_}
 use native.Mathlib.Omega.{arith}
 use mathlib.Core.Bool.{Bool, true, false, cond}
 use mathlib.Core.Path.{_≡_, refl, sym, ap, _∙_}
-use mathlib.Core.List.{List, [], _∷_, _++_}
+use mathlib.Core.List.{List, [], _∷_}
 use mathlib.Core.Logic.{_≢_}
 use lib.ListN.{length, getD, set}
 use lib.Ieee.{Float, nan}
-use Rattle.nat_laws.specs.Lists.{listOf}
-use Rattle.nat_laws.proofs.Lists.{length-listOf, listOf-same, listOf-set}
 use Rattle.buffers.specs.Slots.{slot}
 use Rattle.buffers.proofs.Strides.{in-slots, slot-at, slot-set-same, slot-set-other, length-slot, length-fill, fill-sets, fill-same, fill-other}
 use Rattle.windows.specs.declared.WindowRecord.{WindowRecord}
 use Rattle.source.specs.declared.Src.{Src}
 use Rattle.source.specs.declared.Src.the-variants.{Point, Line}
 use Rattle.source.specs.declared.Win.{Win}
-use Rattle.windows.specs.Windows.{capacityOf, isLine, realsOf, srcOf, flagsOf, hasFlag, winAt, windowAt, wordsWith, realsWith, rangeWith, flagsWith, trimmedWin, trimmed, reflagged, relinked, windows}
+use Rattle.windows.specs.Windows.{capacityOf, isLine, realsOf, srcOf, flagsOf, hasFlag, winAt, windowAt, wordsWith, realsWith, rangeWith, flagsWith, trimmedWin, trimmed, reflagged, relinked}
 
 pub weight-le : (b : Bool) (v : ℕ) → cond b v 0 ≤ v
 weight-le true v = omega arith
@@ -228,28 +226,3 @@ module _ (w : List ℕ) (f : List Float) (k v : ℕ) where
   pub link-other : (j : ℕ) → k ≢ j → windowAt (set w (4 * k + 3) v) f j ≡ windowAt w f j
   link-other j ne =
       by-slots (set w (4 * k + 3) v) f j ∙ ap (λ s. decode s (slot 6 f j)) (slot-set-other 4 w k j 3 v ne (omega arith)) ∙ sym (by-slots w f j)
-
--- ---- the first n windows, as a list
-pub length-windows : (n : ℕ) (w : List ℕ) (f : List Float) → length (windows n w f) ≡ n
-unfolding windows
-length-windows n w f = length-listOf n (windowAt w f)
-
--- slices that hold the same windows below n have the same list
-pub windows-same : (n : ℕ) (w w′ : List ℕ) (f f′ : List Float) → ((j : ℕ) → j < n → windowAt w′ f′ j ≡ windowAt w f j) → windows n w′ f′ ≡ windows n w f
-unfolding windows
-windows-same n w w′ f f′ = listOf-same n (windowAt w f) (windowAt w′ f′)
-
--- a window stored past the first n is appended
-pub windows-push : (n : ℕ) (w : List ℕ) (f : List Float) (x : WindowRecord) → 4 * n + 4 ≤ length w → 6 * n + 6 ≤ length f
-    → windows (suc n) (wordsWith w n x) (realsWith f n (x .win)) ≡ windows n w f ++ (x ∷ [])
-unfolding windows listOf
-windows-push n w f x p q =
-    ap (λ l. l ++ (windowAt (wordsWith w n x) (realsWith f n (x .win)) n ∷ []))
-    (windows-same n w (wordsWith w n x) f (realsWith f n (x .win)) (λ j h. load-other w f n x j (omega arith)))
-    ∙ ap (λ y. windows n w f ++ (y ∷ [])) (load-same w f n x p q)
-
--- a change of window k alone is a change of element k alone
-pub windows-set : (n : ℕ) (w w′ : List ℕ) (f f′ : List Float) (k : ℕ) → k < n → ((j : ℕ) → j < n → k ≢ j → windowAt w′ f′ j ≡ windowAt w f j)
-    → windows n w′ f′ ≡ set (windows n w f) k (windowAt w′ f′ k)
-unfolding windows
-windows-set n w w′ f f′ = listOf-set n (windowAt w f) (windowAt w′ f′)

@@ -5,7 +5,6 @@ use mathlib.Core.List.{List, [], _∷_}
 use lib.Dec.{eqb}
 use lib.ListN.{getD, set}
 use lib.Ieee.{Float, nan}
-use Rattle.nat_laws.specs.Lists.{listOf}
 use Rattle.buffers.specs.Slots.{slotsOf, fill}
 use Rattle.source.specs.declared.Src.{Src}
 use Rattle.source.specs.declared.Src.the-variants.{Point, Line}
@@ -132,7 +131,3 @@ unfoldable pub adjust : {A : Type 0} → ℕ → (A → A) → List A → List A
 adjust k g [] = []
 adjust zero g (x ∷ l) = g x ∷ l
 adjust (suc k) g (x ∷ l) = x ∷ adjust k g l
-
--- the Rust's `wins`: the first n windows
-unfoldable pub windows : ℕ → List ℕ → List Float → List WindowRecord
-windows n w f = listOf n (windowAt w f)
