@@ -43,23 +43,23 @@ pub carrier-is : (v : List Float) (ew : List ℕ) (er : List Float) (tw : List �
 unfolding carrierAt
 carrier-is v ew er tw tr f p a b c r x y z w = w ∙ (λ i. simplexOf ew tw f (filtered (x i) (y i) (z i)))
 
--- ---- the faces of an edge
-module _ (a b x y : ℕ) (p : a ≡ x) (q : b ≡ y) where
-  pub faces-none : a ≡ noFace → b ≡ noFace → 0 ≡ length (present (x ∷ (y ∷ [])))
+-- ---- the faces of an edge, where n stands for none
+module _ (n : ℕ) (none : n ≡ noFace) (a b x y : ℕ) (p : a ≡ x) (q : b ≡ y) where
+  pub faces-none : a ≡ n → b ≡ n → 0 ≡ length (present (x ∷ (y ∷ [])))
   unfolding present
-  faces-none r s = rw (eq-eqb x noFace (sym p ∙ r), eq-eqb y noFace (sym q ∙ s)) refl
+  faces-none r s = rw (eq-eqb x noFace (sym p ∙ r ∙ none), eq-eqb y noFace (sym q ∙ s ∙ none)) refl
 
-  pub faces-second : a ≡ noFace → (b ≡ noFace → ⊥) → 1 ≡ length (present (x ∷ (y ∷ [])))
+  pub faces-second : a ≡ n → (b ≡ n → ⊥) → 1 ≡ length (present (x ∷ (y ∷ [])))
   unfolding present
-  faces-second r s = rw (eq-eqb x noFace (sym p ∙ r), ne-eqb y noFace (λ t. s (q ∙ t))) refl
+  faces-second r s = rw (eq-eqb x noFace (sym p ∙ r ∙ none), ne-eqb y noFace (λ t. s (q ∙ t ∙ sym none))) refl
 
-  pub faces-first : (a ≡ noFace → ⊥) → b ≡ noFace → 1 ≡ length (present (x ∷ (y ∷ [])))
+  pub faces-first : (a ≡ n → ⊥) → b ≡ n → 1 ≡ length (present (x ∷ (y ∷ [])))
   unfolding present
-  faces-first r s = rw (ne-eqb x noFace (λ t. r (p ∙ t)), eq-eqb y noFace (sym q ∙ s)) refl
+  faces-first r s = rw (ne-eqb x noFace (λ t. r (p ∙ t ∙ sym none)), eq-eqb y noFace (sym q ∙ s ∙ none)) refl
 
-  pub faces-both : (a ≡ noFace → ⊥) → (b ≡ noFace → ⊥) → 2 ≡ length (present (x ∷ (y ∷ [])))
+  pub faces-both : (a ≡ n → ⊥) → (b ≡ n → ⊥) → 2 ≡ length (present (x ∷ (y ∷ [])))
   unfolding present
-  faces-both r s = rw (ne-eqb x noFace (λ t. r (p ∙ t)), ne-eqb y noFace (λ t. s (q ∙ t))) refl
+  faces-both r s = rw (ne-eqb x noFace (λ t. r (p ∙ t ∙ sym none)), ne-eqb y noFace (λ t. s (q ∙ t ∙ sym none))) refl
 
 -- ---- the nearest vertex
 module _ (v : List Float) (p : Vec3) (a b : VertexId) (A B S T : Vec3) (x y : Float) (t : Bool)

@@ -3,6 +3,7 @@
 use buffers::EdgeId;
 use buffers::FaceId;
 use buffers::VertexId;
+use buffers::no_face;
 use buffers::read_u32;
 use mesh_readers::coords;
 use mesh_readers::face_vertex;
@@ -15,6 +16,7 @@ use vec3::Vec3;
 ghost use mathlib.Core.Path.{_≡_};
 ghost use mathlib.Core.List.{[], _∷_};
 ghost use lib.ListN.{length as size};
+ghost use Rattle.buffers.specs.Lent.{given};
 ghost use Rattle.frames.specs.Stored.{faceAt};
 ghost use Rattle.mesh_readers.specs.Readers.{sideIn, sharedAt};
 ghost use Rattle.carriers.specs.Carrier.{filtered, onSideAt, simplexOf, carrierAt, present, degreeAt, carrierCountAt};
@@ -39,7 +41,7 @@ fn on_side(
     k: u32,
     p: Vec3,
 ) -> bool
-    ensures { λ r. ⌜ r ≡ onSideAt (now (vertices .entry)) (now («edge_words» .entry)) (now («edge_reals» .entry)) (now («triangle_words» .entry)) (now («triangle_reals» .entry)) (f .0) p k ⌝ }
+    ensures { λ r. ⌜ r ≡ onSideAt (given vertices) (given «edge_words») (given «edge_reals») (given «triangle_words») (given «triangle_reals») (f .0) p k ⌝ }
 {
     let e = side(triangle_words, f, k);
     let c = coords(
@@ -56,7 +58,7 @@ fn on_side(
 }
 
 fn at_edge(triangle_words: &[u32], f: FaceId, i: u32) -> CarrierSimplex
-    ensures { λ r. ⌜ r ≡ onEdge (record { 0 = sideIn (now («triangle_words» .entry)) (f .0) i }) ⌝ }
+    ensures { λ r. ⌜ r ≡ onEdge (record { 0 = sideIn (given «triangle_words») (f .0) i }) ⌝ }
 {
     CarrierSimplex::Edge(side(triangle_words, f, i))
 }
@@ -68,7 +70,7 @@ fn at_vertex(
     i: u32,
     j: u32,
 ) -> CarrierSimplex
-    ensures { λ r. ⌜ r ≡ onVertex (record { 0 = sharedAt (now («edge_words» .entry)) (sideIn (now («triangle_words» .entry)) (f .0) i) (sideIn (now («triangle_words» .entry)) (f .0) j) }) ⌝ }
+    ensures { λ r. ⌜ r ≡ onVertex (record { 0 = sharedAt (given «edge_words») (sideIn (given «triangle_words») (f .0) i) (sideIn (given «triangle_words») (f .0) j) }) ⌝ }
 {
     CarrierSimplex::Vertex(shared_vertex(
         edge_words,
@@ -86,7 +88,7 @@ fn simplex(
     b: bool,
     c: bool,
 ) -> CarrierSimplex
-    ensures { λ r. ⌜ r ≡ simplexOf (now («edge_words» .entry)) (now («triangle_words» .entry)) (f .0) (filtered a b c) ⌝ }
+    ensures { λ r. ⌜ r ≡ simplexOf (given «edge_words») (given «triangle_words») (f .0) (filtered a b c) ⌝ }
 {
     if a {
         if b {
@@ -119,7 +121,7 @@ pub fn carrier(
     f: FaceId,
     p: Vec3,
 ) -> CarrierSimplex
-    ensures { λ r. ⌜ r ≡ carrierAt (now (vertices .entry)) (now («edge_words» .entry)) (now («edge_reals» .entry)) (now («triangle_words» .entry)) (now («triangle_reals» .entry)) (f .0) p ⌝ }
+    ensures { λ r. ⌜ r ≡ carrierAt (given vertices) (given «edge_words») (given «edge_reals») (given «triangle_words») (given «triangle_reals») (f .0) p ⌝ }
 {
     let a = on_side(
         vertices,
@@ -156,17 +158,18 @@ pub fn carrier(
 
 // How many faces an edge has.
 fn edge_degree(edge_words: &[u32], e: EdgeId) -> u32
-    ensures { λ r. ⌜ r ≡ size (present (faceAt (now («edge_words» .entry)) (e .0) 0 ∷ (faceAt (now («edge_words» .entry)) (e .0) 1 ∷ []))) ⌝ }
+    ensures { λ r. ⌜ r ≡ size (present (faceAt (given «edge_words») (e .0) 0 ∷ (faceAt (given «edge_words») (e .0) 1 ∷ []))) ⌝ }
 {
+    let none = no_face().0;
     let first = read_u32(edge_words, 6, e.0, 2);
     let second = read_u32(edge_words, 6, e.0, 3);
-    if first == 4294967295 {
-        if second == 4294967295 {
+    if first == none {
+        if second == none {
             return 0;
         }
         return 1;
     }
-    if second == 4294967295 {
+    if second == none {
         return 1;
     }
     2
@@ -174,7 +177,7 @@ fn edge_degree(edge_words: &[u32], e: EdgeId) -> u32
 
 // How many faces there are round a vertex.
 fn vertex_degree(vertex_words: &[u32], k: VertexId) -> u32
-    ensures { λ r. ⌜ r ≡ degreeAt (now («vertex_words» .entry)) (k .0) ⌝ }
+    ensures { λ r. ⌜ r ≡ degreeAt (given «vertex_words») (k .0) ⌝ }
 {
     let start = read_u32(vertex_words, 3, k.0, 0);
     let end = read_u32(vertex_words, 3, k.0, 1);
@@ -186,7 +189,7 @@ fn vertex_degree(vertex_words: &[u32], k: VertexId) -> u32
 
 // How many faces have a point that lies on c.
 pub fn carrier_count(edge_words: &[u32], vertex_words: &[u32], c: CarrierSimplex) -> u32
-    ensures { λ r. ⌜ r ≡ carrierCountAt (now («edge_words» .entry)) (now («vertex_words» .entry)) c ⌝ }
+    ensures { λ r. ⌜ r ≡ carrierCountAt (given «edge_words») (given «vertex_words») c ⌝ }
 {
     match c {
         CarrierSimplex::Face => 1,
@@ -197,7 +200,7 @@ pub fn carrier_count(edge_words: &[u32], vertex_words: &[u32], c: CarrierSimplex
 
 // The vertex nearer to p, the first on a tie.
 fn nearer(vertices: &[f64], p: Vec3, a: VertexId, b: VertexId) -> VertexId
-    ensures { λ r. ⌜ r ≡ record { 0 = nearerOf (now (vertices .entry)) p (a .0) (b .0) } ⌝ }
+    ensures { λ r. ⌜ r ≡ record { 0 = nearerOf (given vertices) p (a .0) (b .0) } ⌝ }
 {
     let first = vec3::norm(vec3::sub(vertex(vertices, a), p));
     let second = vec3::norm(vec3::sub(vertex(vertices, b), p));
@@ -209,7 +212,7 @@ fn nearer(vertices: &[f64], p: Vec3, a: VertexId, b: VertexId) -> VertexId
 
 // The vertex of face f nearest to p, the first on a tie.
 pub fn nearest_vertex(vertices: &[f64], triangles: &[u32], f: FaceId, p: Vec3) -> VertexId
-    ensures { λ r. ⌜ r ≡ record { 0 = nearestAt (now (vertices .entry)) (now (triangles .entry)) (f .0) p } ⌝ }
+    ensures { λ r. ⌜ r ≡ record { 0 = nearestAt (given vertices) (given triangles) (f .0) p } ⌝ }
 {
     let a = face_vertex(triangles, f, 0);
     let b = face_vertex(triangles, f, 1);

@@ -234,5 +234,5 @@ pub fn kill_window(
     let queued = windows::has_flag(flags, 4);
     chains::set_link(edges, words, reals, made, e, before, next);
     write_u32(words, 4, id.0, 3, 0);
-    windows::store_flags(words, reals, id, false, queued);
+    windows::store_flags(words, id, false, queued);
 }

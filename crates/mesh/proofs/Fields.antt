@@ -6,14 +6,13 @@ use mathlib.Core.List.{List, [], _∷_}
 use native.Mathlib.Omega.{arith}
 use lib.ListN.{length, getD, replicate, length-replicate, List·getD-append}
 use lib.Ieee.{Float}
-use Rattle.layout.specs.Layout.{wordsPerVertex, vertexStart, vertexEnd, vertexFlag, wordsPerEdge, wordsPerTriangle, realsPerTriangle, realsPerNormal}
+use Rattle.layout.specs.Layout.{wordsPerVertex, vertexStart, vertexEnd, vertexFlag, wordsPerEdge, wordsPerTriangle}
 use Rattle.float64.specs.Scalar.{zero as positiveZero}
 use Rattle.job_checks.specs.Job.{Job}
 use Rattle.job_checks.specs.Refusals.{refusals, refusalOf}
 use Rattle.job_checks.proofs.Any.{passed-here, both-passed}
 use Rattle.job_checks.proofs.Sound.{refusals-numbered}
 use Rattle.topology.specs.Edges.{edges, triEdge, sharedByThree, vertexFaces}
-use Rattle.topology.specs.Frames.{yhat}
 use Rattle.topology.specs.Rows.{rows}
 use Rattle.topology.proofs.Edges.{edge-count}
 use Rattle.topology.proofs.Rows.{row-inside, row-read}
@@ -23,9 +22,9 @@ use Rattle.edge_table.specs.Table.{edgeWords, triangleWords}
 use Rattle.edge_table.proofs.Reading.{low-read, high-read, first-face-read, second-face-read, windows-read, scratch-read, spare-read, number-read}
 use Rattle.vertex_faces.specs.Ranges.{withFlags, startOf, endOf, roundOf}
 use Rattle.vertex_faces.proofs.Ranges.{read-start, read-end, flag-kept, length-flags, read-flag}
-use Rattle.frames.specs.Stored.{vectorAt, withLengths}
+use Rattle.frames.specs.Stored.{withLengths}
 use Rattle.frames.specs.Held.{HoldsEdges, HoldsFaces, HoldsSides, HoldsLengths}
-use Rattle.frames.proofs.Held.{lengths-held, normals-held, nine}
+use Rattle.frames.proofs.Held.{lengths-held, normals-held}
 use Rattle.mesh.specs.declared.OtherCounts.{OtherCounts}
 use Rattle.mesh.specs.declared.Meshed.{Meshed}
 use Rattle.mesh.specs.declared.Meshed.the-variants.{Edges}
@@ -162,13 +161,3 @@ module _ (j : Job) (others : OtherCounts) (r : Meshed) (before after : MeshBuffe
 
   pub fresh : Fresh after
   fresh = subst Fresh (sym is-filled) (filled-fresh (j .vertices) (j .triangles) (j .flags) before)
-
--- The edge and the normal of side k of face f, as the readers of the buffers have them: six words and nine reals for each triangle.
-module _ (v : List Float) (triangles flags : List ℕ) (m : MeshBuffers) (h : Held v triangles flags m) (f k : ℕ) (l : k < 3) (inside : 3 * f + k < length triangles) where
-  pub side-edge : getD (m .triangle-words) (wordsPerTriangle * f + k) 0 ≡ triEdge triangles (3 * f + k)
-  side-edge =
-      let z : wordsPerTriangle * f + k ≡ wordsPerTriangle * ((3 * f + k) / 3) + (3 * f + k) % 3 = omega arith in
-      ap (λ (i : ℕ). getD (m .triangle-words) i 0) z ∙ h .sides (3 * f + k) inside
-
-  pub side-normal : vectorAt realsPerTriangle (m .triangle-reals) f (realsPerNormal * k) ≡ yhat v triangles (3 * f + k)
-  side-normal = nine (m .triangle-reals) f k ∙ h .normals (3 * f + k) inside

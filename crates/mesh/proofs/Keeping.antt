@@ -2,13 +2,14 @@
 use Prim.Native.Nat.{ℕ, _+_, _*_, _/_, _%_, _<_}
 use mathlib.Core.Path.{_≡_, refl, subst, sym, ap, _∙_}
 use mathlib.Core.List.{List}
+use mathlib.Core.Logic.{_≢_}
 use native.Mathlib.Omega.{arith}
 use lib.ListN.{length, getD}
 use lib.Ieee.{Float}
 use Rattle.layout.specs.Layout.{wordsPerVertex, vertexStart, vertexEnd, vertexFlag, wordsPerEdge, edgeLow, edgeHigh, edgeFirstFace, edgeSecondFace, edgeHead, wordsPerTriangle}
 use Rattle.vertex_faces.specs.Ranges.{startOf}
 use Rattle.frames.specs.Held.{HoldsLengths, HoldsNormals}
-use Rattle.mesh.specs.Topology.{MeshBuffers}
+use Rattle.mesh.specs.Topology.{MeshBuffers, meshBuffers}
 use Rattle.mesh.specs.Held.{Held, Worked}
 
 pub worked-none : (m : MeshBuffers) → Worked m m
@@ -24,6 +25,13 @@ worked-on m m′ m″ p q =
       triangle-words = λ i ne. q .triangle-words i ne ∙ p .triangle-words i ne;
       triangle-reals = q .triangle-reals ∙ p .triangle-reals;
     }
+
+-- An addition writes only the words of edges, and of these only the head and the scratch word of edges at work: what it keeps is field `edges` of trim_split's `Untouched`.
+pub worked-edges : (m : MeshBuffers) (AtWork : ℕ → Type 0) (ew : List ℕ)
+    → ((i : ℕ) → ((e : ℕ) → AtWork e → (i ≢ 6 * e + 4) × (i ≢ 6 * e + 5)) → getD ew i 0 ≡ getD (m .edge-words) i 0)
+    → Worked m (meshBuffers (m .vertex-words) ew (m .edge-reals) (m .round) (m .triangle-words) (m .triangle-reals))
+worked-edges m AtWork ew kept =
+    record { vertex-words = refl; edge-words = λ i ne. kept i (λ e at. ne e); edge-reals = refl; round = refl; triangle-words = λ i ne. refl; triangle-reals = refl }
 
 module _ (m m′ : MeshBuffers) (w : Worked m m′) where
   -- the fields of an edge before the head of its chain, and the sides of triangles

@@ -5,10 +5,7 @@ use heap::Event;
 use heap::Item;
 use heap::Popped;
 ghost use mathlib.Core.Path.{_≡_};
-ghost use Prim.Native.Nat.{_≤_};
-ghost use lib.ListN.{length};
 ghost use Rattle.heap.specs.Queue.{queue, popping};
-ghost use Rattle.windows.specs.Windows.{capacityOf};
 ghost use Rattle.pop.specs.Words.{isPending, claimed, itemPending, itemClaimed, takenOf, wordsAfter};
 
 // The answer of a pop: the event, how many are left, and whether it names a window that was alive and queued.
@@ -18,15 +15,14 @@ pub enum Taken {
 }
 
 // Whether window id is one of the first `made`, alive and queued. Such a one is queued no more.
-pub fn claim(words: &mut [u32], reals: &[f64], made: u32, id: WindowId) -> bool
-    requires { ⌜ made ≤ capacityOf (length (now words)) (length (now reals)) ⌝ }
+pub fn claim(words: &mut [u32], made: u32, id: WindowId) -> bool
     ensures { λ r. ⌜ (r ≡ isPending made (now (words .entry)) (id .0)) × (now (words .exit) ≡ claimed made (now (words .entry)) (id .0)) ⌝ }
 {
     if id.0 < made {
         let flags = read_u32(words, 4, id.0, 2);
         if windows::has_flag(flags, 2) {
             if windows::has_flag(flags, 4) {
-                windows::store_flags(words, reals, id, true, false);
+                windows::store_flags(words, id, true, false);
                 return true;
             }
             return false;
@@ -37,26 +33,17 @@ pub fn claim(words: &mut [u32], reals: &[f64], made: u32, id: WindowId) -> bool
 }
 
 // The same of an event's item: a vertex is none.
-fn claim_item(words: &mut [u32], reals: &[f64], made: u32, item: Item) -> bool
-    requires { ⌜ made ≤ capacityOf (length (now words)) (length (now reals)) ⌝ }
+fn claim_item(words: &mut [u32], made: u32, item: Item) -> bool
     ensures { λ r. ⌜ (r ≡ itemPending made (now (words .entry)) item) × (now (words .exit) ≡ itemClaimed made (now (words .entry)) item) ⌝ }
 {
     match item {
-        Item::Window(id) => claim(words, reals, made, id),
+        Item::Window(id) => claim(words, made, id),
         Item::Vertex(_) => false,
     }
 }
 
 // The least of `queued` events is taken out, where `made` windows are made.
-pub fn pop(
-    words: &mut [u32],
-    reals: &[f64],
-    keys: &mut [f64],
-    events: &mut [u32],
-    made: u32,
-    queued: u32,
-) -> Taken
-    requires { ⌜ made ≤ capacityOf (length (now words)) (length (now reals)) ⌝ }
+pub fn pop(words: &mut [u32], keys: &mut [f64], events: &mut [u32], made: u32, queued: u32) -> Taken
     ensures { λ r. ⌜ (r ≡ takenOf made (now (words .entry)) (popping (queue (now (keys .entry)) (now (events .entry))) queued .0))
         × ((now (words .exit) ≡ wordsAfter made (now (words .entry)) (popping (queue (now (keys .entry)) (now (events .entry))) queued .0))
         × (queue (now (keys .exit)) (now (events .exit)) ≡ popping (queue (now (keys .entry)) (now (events .entry))) queued .1)) ⌝ }
@@ -66,7 +53,7 @@ pub fn pop(
         Popped::Empty => Taken::Empty,
         Popped::First(x, n) => {
             let item = x.item;
-            let pending = claim_item(words, reals, made, item);
+            let pending = claim_item(words, made, item);
             Taken::First(x, n, pending)
         }
     }

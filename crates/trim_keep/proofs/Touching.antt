@@ -18,7 +18,6 @@ use Rattle.actions.specs.Actions.{Action, touch, Stock, stock, act, andThen, pl
 use Rattle.actions.proofs.Play.{play-nil, play-stop-append, play-go-append}
 use Rattle.trim_model.specs.Intervals.{pushIf}
 use Rattle.trim_model.specs.Windows.{part}
-use Rattle.trim_split.specs.Trimmed.{trimmedTo}
 use Rattle.trim_state.specs.Trace.{near, touching}
 use Rattle.live_windows.specs.Live.{liveOf}
 
@@ -59,20 +58,23 @@ module _ (cuts windows : ℕ) (limit : Float) (flags : List ℕ) where
   ends-on us vs s made n vertex q h o k = play-go-append cuts windows limit flags us vs s (stock made n q vertex) (h ∙ queue-more made n vertex q) ∙ k
 
 -- the new window is a part of x
-module _ (cuts windows : ℕ) (limit : Float) (flags : List ℕ) (e : Edge) (x : WindowRecord) (b0 b1 : Float) (win : Win) (isWin : win ≡ trimmedTo (x .win) b0 b1) (k j : ℕ) where
-  abbrev firstEnd : Win → List Action
-  firstEnd w = pushIf (le (w .b0) (near ⊗ e .len)) (touch (e .a .0) (evalOf w zero zero))
+module _ (cuts windows : ℕ) (limit : Float) (flags : List ℕ) (e : Edge) (x : WindowRecord) (b0 b1 : Float) (k j : ℕ) where
+  abbrev win : Win
+  win = record { b0 = b0; b1 = b1; low = x .win .low; src = x .win .src }
 
-  abbrev otherEnd : Win → List Action
-  otherEnd w = pushIf (le (e .len ⊖ near ⊗ e .len) (w .b1)) (touch (e .b .0) (evalOf w (e .len) zero))
+  abbrev firstEnd : List Action
+  firstEnd = pushIf (le b0 (near ⊗ e .len)) (touch (e .a .0) (evalOf win zero zero))
 
-  touching-is : touching e (part (liveOf x k) b0 b1 j) ≡ firstEnd win ++ otherEnd win
-  unfolding touching
-  touching-is = ap (λ (w : Win). firstEnd w ++ otherEnd w) (sym isWin)
+  abbrev otherEnd : List Action
+  otherEnd = pushIf (le (e .len ⊖ near ⊗ e .len) b1) (touch (e .b .0) (evalOf win (e .len) zero))
+
+  touching-is : touching e (part (liveOf x k) b0 b1 j) ≡ firstEnd ++ otherEnd
+  unfolding touching evalOf
+  touching-is = refl
 
   module _ (made n : ℕ) (q : Queue) (vertex : List Float) where
-    pub touching-full : (vertex′ : List Float) (q′ : Queue) → play cuts windows limit flags (firstEnd win) (stock made n q vertex) ≡ queueing made vertex′ (Full, q′) → play cuts windows limit flags (touching e (part (liveOf x k) b0 b1 j)) (stock made n q vertex) ≡ queueing made vertex′ (Full, q′)
-    touching-full vertex′ q′ h = ap (λ (l : List Action). play cuts windows limit flags l (stock made n q vertex)) touching-is ∙ ends-full cuts windows limit flags (firstEnd win) (otherEnd win) (stock made n q vertex) made vertex′ q′ vertex′ q′ h
+    pub touching-full : (vertex′ : List Float) (q′ : Queue) → play cuts windows limit flags firstEnd (stock made n q vertex) ≡ queueing made vertex′ (Full, q′) → play cuts windows limit flags (touching e (part (liveOf x k) b0 b1 j)) (stock made n q vertex) ≡ queueing made vertex′ (Full, q′)
+    touching-full vertex′ q′ h = ap (λ (l : List Action). play cuts windows limit flags l (stock made n q vertex)) touching-is ∙ ends-full cuts windows limit flags firstEnd otherEnd (stock made n q vertex) made vertex′ q′ vertex′ q′ h
 
-    pub touching-on : (m : ℕ) (vertex′ : List Float) (q′ : Queue) → play cuts windows limit flags (firstEnd win) (stock made n q vertex) ≡ queueing made vertex′ (Queued m, q′) → (o : actions.Outcome) → play cuts windows limit flags (otherEnd win) (stock made m q′ vertex′) ≡ o → play cuts windows limit flags (touching e (part (liveOf x k) b0 b1 j)) (stock made n q vertex) ≡ o
-    touching-on m vertex′ q′ h o g = ap (λ (l : List Action). play cuts windows limit flags l (stock made n q vertex)) touching-is ∙ ends-on cuts windows limit flags (firstEnd win) (otherEnd win) (stock made n q vertex) made m vertex′ q′ h o g
+    pub touching-on : (m : ℕ) (vertex′ : List Float) (q′ : Queue) → play cuts windows limit flags firstEnd (stock made n q vertex) ≡ queueing made vertex′ (Queued m, q′) → (o : actions.Outcome) → play cuts windows limit flags otherEnd (stock made m q′ vertex′) ≡ o → play cuts windows limit flags (touching e (part (liveOf x k) b0 b1 j)) (stock made n q vertex) ≡ o
+    touching-on m vertex′ q′ h o g = ap (λ (l : List Action). play cuts windows limit flags l (stock made n q vertex)) touching-is ∙ ends-on cuts windows limit flags firstEnd otherEnd (stock made n q vertex) made m vertex′ q′ h o g

@@ -1,5 +1,6 @@
 // The intervals that a new window keeps become windows, and the ends of the edge that they reach are touched.
 use buffers::Lack;
+use buffers::VertexId;
 use heap::Pushed;
 use source::Win;
 use trim_split::Counts;
@@ -11,9 +12,7 @@ ghost use mathlib.Core.Path.{_≡_};
 ghost use mathlib.Core.List.{List, [], _∷_};
 ghost use Prim.Native.Nat.{ℕ, _+_, _≤_, _<_};
 ghost use lib.ListN.{length};
-ghost use lib.Ieee.{Float, le};
 ghost use Rattle.float64.specs.Scalar.{zero as zero64};
-ghost use Rattle.float64.specs.Notation.{_⊖_, _⊗_};
 ghost use Rattle.source.specs.Distance.{evalOf};
 ghost use Rattle.better.specs.Stretches.{interval};
 ghost use Rattle.better.specs.Buffers.{pairs};
@@ -21,56 +20,36 @@ ghost use Rattle.heap.specs.Queue.{queue};
 ghost use Rattle.actions.specs.Actions.{touch, stock, play, queueing};
 ghost use Rattle.trim_model.specs.Intervals.{pushIf, wideOf};
 ghost use Rattle.trim_model.specs.Windows.{part};
-ghost use Rattle.trim_state.specs.Trace.{near, touching};
+ghost use Rattle.trim_state.specs.Trace.{touching};
 ghost use Rattle.live_windows.specs.Live.{liveOf};
 ghost use Rattle.trim_split.specs.Running.{Ready, roomFor, placeBefore, endAfter, endOf};
 ghost use Rattle.trim_keep.specs.Keeping.{Bounded, Seats, KeptOne};
 
-// The first end of an edge is touched if the window reaches it.
-fn touch_low(
+// The end v of an edge, which is at x along it, is touched by a window that reaches it.
+fn touch_reached(
     vertex: &mut [f64],
     vertex_words: &[u32],
     keys: &mut [f64],
     events: &mut [u32],
     n: u32,
     limit: f64,
-    e: Edge,
+    reached: bool,
+    v: VertexId,
+    x: f64,
     win: Win,
 ) -> Pushed
     ensures { λ r. ⌜ ((cuts windows made : ℕ) →
-        play cuts windows limit (given «vertex_words») (pushIf (le (win .b0) (near ⊗ e .len)) (touch (e .a .0) (evalOf win zero64 zero64))) (stock made n (queue (given keys) (given events)) (given vertex))
-        ≡ queueing made (left vertex) (r, queue (now (keys .exit)) (now (events .exit)))) ⌝ }
+        play cuts windows limit (given «vertex_words») (pushIf reached (touch (v .0) (evalOf win x zero64))) (stock made n (queue (given keys) (given events)) (given vertex))
+        ≡ queueing made (left vertex) (r, queue (left keys) (left events))) ⌝ }
 {
-    if win.b0 <= 1e-9 * e.len {
-        let d = source::eval(win, 0.0, 0.0);
-        return actions::touch(vertex, vertex_words, keys, events, n, limit, e.a, d);
+    if reached {
+        let d = source::eval(win, x, 0.0);
+        return actions::touch(vertex, vertex_words, keys, events, n, limit, v, d);
     }
     Pushed::Queued(n)
 }
 
-// The other end.
-fn touch_high(
-    vertex: &mut [f64],
-    vertex_words: &[u32],
-    keys: &mut [f64],
-    events: &mut [u32],
-    n: u32,
-    limit: f64,
-    e: Edge,
-    win: Win,
-) -> Pushed
-    ensures { λ r. ⌜ ((cuts windows made : ℕ) →
-        play cuts windows limit (given «vertex_words») (pushIf (le (e .len ⊖ near ⊗ e .len) (win .b1)) (touch (e .b .0) (evalOf win (e .len) zero64))) (stock made n (queue (given keys) (given events)) (given vertex))
-        ≡ queueing made (left vertex) (r, queue (now (keys .exit)) (now (events .exit)))) ⌝ }
-{
-    if win.b1 >= e.len - 1e-9 * e.len {
-        let d = source::eval(win, e.len, 0.0);
-        return actions::touch(vertex, vertex_words, keys, events, n, limit, e.b, d);
-    }
-    Pushed::Queued(n)
-}
-
-// Both, one after the other. The part of window x from b0 to b1 is the new window.
+// Both ends of an edge, one after the other. The part of window x from b0 to b1 is the new window; no distance depends on its lowest value, so it keeps x's.
 fn touch_ends(
     vertex: &mut [f64],
     vertex_words: &[u32],
@@ -85,15 +64,40 @@ fn touch_ends(
 ) -> Pushed
     ensures { λ r. ⌜ ((cuts windows made k j : ℕ) →
         play cuts windows limit (given «vertex_words») (touching e (part (liveOf x k) b0 b1 j)) (stock made n (queue (given keys) (given events)) (given vertex))
-        ≡ queueing made (left vertex) (r, queue (now (keys .exit)) (now (events .exit)))) ⌝ }
+        ≡ queueing made (left vertex) (r, queue (left keys) (left events))) ⌝ }
 {
     let old = x.win;
-    let win = trim_split::trimmed(old, b0, b1);
-    let first = touch_low(vertex, vertex_words, keys, events, n, limit, e, win);
+    let src = old.src;
+    let low = old.low;
+    let win = Win { b0, b1, low, src };
+    let near = 1e-9 * e.len;
+    let first = touch_reached(
+        vertex,
+        vertex_words,
+        keys,
+        events,
+        n,
+        limit,
+        b0 <= near,
+        e.a,
+        0.0,
+        win,
+    );
     let Pushed::Queued(m) = first else {
         return Pushed::Full;
     };
-    touch_high(vertex, vertex_words, keys, events, m, limit, e, win)
+    touch_reached(
+        vertex,
+        vertex_words,
+        keys,
+        events,
+        m,
+        limit,
+        b1 >= e.len - near,
+        e.b,
+        e.len,
+        win,
+    )
 }
 
 // The part of window x from b0 to b1 becomes a window of edge e, seated by its start behind a link.

@@ -10,10 +10,8 @@ use trim_run::Op;
 use trim_split::Counts;
 use windows::Edge;
 use windows::NewWindow;
-ghost use Prim.Native.Nat.{ℕ, _*_, _≤_};
+ghost use Prim.Native.Nat.{ℕ};
 ghost use mathlib.Core.Path.{_≡_};
-ghost use lib.ListN.{length};
-ghost use Rattle.windows.specs.Windows.{capacityOf};
 ghost use Rattle.chains.specs.Chains.{headOf};
 ghost use Rattle.trim_run.specs.Operations.{asCandidate, asOperation};
 ghost use Rattle.trim_run.specs.Operations.{add as Operations·add};
@@ -58,18 +56,10 @@ fn touch(
 }
 
 // The first event is taken out, if there is one. The answer is how many are left.
-fn pop_first(
-    words: &mut [u32],
-    reals: &[f64],
-    keys: &mut [f64],
-    events: &mut [u32],
-    made: u32,
-    queued: u32,
-) -> u32
-    requires { ⌜ made ≤ capacityOf (length (now words)) (length (now reals)) ⌝ }
+fn pop_first(words: &mut [u32], keys: &mut [f64], events: &mut [u32], made: u32, queued: u32) -> u32
     ensures { λ r. ⌜ PopsFirst made queued (now (words .entry)) (now (keys .entry)) (now (events .entry)) r (now (words .exit)) (now (keys .exit)) (now (events .exit)) ⌝ }
 {
-    let taken = pop::pop(words, reals, keys, events, made, queued);
+    let taken = pop::pop(words, keys, events, made, queued);
     match taken {
         Taken::Empty => queued,
         Taken::First(_, n, _) => n,
@@ -240,7 +230,7 @@ fn operate(
             queued,
         ),
         Op::Pop => {
-            let n = pop_first(words, reals, keys, events, made, queued);
+            let n = pop_first(words, keys, events, made, queued);
             Step::Went { made, queued: n }
         }
         Op::Touch(v, d) => touch(

@@ -211,8 +211,7 @@ pub fn store_range(words: &[u32], reals: &mut [f64], id: WindowId, b0: f64, b1: 
 }
 
 // A window's flags change, and nothing else.
-pub fn store_flags(words: &mut [u32], reals: &[f64], id: WindowId, alive: bool, queued: bool)
-    requires { ⌜ id .0 < capacityOf (length (now words)) (length (now reals)) ⌝ }
+pub fn store_flags(words: &mut [u32], id: WindowId, alive: bool, queued: bool)
     ensures { λ r. ⌜ now (words .exit) ≡ flagsWith (now (words .entry)) (id .0) alive queued ⌝ }
 {
     let old = read_u32(words, 4, id.0, 2);

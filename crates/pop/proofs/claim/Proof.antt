@@ -20,22 +20,47 @@ same-length : tie.Need-same-length
 same-length c = search needs
 
 returns : tie.Need-returns
-returns c = let a = c .before .before .before .before .before .before .before .before .before .before .before .before .before .before .args in claims-done (a .made) (a .words .now) (a .id .0) (omega (arith, c .before .before .before .before .before .before .before .before .before .before .if1 .taken)) (c .before .before .before .before .before .before .before .before .read-u32 .result) (c .before .before .before .before .before .before .before .before .read-u32 .ensures) (c .before .before .before .before .before .before .before .has-flag .result) (c .before .before .before .before .before .before .before .has-flag .ensures) (c .before .before .before .before .before .before .if2 .taken) (c .before .before .before .before .before .has-flag2 .result) (c .before .before .before .before .before .has-flag2 .ensures) (c .before .before .before .before .if3 .taken) _ (c .before .before .store-flags .ensures)
+returns c =
+    let stored = c .before .before in
+    let isQueued = stored .before .before in
+    let queued = isQueued .before in
+    let isAlive = queued .before in
+    let alive = isAlive .before in
+    let flags = alive .before in
+    let in-range = flags .before .before in
+    let a = in-range .before .before .before .args in
+    claims-done (a .made) (a .words .now) (a .id .0) (omega (arith, in-range .if1 .taken)) (flags .read-u32 .result) (flags .read-u32 .ensures)
+    (alive .has-flag .result) (alive .has-flag .ensures) (isAlive .if2 .taken) (queued .has-flag2 .result) (queued .has-flag2 .ensures) (isQueued .if3 .taken)
+    _ (stored .store-flags .ensures)
 
 same-length-2 : tie.Need-same-length-2
 same-length-2 c = search needs
 
 returns-2 : tie.Need-returns-2
-returns-2 c = let a = c .before .before .before .before .before .before .before .before .before .before .args in claims-idle (a .made) (a .words .now) (a .id .0) (omega (arith, c .before .before .before .before .before .before .if1 .taken)) (c .before .before .before .before .read-u32 .result) (c .before .before .before .before .read-u32 .ensures) (c .before .before .before .has-flag .result) (c .before .before .before .has-flag .ensures) (c .before .before .if2 .taken) (c .before .has-flag2 .result) (c .before .has-flag2 .ensures) (c .if3 .left)
+returns-2 c =
+    let queued = c .before in
+    let isAlive = queued .before in
+    let alive = isAlive .before in
+    let flags = alive .before in
+    let in-range = flags .before .before in
+    let a = in-range .before .before .before .args in
+    claims-idle (a .made) (a .words .now) (a .id .0) (omega (arith, in-range .if1 .taken)) (flags .read-u32 .result) (flags .read-u32 .ensures)
+    (alive .has-flag .result) (alive .has-flag .ensures) (isAlive .if2 .taken) (queued .has-flag2 .result) (queued .has-flag2 .ensures) (c .if3 .left)
 
 same-length-3 : tie.Need-same-length-3
 same-length-3 c = search needs
 
 returns-3 : tie.Need-returns-3
-returns-3 c = let a = c .before .before .before .before .before .before .before .before .args in claims-dead (a .made) (a .words .now) (a .id .0) (omega (arith, c .before .before .before .before .if1 .taken)) (c .before .before .read-u32 .result) (c .before .before .read-u32 .ensures) (c .before .has-flag .result) (c .before .has-flag .ensures) (c .if2 .left)
+returns-3 c =
+    let alive = c .before in
+    let flags = alive .before in
+    let in-range = flags .before .before in
+    let a = in-range .before .before .before .args in
+    claims-dead (a .made) (a .words .now) (a .id .0) (omega (arith, in-range .if1 .taken)) (flags .read-u32 .result) (flags .read-u32 .ensures)
+    (alive .has-flag .result) (alive .has-flag .ensures) (c .if2 .left)
 
 returns-4 : tie.Need-returns-4
-returns-4 c = let a = c .before .before .before .before .args in claims-far (a .made) (a .words .now) (a .id .0) (omega (arith, c .if1 .left))
+returns-4 c = let a = c .before .before .before .args in claims-far (a .made) (a .words .now) (a .id .0) (omega (arith, c .if1 .left))
 
 pub claim-spec : {M : Type 1} → statement M
 claim-spec =

@@ -23,7 +23,10 @@ same-length-2 : tie.Need-same-length-2
 same-length-2 c = search needs
 
 returns : tie.Need-returns
-returns c = let a = c .before .before .before .before .before .before .before .before .before .before .before .before .before .args in pops-none (a .made) (a .words .now) (popping (queue (a .keys .now) (a .events .now)) (a .queued)) _ (rw (c .enum-told .given .1) at (c .before .before .before .before .before .before .pop .ensures))
+returns c =
+    let popped = c .before .before .before .before .before .before in
+    let a = popped .before .before .before .before .before .before .args in
+    pops-none (a .made) (a .words .now) (popping (queue (a .keys .now) (a .events .now)) (a .queued)) _ (rw (c .enum-told .given .1) at (popped .pop .ensures))
 
 same-length-3 : tie.Need-same-length-3
 same-length-3 c = search needs
@@ -35,7 +38,13 @@ same-length-5 : tie.Need-same-length-5
 same-length-5 c = search needs
 
 returns-2 : tie.Need-returns-2
-returns-2 c = let a = c .before .before .before .before .before .before .before .before .before .before .before .before .before .before .before .before .before .before .args in pops-one (a .made) (a .words .now) (popping (queue (a .keys .now) (a .events .now)) (a .queued)) _ (c .before .before .before .before .before .popped .given .0 .0) (c .before .before .before .before .before .popped .given .0 .1 .0) (rw (c .before .before .before .before .before .popped .given .1) at (c .before .before .before .before .before .before .before .before .before .before .before .pop .ensures)) (c .before .before .claim-item .result) (c .before .before .claim-item .ensures .0) _ (c .before .before .claim-item .ensures .1)
+returns-2 c =
+    let claimed = c .before .before in
+    let event = claimed .before .before .before in
+    let popped = event .before .before .before .before .before .before in
+    let a = popped .before .before .before .before .before .before .args in
+    pops-one (a .made) (a .words .now) (popping (queue (a .keys .now) (a .events .now)) (a .queued)) _ (event .popped .given .0 .0) (event .popped .given .0 .1 .0)
+    (rw (event .popped .given .1) at (popped .pop .ensures)) (claimed .claim-item .result) (claimed .claim-item .ensures .0) _ (claimed .claim-item .ensures .1)
 
 pub pop-spec : {M : Type 1} → statement M
 pop-spec =

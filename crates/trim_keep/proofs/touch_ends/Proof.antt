@@ -6,11 +6,8 @@ use borrow.Author.Needs.{needs}
 use Rattle.trim_keep.proofs.touch_ends.Statement.{statement}
 use Rattle.trim_keep.proofs.touch_ends.Tie as tie
 
-trimmed-requires : tie.Need-trimmed-requires
-trimmed-requires c κs = search needs
-
-touch-low-requires : tie.Need-touch-low-requires
-touch-low-requires c κs = search needs
+touch-reached-requires : tie.Need-touch-reached-requires
+touch-reached-requires c κs = search needs
 
 enum-known-first : tie.Need-enum-known-first
 enum-known-first c = search needs
@@ -29,11 +26,14 @@ same-length-3 c = search needs
 
 returns : tie.Need-returns
 returns c = λ cuts windows made k j.
-    let a = c .before .before .before .before .before .before .before .before .before .before .before .before .before .before .before .before .before .before .args in
-    touching-full cuts windows (a .limit) (a .vertex-words .now) (a .e) (a .x) (a .b0) (a .b1) (c .before .before .before .before .before .before .before .before .before .before .before .before .trimmed .result) (c .before .before .before .before .before .before .before .before .before .before .before .before .trimmed .ensures) k j made (a .n) (queue (a .keys .now) (a .events .now)) (a .vertex .now) (c .before .before .before .before .before .before .before .before .touch-low .last .0) (queue (c .before .before .before .before .before .before .before .before .touch-low .last .1 .1 .0) (c .before .before .before .before .before .before .before .before .touch-low .last .1 .1 .1 .0)) (rw (c .enum-told .given .1) at (c .before .before .before .before .before .before .before .before .touch-low .ensures cuts windows made))
+    let first = c .before .before .before .before .before .before .before .before in
+    let a = first .before .before .before .before .before .before .before .before .before .before .args in
+    let t = first .touch-reached in
+    touching-full cuts windows (a .limit) (a .vertex-words .now) (a .e) (a .x) (a .b0) (a .b1) k j made (a .n) (queue (a .keys .now) (a .events .now)) (a .vertex .now)
+    (t .last .0) (queue (t .last .1 .1 .0) (t .last .1 .1 .1 .0)) (rw (c .enum-told .given .1) at (t .ensures cuts windows made))
 
-touch-high-requires : tie.Need-touch-high-requires
-touch-high-requires c κs = search needs
+touch-reached-requires-2 : tie.Need-touch-reached-requires-2
+touch-reached-requires-2 c κs = search needs
 
 same-length-4 : tie.Need-same-length-4
 same-length-4 c = search needs
@@ -46,22 +46,28 @@ same-length-6 c = search needs
 
 returns-2 : tie.Need-returns-2
 returns-2 c = λ cuts windows made k j.
-    let a = c .before .before .before .before .before .before .before .before .before .before .before .before .before .before .before .before .before .before .before .before .before .before .before .before .before .before .before .before .before .args in
-    touching-on cuts windows (a .limit) (a .vertex-words .now) (a .e) (a .x) (a .b0) (a .b1) (c .before .before .before .before .before .before .before .before .before .before .before .before .before .before .before .before .before .before .before .before .before .before .before .trimmed .result) (c .before .before .before .before .before .before .before .before .before .before .before .before .before .before .before .before .before .before .before .before .before .before .before .trimmed .ensures) k j made (a .n) (queue (a .keys .now) (a .events .now)) (a .vertex .now) (c .before .before .before .before .before .before .before .before .before .before .before .first .given .0 .0) (c .before .before .before .before .before .before .before .before .before .before .before .before .before .before .before .before .before .before .before .touch-low .last .0) (queue (c .before .before .before .before .before .before .before .before .before .before .before .before .before .before .before .before .before .before .before .touch-low .last .1 .1 .0) (c .before .before .before .before .before .before .before .before .before .before .before .before .before .before .before .before .before .before .before .touch-low .last .1 .1 .1 .0)) (rw (c .before .before .before .before .before .before .before .before .before .before .before .first .given .1) at (c .before .before .before .before .before .before .before .before .before .before .before .before .before .before .before .before .before .before .before .touch-low .ensures cuts windows made)) (queueing made (c .before .before .before .before .before .before .touch-high .last .0) (c .before .before .before .before .before .before .touch-high .result, queue (c .before .before .before .before .before .before .touch-high .last .1 .1 .0) (c .before .before .before .before .before .before .touch-high .last .1 .1 .1 .0))) (c .before .before .before .before .before .before .touch-high .ensures cuts windows made)
+    let second = c .before .before .before .before .before .before in
+    let went = second .before .before .before .before .before .before in
+    let first = went .before .before .before .before .before .before .before .before in
+    let a = first .before .before .before .before .before .before .before .before .before .before .args in
+    let t = first .touch-reached in
+    let u = second .touch-reached2 in
+    touching-on cuts windows (a .limit) (a .vertex-words .now) (a .e) (a .x) (a .b0) (a .b1) k j made (a .n) (queue (a .keys .now) (a .events .now)) (a .vertex .now)
+    (went .first .given .0 .0) (t .last .0) (queue (t .last .1 .1 .0) (t .last .1 .1 .1 .0)) (rw (went .first .given .1) at (t .ensures cuts windows made))
+    (queueing made (u .last .0) (u .result, queue (u .last .1 .1 .0) (u .last .1 .1 .1 .0))) (u .ensures cuts windows made)
 
 pub touch-ends-spec : {M : Type 1} → statement M
 touch-ends-spec =
     tie.close
     (tie.spec
-    trimmed-requires
-    touch-low-requires
+    touch-reached-requires
     enum-known-first
     enum-told
     same-length
     same-length-2
     same-length-3
     returns
-    touch-high-requires
+    touch-reached-requires-2
     same-length-4
     same-length-5
     same-length-6

@@ -74,22 +74,28 @@ same-length-12 c = search needs
 same-length-13 : tie.Need-same-length-13
 same-length-13 c = search needs
 
-same-length-14 : tie.Need-same-length-14
-same-length-14 c = search needs
-
 returns-2 : tie.Need-returns-2
 returns-2 c =
-    let a = c .before .before .before .before .before .before .before .before .before .before .before .before .before .before .before .before .before .before .before .before .before .before .before .before .before .before .args in
-    of-op (settingOf (cuts (a .pts .now) (a .out .now) (a .keep .now) (a .next .now)) (slices (a .edges .now) (a .words .now) (a .reals .now) (a .keys .now) (a .events .now) (a .vertex .now)) (a .limit) (a .vertex-words .now) (a .ends .now) (a .lens .now) (a .m)) (a .made) (a .queued) (a .op) Pop (c .before .before .before .before .before .before .before .before .before .before .before .enum-told .given .1) (slices (a .edges .now) (a .words .now) (a .reals .now) (a .keys .now) (a .events .now) (a .vertex .now)) (Went (a .made) (c .before .before .before .before .before .before .pop-first .result)) (slices (a .edges .now) (c .before .before .before .before .before .before .pop-first .last .0) (a .reals .now) (c .before .before .before .before .before .before .pop-first .last .1 .1 .0) (c .before .before .before .before .before .before .pop-first .last .1 .1 .1 .0) (a .vertex .now)) (op-pop (settingOf (cuts (a .pts .now) (a .out .now) (a .keep .now) (a .next .now)) (slices (a .edges .now) (a .words .now) (a .reals .now) (a .keys .now) (a .events .now) (a .vertex .now)) (a .limit) (a .vertex-words .now) (a .ends .now) (a .lens .now) (a .m)) (a .made) (a .queued) (c .before .before .before .before .before .before .before .before .before .before .before .before .before .before .before .before .before .before .before .before .before .before .before .before .before .before .pre .fits) (a .edges .now) (a .words .now) (a .reals .now) (a .keys .now) (a .events .now) (a .vertex .now) (c .before .before .before .before .before .before .before .before .before .before .before .before .before .before .before .before .before .before .before .before .before .before .before .before .before .before .pre .fits) (c .before .before .before .before .before .before .pop-first .last .0) (c .before .before .before .before .before .before .pop-first .last .1 .1 .0) (c .before .before .before .before .before .before .pop-first .last .1 .1 .1 .0) (c .before .before .before .before .before .before .pop-first .result) (c .before .before .before .before .before .before .pop-first .ensures))
+    let popped = c .before .before .before .before .before .before in
+    let told = popped .before .before .before .before in
+    let s = told .before .before .before .before .before .before .before .before .before .before .before .before .before .before .before in
+    let a = s .args in
+    let p = popped .pop-first in
+    let before = slices (a .edges .now) (a .words .now) (a .reals .now) (a .keys .now) (a .events .now) (a .vertex .now) in
+    let setting = settingOf (cuts (a .pts .now) (a .out .now) (a .keep .now) (a .next .now)) before (a .limit) (a .vertex-words .now) (a .ends .now) (a .lens .now) (a .m) in
+    of-op setting (a .made) (a .queued) (a .op) Pop (told .enum-told .given .1) before (Went (a .made) (p .result))
+    (slices (a .edges .now) (p .last .0) (a .reals .now) (p .last .1 .0) (p .last .1 .1 .0) (a .vertex .now))
+    (op-pop setting (a .made) (a .queued) (s .pre .fits) (a .edges .now) (a .words .now) (a .reals .now) (a .keys .now) (a .events .now) (a .vertex .now) (s .pre .fits)
+    (p .last .0) (p .last .1 .0) (p .last .1 .1 .0) (p .result) (p .ensures))
+
+same-length-14 : tie.Need-same-length-14
+same-length-14 c = search needs
 
 same-length-15 : tie.Need-same-length-15
 same-length-15 c = search needs
 
 same-length-16 : tie.Need-same-length-16
 same-length-16 c = search needs
-
-same-length-17 : tie.Need-same-length-17
-same-length-17 c = search needs
 
 returns-3 : tie.Need-returns-3
 returns-3 c =
@@ -126,10 +132,9 @@ operate-spec =
     same-length-11
     same-length-12
     same-length-13
-    same-length-14
     returns-2
+    same-length-14
     same-length-15
     same-length-16
-    same-length-17
     returns-3
     returns-4)

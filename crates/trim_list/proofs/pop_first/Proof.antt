@@ -24,8 +24,14 @@ same-length-3 c = search needs
 
 returns : tie.Need-returns
 returns c =
-    let a = c .before .before .before .before .before .before .before .before .before .before .before .before .before .before .before .before .args in
-    record { left = left-none (a .made) (a .words .now) (a .queued) (popping (queue (a .keys .now) (a .events .now)) (a .queued) .0) (rw (c .enum-told .given .1) at (c .before .before .before .before .before .before .before .before .pop .ensures .0)); claims = c .before .before .before .before .before .before .before .before .pop .ensures .1 .0; rest = c .before .before .before .before .before .before .before .before .pop .ensures .1 .1 }
+    let popped = c .before .before .before .before .before .before .before .before in
+    let said = popped .pop .ensures in
+    let a = popped .before .before .before .before .before .before .before .args in
+    record {
+      left = left-none (a .made) (a .words .now) (a .queued) (popping (queue (a .keys .now) (a .events .now)) (a .queued) .0) (rw (c .enum-told .given .1) at (said .0));
+      claims = said .1 .0;
+      rest = said .1 .1;
+    }
 
 same-length-4 : tie.Need-same-length-4
 same-length-4 c = search needs
@@ -38,8 +44,16 @@ same-length-6 c = search needs
 
 returns-2 : tie.Need-returns-2
 returns-2 c =
-    let a = c .before .before .before .before .before .before .before .before .before .before .before .before .before .before .before .before .before .args in
-    record { left = left-one (a .made) (a .words .now) (a .queued) (popping (queue (a .keys .now) (a .events .now)) (a .queued) .0) (c .before .taken .given .0 .0) (c .before .taken .given .0 .1 .0) (c .before .taken .given .0 .1 .1 .0) (rw (c .before .taken .given .1) at (c .before .before .before .before .before .before .before .before .before .pop .ensures .0)); claims = c .before .before .before .before .before .before .before .before .before .pop .ensures .1 .0; rest = c .before .before .before .before .before .before .before .before .before .pop .ensures .1 .1 }
+    let event = c .before in
+    let popped = event .before .before .before .before .before .before .before .before in
+    let said = popped .pop .ensures in
+    let a = popped .before .before .before .before .before .before .before .args in
+    let first = event .taken .given in
+    record {
+      left = left-one (a .made) (a .words .now) (a .queued) (popping (queue (a .keys .now) (a .events .now)) (a .queued) .0) (first .0 .0) (first .0 .1 .0) (first .0 .1 .1 .0) (rw (first .1) at (said .0));
+      claims = said .1 .0;
+      rest = said .1 .1;
+    }
 
 pub pop-first-spec : {M : Type 1} → statement M
 pop-first-spec =
