@@ -6,7 +6,7 @@ use mathlib.Core.Logic.{_≢_}
 use native.Mathlib.Omega.{arith}
 use lib.ListN.{length, getD}
 use lib.Ieee.{Float}
-use Rattle.layout.specs.Layout.{wordsPerVertex, vertexStart, vertexEnd, vertexFlag, wordsPerEdge, edgeLow, edgeHigh, edgeFirstFace, edgeSecondFace, edgeHead, wordsPerTriangle}
+use Rattle.layout.specs.Layout.{wordsPerVertex, vertexStart, vertexEnd, vertexFlag, wordsPerEdge, edgeLow, edgeHigh, edgeFirstFace, edgeSecondFace, edgeHead, edgeScratch, wordsPerTriangle}
 use Rattle.vertex_faces.specs.Ranges.{startOf}
 use Rattle.frames.specs.Held.{HoldsLengths, HoldsNormals}
 use Rattle.mesh.specs.Topology.{MeshBuffers, meshBuffers}
@@ -28,7 +28,7 @@ worked-on m m′ m″ p q =
 
 -- An addition writes only the words of edges, and of these only the head and the scratch word of edges at work: what it keeps is field `edges` of trim_split's `Untouched`.
 pub worked-edges : (m : MeshBuffers) (AtWork : ℕ → Type 0) (ew : List ℕ)
-    → ((i : ℕ) → ((e : ℕ) → AtWork e → (i ≢ 6 * e + 4) × (i ≢ 6 * e + 5)) → getD ew i 0 ≡ getD (m .edge-words) i 0)
+    → ((i : ℕ) → ((e : ℕ) → AtWork e → (i ≢ wordsPerEdge * e + edgeHead) × (i ≢ wordsPerEdge * e + edgeScratch)) → getD ew i 0 ≡ getD (m .edge-words) i 0)
     → Worked m (meshBuffers (m .vertex-words) ew (m .edge-reals) (m .round) (m .triangle-words) (m .triangle-reals))
 worked-edges m AtWork ew kept =
     record { vertex-words = refl; edge-words = λ i ne. kept i (λ e at. ne e); edge-reals = refl; round = refl; triangle-words = λ i ne. refl; triangle-reals = refl }
