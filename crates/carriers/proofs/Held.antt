@@ -8,6 +8,7 @@ use mathlib.Core.List.{List, [], _∷_}
 use native.Mathlib.Omega.{arith}
 use lib.Ieee.{Float}
 use lib.ListN.{length, getD}
+use Rattle.layout.specs.Layout.{wordsPerVertex, vertexStart, vertexEnd}
 use Rattle.vec3.specs.declared.Vec3.{Vec3}
 use Rattle.float64.specs.TotalOrder.{totalLess}
 use Rattle.job_checks.specs.Sound.{ValidTriangles}
@@ -102,7 +103,7 @@ module _ (triangles : List ℕ) (n : ℕ) (s : ValidTriangles triangles n) (edge
 
 -- ---- how many
 module _ (triangles : List ℕ) (n : ℕ) (edgeWords vertexWords round : List ℕ) (faces : HoldsFaces triangles edgeWords) (held : HoldsRound triangles n vertexWords round) (f : ℕ) where
-  degree-is : (k : ℕ) → k < n → getD vertexWords (3 * k + 1) 0 - getD vertexWords (3 * k + 0) 0 ≡ length (vertexFaces triangles k)
+  degree-is : (k : ℕ) → k < n → getD vertexWords (wordsPerVertex * k + vertexEnd) 0 - getD vertexWords (wordsPerVertex * k + vertexStart) 0 ≡ length (vertexFaces triangles k)
   unfolding endOf
   degree-is k q = omega (arith, held .start k q, held .end k q)
 

@@ -7,6 +7,7 @@ use borrow.Author.Tests.{eq-eqb, ne-eqb}
 use lib.Dec.{eqb}
 use lib.Ieee.{Float}
 use lib.ListN.{length, getD}
+use Rattle.layout.specs.Layout.{verticesPerTriangle}
 use Rattle.vec3.specs.declared.Vec3.{Vec3}
 use Rattle.vec3.specs.Vec.{subOf, normOf}
 use Rattle.float64.specs.TotalOrder.{totalLess}
@@ -82,9 +83,9 @@ module _ (v : List Float) (p : Vec3) (a b : VertexId) (A B S T : Vec3) (x y : Fl
   nearer-first h = λ i. record { 0 = cond (sym (test-is ∙ h) i) (b .0) (a .0) }
 
 pub nearest-is : (v : List Float) (triangles : List ℕ) (f : ℕ) (p : Vec3) (a b c m r : VertexId)
-    → a ≡ record { 0 = getD triangles (3 * f + 0) 0 } → b ≡ record { 0 = getD triangles (3 * f + 1) 0 } → c ≡ record { 0 = getD triangles (3 * f + 2) 0 }
+    → a ≡ record { 0 = getD triangles (verticesPerTriangle * f + 0) 0 } → b ≡ record { 0 = getD triangles (verticesPerTriangle * f + 1) 0 } → c ≡ record { 0 = getD triangles (verticesPerTriangle * f + 2) 0 }
     → m ≡ record { 0 = nearerOf v p (a .0) (b .0) } → r ≡ record { 0 = nearerOf v p (m .0) (c .0) } → r ≡ record { 0 = nearestAt v triangles f p }
 unfolding nearestAt
 nearest-is v triangles f p a b c m r x y z w u =
-    let M : m ≡ record { 0 = nearerOf v p (getD triangles (3 * f + 0) 0) (getD triangles (3 * f + 1) 0) } = w ∙ (λ i. record { 0 = nearerOf v p (x i .0) (y i .0) }) in
+    let M : m ≡ record { 0 = nearerOf v p (getD triangles (verticesPerTriangle * f + 0) 0) (getD triangles (verticesPerTriangle * f + 1) 0) } = w ∙ (λ i. record { 0 = nearerOf v p (x i .0) (y i .0) }) in
     u ∙ (λ i. record { 0 = nearerOf v p (M i .0) (z i .0) })

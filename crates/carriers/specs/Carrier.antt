@@ -6,6 +6,7 @@ use mathlib.Core.List.{List, [], _∷_, _++_}
 use lib.Dec.{eqb}
 use lib.Ieee.{Float}
 use lib.ListN.{length, getD}
+use Rattle.layout.specs.Layout.{wordsPerVertex, vertexStart, vertexEnd}
 use Rattle.vec3.specs.declared.Vec3.{Vec3}
 use Rattle.topology.specs.Edges.{noFace, edges, triEdge, face, sharedVertex, vertexFaces}
 use Rattle.topology.specs.Frames.{len, coordsY}
@@ -75,7 +76,7 @@ carrierAt v edgeWords edgeReals triangleWords triangleReals f p =
 
 -- how many faces there are round vertex k
 abbrev pub degreeAt : List ℕ → ℕ → ℕ
-degreeAt vertexWords k = getD vertexWords (3 * k + 1) 0 - getD vertexWords (3 * k + 0) 0
+degreeAt vertexWords k = getD vertexWords (wordsPerVertex * k + vertexEnd) 0 - getD vertexWords (wordsPerVertex * k + vertexStart) 0
 
 -- the Rust's `carrier(..).len()`
 unfoldable pub carrierCountAt : List ℕ → List ℕ → CarrierSimplex → ℕ

@@ -3,6 +3,7 @@ use Prim.Native.Nat.{ℕ, _+_, _*_}
 use mathlib.Core.List.{List}
 use lib.Ieee.{Float}
 use lib.ListN.{getD}
+use Rattle.layout.specs.Layout.{verticesPerTriangle}
 use Rattle.float64.specs.Notation.{if_then_else_}
 use Rattle.float64.specs.TotalOrder.{totalLess}
 use Rattle.vec3.specs.declared.Vec3.{Vec3}
@@ -19,4 +20,4 @@ nearerOf v p a b = if totalLess (distanceTo v p b) (distanceTo v p a) then b els
 
 -- over the three vertices of face f, in their order
 unfoldable pub nearestAt : List Float → List ℕ → ℕ → Vec3 → ℕ
-nearestAt v triangles f p = nearerOf v p (nearerOf v p (getD triangles (3 * f + 0) 0) (getD triangles (3 * f + 1) 0)) (getD triangles (3 * f + 2) 0)
+nearestAt v triangles f p = nearerOf v p (nearerOf v p (getD triangles (verticesPerTriangle * f + 0) 0) (getD triangles (verticesPerTriangle * f + 1) 0)) (getD triangles (verticesPerTriangle * f + 2) 0)

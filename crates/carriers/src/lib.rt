@@ -5,6 +5,12 @@ use buffers::FaceId;
 use buffers::VertexId;
 use buffers::no_face;
 use buffers::read_u32;
+use layout::EDGE_FIRST_FACE;
+use layout::EDGE_SECOND_FACE;
+use layout::VERTEX_END;
+use layout::VERTEX_START;
+use layout::WORDS_PER_EDGE;
+use layout::WORDS_PER_VERTEX;
 use mesh_readers::coords;
 use mesh_readers::face_vertex;
 use mesh_readers::length;
@@ -161,8 +167,8 @@ fn edge_degree(edge_words: &[u32], e: EdgeId) -> u32
     ensures { λ r. ⌜ r ≡ size (present (faceAt (given «edge_words») (e .0) 0 ∷ (faceAt (given «edge_words») (e .0) 1 ∷ []))) ⌝ }
 {
     let none = no_face().0;
-    let first = read_u32(edge_words, 6, e.0, 2);
-    let second = read_u32(edge_words, 6, e.0, 3);
+    let first = read_u32(edge_words, WORDS_PER_EDGE, e.0, EDGE_FIRST_FACE);
+    let second = read_u32(edge_words, WORDS_PER_EDGE, e.0, EDGE_SECOND_FACE);
     if first == none {
         if second == none {
             return 0;
@@ -179,8 +185,8 @@ fn edge_degree(edge_words: &[u32], e: EdgeId) -> u32
 fn vertex_degree(vertex_words: &[u32], k: VertexId) -> u32
     ensures { λ r. ⌜ r ≡ degreeAt (given «vertex_words») (k .0) ⌝ }
 {
-    let start = read_u32(vertex_words, 3, k.0, 0);
-    let end = read_u32(vertex_words, 3, k.0, 1);
+    let start = read_u32(vertex_words, WORDS_PER_VERTEX, k.0, VERTEX_START);
+    let end = read_u32(vertex_words, WORDS_PER_VERTEX, k.0, VERTEX_END);
     if end < start {
         return 0;
     }

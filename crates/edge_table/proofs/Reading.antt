@@ -7,6 +7,7 @@ use native.Mathlib.Omega.{arith}
 use borrow.Author.Tests.{lt-ltb, le-ltb}
 use lib.Dec.{ltb}
 use lib.ListN.{length, getD}
+use Rattle.layout.specs.Layout.{wordsPerRound, roundHead, wordsPerEdge, edgeLow, edgeHigh, edgeFirstFace, edgeSecondFace, edgeHead, edgeScratch, wordsPerTriangle}
 use Rattle.job_checks.specs.Refusals.{maxVertices}
 use Rattle.job_checks.specs.Sound.{ValidTriangles}
 use Rattle.topology.specs.Edges.{noEdge, edges, triEdge, edgeFaces, face}
@@ -27,53 +28,53 @@ no-matter false = refl
 
 module _ (triangles : List ℕ) (n : ℕ) where
   -- the fields of an edge
-  module _ (e : ℕ) (l : e < length (edges triangles)) (fits : 6 * e + 6 ≤ n) where
-    field : (a : ℕ) → a < 6 → getD (edgeWords triangles n) (6 * e + a) 0 ≡ getD (edgeRow (edges triangles) e (edgeFaces triangles e)) a 0
+  module _ (e : ℕ) (l : e < length (edges triangles)) (fits : wordsPerEdge * e + wordsPerEdge ≤ n) where
+    field : (a : ℕ) → a < wordsPerEdge → getD (edgeWords triangles n) (wordsPerEdge * e + a) 0 ≡ getD (edgeRow (edges triangles) e (edgeFaces triangles e)) a 0
     unfolding edgeWords edgeWord
-    field a k = words-at n 6 (edgeWord (edges triangles) (edgeFaces triangles)) e a k (omega arith) ∙ rw (lt-ltb e (length (edges triangles)) l) refl
+    field a k = words-at n wordsPerEdge (edgeWord (edges triangles) (edgeFaces triangles)) e a k (omega arith) ∙ rw (lt-ltb e (length (edges triangles)) l) refl
 
-    pub low-read : getD (edgeWords triangles n) (6 * e + 0) 0 ≡ getD (edges triangles) e noEdge .low
+    pub low-read : getD (edgeWords triangles n) (wordsPerEdge * e + edgeLow) 0 ≡ getD (edges triangles) e noEdge .low
     unfolding edgeRow
-    low-read = field 0 (omega arith)
+    low-read = field edgeLow (omega arith)
 
-    pub high-read : getD (edgeWords triangles n) (6 * e + 1) 0 ≡ getD (edges triangles) e noEdge .high
+    pub high-read : getD (edgeWords triangles n) (wordsPerEdge * e + edgeHigh) 0 ≡ getD (edges triangles) e noEdge .high
     unfolding edgeRow
-    high-read = field 1 (omega arith)
+    high-read = field edgeHigh (omega arith)
 
-    pub first-face-read : getD (edgeWords triangles n) (6 * e + 2) 0 ≡ face triangles e 0
+    pub first-face-read : getD (edgeWords triangles n) (wordsPerEdge * e + edgeFirstFace) 0 ≡ face triangles e 0
     unfolding edgeRow face
-    first-face-read = field 2 (omega arith)
+    first-face-read = field edgeFirstFace (omega arith)
 
-    pub second-face-read : getD (edgeWords triangles n) (6 * e + 3) 0 ≡ face triangles e 1
+    pub second-face-read : getD (edgeWords triangles n) (wordsPerEdge * e + edgeSecondFace) 0 ≡ face triangles e 1
     unfolding edgeRow face
-    second-face-read = field 3 (omega arith)
+    second-face-read = field edgeSecondFace (omega arith)
 
   -- no windows yet, and a zero
-  pub windows-read : (e : ℕ) → getD (edgeWords triangles n) (6 * e + 4) 0 ≡ 0
+  pub windows-read : (e : ℕ) → getD (edgeWords triangles n) (wordsPerEdge * e + edgeHead) 0 ≡ 0
   unfolding edgeWords edgeWord edgeRow
-  windows-read e = words-zero n 6 (edgeWord (edges triangles) (edgeFaces triangles)) e 4 (omega arith) (no-matter (ltb e (length (edges triangles))))
+  windows-read e = words-zero n wordsPerEdge (edgeWord (edges triangles) (edgeFaces triangles)) e edgeHead (omega arith) (no-matter (ltb e (length (edges triangles))))
 
-  pub scratch-read : (e : ℕ) → getD (edgeWords triangles n) (6 * e + 5) 0 ≡ 0
+  pub scratch-read : (e : ℕ) → getD (edgeWords triangles n) (wordsPerEdge * e + edgeScratch) 0 ≡ 0
   unfolding edgeWords edgeWord edgeRow
-  scratch-read e = words-zero n 6 (edgeWord (edges triangles) (edgeFaces triangles)) e 5 (omega arith) (no-matter (ltb e (length (edges triangles))))
+  scratch-read e = words-zero n wordsPerEdge (edgeWord (edges triangles) (edgeFaces triangles)) e edgeScratch (omega arith) (no-matter (ltb e (length (edges triangles))))
 
   -- a slot that no edge takes
-  pub untaken-read : (e a : ℕ) → length (edges triangles) ≤ e → a < 6 → 6 * e + a < n → getD (edgeWords triangles n) (6 * e + a) 0 ≡ 0
+  pub untaken-read : (e a : ℕ) → length (edges triangles) ≤ e → a < wordsPerEdge → wordsPerEdge * e + a < n → getD (edgeWords triangles n) (wordsPerEdge * e + a) 0 ≡ 0
   unfolding edgeWords edgeWord
-  untaken-read e a l k m = words-at n 6 (edgeWord (edges triangles) (edgeFaces triangles)) e a k m ∙ rw (le-ltb e (length (edges triangles)) l) refl
+  untaken-read e a l k m = words-at n wordsPerEdge (edgeWord (edges triangles) (edgeFaces triangles)) e a k m ∙ rw (le-ltb e (length (edges triangles)) l) refl
 
   -- the head of a bucket
-  pub bucket-read : (b : ℕ) → b < n → getD (headWords triangles n) (1 * b + 0) 0 ≡ lastIn (length triangles) (edges triangles) b (length (edges triangles))
+  pub bucket-read : (b : ℕ) → b < n → getD (headWords triangles n) (wordsPerRound * b + roundHead) 0 ≡ lastIn (length triangles) (edges triangles) b (length (edges triangles))
   unfolding headWords headWord
-  bucket-read b m = words-at n 1 (headWord (length triangles) (edges triangles)) b 0 (omega arith) (omega arith)
+  bucket-read b m = words-at n wordsPerRound (headWord (length triangles) (edges triangles)) b roundHead (omega arith) (omega arith)
 
   -- the edge of a side
-  pub number-read : (f k : ℕ) → k < 3 → 3 * f + k < length triangles → 6 * f + k < n → getD (triangleWords triangles n) (6 * f + k) 0 ≡ triEdge triangles (3 * f + k)
+  pub number-read : (f k : ℕ) → k < 3 → 3 * f + k < length triangles → wordsPerTriangle * f + k < n → getD (triangleWords triangles n) (wordsPerTriangle * f + k) 0 ≡ triEdge triangles (3 * f + k)
   unfolding triangleWords triangleWord
   number-read f k lk l m =
-      words-at n 6 (triangleWord (length triangles) (triEdge triangles)) f k (omega arith) m ∙ rw (lt-ltb k 3 lk, lt-ltb (3 * f + k) (length triangles) l) refl
+      words-at n wordsPerTriangle (triangleWord (length triangles) (triEdge triangles)) f k (omega arith) m ∙ rw (lt-ltb k 3 lk, lt-ltb (3 * f + k) (length triangles) l) refl
 
   -- what no side takes of a triangle
-  pub spare-read : (f a : ℕ) → 3 ≤ a → a < 6 → getD (triangleWords triangles n) (6 * f + a) 0 ≡ 0
+  pub spare-read : (f a : ℕ) → 3 ≤ a → a < wordsPerTriangle → getD (triangleWords triangles n) (wordsPerTriangle * f + a) 0 ≡ 0
   unfolding triangleWords triangleWord
-  spare-read f a l k = words-zero n 6 (triangleWord (length triangles) (triEdge triangles)) f a k (rw (le-ltb a 3 l) refl)
+  spare-read f a l k = words-zero n wordsPerTriangle (triangleWord (length triangles) (triEdge triangles)) f a k (rw (le-ltb a 3 l) refl)

@@ -8,6 +8,7 @@ use native.Mathlib.Omega.{arith}
 use borrow.Author.Tests.{eq-eqb, ne-eqb, eqb-true, eqb-false, lt-ltb, le-ltb, ltb-true, ltb-false}
 use lib.Dec.{ltb, eqb}
 use lib.ListN.{length, getD}
+use Rattle.layout.specs.Layout.{wordsPerEdge, edgeLow, edgeHigh, edgeScratch}
 use Rattle.topology.specs.Edges.{Edge, noEdge, sameEdge, find}
 use Rattle.topology.proofs.Find.{either, same-edge, same-self, find-at, Numbered}
 use Rattle.edge_table.specs.Words.{bucketOf, lastIn}
@@ -28,47 +29,47 @@ module _ (w : List ℕ) (low high : ℕ) where
   enough fall zero m (suc e) l k = absurd (omega arith)
   enough fall (suc n) zero (suc e) l k = absurd (omega arith)
   enough fall (suc n) (suc m) (suc e) l k =
-      ap (cond (eqb (getD w (6 * e + 0) 0) low && eqb (getD w (6 * e + 1) 0) high) (suc e)) (enough fall n m (getD w (6 * e + 5) 0) (omega (arith, fall e)) (omega (arith, fall e)))
+      ap (cond (eqb (getD w (wordsPerEdge * e + edgeLow) 0) low && eqb (getD w (wordsPerEdge * e + edgeHigh) 0) high) (suc e)) (enough fall n m (getD w (wordsPerEdge * e + edgeScratch) 0) (omega (arith, fall e)) (omega (arith, fall e)))
 
   -- The turns of the loop: the edge at a link, or on to the next.
   module _ (fall : Falling w) (e : ℕ) where
-    pub seek-here : getD w (6 * e + 0) 0 ≡ low → getD w (6 * e + 1) 0 ≡ high → seek w low high (suc e) (suc e) ≡ suc e
+    pub seek-here : getD w (wordsPerEdge * e + edgeLow) 0 ≡ low → getD w (wordsPerEdge * e + edgeHigh) 0 ≡ high → seek w low high (suc e) (suc e) ≡ suc e
     unfolding seek
     seek-here p q = rw (eq-eqb _ _ p, eq-eqb _ _ q) refl
 
-    on : (eqb (getD w (6 * e + 0) 0) low && eqb (getD w (6 * e + 1) 0) high) ≡ false → seek w low high (suc e) (suc e) ≡ seek w low high (getD w (6 * e + 5) 0) (getD w (6 * e + 5) 0)
+    on : (eqb (getD w (wordsPerEdge * e + edgeLow) 0) low && eqb (getD w (wordsPerEdge * e + edgeHigh) 0) high) ≡ false → seek w low high (suc e) (suc e) ≡ seek w low high (getD w (wordsPerEdge * e + edgeScratch) 0) (getD w (wordsPerEdge * e + edgeScratch) 0)
     unfolding seek
-    on q = rw q (enough fall e (getD w (6 * e + 5) 0) (getD w (6 * e + 5) 0) (fall e) (omega arith))
+    on q = rw q (enough fall e (getD w (wordsPerEdge * e + edgeScratch) 0) (getD w (wordsPerEdge * e + edgeScratch) 0) (fall e) (omega arith))
 
-    pub seek-on-low : getD w (6 * e + 0) 0 ≢ low → seek w low high (suc e) (suc e) ≡ seek w low high (getD w (6 * e + 5) 0) (getD w (6 * e + 5) 0)
+    pub seek-on-low : getD w (wordsPerEdge * e + edgeLow) 0 ≢ low → seek w low high (suc e) (suc e) ≡ seek w low high (getD w (wordsPerEdge * e + edgeScratch) 0) (getD w (wordsPerEdge * e + edgeScratch) 0)
     seek-on-low p = on (rw (ne-eqb _ _ p) refl)
 
-    pub seek-on-high : getD w (6 * e + 0) 0 ≡ low → getD w (6 * e + 1) 0 ≢ high → seek w low high (suc e) (suc e) ≡ seek w low high (getD w (6 * e + 5) 0) (getD w (6 * e + 5) 0)
+    pub seek-on-high : getD w (wordsPerEdge * e + edgeLow) 0 ≡ low → getD w (wordsPerEdge * e + edgeHigh) 0 ≢ high → seek w low high (suc e) (suc e) ≡ seek w low high (getD w (wordsPerEdge * e + edgeScratch) 0) (getD w (wordsPerEdge * e + edgeScratch) 0)
     seek-on-high p q = on (rw (eq-eqb _ _ p, ne-eqb _ _ q) refl)
 
 pub seek-end : (w : List ℕ) (low high at head : ℕ) → seek w low high head head ≡ seek w low high at at → at ≡ 0 → 0 ≡ seek w low high head head
 seek-end w low high at head inv e = sym (inv ∙ (ap (λ (k : ℕ). seek w low high k k) e ∙ seek-none w low high 0))
 
 -- the next link is a lower one
-pub falls : (w : List ℕ) (at : ℕ) → Falling w → at ≢ 0 → (k : ℕ) → k ≡ getD w (6 * (at - 1) + 5) 0 → k < at
+pub falls : (w : List ℕ) (at : ℕ) → Falling w → at ≢ 0 → (k : ℕ) → k ≡ getD w (wordsPerEdge * (at - 1) + edgeScratch) 0 → k < at
 falls w at fall live k e = omega (arith, fall (at - 1))
 
 -- The same at a link that is not 0, for the values that the loop read.
-module _ (w : List ℕ) (low high at head a : ℕ) (fall : Falling w) (live : at ≢ 0) (inv : seek w low high head head ≡ seek w low high at at) (read : a ≡ getD w (6 * (at - 1) + 0) 0) where
+module _ (w : List ℕ) (low high at head a : ℕ) (fall : Falling w) (live : at ≢ 0) (inv : seek w low high head head ≡ seek w low high at at) (read : a ≡ getD w (wordsPerEdge * (at - 1) + edgeLow) 0) where
   at-suc : suc (at - 1) ≡ at
   at-suc = omega arith
 
-  pub seek-at-here : (b : ℕ) → b ≡ getD w (6 * (at - 1) + 1) 0 → a ≡ low → b ≡ high → at ≡ seek w low high head head
+  pub seek-at-here : (b : ℕ) → b ≡ getD w (wordsPerEdge * (at - 1) + edgeHigh) 0 → a ≡ low → b ≡ high → at ≡ seek w low high head head
   seek-at-here b e p q = sym at-suc ∙ (sym (seek-here w low high fall (at - 1) (sym read ∙ p) (sym e ∙ q)) ∙ (ap (λ (k : ℕ). seek w low high k k) at-suc ∙ sym inv))
 
-  module _ (k : ℕ) (e : k ≡ getD w (6 * (at - 1) + 5) 0) where
-    on-from : seek w low high (suc (at - 1)) (suc (at - 1)) ≡ seek w low high (getD w (6 * (at - 1) + 5) 0) (getD w (6 * (at - 1) + 5) 0) → seek w low high head head ≡ seek w low high k k
+  module _ (k : ℕ) (e : k ≡ getD w (wordsPerEdge * (at - 1) + edgeScratch) 0) where
+    on-from : seek w low high (suc (at - 1)) (suc (at - 1)) ≡ seek w low high (getD w (wordsPerEdge * (at - 1) + edgeScratch) 0) (getD w (wordsPerEdge * (at - 1) + edgeScratch) 0) → seek w low high head head ≡ seek w low high k k
     on-from s = inv ∙ (ap (λ (j : ℕ). seek w low high j j) (sym at-suc) ∙ (s ∙ ap (λ (j : ℕ). seek w low high j j) (sym e)))
 
     pub seek-at-low : a ≢ low → seek w low high head head ≡ seek w low high k k
     seek-at-low p = on-from (seek-on-low w low high fall (at - 1) (λ z. p (read ∙ z)))
 
-    pub seek-at-high : (b : ℕ) → b ≡ getD w (6 * (at - 1) + 1) 0 → a ≡ low → b ≢ high → seek w low high head head ≡ seek w low high k k
+    pub seek-at-high : (b : ℕ) → b ≡ getD w (wordsPerEdge * (at - 1) + edgeHigh) 0 → a ≡ low → b ≢ high → seek w low high head head ≡ seek w low high k k
     seek-at-high b f p q = on-from (seek-on-high w low high fall (at - 1) (sym read ∙ p) (λ z. q (f ∙ z)))
 
 -- one more number below, which is not k
@@ -77,9 +78,9 @@ ltb-suc k m ne = ⊎-elim (λ q. rw q (lt-ltb k (suc m) (omega (arith, ltb-true 
 
 -- Words that hold the first fields and the links of a list of edges.
 pub record Linked (size : ℕ) (es : List Edge) (w : List ℕ) : Type 0 where
-  pub low-at : (e : ℕ) → e < length es → getD w (6 * e + 0) 0 ≡ getD es e noEdge .low
-  pub high-at : (e : ℕ) → e < length es → getD w (6 * e + 1) 0 ≡ getD es e noEdge .high
-  pub next-at : (e : ℕ) → e < length es → getD w (6 * e + 5) 0 ≡ lastIn size es (bucketOf size (getD es e noEdge)) e
+  pub low-at : (e : ℕ) → e < length es → getD w (wordsPerEdge * e + edgeLow) 0 ≡ getD es e noEdge .low
+  pub high-at : (e : ℕ) → e < length es → getD w (wordsPerEdge * e + edgeHigh) 0 ≡ getD es e noEdge .high
+  pub next-at : (e : ℕ) → e < length es → getD w (wordsPerEdge * e + edgeScratch) 0 ≡ lastIn size es (bucketOf size (getD es e noEdge)) e
 
 module _ (size : ℕ) (es : List Edge) (w : List ℕ) (all : Numbered es) (linked : Linked size es w) (x : Edge) where
   -- the link of an edge that is among the first m

@@ -12,6 +12,7 @@ use borrow.Author.Tests.{lt-ltb, le-ltb}
 use lib.Dec.{ltb}
 use lib.ListN.{length, getD, set, length-append, List·getD-append, List·getD-eq-default}
 use lib.Seq.{getD-append-seam, getD-at}
+use Rattle.layout.specs.Layout.{wordsPerRound, roundHead, wordsPerEdge, edgeLow, edgeHigh, edgeFirstFace, edgeSecondFace, edgeHead, edgeScratch, wordsPerTriangle}
 use Rattle.buffers.specs.Slots.{fill}
 use Rattle.job_checks.specs.Edge.{lower, higher}
 use Rattle.job_checks.proofs.Edge.{ends-below as both-below}
@@ -30,7 +31,7 @@ use Rattle.edge_table.proofs.Holding.{holds-set, holds-fill}
 use Rattle.edge_table.proofs.Seeking.{Linked, seek-missing, seek-found}
 
 -- a row is stored field by field
-pub stored : (l₀ l₁ l₂ l₃ l₄ l₅ l₆ : List ℕ) (e a b f n next k : ℕ) → next ≡ k → l₁ ≡ set l₀ (6 * e + 0) a → l₂ ≡ set l₁ (6 * e + 1) b → l₃ ≡ set l₂ (6 * e + 2) f → l₄ ≡ set l₃ (6 * e + 3) n → l₅ ≡ set l₄ (6 * e + 4) 0 → l₆ ≡ set l₅ (6 * e + 5) next → l₆ ≡ fill 6 l₀ e 0 (a ∷ b ∷ f ∷ n ∷ 0 ∷ k ∷ [])
+pub stored : (l₀ l₁ l₂ l₃ l₄ l₅ l₆ : List ℕ) (e a b f n next k : ℕ) → next ≡ k → l₁ ≡ set l₀ (wordsPerEdge * e + edgeLow) a → l₂ ≡ set l₁ (wordsPerEdge * e + edgeHigh) b → l₃ ≡ set l₂ (wordsPerEdge * e + edgeFirstFace) f → l₄ ≡ set l₃ (wordsPerEdge * e + edgeSecondFace) n → l₅ ≡ set l₄ (wordsPerEdge * e + edgeHead) 0 → l₆ ≡ set l₅ (wordsPerEdge * e + edgeScratch) next → l₆ ≡ fill wordsPerEdge l₀ e 0 (a ∷ b ∷ f ∷ n ∷ 0 ∷ k ∷ [])
 unfolding fill
 stored l₀ l₁ l₂ l₃ l₄ l₅ l₆ e a b f n next k p e₁ e₂ e₃ e₄ e₅ e₆ = rw (e₆, e₅, e₄, e₃, e₂, e₁, p) refl
 
@@ -46,7 +47,7 @@ module _ (size : ℕ) (es : List Edge) (faces : ℕ → List ℕ) (e a : ℕ) wh
 
 -- The row of an edge: its faces count, and of the list the edges up to it.
 module _ (size : ℕ) (es : List Edge) (e : ℕ) where
-  row-faces : (fs gs : List ℕ) (a : ℕ) → a ≢ 3 → getD fs 0 noFace ≡ getD gs 0 noFace → getD (linkedRow size es e fs) a 0 ≡ getD (linkedRow size es e gs) a 0
+  row-faces : (fs gs : List ℕ) (a : ℕ) → a ≢ edgeSecondFace → getD fs 0 noFace ≡ getD gs 0 noFace → getD (linkedRow size es e fs) a 0 ≡ getD (linkedRow size es e gs) a 0
   unfolding linkedRow
   row-faces fs gs zero n q = refl
   row-faces fs gs (suc zero) n q = refl
@@ -55,7 +56,7 @@ module _ (size : ℕ) (es : List Edge) (e : ℕ) where
   row-faces fs gs (suc (suc (suc (suc zero)))) n q = refl
   row-faces fs gs (suc (suc (suc (suc (suc a))))) n q = refl
 
-  row-second : (fs : List ℕ) → getD (linkedRow size es e fs) 3 0 ≡ getD fs 1 noFace
+  row-second : (fs : List ℕ) → getD (linkedRow size es e fs) edgeSecondFace 0 ≡ getD fs 1 noFace
   unfolding linkedRow
   row-second fs = refl
 
@@ -102,8 +103,8 @@ module _ (triangles : List ℕ) (h : ℕ) where
         omega (arith, side-ordered, side-below .1, m .whole, m .few-triangles)
 
 -- the numbers of the sides
-module _ (triangles : List ℕ) (h k : ℕ) (number : find (sideEdge triangles h) (edgesOf triangles (suc h)) ≡ k) (words : List ℕ) (fits : 6 * (h / 3) + h % 3 < length words)
-    (holds : Holds 6 words (triangleWord h (numberSoFar triangles h)))
+module _ (triangles : List ℕ) (h k : ℕ) (number : find (sideEdge triangles h) (edgesOf triangles (suc h)) ≡ k) (words : List ℕ) (fits : wordsPerTriangle * (h / 3) + h % 3 < length words)
+    (holds : Holds wordsPerTriangle words (triangleWord h (numberSoFar triangles h)))
   where
     new-number : triangleWord (suc h) (numberSoFar triangles (suc h)) (h / 3) (h % 3) ≡ k
     unfolding triangleWord numberSoFar
@@ -111,7 +112,7 @@ module _ (triangles : List ℕ) (h k : ℕ) (number : find (sideEdge triangles h
         let z : 3 * (h / 3) + h % 3 ≡ h = omega arith in
         rw (z, lt-ltb (h % 3) 3 (omega arith), lt-ltb h (suc h) (omega arith)) number
 
-    old-number : (j b : ℕ) → b < 6 → (j ≡ h / 3 → b ≡ h % 3 → ⊥) → triangleWord (suc h) (numberSoFar triangles (suc h)) j b ≡ triangleWord h (numberSoFar triangles h) j b
+    old-number : (j b : ℕ) → b < wordsPerTriangle → (j ≡ h / 3 → b ≡ h % 3 → ⊥) → triangleWord (suc h) (numberSoFar triangles (suc h)) j b ≡ triangleWord h (numberSoFar triangles h) j b
     unfolding triangleWord numberSoFar
     old-number j b l ne = go (decLe 3 b) (decLe (3 * j + b) h) (decLe h (3 * j + b)) where
       go : Dec (3 ≤ b) → Dec (3 * j + b ≤ h) → Dec (h ≤ 3 * j + b) → cond (ltb b 3 && ltb (3 * j + b) (suc h)) (find (sideEdge triangles (3 * j + b)) (edgesOf triangles (suc h))) 0 ≡ cond (ltb b 3 && ltb (3 * j + b) h) (find (sideEdge triangles (3 * j + b)) (edgesOf triangles h)) 0
@@ -120,37 +121,37 @@ module _ (triangles : List ℕ) (h k : ℕ) (number : find (sideEdge triangles h
       go (no p) (yes q) (yes r) = absurd (ne (omega arith) (omega arith))
       go (no p) (yes q) (no r) = rw (lt-ltb b 3 (omega arith), lt-ltb (3 * j + b) (suc h) (omega arith), lt-ltb (3 * j + b) h (omega arith)) (number-kept triangles h (3 * j + b) (omega arith))
 
-    numbers-turn : Holds 6 (set words (6 * (h / 3) + h % 3) k) (triangleWord (suc h) (numberSoFar triangles (suc h)))
+    numbers-turn : Holds wordsPerTriangle (set words (wordsPerTriangle * (h / 3) + h % 3) k) (triangleWord (suc h) (numberSoFar triangles (suc h)))
     numbers-turn =
-        holds-set 6 words (triangleWord h (numberSoFar triangles h)) (triangleWord (suc h) (numberSoFar triangles (suc h))) holds (h / 3) (h % 3) k (omega arith) fits new-number old-number
+        holds-set wordsPerTriangle words (triangleWord h (numberSoFar triangles h)) (triangleWord (suc h) (numberSoFar triangles (suc h))) holds (h / 3) (h % 3) k (omega arith) fits new-number old-number
 
 -- The buffers after h sides, read.
 module _ (triangles : List ℕ) (size h : ℕ) (heads edge triangle : List ℕ) (p : Partial triangles size h heads edge triangle) where
   pub links-fall : Falling edge
   unfolding linkedRow
   links-fall e = go (decLe (length (edgesOf triangles h)) e) where
-    go : Dec (length (edgesOf triangles h) ≤ e) → getD edge (6 * e + 5) 0 ≤ e
-    go (yes l) = omega (arith, p .edge-words e 5 (omega arith) ∙ edge-none size (edgesOf triangles h) (facesSoFar triangles h) e 5 l)
-    go (no l) = omega (arith, p .edge-words e 5 (omega arith) ∙ edge-live size (edgesOf triangles h) (facesSoFar triangles h) e 5 (omega arith), last-le size (edgesOf triangles h) (bucketOf size (getD (edgesOf triangles h) e noEdge)) e)
+    go : Dec (length (edgesOf triangles h) ≤ e) → getD edge (wordsPerEdge * e + edgeScratch) 0 ≤ e
+    go (yes l) = omega (arith, p .edge-words e edgeScratch (omega arith) ∙ edge-none size (edgesOf triangles h) (facesSoFar triangles h) e edgeScratch l)
+    go (no l) = omega (arith, p .edge-words e edgeScratch (omega arith) ∙ edge-live size (edgesOf triangles h) (facesSoFar triangles h) e edgeScratch (omega arith), last-le size (edgesOf triangles h) (bucketOf size (getD (edgesOf triangles h) e noEdge)) e)
 
   linked : Linked size (edgesOf triangles h) edge
   unfolding linkedRow
   linked =
       record {
-        low-at = λ e l. p .edge-words e 0 (omega arith) ∙ edge-live size (edgesOf triangles h) (facesSoFar triangles h) e 0 l;
-        high-at = λ e l. p .edge-words e 1 (omega arith) ∙ edge-live size (edgesOf triangles h) (facesSoFar triangles h) e 1 l;
-        next-at = λ e l. p .edge-words e 5 (omega arith) ∙ edge-live size (edgesOf triangles h) (facesSoFar triangles h) e 5 l;
+        low-at = λ e l. p .edge-words e edgeLow (omega arith) ∙ edge-live size (edgesOf triangles h) (facesSoFar triangles h) e edgeLow l;
+        high-at = λ e l. p .edge-words e edgeHigh (omega arith) ∙ edge-live size (edgesOf triangles h) (facesSoFar triangles h) e edgeHigh l;
+        next-at = λ e l. p .edge-words e edgeScratch (omega arith) ∙ edge-live size (edgesOf triangles h) (facesSoFar triangles h) e edgeScratch l;
       }
 
-  head-at : (b : ℕ) → getD heads (1 * b + 0) 0 ≡ lastIn size (edgesOf triangles h) b (length (edgesOf triangles h))
+  head-at : (b : ℕ) → getD heads (wordsPerRound * b + roundHead) 0 ≡ lastIn size (edgesOf triangles h) b (length (edgesOf triangles h))
   unfolding headWord
-  head-at b = p .head-words b 0 (omega arith)
+  head-at b = p .head-words b roundHead (omega arith)
 
-  second-at : (e : ℕ) → e < length (edgesOf triangles h) → getD edge (6 * e + 3) 0 ≡ getD (facesSoFar triangles h e) 1 noFace
-  second-at e l = p .edge-words e 3 (omega arith) ∙ (edge-live size (edgesOf triangles h) (facesSoFar triangles h) e 3 l ∙ row-second size (edgesOf triangles h) e (facesSoFar triangles h e))
+  second-at : (e : ℕ) → e < length (edgesOf triangles h) → getD edge (wordsPerEdge * e + edgeSecondFace) 0 ≡ getD (facesSoFar triangles h e) 1 noFace
+  second-at e l = p .edge-words e edgeSecondFace (omega arith) ∙ (edge-live size (edgesOf triangles h) (facesSoFar triangles h) e edgeSecondFace l ∙ row-second size (edgesOf triangles h) e (facesSoFar triangles h e))
 
   -- the look-up
-  module _ (x : Edge) (bucket head r : ℕ) (eb : bucket ≡ bucketOf size x) (eh : head ≡ getD heads (1 * bucket + 0) 0) (er : r ≡ seek edge (x .low) (x .high) head head) where
+  module _ (x : Edge) (bucket head r : ℕ) (eb : bucket ≡ bucketOf size x) (eh : head ≡ getD heads (wordsPerRound * bucket + roundHead) 0) (er : r ≡ seek edge (x .low) (x .high) head head) where
     from-head : head ≡ lastIn size (edgesOf triangles h) (bucketOf size x) (length (edgesOf triangles h))
     from-head = eh ∙ (head-at bucket ∙ ap (λ (b : ℕ). lastIn size (edgesOf triangles h) b (length (edgesOf triangles h))) eb)
 
@@ -161,7 +162,7 @@ module _ (triangles : List ℕ) (size h : ℕ) (heads edge triangle : List ℕ) 
     look-found = seek-found size (edgesOf triangles h) edge (numbered triangles h) linked x links-fall head r from-head er
 
   -- the same for a side whose ends were computed
-  module _ (low high bucket head r : ℕ) (q : record { low = low; high = high } ≡ sideEdge triangles h) (eb : bucket ≡ bucketOf size (record { low = low; high = high })) (eh : head ≡ getD heads (1 * bucket + 0) 0) (er : r ≡ seek edge low high head head) where
+  module _ (low high bucket head r : ℕ) (q : record { low = low; high = high } ≡ sideEdge triangles h) (eb : bucket ≡ bucketOf size (record { low = low; high = high })) (eh : head ≡ getD heads (wordsPerRound * bucket + roundHead) 0) (er : r ≡ seek edge low high head head) where
     pub side-missing : r ≡ 0 → length (edgesOf triangles h) ≤ find (sideEdge triangles h) (edgesOf triangles h)
     side-missing z = subst (λ (x : Edge). length (edgesOf triangles h) ≤ find x (edgesOf triangles h)) q (look-missing (record { low = low; high = high }) bucket head r eb eh er z)
 
@@ -174,21 +175,21 @@ facesIn triangles es n j = facesAmong triangles (getD es j noEdge) n
 
 -- The buffers after one more side, whose edges are es.
 module _ (triangles : List ℕ) (size h : ℕ) (es : List Edge) (e : edgesOf triangles (suc h) ≡ es) where
-  partial : (heads edge triangle : List ℕ) → Holds 1 heads (headWord size es) → Holds 6 edge (linkedWord size es (facesIn triangles es (suc h))) → Holds 6 triangle (triangleWord (suc h) (numberSoFar triangles (suc h))) → ((j : ℕ) → j < length es → length (facesIn triangles es (suc h) j) ≤ 2) → Partial triangles size (suc h) heads edge triangle
+  partial : (heads edge triangle : List ℕ) → Holds wordsPerRound heads (headWord size es) → Holds wordsPerEdge edge (linkedWord size es (facesIn triangles es (suc h))) → Holds wordsPerTriangle triangle (triangleWord (suc h) (numberSoFar triangles (suc h))) → ((j : ℕ) → j < length es → length (facesIn triangles es (suc h) j) ≤ 2) → Partial triangles size (suc h) heads edge triangle
   unfolding facesSoFar
   partial heads edge triangle a b c d =
       record {
-        head-words = subst (λ (z : List Edge). Holds 1 heads (headWord size z)) (sym e) a;
-        edge-words = subst (λ (z : List Edge). Holds 6 edge (linkedWord size z (facesIn triangles z (suc h)))) (sym e) b;
+        head-words = subst (λ (z : List Edge). Holds wordsPerRound heads (headWord size z)) (sym e) a;
+        edge-words = subst (λ (z : List Edge). Holds wordsPerEdge edge (linkedWord size z (facesIn triangles z (suc h)))) (sym e) b;
         triangle-words = c;
         two-faces = subst (λ (z : List Edge). (j : ℕ) → j < length z → length (facesIn triangles z (suc h) j) ≤ 2) (sym e) d;
       }
 
 module _ (triangles : List ℕ) (size h : ℕ) (heads edge triangle : List ℕ) (m : Mesh triangles 65535) (long : LongEnough triangles (length heads) (length edge) (length triangle)) (l : h < length triangles) (all : size ≡ length triangles) (p : Partial triangles size h heads edge triangle) where
-  edge-fits : (e : ℕ) → e ≤ length (edgesOf triangles h) → 6 * e + 6 ≤ length edge
+  edge-fits : (e : ℕ) → e ≤ length (edgesOf triangles h) → wordsPerEdge * e + wordsPerEdge ≤ length edge
   edge-fits e k = omega (arith, few-edges triangles h, long .edges-fit)
 
-  number-fits : 6 * (h / 3) + h % 3 < length triangle
+  number-fits : wordsPerTriangle * (h / 3) + h % 3 < length triangle
   number-fits = omega (arith, m .whole, long .triangles-fit)
 
   -- a face is a triangle's number
@@ -225,7 +226,7 @@ module _ (triangles : List ℕ) (size h : ℕ) (heads edge triangle : List ℕ) 
     unfolding facesSoFar
     some = faces-some triangles h e there
 
-    third-turn : getD edge (6 * e + 3) 0 ≢ noFace → sharedByThree triangles ≡ true
+    third-turn : getD edge (wordsPerEdge * e + edgeSecondFace) 0 ≢ noFace → sharedByThree triangles ≡ true
     third-turn ne =
         let two : 1 < length (facesSoFar triangles h e) = go (decLe (length (facesSoFar triangles h e)) 1) in
         third-face triangles h (suc h) l l (rw (faces-more triangles h) (omega (arith, length-append (facesAmong triangles (sideEdge triangles h) h) (h / 3 ∷ []), ap length faces-before)))
@@ -234,7 +235,7 @@ module _ (triangles : List ℕ) (size h : ℕ) (heads edge triangle : List ℕ) 
         go (yes k) = absurd (ne (second-at triangles size h heads edge triangle p e there ∙ List·getD-eq-default (facesSoFar triangles h e) noFace k))
         go (no k) = omega arith
 
-    module _ (vacant : getD edge (6 * e + 3) 0 ≡ noFace) where
+    module _ (vacant : getD edge (wordsPerEdge * e + edgeSecondFace) 0 ≡ noFace) where
       one-face : length (facesSoFar triangles h e) ≡ 1
       one-face = go (decLe (length (facesSoFar triangles h e)) 1) where
         go : Dec (length (facesSoFar triangles h e) ≤ 1) → length (facesSoFar triangles h e) ≡ 1
@@ -243,13 +244,13 @@ module _ (triangles : List ℕ) (size h : ℕ) (heads edge triangle : List ℕ) 
             let n : 1 < length (facesAmong triangles (sideEdge triangles h) h) = omega (arith, ap length faces-before) in
             absurd (face-small (sideEdge triangles h) 1 n (ap (λ (fs : List ℕ). getD fs 1 noFace) (sym faces-before) ∙ (sym (second-at triangles size h heads edge triangle p e there) ∙ vacant)))
 
-      second-here : linkedWord size (edgesOf triangles h) (facesIn triangles (edgesOf triangles h) (suc h)) e 3 ≡ h / 3
+      second-here : linkedWord size (edgesOf triangles h) (facesIn triangles (edgesOf triangles h) (suc h)) e edgeSecondFace ≡ h / 3
       second-here =
-          edge-live size (edgesOf triangles h) (facesIn triangles (edgesOf triangles h) (suc h)) e 3 there
+          edge-live size (edgesOf triangles h) (facesIn triangles (edgesOf triangles h) (suc h)) e edgeSecondFace there
           ∙ (row-second size (edgesOf triangles h) e (facesIn triangles (edgesOf triangles h) (suc h) e)
           ∙ (ap (λ (fs : List ℕ). getD fs 1 noFace) faces-after ∙ second-face (facesSoFar triangles h e) (h / 3) one-face .1 .0))
 
-      others : (j b : ℕ) → b < 6 → (j ≡ e → b ≡ 3 → ⊥) → linkedWord size (edgesOf triangles h) (facesIn triangles (edgesOf triangles h) (suc h)) j b ≡ linkedWord size (edgesOf triangles h) (facesSoFar triangles h) j b
+      others : (j b : ℕ) → b < wordsPerEdge → (j ≡ e → b ≡ edgeSecondFace → ⊥) → linkedWord size (edgesOf triangles h) (facesIn triangles (edgesOf triangles h) (suc h)) j b ≡ linkedWord size (edgesOf triangles h) (facesSoFar triangles h) j b
       others j b k ne = go (decLe (length (edgesOf triangles h)) j) (ℕ-discrete j e) where
         go : Dec (length (edgesOf triangles h) ≤ j) → Dec (j ≡ e) → linkedWord size (edgesOf triangles h) (facesIn triangles (edgesOf triangles h) (suc h)) j b ≡ linkedWord size (edgesOf triangles h) (facesSoFar triangles h) j b
         go (yes n) q = edge-none size (edgesOf triangles h) (facesIn triangles (edgesOf triangles h) (suc h)) j b n ∙ sym (edge-none size (edgesOf triangles h) (facesSoFar triangles h) j b n)
@@ -269,11 +270,11 @@ module _ (triangles : List ℕ) (size h : ℕ) (heads edge triangle : List ℕ) 
         go (yes q) = rw (q, faces-after, second-face (facesSoFar triangles h e) (h / 3) one-face .1 .1) (omega arith)
         go (no q) = rw (faces-kept j k (λ z. q (sym z ∙ number))) (p .two-faces j k)
 
-      found-turn : Partial triangles size (suc h) heads (set edge (6 * e + 3) (h / 3)) (set triangle (6 * (h / 3) + h % 3) e)
+      found-turn : Partial triangles size (suc h) heads (set edge (wordsPerEdge * e + edgeSecondFace) (h / 3)) (set triangle (wordsPerTriangle * (h / 3) + h % 3) e)
       found-turn =
-          partial triangles size h (edgesOf triangles h) same-edges heads (set edge (6 * e + 3) (h / 3)) (set triangle (6 * (h / 3) + h % 3) e)
+          partial triangles size h (edgesOf triangles h) same-edges heads (set edge (wordsPerEdge * e + edgeSecondFace) (h / 3)) (set triangle (wordsPerTriangle * (h / 3) + h % 3) e)
           (p .head-words)
-          (holds-set 6 edge (linkedWord size (edgesOf triangles h) (facesSoFar triangles h)) (linkedWord size (edgesOf triangles h) (facesIn triangles (edgesOf triangles h) (suc h))) (p .edge-words) e 3 (h / 3) (omega arith) (omega (arith, edge-fits e (omega arith))) second-here others)
+          (holds-set wordsPerEdge edge (linkedWord size (edgesOf triangles h) (facesSoFar triangles h)) (linkedWord size (edgesOf triangles h) (facesIn triangles (edgesOf triangles h) (suc h))) (p .edge-words) e 3 (h / 3) (omega arith) (omega (arith, edge-fits e (omega arith))) second-here others)
           (numbers-turn triangles h e same-number triangle number-fits (p .triangle-words))
           still-two
 
@@ -301,7 +302,7 @@ module _ (triangles : List ℕ) (size h : ℕ) (heads edge triangle : List ℕ) 
     unfolding headWord
     heads-kept j b k ne = ap (lastIn size grown j) one-more ∙ last-kept size (edgesOf triangles h) j (sideEdge triangles h) (λ z. ne (sym z) (omega arith))
 
-    bucket-fits : 1 * bucketOf size (sideEdge triangles h) + 0 < length heads
+    bucket-fits : wordsPerRound * bucketOf size (sideEdge triangles h) + roundHead < length heads
     bucket-fits = omega (arith, bucket-below size (sideEdge triangles h) (omega arith), long .heads-fit)
 
     -- the faces of the new edge, and of those before it
@@ -314,13 +315,13 @@ module _ (triangles : List ℕ) (size h : ℕ) (heads edge triangle : List ℕ) 
     old-faces j k =
         ap (λ (x : Edge). facesAmong triangles x (suc h)) (List·getD-append (edgesOf triangles h) (sideEdge triangles h ∷ []) noEdge j k) ∙ faces-kept j k (omega arith)
 
-    new-row : (a : ℕ) → a < 6 → linkedWord size grown (facesIn triangles grown (suc h)) (length (edgesOf triangles h)) a ≡ getD (sideEdge triangles h .low ∷ sideEdge triangles h .high ∷ h / 3 ∷ noFace ∷ 0 ∷ lastIn size (edgesOf triangles h) (bucketOf size (sideEdge triangles h)) (length (edgesOf triangles h)) ∷ []) a 0
+    new-row : (a : ℕ) → a < wordsPerEdge → linkedWord size grown (facesIn triangles grown (suc h)) (length (edgesOf triangles h)) a ≡ getD (sideEdge triangles h .low ∷ sideEdge triangles h .high ∷ h / 3 ∷ noFace ∷ 0 ∷ lastIn size (edgesOf triangles h) (bucketOf size (sideEdge triangles h)) (length (edgesOf triangles h)) ∷ []) a 0
     new-row a k =
         edge-live size grown (facesIn triangles grown (suc h)) (length (edgesOf triangles h)) a (omega (arith, one-more))
         ∙ (ap (λ (fs : List ℕ). getD (linkedRow size grown (length (edgesOf triangles h)) fs) a 0) new-faces
         ∙ ap (λ (r : List ℕ). getD r a 0) (row-last size (edgesOf triangles h) (length (edgesOf triangles h)) (sideEdge triangles h) (h / 3) refl))
 
-    rows-kept : (j b : ℕ) → b < 6 → (j ≡ length (edgesOf triangles h) → ⊥) → linkedWord size grown (facesIn triangles grown (suc h)) j b ≡ linkedWord size (edgesOf triangles h) (facesSoFar triangles h) j b
+    rows-kept : (j b : ℕ) → b < wordsPerEdge → (j ≡ length (edgesOf triangles h) → ⊥) → linkedWord size grown (facesIn triangles grown (suc h)) j b ≡ linkedWord size (edgesOf triangles h) (facesSoFar triangles h) j b
     rows-kept j b k ne = go (decLe (length (edgesOf triangles h)) j) where
       go : Dec (length (edgesOf triangles h) ≤ j) → linkedWord size grown (facesIn triangles grown (suc h)) j b ≡ linkedWord size (edgesOf triangles h) (facesSoFar triangles h) j b
       go (yes n) =
@@ -341,13 +342,13 @@ module _ (triangles : List ℕ) (size h : ℕ) (heads edge triangle : List ℕ) 
       go (no n) = rw (old-faces j (omega arith)) (p .two-faces j (omega arith))
 
     new-turn : Partial triangles size (suc h)
-        (set heads (1 * bucketOf size (sideEdge triangles h) + 0) (suc (length (edgesOf triangles h))))
-        (fill 6 edge (length (edgesOf triangles h)) 0 (sideEdge triangles h .low ∷ sideEdge triangles h .high ∷ h / 3 ∷ noFace ∷ 0 ∷ lastIn size (edgesOf triangles h) (bucketOf size (sideEdge triangles h)) (length (edgesOf triangles h)) ∷ []))
-        (set triangle (6 * (h / 3) + h % 3) (length (edgesOf triangles h)))
+        (set heads (wordsPerRound * bucketOf size (sideEdge triangles h) + roundHead) (suc (length (edgesOf triangles h))))
+        (fill wordsPerEdge edge (length (edgesOf triangles h)) 0 (sideEdge triangles h .low ∷ sideEdge triangles h .high ∷ h / 3 ∷ noFace ∷ 0 ∷ lastIn size (edgesOf triangles h) (bucketOf size (sideEdge triangles h)) (length (edgesOf triangles h)) ∷ []))
+        (set triangle (wordsPerTriangle * (h / 3) + h % 3) (length (edgesOf triangles h)))
     new-turn =
         partial triangles size h grown more-edges _ _ _
-        (holds-set 1 heads (headWord size (edgesOf triangles h)) (headWord size grown) (p .head-words) (bucketOf size (sideEdge triangles h)) 0 (suc (length (edgesOf triangles h))) (omega arith) bucket-fits head-here heads-kept)
-        (holds-fill 6 edge (linkedWord size (edgesOf triangles h) (facesSoFar triangles h)) (linkedWord size grown (facesIn triangles grown (suc h))) (p .edge-words) (length (edgesOf triangles h)) _ refl (edge-fits (length (edgesOf triangles h)) (omega arith)) new-row rows-kept)
+        (holds-set wordsPerRound heads (headWord size (edgesOf triangles h)) (headWord size grown) (p .head-words) (bucketOf size (sideEdge triangles h)) 0 (suc (length (edgesOf triangles h))) (omega arith) bucket-fits head-here heads-kept)
+        (holds-fill wordsPerEdge edge (linkedWord size (edgesOf triangles h) (facesSoFar triangles h)) (linkedWord size grown (facesIn triangles grown (suc h))) (p .edge-words) (length (edgesOf triangles h)) _ refl (edge-fits (length (edgesOf triangles h)) (omega arith)) new-row rows-kept)
         (numbers-turn triangles h (length (edgesOf triangles h)) new-last triangle number-fits (p .triangle-words))
         all-two
 
@@ -358,7 +359,7 @@ module _ (triangles : List ℕ) (size h : ℕ) (heads edge triangle : List ℕ) 
   -- What the code stores.
   module _ (heads′ edge′ triangle′ : List ℕ) where
     pub new-done : (low high bucket count : ℕ) → length (edgesOf triangles h) ≤ find (sideEdge triangles h) (edgesOf triangles h) → record { low = low; high = high } ≡ sideEdge triangles h → bucket ≡ bucketOf size (record { low = low; high = high }) → count ≡ length (edgesOf triangles h)
-        → heads′ ≡ set heads (1 * bucket + 0) (count + 1) → edge′ ≡ fill 6 edge count 0 (low ∷ high ∷ h / 3 ∷ noFace ∷ 0 ∷ getD heads (1 * bucket + 0) 0 ∷ []) → triangle′ ≡ set triangle (6 * (h / 3) + h % 3) count
+        → heads′ ≡ set heads (wordsPerRound * bucket + roundHead) (count + 1) → edge′ ≡ fill wordsPerEdge edge count 0 (low ∷ high ∷ h / 3 ∷ noFace ∷ 0 ∷ getD heads (wordsPerRound * bucket + roundHead) 0 ∷ []) → triangle′ ≡ set triangle (wordsPerTriangle * (h / 3) + h % 3) count
         → Turned triangles size (h + 1) heads′ edge′ triangle′ (Edges (count + 1))
     unfolding Turned
     new-done low high bucket count fresh q eb ec ev ee et =
@@ -368,14 +369,14 @@ module _ (triangles : List ℕ) (size h : ℕ) (heads edge triangle : List ℕ) 
         let n : length (edgesOf triangles (suc h)) ≡ suc (length (edgesOf triangles h)) = ap length (more-edges fresh) ∙ one-more fresh in
         rw (add-one h, ev, ee, et, head-at triangles size h heads edge triangle p bucket, b, lo, hi, ec, add-one (length (edgesOf triangles h))) (sym n, new-turn fresh)
 
-    pub found-done : (e count : ℕ) → (find (sideEdge triangles h) (edgesOf triangles h) < length (edgesOf triangles h)) × (e ≡ find (sideEdge triangles h) (edgesOf triangles h)) → count ≡ length (edgesOf triangles h) → (s : ℕ) → s ≡ getD edge (6 * e + 3) 0 → s ≡ noFace
-        → heads′ ≡ heads → edge′ ≡ set edge (6 * e + 3) (h / 3) → triangle′ ≡ set triangle (6 * (h / 3) + h % 3) e
+    pub found-done : (e count : ℕ) → (find (sideEdge triangles h) (edgesOf triangles h) < length (edgesOf triangles h)) × (e ≡ find (sideEdge triangles h) (edgesOf triangles h)) → count ≡ length (edgesOf triangles h) → (s : ℕ) → s ≡ getD edge (wordsPerEdge * e + edgeSecondFace) 0 → s ≡ noFace
+        → heads′ ≡ heads → edge′ ≡ set edge (wordsPerEdge * e + edgeSecondFace) (h / 3) → triangle′ ≡ set triangle (wordsPerTriangle * (h / 3) + h % 3) e
         → Turned triangles size (h + 1) heads′ edge′ triangle′ (Edges count)
     unfolding Turned
     found-done e count f ec s es vacant ev ee et =
         let k : e < length (edgesOf triangles h) = omega arith in
         rw (add-one h, ev, ee, et) (ec ∙ ap length (sym (same-edges e (sym (f .1)) k)), found-turn e (sym (f .1)) k (sym es ∙ vacant))
 
-    pub third-done : (e : ℕ) → (find (sideEdge triangles h) (edgesOf triangles h) < length (edgesOf triangles h)) × (e ≡ find (sideEdge triangles h) (edgesOf triangles h)) → (s : ℕ) → s ≡ getD edge (6 * e + 3) 0 → s ≢ noFace → Turned triangles size (h + 1) heads′ edge′ triangle′ ThirdFace
+    pub third-done : (e : ℕ) → (find (sideEdge triangles h) (edgesOf triangles h) < length (edgesOf triangles h)) × (e ≡ find (sideEdge triangles h) (edgesOf triangles h)) → (s : ℕ) → s ≡ getD edge (wordsPerEdge * e + edgeSecondFace) 0 → s ≢ noFace → Turned triangles size (h + 1) heads′ edge′ triangle′ ThirdFace
     unfolding Turned
     third-done e f s es ne = third-turn e (sym (f .1)) (omega arith) (λ z. ne (es ∙ z))

@@ -12,6 +12,7 @@ use borrow.Author.Tests.{le-ltb}
 use lib.Dec.{ltb}
 use lib.ListN.{length, getD, set, length-set, List·getD-eq-default}
 use lib.Seq.{getD-set-same, getD-set-other}
+use Rattle.layout.specs.Layout.{wordsPerEdge, edgeScratch}
 use Rattle.topology.specs.Edges.{Edge}
 use Rattle.edge_table.specs.Words.{edgeRow, edgeWord}
 use Rattle.edge_table.specs.Sides.{Holds, linkedRow, linkedWord, withoutLinks}
@@ -29,17 +30,17 @@ module _ (w : List ℕ) where
   length-unlinked zero = refl
   length-unlinked (suc n) = simp length-set (length-unlinked n)
 
-  other-kept : (n i : ℕ) → ((e : ℕ) → e < n → i ≢ 6 * e + 5) → getD (withoutLinks n w) i 0 ≡ getD w i 0
+  other-kept : (n i : ℕ) → ((e : ℕ) → e < n → i ≢ wordsPerEdge * e + edgeScratch) → getD (withoutLinks n w) i 0 ≡ getD w i 0
   unfolding withoutLinks
   other-kept zero i ne = refl
-  other-kept (suc n) i ne = getD-set-other (withoutLinks n w) (6 * n + 5) i 0 0 (ne n (omega arith)) ∙ other-kept n i (λ e l. ne e (omega arith))
+  other-kept (suc n) i ne = getD-set-other (withoutLinks n w) (wordsPerEdge * n + edgeScratch) i 0 0 (ne n (omega arith)) ∙ other-kept n i (λ e l. ne e (omega arith))
 
-  link-zeroed : (n e : ℕ) → e < n → getD (withoutLinks n w) (6 * e + 5) 0 ≡ 0
+  link-zeroed : (n e : ℕ) → e < n → getD (withoutLinks n w) (wordsPerEdge * e + edgeScratch) 0 ≡ 0
   unfolding withoutLinks
   link-zeroed zero e l = absurd (not-suc-le-zero l)
   link-zeroed (suc n) e l =
-      ⊎-elim (λ q. rw q (zeroed-at (withoutLinks n w) (6 * n + 5)))
-      (λ m. getD-set-other (withoutLinks n w) (6 * n + 5) (6 * e + 5) 0 0 (λ z. omega arith) ∙ link-zeroed n e m)
+      ⊎-elim (λ q. rw q (zeroed-at (withoutLinks n w) (wordsPerEdge * n + edgeScratch)))
+      (λ m. getD-set-other (withoutLinks n w) (wordsPerEdge * n + edgeScratch) (wordsPerEdge * e + edgeScratch) 0 0 (λ z. omega arith) ∙ link-zeroed n e m)
       (eq-or-lt-of-le (le-of-suc-le-suc l))
 
   -- the loop's turns
@@ -47,7 +48,7 @@ module _ (w : List ℕ) where
   unfolding withoutLinks
   unlinked-none = refl
 
-  pub unlinked-more : (e : ℕ) (w₁ w₂ : List ℕ) → w₁ ≡ withoutLinks e w → w₂ ≡ set w₁ (6 * e + 5) 0 → w₂ ≡ withoutLinks (e + 1) w
+  pub unlinked-more : (e : ℕ) (w₁ w₂ : List ℕ) → w₁ ≡ withoutLinks e w → w₂ ≡ set w₁ (wordsPerEdge * e + edgeScratch) 0 → w₂ ≡ withoutLinks (e + 1) w
   unfolding withoutLinks
   unlinked-more e w₁ w₂ p q = rw (add-one e) (q ∙ rw p refl)
 
@@ -56,7 +57,7 @@ module _ (w : List ℕ) where
 
 -- The rows of an edge differ in the link alone.
 module _ (size : ℕ) (es : List Edge) (faces : ℕ → List ℕ) where
-  row-same : (e a : ℕ) (fs : List ℕ) → a ≢ 5 → getD (linkedRow size es e fs) a 0 ≡ getD (edgeRow es e fs) a 0
+  row-same : (e a : ℕ) (fs : List ℕ) → a ≢ edgeScratch → getD (linkedRow size es e fs) a 0 ≡ getD (edgeRow es e fs) a 0
   unfolding linkedRow edgeRow
   row-same e zero fs n = refl
   row-same e (suc zero) fs n = refl
@@ -66,11 +67,11 @@ module _ (size : ℕ) (es : List Edge) (faces : ℕ → List ℕ) where
   row-same e (suc (suc (suc (suc (suc zero))))) fs n = absurd (n refl)
   row-same e (suc (suc (suc (suc (suc (suc a)))))) fs n = refl
 
-  word-same : (e a : ℕ) → a ≢ 5 → linkedWord size es faces e a ≡ edgeWord es faces e a
+  word-same : (e a : ℕ) → a ≢ edgeScratch → linkedWord size es faces e a ≡ edgeWord es faces e a
   unfolding linkedWord edgeWord
   word-same e a n = rw (row-same e a (faces e) n) refl
 
-  link-word : (e : ℕ) → edgeWord es faces e 5 ≡ 0
+  link-word : (e : ℕ) → edgeWord es faces e edgeScratch ≡ 0
   unfolding edgeWord edgeRow
   link-word e = go (ltb e (length es)) where
     go : (b : Bool) → _≡_ {A = ℕ} (cond b 0 0) 0
@@ -81,15 +82,15 @@ module _ (size : ℕ) (es : List Edge) (faces : ℕ → List ℕ) where
   unfolding linkedWord
   past-word e a l = rw (le-ltb e (length es) l) refl
 
-  module _ (w : List ℕ) (holds : Holds 6 w (linkedWord size es faces)) where
-    link-held : (e : ℕ) → getD (withoutLinks (length es) w) (6 * e + 5) 0 ≡ 0
+  module _ (w : List ℕ) (holds : Holds wordsPerEdge w (linkedWord size es faces)) where
+    link-held : (e : ℕ) → getD (withoutLinks (length es) w) (wordsPerEdge * e + edgeScratch) 0 ≡ 0
     link-held e = go (decLe (length es) e) where
-      go : Dec (length es ≤ e) → getD (withoutLinks (length es) w) (6 * e + 5) 0 ≡ 0
-      go (yes p) = other-kept w (length es) (6 * e + 5) (λ k l z. omega arith) ∙ (holds e 5 (omega arith) ∙ past-word e 5 p)
+      go : Dec (length es ≤ e) → getD (withoutLinks (length es) w) (wordsPerEdge * e + edgeScratch) 0 ≡ 0
+      go (yes p) = other-kept w (length es) (wordsPerEdge * e + edgeScratch) (λ k l z. omega arith) ∙ (holds e edgeScratch (omega arith) ∙ past-word e edgeScratch p)
       go (no p) = link-zeroed w (length es) e (omega arith)
 
-    pub unlinked : Holds 6 (withoutLinks (length es) w) (edgeWord es faces)
-    unlinked e a l = go (ℕ-discrete a 5) where
-      go : Dec (a ≡ 5) → getD (withoutLinks (length es) w) (6 * e + a) 0 ≡ edgeWord es faces e a
+    pub unlinked : Holds wordsPerEdge (withoutLinks (length es) w) (edgeWord es faces)
+    unlinked e a l = go (ℕ-discrete a edgeScratch) where
+      go : Dec (a ≡ edgeScratch) → getD (withoutLinks (length es) w) (wordsPerEdge * e + a) 0 ≡ edgeWord es faces e a
       go (yes q) = rw q (link-held e ∙ sym (link-word e))
-      go (no q) = other-kept w (length es) (6 * e + a) (λ k m z. q (omega arith)) ∙ (holds e a l ∙ word-same e a q)
+      go (no q) = other-kept w (length es) (wordsPerEdge * e + a) (λ k m z. q (omega arith)) ∙ (holds e a l ∙ word-same e a q)

@@ -7,6 +7,7 @@ use native.Mathlib.Omega.{arith}
 use borrow.Author.Tests.{le-ltb}
 use lib.Dec.{ltb}
 use lib.ListN.{length, replicate}
+use Rattle.layout.specs.Layout.{wordsPerRound, wordsPerEdge, wordsPerTriangle}
 use Rattle.topology.specs.Edges.{edgesOf, edges, triEdge, edgeFaces, sharedByThree}
 use Rattle.topology.proofs.Growth.{no-third-face}
 use Rattle.edge_table.specs.declared.Table.{Table}
@@ -37,9 +38,9 @@ module _ (triangles : List ℕ) (size : ℕ) where
   none-entered heads edge triangle n m k ev ee et =
       rw (ev, ee, et)
       record {
-        head-words = λ i a l. zero-at 0 n (1 * i + a) ∙ sym (no-heads i a);
-        edge-words = λ i a l. zero-at 0 m (6 * i + a) ∙ sym (no-edges (facesSoFar triangles 0) i a);
-        triangle-words = λ i a l. zero-at 0 k (6 * i + a) ∙ sym (no-numbers (numberSoFar triangles 0) i a);
+        head-words = λ i a l. zero-at 0 n (wordsPerRound * i + a) ∙ sym (no-heads i a);
+        edge-words = λ i a l. zero-at 0 m (wordsPerEdge * i + a) ∙ sym (no-edges (facesSoFar triangles 0) i a);
+        triangle-words = λ i a l. zero-at 0 k (wordsPerTriangle * i + a) ∙ sym (no-numbers (numberSoFar triangles 0) i a);
         two-faces = λ e l. absurd (omega arith);
       }
 
@@ -64,12 +65,12 @@ module _ (triangles : List ℕ) (size : ℕ) where
         let z′ : edge′ ≡ withoutLinks (length (edges triangles)) edge = z ∙ rw e refl in
         record {
           answer = rw (two, e) refl;
-          head-words = rw two (words-are (length heads₀) 1 (headWord (length triangles) (edges triangles)) heads (omega arith) lh (p .head-words));
+          head-words = rw two (words-are (length heads₀) wordsPerRound (headWord (length triangles) (edges triangles)) heads (omega arith) lh (p .head-words));
           edge-words =
               rw two
-              (words-are (length edge₀) 6 (edgeWord (edges triangles) (edgeFaces triangles)) edge′ (omega arith) (ap length z′ ∙ (length-unlinked edge (length (edges triangles)) ∙ le))
+              (words-are (length edge₀) wordsPerEdge (edgeWord (edges triangles) (edgeFaces triangles)) edge′ (omega arith) (ap length z′ ∙ (length-unlinked edge (length (edges triangles)) ∙ le))
               (rw z′ (unlinked (length triangles) (edges triangles) (edgeFaces triangles) edge (p .edge-words))));
-          triangle-words = rw two (words-are (length triangle₀) 6 (triangleWord (length triangles) (triEdge triangles)) triangle (omega arith) lt (p .triangle-words));
+          triangle-words = rw two (words-are (length triangle₀) wordsPerTriangle (triangleWord (length triangles) (triEdge triangles)) triangle (omega arith) lt (p .triangle-words));
         }
 
   -- the answer after all sides

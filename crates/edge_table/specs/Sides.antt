@@ -5,6 +5,7 @@ use mathlib.Core.Bool.{true, cond, _&&_}
 use mathlib.Core.List.{List, [], _∷_}
 use lib.Dec.{ltb, eqb}
 use lib.ListN.{length, getD, set}
+use Rattle.layout.specs.Layout.{wordsPerRound, wordsPerEdge, edgeLow, edgeHigh, edgeScratch, wordsPerTriangle}
 use Rattle.topology.specs.Edges.{Edge, noEdge, noFace, sideEdge, find, edgesOf, facesAmong, sharedByThree}
 use Rattle.edge_table.specs.declared.Table.{Table}
 use Rattle.edge_table.specs.declared.Table.the-variants.{Edges, ThirdFace}
@@ -32,7 +33,7 @@ linkedWord size es faces e a = cond (ltb e (length es)) (getD (linkedRow size es
 -- the edges' words with the links of the first n edges zeroed
 unfoldable pub withoutLinks : ℕ → List ℕ → List ℕ
 withoutLinks zero words = words
-withoutLinks (suc e) words = set (withoutLinks e words) (6 * e + 5) 0
+withoutLinks (suc e) words = set (withoutLinks e words) (wordsPerEdge * e + edgeScratch) 0
 
 -- The buffers after the first h sides.
 module _ (triangles : List ℕ) (h : ℕ) where
@@ -44,9 +45,9 @@ module _ (triangles : List ℕ) (h : ℕ) where
   numberSoFar s = find (sideEdge triangles s) (edgesOf triangles h)
 
 pub record Partial (triangles : List ℕ) (size h : ℕ) (heads edge triangle : List ℕ) : Type 0 where
-  pub head-words : Holds 1 heads (headWord size (edgesOf triangles h))
-  pub edge-words : Holds 6 edge (linkedWord size (edgesOf triangles h) (facesSoFar triangles h))
-  pub triangle-words : Holds 6 triangle (triangleWord h (numberSoFar triangles h))
+  pub head-words : Holds wordsPerRound heads (headWord size (edgesOf triangles h))
+  pub edge-words : Holds wordsPerEdge edge (linkedWord size (edgesOf triangles h) (facesSoFar triangles h))
+  pub triangle-words : Holds wordsPerTriangle triangle (triangleWord h (numberSoFar triangles h))
   pub two-faces : (e : ℕ) → e < length (edgesOf triangles h) → length (facesSoFar triangles h e) ≤ 2
 
 -- What side h is entered into: the buffers after h sides, with so many edges.
@@ -70,11 +71,11 @@ Turned triangles size h heads edge triangle ThirdFace = sharedByThree triangles 
 
 -- The links of edges fall: each leads to an earlier edge.
 abbrev pub Falling : List ℕ → Type 0
-Falling words = (e : ℕ) → getD words (6 * e + 5) 0 ≤ e
+Falling words = (e : ℕ) → getD words (wordsPerEdge * e + edgeScratch) 0 ≤ e
 
 -- the link to the edge with these ends on the chain from a link on, or 0; the first number is how many links are followed at most
 unfoldable pub seek : List ℕ → ℕ → ℕ → ℕ → ℕ → ℕ
 seek words low high zero at = 0
 seek words low high (suc n) zero = 0
 seek words low high (suc n) (suc e) =
-    cond (eqb (getD words (6 * e + 0) 0) low && eqb (getD words (6 * e + 1) 0) high) (suc e) (seek words low high n (getD words (6 * e + 5) 0))
+    cond (eqb (getD words (wordsPerEdge * e + edgeLow) 0) low && eqb (getD words (wordsPerEdge * e + edgeHigh) 0) high) (suc e) (seek words low high n (getD words (wordsPerEdge * e + edgeScratch) 0))

@@ -4,6 +4,7 @@ use mathlib.Core.Path.{_≡_}
 use mathlib.Core.Bool.{cond}
 use mathlib.Core.List.{List}
 use lib.ListN.{length, getD, replicate}
+use Rattle.layout.specs.Layout.{wordsPerRound, wordsPerEdge, wordsPerTriangle}
 use Rattle.topology.specs.Edges.{edges, triEdge, edgeFaces, sharedByThree}
 use Rattle.edge_table.specs.declared.Table.{Table}
 use Rattle.edge_table.specs.declared.Table.the-variants.{Edges, ThirdFace}
@@ -19,21 +20,21 @@ pub record Mesh (triangles : List ℕ) (v : ℕ) : Type 0 where
 -- Buffers of so many words: a bucket for each side, a slot for each side, which is what the edges can come to, and one for each triangle.
 pub record LongEnough (triangles : List ℕ) (heads edge triangle : ℕ) : Type 0 where
   pub heads-fit : length triangles ≤ heads
-  pub edges-fit : 6 * length triangles ≤ edge
-  pub triangles-fit : 2 * length triangles ≤ triangle
+  pub edges-fit : wordsPerEdge * length triangles ≤ edge
+  pub triangles-fit : wordsPerTriangle * (length triangles / 3) ≤ triangle
 
 unfoldable pub tableOf : List ℕ → Table
 tableOf triangles = cond (sharedByThree triangles) ThirdFace (Edges (length (edges triangles)))
 
 -- The three buffers, of n words each.
 unfoldable pub triangleWords : List ℕ → ℕ → List ℕ
-triangleWords triangles n = wordsOf n 6 (triangleWord (length triangles) (triEdge triangles))
+triangleWords triangles n = wordsOf n wordsPerTriangle (triangleWord (length triangles) (triEdge triangles))
 
 unfoldable pub headWords : List ℕ → ℕ → List ℕ
-headWords triangles n = wordsOf n 1 (headWord (length triangles) (edges triangles))
+headWords triangles n = wordsOf n wordsPerRound (headWord (length triangles) (edges triangles))
 
 unfoldable pub edgeWords : List ℕ → ℕ → List ℕ
-edgeWords triangles n = wordsOf n 6 (edgeWord (edges triangles) (edgeFaces triangles))
+edgeWords triangles n = wordsOf n wordsPerEdge (edgeWord (edges triangles) (edgeFaces triangles))
 
 -- zeros where an edge lies in more than two triangles
 abbrev pub unlessThird : List ℕ → ℕ → (List ℕ → ℕ → List ℕ) → List ℕ

@@ -8,10 +8,22 @@ use buffers::write_u32;
 use buffers::zero_u32;
 use job_checks::higher_of;
 use job_checks::lower_of;
+use layout::EDGE_FIRST_FACE;
+use layout::EDGE_HEAD;
+use layout::EDGE_HIGH;
+use layout::EDGE_LOW;
+use layout::EDGE_SCRATCH;
+use layout::EDGE_SECOND_FACE;
+use layout::ROUND_HEAD;
+use layout::VERTICES_PER_TRIANGLE;
+use layout::WORDS_PER_EDGE;
+use layout::WORDS_PER_ROUND;
+use layout::WORDS_PER_TRIANGLE;
 ghost use mathlib.Core.Path.{_≡_};
 ghost use mathlib.Core.List.{[], _∷_};
 ghost use Prim.Native.Nat.{_+_, _*_, _/_, _<_, _≤_};
 ghost use lib.ListN.{length, getD, set};
+ghost use Rattle.layout.specs.Layout.{wordsPerRound, roundHead, wordsPerEdge};
 ghost use Rattle.buffers.specs.Slots.{fill};
 ghost use Rattle.edge_table.specs.Words.{bucketOf};
 ghost use Rattle.edge_table.specs.Table.{Mesh, LongEnough, Built};
@@ -48,12 +60,12 @@ fn find_in_bucket(edge_words: &[u32], head: u32, low: u32, high: u32) -> u32
     let mut at = head;
     while at != 0 {
         let e = at - 1;
-        if read_u32(edge_words, 6, e, 0) == low {
-            if read_u32(edge_words, 6, e, 1) == high {
+        if read_u32(edge_words, WORDS_PER_EDGE, e, EDGE_LOW) == low {
+            if read_u32(edge_words, WORDS_PER_EDGE, e, EDGE_HIGH) == high {
                 return at;
             }
         }
-        at = read_u32(edge_words, 6, e, 5);
+        at = read_u32(edge_words, WORDS_PER_EDGE, e, EDGE_SCRATCH);
     }
     0
 }
@@ -69,18 +81,18 @@ fn add_edge(
     f: u32,
 )
     requires { ⌜ e < 4294967295 ⌝ }
-    ensures { λ r. ⌜ (now (heads .exit) ≡ set (now (heads .entry)) (1 * bucket + 0) (e + 1))
-        × (now («edge_words» .exit) ≡ fill 6 (now («edge_words» .entry)) e 0 (low ∷ high ∷ f ∷ 4294967295 ∷ 0 ∷ getD (now (heads .entry)) (1 * bucket + 0) 0 ∷ [])) ⌝ }
+    ensures { λ r. ⌜ (now (heads .exit) ≡ set (now (heads .entry)) (wordsPerRound * bucket + roundHead) (e + 1))
+        × (now («edge_words» .exit) ≡ fill wordsPerEdge (now («edge_words» .entry)) e 0 (low ∷ high ∷ f ∷ 4294967295 ∷ 0 ∷ getD (now (heads .entry)) (wordsPerRound * bucket + roundHead) 0 ∷ [])) ⌝ }
 {
     let none = no_face();
-    let next = read_u32(heads, 1, bucket, 0);
-    write_u32(edge_words, 6, e, 0, low);
-    write_u32(edge_words, 6, e, 1, high);
-    write_u32(edge_words, 6, e, 2, f);
-    write_u32(edge_words, 6, e, 3, none.0);
-    write_u32(edge_words, 6, e, 4, 0);
-    write_u32(edge_words, 6, e, 5, next);
-    write_u32(heads, 1, bucket, 0, e + 1);
+    let next = read_u32(heads, WORDS_PER_ROUND, bucket, ROUND_HEAD);
+    write_u32(edge_words, WORDS_PER_EDGE, e, EDGE_LOW, low);
+    write_u32(edge_words, WORDS_PER_EDGE, e, EDGE_HIGH, high);
+    write_u32(edge_words, WORDS_PER_EDGE, e, EDGE_FIRST_FACE, f);
+    write_u32(edge_words, WORDS_PER_EDGE, e, EDGE_SECOND_FACE, none.0);
+    write_u32(edge_words, WORDS_PER_EDGE, e, EDGE_HEAD, 0);
+    write_u32(edge_words, WORDS_PER_EDGE, e, EDGE_SCRATCH, next);
+    write_u32(heads, WORDS_PER_ROUND, bucket, ROUND_HEAD, e + 1);
 }
 
 // Side h: its edge is found or entered, and has the side's triangle as its next face. `count` is how many edges there are.
@@ -97,25 +109,25 @@ fn enter_side(
 {
     let f = h / 3;
     let k = h % 3;
-    let a = read_u32(triangles, 3, f, k);
-    let b = read_u32(triangles, 3, f, (k + 1) % 3);
+    let a = read_u32(triangles, VERTICES_PER_TRIANGLE, f, k);
+    let b = read_u32(triangles, VERTICES_PER_TRIANGLE, f, (k + 1) % 3);
     let low = lower_of(a, b);
     let high = higher_of(a, b);
     let bucket = bucket_of(low, high, triangles.len() as u32);
-    let head = read_u32(heads, 1, bucket, 0);
+    let head = read_u32(heads, WORDS_PER_ROUND, bucket, ROUND_HEAD);
     let link = find_in_bucket(edge_words, head, low, high);
     if link == 0 {
         add_edge(heads, edge_words, bucket, count, low, high, f);
-        write_u32(triangle_words, 6, f, k, count);
+        write_u32(triangle_words, WORDS_PER_TRIANGLE, f, k, count);
         return Table::Edges(count + 1);
     }
     let e = link - 1;
     let none = no_face();
-    if read_u32(edge_words, 6, e, 3) != none.0 {
+    if read_u32(edge_words, WORDS_PER_EDGE, e, EDGE_SECOND_FACE) != none.0 {
         return Table::ThirdFace;
     }
-    write_u32(edge_words, 6, e, 3, f);
-    write_u32(triangle_words, 6, f, k, e);
+    write_u32(edge_words, WORDS_PER_EDGE, e, EDGE_SECOND_FACE, f);
+    write_u32(triangle_words, WORDS_PER_TRIANGLE, f, k, e);
     Table::Edges(count)
 }
 
@@ -152,7 +164,7 @@ fn clear_links(edge_words: &mut [u32], count: u32)
 {
     let mut e: u32 = 0;
     while e < count {
-        write_u32(edge_words, 6, e, 5, 0);
+        write_u32(edge_words, WORDS_PER_EDGE, e, EDGE_SCRATCH, 0);
         e += 1;
     }
 }

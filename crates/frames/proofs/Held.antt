@@ -5,6 +5,7 @@ use mathlib.Core.List.{List}
 use native.Mathlib.Omega.{arith}
 use lib.ListN.{length, getD}
 use lib.Ieee.{Float, nan}
+use Rattle.layout.specs.Layout.{realsPerEdge, edgeLen, edgeUnit, realsPerTriangle, realsPerNormal}
 use Rattle.float64.specs.Scalar.{one}
 use Rattle.float64.specs.Notation.{_⊘_}
 use Rattle.vec3.specs.declared.Vec3.{Vec3}
@@ -18,17 +19,17 @@ use Rattle.frames.specs.Held.{HoldsEdges, HoldsSides, HoldsLengths, Hold
 use Rattle.frames.proofs.Rows.{rows-at, vectors-at}
 
 module _ (v : List Float) (edgeWords : List ℕ) (n : ℕ) (r : List Float) where
-  lengths-at : (e a : ℕ) → e < n → 4 * n ≤ length r → a < 4 → getD (withLengths v edgeWords n r) (4 * e + a) nan ≡ getD (lengthRow v edgeWords e) a nan
+  lengths-at : (e a : ℕ) → e < n → realsPerEdge * n ≤ length r → a < realsPerEdge → getD (withLengths v edgeWords n r) (realsPerEdge * e + a) nan ≡ getD (lengthRow v edgeWords e) a nan
   unfolding lengthRow
-  lengths-at e a l m b = rows-at 4 (lengthRow v edgeWords) (λ k. refl) n r e a l m b
+  lengths-at e a l m b = rows-at realsPerEdge (lengthRow v edgeWords) (λ k. refl) n r e a l m b
 
-  length-stored : (e : ℕ) → e < n → 4 * n ≤ length r → lengthAt (withLengths v edgeWords n r) e ≡ lenOf (originAt v edgeWords e) (endAt v edgeWords e)
+  length-stored : (e : ℕ) → e < n → realsPerEdge * n ≤ length r → lengthAt (withLengths v edgeWords n r) e ≡ lenOf (originAt v edgeWords e) (endAt v edgeWords e)
   unfolding lengthRow
-  length-stored e l m = lengths-at e 0 l m (omega arith)
+  length-stored e l m = lengths-at e edgeLen l m (omega arith)
 
-  unit-stored : (e : ℕ) → e < n → 4 * n ≤ length r → unitAt (withLengths v edgeWords n r) e ≡ xhatOf (originAt v edgeWords e) (endAt v edgeWords e)
+  unit-stored : (e : ℕ) → e < n → realsPerEdge * n ≤ length r → unitAt (withLengths v edgeWords n r) e ≡ xhatOf (originAt v edgeWords e) (endAt v edgeWords e)
   unfolding lengthRow
-  unit-stored e l m = λ i. record { x = lengths-at e 1 l m (omega arith) i; y = lengths-at e 2 l m (omega arith) i; z = lengths-at e 3 l m (omega arith) i }
+  unit-stored e l m = λ i. record { x = lengths-at e edgeUnit l m (omega arith) i; y = lengths-at e (edgeUnit + 1) l m (omega arith) i; z = lengths-at e (edgeUnit + 2) l m (omega arith) i }
 
 -- along the computed unit vector it is the topology's normal
 normal-is : (o b t : Vec3) → unitOf (perpendicularFrom o (xhatOf o b) t) ≡ scaleOf (perpendicularOf o b t) (one ⊘ altitudeOf o b t)
@@ -46,7 +47,7 @@ module _ (v : List Float) (triangles edgeWords : List ℕ) (held : HoldsEdges tr
     end-held = ap (vertexAt v) (held .high e l)
 
   -- what `lengths` leaves
-  pub lengths-held : (r : List Float) → 4 * length (edges triangles) ≤ length r → HoldsLengths v triangles (withLengths v edgeWords (length (edges triangles)) r)
+  pub lengths-held : (r : List Float) → realsPerEdge * length (edges triangles) ≤ length r → HoldsLengths v triangles (withLengths v edgeWords (length (edges triangles)) r)
   unfolding len xhat
   lengths-held r m =
       record {
@@ -64,13 +65,13 @@ module _ (v : List Float) (triangles : List ℕ) (edgeReals : List Float) (long 
       ∙ normal-is (origin v triangles (triEdge triangles h)) (end v triangles (triEdge triangles h)) (vertexAt v (corner triangles h 2)))
 
   -- what `normals` leaves
-  pub normals-held : (r : List Float) → 3 * length triangles ≤ length r → HoldsNormals v triangles (withNormals v triangles triangleWords edgeReals (length triangles) r)
+  pub normals-held : (r : List Float) → realsPerNormal * length triangles ≤ length r → HoldsNormals v triangles (withNormals v triangles triangleWords edgeReals (length triangles) r)
   normals-held r m h l = vectors-at (normalOf v triangles triangleWords edgeReals) (length triangles) r h l m ∙ normal-held h l
 
 -- the normals of a triangle as nine reals, and as three for each side
-pub nine : (reals : List Float) (f k : ℕ) → vectorAt 9 reals f (3 * k) ≡ normalAt reals (3 * f + k)
+pub nine : (reals : List Float) (f k : ℕ) → vectorAt realsPerTriangle reals f (realsPerNormal * k) ≡ normalAt reals (3 * f + k)
 nine reals f k =
-    let a : 9 * f + 3 * k ≡ 3 * (3 * f + k) + 0 = omega arith in
-    let b : 9 * f + (3 * k + 1) ≡ 3 * (3 * f + k) + 1 = omega arith in
-    let c : 9 * f + (3 * k + 2) ≡ 3 * (3 * f + k) + 2 = omega arith in
+    let a : realsPerTriangle * f + realsPerNormal * k ≡ realsPerNormal * (3 * f + k) + 0 = omega arith in
+    let b : realsPerTriangle * f + (realsPerNormal * k + 1) ≡ realsPerNormal * (3 * f + k) + 1 = omega arith in
+    let c : realsPerTriangle * f + (realsPerNormal * k + 2) ≡ realsPerNormal * (3 * f + k) + 2 = omega arith in
     λ i. record { x = getD reals (a i) nan; y = getD reals (b i) nan; z = getD reals (c i) nan }

@@ -8,6 +8,7 @@ use native.Mathlib.Numerals.{add-one}
 use native.Mathlib.Omega.{arith}
 use lib.ListN.{length, getD, set, replicate}
 use lib.Ieee.{Float, nan}
+use Rattle.layout.specs.Layout.{realsPerNormal}
 use Rattle.vec3.specs.declared.Vec3.{Vec3}
 use Rattle.buffers.specs.Slots.{slot, fill}
 use Rattle.buffers.specs.Zero.{zeroFrom}
@@ -78,20 +79,20 @@ module _ (of : ℕ → Vec3) where
   abbrev three : ℕ → List Float
   three h = row3 (of h)
 
-  pub vectors-at : (n : ℕ) (r : List Float) (h : ℕ) → h < n → 3 * n ≤ length r → normalAt (withRows 3 three n r) h ≡ of h
+  pub vectors-at : (n : ℕ) (r : List Float) (h : ℕ) → h < n → realsPerNormal * n ≤ length r → normalAt (withRows realsPerNormal three n r) h ≡ of h
   vectors-at n r h l m =
       λ i. record {
-        x = rows-at 3 three (λ k. refl) n r h 0 l m (omega arith) i;
-        y = rows-at 3 three (λ k. refl) n r h 1 l m (omega arith) i;
-        z = rows-at 3 three (λ k. refl) n r h 2 l m (omega arith) i;
+        x = rows-at realsPerNormal three (λ k. refl) n r h 0 l m (omega arith) i;
+        y = rows-at realsPerNormal three (λ k. refl) n r h 1 l m (omega arith) i;
+        z = rows-at realsPerNormal three (λ k. refl) n r h 2 l m (omega arith) i;
       }
 
-  pub vectors-past : (n : ℕ) (r : List Float) (h : ℕ) → n ≤ h → normalAt (withRows 3 three n r) h ≡ normalAt r h
+  pub vectors-past : (n : ℕ) (r : List Float) (h : ℕ) → n ≤ h → normalAt (withRows realsPerNormal three n r) h ≡ normalAt r h
   vectors-past n r h l =
       λ i. record {
-        x = rows-past-at 3 three (λ k. refl) n r h 0 l (omega arith) i;
-        y = rows-past-at 3 three (λ k. refl) n r h 1 l (omega arith) i;
-        z = rows-past-at 3 three (λ k. refl) n r h 2 l (omega arith) i;
+        x = rows-past-at realsPerNormal three (λ k. refl) n r h 0 l (omega arith) i;
+        y = rows-past-at realsPerNormal three (λ k. refl) n r h 1 l (omega arith) i;
+        z = rows-past-at realsPerNormal three (λ k. refl) n r h 2 l (omega arith) i;
       }
 
 module _ {A : Type 0} (z : A) where

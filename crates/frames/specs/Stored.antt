@@ -5,6 +5,7 @@ use Prim.Native.Nat.{ℕ, zero, suc, _+_, _*_, _/_, _%_}
 use mathlib.Core.List.{List, [], _∷_}
 use lib.ListN.{getD}
 use lib.Ieee.{Float, nan}
+use Rattle.layout.specs.Layout.{wordsPerEdge, edgeLow, edgeHigh, edgeFirstFace, realsPerEdge, edgeLen, edgeUnit, wordsPerTriangle, realsPerNormal}
 use Rattle.float64.specs.Scalar.{one}
 use Rattle.float64.specs.Notation.{_⊘_}
 use Rattle.vec3.specs.declared.Vec3.{Vec3}
@@ -15,17 +16,17 @@ use Rattle.topology.specs.Edges.{corner, sideEdge}
 
 -- the ends of edge e, and its first and second face
 abbrev pub lowAt : List ℕ → ℕ → ℕ
-lowAt words e = getD words (6 * e + 0) 0
+lowAt words e = getD words (wordsPerEdge * e + edgeLow) 0
 
 abbrev pub highAt : List ℕ → ℕ → ℕ
-highAt words e = getD words (6 * e + 1) 0
+highAt words e = getD words (wordsPerEdge * e + edgeHigh) 0
 
 abbrev pub faceAt : List ℕ → ℕ → ℕ → ℕ
-faceAt words e i = getD words (6 * e + (2 + i)) 0
+faceAt words e i = getD words (wordsPerEdge * e + (edgeFirstFace + i)) 0
 
 -- the edge of side h
 abbrev pub sideAt : List ℕ → ℕ → ℕ
-sideAt words h = getD words (6 * (h / 3) + h % 3) 0
+sideAt words h = getD words (wordsPerTriangle * (h / 3) + h % 3) 0
 
 -- three reals from i on, and those of slot i from field a on
 abbrev pub vectorFrom : List Float → ℕ → Vec3
@@ -35,14 +36,14 @@ abbrev pub vectorAt : ℕ → List Float → ℕ → ℕ → Vec3
 vectorAt s reals i a = record { x = getD reals (s * i + a) nan; y = getD reals (s * i + (a + 1)) nan; z = getD reals (s * i + (a + 2)) nan }
 
 abbrev pub lengthAt : List Float → ℕ → Float
-lengthAt reals e = getD reals (4 * e + 0) nan
+lengthAt reals e = getD reals (realsPerEdge * e + edgeLen) nan
 
 abbrev pub unitAt : List Float → ℕ → Vec3
-unitAt reals e = vectorAt 4 reals e 1
+unitAt reals e = vectorAt realsPerEdge reals e edgeUnit
 
 -- the normal of side h: three reals for each side are nine for each triangle
 abbrev pub normalAt : List Float → ℕ → Vec3
-normalAt reals h = vectorAt 3 reals h 0
+normalAt reals h = vectorAt realsPerNormal reals h 0
 
 -- along p, of length one
 unfoldable pub unitOf : Vec3 → Vec3
@@ -62,7 +63,7 @@ row3 u = u .x ∷ u .y ∷ u .z ∷ []
 
 -- the vector in slot h, scaled to length one
 abbrev pub unitRow : List Float → ℕ → List Float
-unitRow reals h = row3 (unitOf (vectorAt 3 reals h 0))
+unitRow reals h = row3 (unitOf (vectorAt realsPerNormal reals h 0))
 
 module _ (v : List Float) (edgeWords : List ℕ) where
   abbrev pub originAt : ℕ → Vec3
@@ -76,7 +77,7 @@ module _ (v : List Float) (edgeWords : List ℕ) where
   lengthRow e = lenOf (originAt e) (endAt e) ∷ row3 (xhatOf (originAt e) (endAt e))
 
   abbrev pub withLengths : ℕ → List Float → List Float
-  withLengths n reals = withRows 4 lengthRow n reals
+  withLengths n reals = withRows realsPerEdge lengthRow n reals
 
 module _ (v : List Float) (triangles triangleWords : List ℕ) (edgeReals : List Float) where
   -- over side h, from its edge's stored unit vector, to the third vertex, not yet scaled; the Rust's `edges[e][0]` is the lower of the side's two vertices
@@ -91,4 +92,4 @@ module _ (v : List Float) (triangles triangleWords : List ℕ) (edgeReals : List
   normalOf h = unitOf (perpendicularAt h)
 
   abbrev pub withNormals : ℕ → List Float → List Float
-  withNormals n reals = withRows 3 (λ (h : ℕ). row3 (normalOf h)) n reals
+  withNormals n reals = withRows realsPerNormal (λ (h : ℕ). row3 (normalOf h)) n reals

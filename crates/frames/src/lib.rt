@@ -3,12 +3,22 @@
 use buffers::read_u32;
 use buffers::zero_f64_from;
 use job_checks::lower_of;
+use layout::COORDINATES_PER_VERTEX;
+use layout::EDGE_HIGH;
+use layout::EDGE_LOW;
+use layout::EDGE_UNIT;
+use layout::REALS_PER_EDGE;
+use layout::REALS_PER_NORMAL;
+use layout::VERTICES_PER_TRIANGLE;
+use layout::WORDS_PER_EDGE;
+use layout::WORDS_PER_TRIANGLE;
 use vec3::Vec3;
 ghost use mathlib.Core.Path.{_≡_};
 ghost use mathlib.Core.List.{[], _∷_};
 ghost use Prim.Native.Nat.{_+_, _*_, _%_, _≤_, _<_};
 ghost use lib.ListN.{length, getD, replicate};
 ghost use lib.Ieee.{nan};
+ghost use Rattle.layout.specs.Layout.{realsPerEdge, realsPerTriangle, realsPerNormal};
 ghost use Rattle.buffers.specs.Slots.{fill};
 ghost use Rattle.float64.specs.Scalar.{zero};
 ghost use Rattle.vec3.specs.Vec.{subOf};
@@ -54,14 +64,14 @@ fn vector(reals: &[f64], stride: u32, slot: u32, field: u32) -> Vec3
 fn vertex(vertices: &[f64], k: u32) -> Vec3
     ensures { λ r. ⌜ r ≡ vertexAt (now (vertices .entry)) k ⌝ }
 {
-    vector(vertices, 3, k, 0)
+    vector(vertices, COORDINATES_PER_VERTEX, k, 0)
 }
 
 fn store_four(reals: &mut [f64], slot: u32, len: f64, u: Vec3)
-    requires { ⌜ 4 * slot + 4 ≤ length (now reals) ⌝ }
-    ensures { λ r. ⌜ now (reals .exit) ≡ fill 4 (now (reals .entry)) slot 0 (len ∷ u .x ∷ u .y ∷ u .z ∷ []) ⌝ }
+    requires { ⌜ realsPerEdge * slot + realsPerEdge ≤ length (now reals) ⌝ }
+    ensures { λ r. ⌜ now (reals .exit) ≡ fill realsPerEdge (now (reals .entry)) slot 0 (len ∷ u .x ∷ u .y ∷ u .z ∷ []) ⌝ }
 {
-    let i = 4 * (slot as usize);
+    let i = (REALS_PER_EDGE as usize) * (slot as usize);
     reals[i] = len;
     reals[i + 1] = u.x;
     reals[i + 2] = u.y;
@@ -69,10 +79,10 @@ fn store_four(reals: &mut [f64], slot: u32, len: f64, u: Vec3)
 }
 
 fn store_three(reals: &mut [f64], slot: u32, u: Vec3)
-    requires { ⌜ 3 * slot + 3 ≤ length (now reals) ⌝ }
-    ensures { λ r. ⌜ now (reals .exit) ≡ fill 3 (now (reals .entry)) slot 0 (u .x ∷ u .y ∷ u .z ∷ []) ⌝ }
+    requires { ⌜ realsPerNormal * slot + realsPerNormal ≤ length (now reals) ⌝ }
+    ensures { λ r. ⌜ now (reals .exit) ≡ fill realsPerNormal (now (reals .entry)) slot 0 (u .x ∷ u .y ∷ u .z ∷ []) ⌝ }
 {
-    let i = 3 * (slot as usize);
+    let i = (REALS_PER_NORMAL as usize) * (slot as usize);
     reals[i] = u.x;
     reals[i + 1] = u.y;
     reals[i + 2] = u.z;
@@ -81,13 +91,13 @@ fn store_three(reals: &mut [f64], slot: u32, u: Vec3)
 fn origin(vertices: &[f64], edge_words: &[u32], e: u32) -> Vec3
     ensures { λ r. ⌜ r ≡ originAt (now (vertices .entry)) (now («edge_words» .entry)) e ⌝ }
 {
-    vertex(vertices, read_u32(edge_words, 6, e, 0))
+    vertex(vertices, read_u32(edge_words, WORDS_PER_EDGE, e, EDGE_LOW))
 }
 
 fn end(vertices: &[f64], edge_words: &[u32], e: u32) -> Vec3
     ensures { λ r. ⌜ r ≡ endAt (now (vertices .entry)) (now («edge_words» .entry)) e ⌝ }
 {
-    vertex(vertices, read_u32(edge_words, 6, e, 1))
+    vertex(vertices, read_u32(edge_words, WORDS_PER_EDGE, e, EDGE_HIGH))
 }
 
 // From the start of edge e to its end.
@@ -101,8 +111,8 @@ fn edge_vector(vertices: &[f64], edge_words: &[u32], e: u32) -> Vec3
 
 // The length and the unit vector of edge e.
 fn store_length(vertices: &[f64], edge_words: &[u32], e: u32, edge_reals: &mut [f64])
-    requires { ⌜ 4 * e + 4 ≤ length (now «edge_reals») ⌝ }
-    ensures { λ r. ⌜ now («edge_reals» .exit) ≡ fill 4 (now («edge_reals» .entry)) e 0 (lengthRow (now (vertices .entry)) (now («edge_words» .entry)) e) ⌝ }
+    requires { ⌜ realsPerEdge * e + realsPerEdge ≤ length (now «edge_reals») ⌝ }
+    ensures { λ r. ⌜ now («edge_reals» .exit) ≡ fill realsPerEdge (now («edge_reals» .entry)) e 0 (lengthRow (now (vertices .entry)) (now («edge_words» .entry)) e) ⌝ }
 {
     let d = edge_vector(vertices, edge_words, e);
     let len = vec3::norm(d);
@@ -111,8 +121,8 @@ fn store_length(vertices: &[f64], edge_words: &[u32], e: u32, edge_reals: &mut [
 
 // The same of the edges e, e + 1 and e + 2.
 fn store_three_lengths(vertices: &[f64], edge_words: &[u32], e: u32, edge_reals: &mut [f64])
-    requires { ⌜ (4 * e + 12 ≤ length (now «edge_reals»)) × (e + 2 < 4294967296) ⌝ }
-    ensures { λ r. ⌜ now («edge_reals» .exit) ≡ fillThree 4 (now («edge_reals» .entry)) e (lengthRow (now (vertices .entry)) (now («edge_words» .entry)) e) (lengthRow (now (vertices .entry)) (now («edge_words» .entry)) (e + 1)) (lengthRow (now (vertices .entry)) (now («edge_words» .entry)) (e + 2)) ⌝ }
+    requires { ⌜ (realsPerEdge * e + 3 * realsPerEdge ≤ length (now «edge_reals»)) × (e + 2 < 4294967296) ⌝ }
+    ensures { λ r. ⌜ now («edge_reals» .exit) ≡ fillThree realsPerEdge (now («edge_reals» .entry)) e (lengthRow (now (vertices .entry)) (now («edge_words» .entry)) e) (lengthRow (now (vertices .entry)) (now («edge_words» .entry)) (e + 1)) (lengthRow (now (vertices .entry)) (now («edge_words» .entry)) (e + 2)) ⌝ }
 {
     let d = edge_vector(vertices, edge_words, e);
     let d1 = edge_vector(vertices, edge_words, e + 1);
@@ -125,7 +135,7 @@ fn store_three_lengths(vertices: &[f64], edge_words: &[u32], e: u32, edge_reals:
 
 // Of the first `count` edges; the other slots are zeroed.
 pub fn lengths(vertices: &[f64], edge_words: &[u32], count: u32, edge_reals: &mut [f64])
-    requires { ⌜ 4 * count ≤ length (now «edge_reals») ⌝ }
+    requires { ⌜ realsPerEdge * count ≤ length (now «edge_reals») ⌝ }
     ensures { λ r. ⌜ now («edge_reals» .exit) ≡ withLengths (now (vertices .entry)) (now («edge_words» .entry)) count (replicate (length (now («edge_reals» .entry))) zero) ⌝ }
 {
     let mut e: u32 = 0;
@@ -138,7 +148,7 @@ pub fn lengths(vertices: &[f64], edge_words: &[u32], count: u32, edge_reals: &mu
             e += 3;
         }
     }
-    zero_f64_from(edge_reals, 4 * (count as usize));
+    zero_f64_from(edge_reals, (REALS_PER_EDGE as usize) * (count as usize));
 }
 
 // From the edge e of the vertices a and b to the third vertex, at a right angle. The edge's unit vector is read, not computed again.
@@ -146,7 +156,7 @@ fn perpendicular(vertices: &[f64], edge_reals: &[f64], e: u32, a: u32, b: u32, t
     ensures { λ r. ⌜ r ≡ perpendicularFrom (vertexAt (now (vertices .entry)) (lower a b)) (unitAt (now («edge_reals» .entry)) e) (vertexAt (now (vertices .entry)) third) ⌝ }
 {
     let o = vertex(vertices, lower_of(a, b));
-    let xhat = vector(edge_reals, 4, e, 1);
+    let xhat = vector(edge_reals, REALS_PER_EDGE, e, EDGE_UNIT);
     let w = vec3::sub(vertex(vertices, third), o);
     vec3::axpy(w, -vec3::dot(w, xhat), xhat)
 }
@@ -160,15 +170,15 @@ fn store_perpendiculars(
     f: u32,
     triangle_reals: &mut [f64],
 )
-    requires { ⌜ (9 * f + 9 ≤ length (now «triangle_reals»)) × (3 * f + 2 < 4294967296) ⌝ }
-    ensures { λ r. ⌜ now («triangle_reals» .exit) ≡ fillThree 3 (now («triangle_reals» .entry)) (3 * f) (perpendicularRow (now (vertices .entry)) (now (triangles .entry)) (now («triangle_words» .entry)) (now («edge_reals» .entry)) (3 * f)) (perpendicularRow (now (vertices .entry)) (now (triangles .entry)) (now («triangle_words» .entry)) (now («edge_reals» .entry)) (3 * f + 1)) (perpendicularRow (now (vertices .entry)) (now (triangles .entry)) (now («triangle_words» .entry)) (now («edge_reals» .entry)) (3 * f + 2)) ⌝ }
+    requires { ⌜ (realsPerTriangle * f + realsPerTriangle ≤ length (now «triangle_reals»)) × (3 * f + 2 < 4294967296) ⌝ }
+    ensures { λ r. ⌜ now («triangle_reals» .exit) ≡ fillThree realsPerNormal (now («triangle_reals» .entry)) (3 * f) (perpendicularRow (now (vertices .entry)) (now (triangles .entry)) (now («triangle_words» .entry)) (now («edge_reals» .entry)) (3 * f)) (perpendicularRow (now (vertices .entry)) (now (triangles .entry)) (now («triangle_words» .entry)) (now («edge_reals» .entry)) (3 * f + 1)) (perpendicularRow (now (vertices .entry)) (now (triangles .entry)) (now («triangle_words» .entry)) (now («edge_reals» .entry)) (3 * f + 2)) ⌝ }
 {
-    let a = read_u32(triangles, 3, f, 0);
-    let b = read_u32(triangles, 3, f, 1);
-    let c = read_u32(triangles, 3, f, 2);
-    let e = read_u32(triangle_words, 6, f, 0);
-    let e1 = read_u32(triangle_words, 6, f, 1);
-    let e2 = read_u32(triangle_words, 6, f, 2);
+    let a = read_u32(triangles, VERTICES_PER_TRIANGLE, f, 0);
+    let b = read_u32(triangles, VERTICES_PER_TRIANGLE, f, 1);
+    let c = read_u32(triangles, VERTICES_PER_TRIANGLE, f, 2);
+    let e = read_u32(triangle_words, WORDS_PER_TRIANGLE, f, 0);
+    let e1 = read_u32(triangle_words, WORDS_PER_TRIANGLE, f, 1);
+    let e2 = read_u32(triangle_words, WORDS_PER_TRIANGLE, f, 2);
     let p = perpendicular(vertices, edge_reals, e, a, b, c);
     let p1 = perpendicular(vertices, edge_reals, e1, b, c, a);
     let p2 = perpendicular(vertices, edge_reals, e2, c, a, b);
@@ -186,8 +196,8 @@ fn perpendiculars(
     faces: u32,
     triangle_reals: &mut [f64],
 )
-    requires { ⌜ (9 * faces ≤ length (now «triangle_reals»)) × (3 * faces < 4294967296) ⌝ }
-    ensures { λ r. ⌜ now («triangle_reals» .exit) ≡ withRows 3 (perpendicularRow (now (vertices .entry)) (now (triangles .entry)) (now («triangle_words» .entry)) (now («edge_reals» .entry))) (3 * faces) (now («triangle_reals» .entry)) ⌝ }
+    requires { ⌜ (realsPerTriangle * faces ≤ length (now «triangle_reals»)) × (3 * faces < 4294967296) ⌝ }
+    ensures { λ r. ⌜ now («triangle_reals» .exit) ≡ withRows realsPerNormal (perpendicularRow (now (vertices .entry)) (now (triangles .entry)) (now («triangle_words» .entry)) (now («edge_reals» .entry))) (3 * faces) (now («triangle_reals» .entry)) ⌝ }
 {
     let mut f: u32 = 0;
     while f < faces {
@@ -205,12 +215,12 @@ fn perpendiculars(
 
 // The three vectors of face f, scaled to length one.
 fn store_units(reals: &mut [f64], f: u32)
-    requires { ⌜ (9 * f + 9 ≤ length (now reals)) × (3 * f + 2 < 4294967296) ⌝ }
-    ensures { λ r. ⌜ now (reals .exit) ≡ fillThree 3 (now (reals .entry)) (3 * f) (unitRow (now (reals .entry)) (3 * f)) (unitRow (now (reals .entry)) (3 * f + 1)) (unitRow (now (reals .entry)) (3 * f + 2)) ⌝ }
+    requires { ⌜ (realsPerTriangle * f + realsPerTriangle ≤ length (now reals)) × (3 * f + 2 < 4294967296) ⌝ }
+    ensures { λ r. ⌜ now (reals .exit) ≡ fillThree realsPerNormal (now (reals .entry)) (3 * f) (unitRow (now (reals .entry)) (3 * f)) (unitRow (now (reals .entry)) (3 * f + 1)) (unitRow (now (reals .entry)) (3 * f + 2)) ⌝ }
 {
-    let p = vector(reals, 3, 3 * f, 0);
-    let p1 = vector(reals, 3, 3 * f + 1, 0);
-    let p2 = vector(reals, 3, 3 * f + 2, 0);
+    let p = vector(reals, REALS_PER_NORMAL, 3 * f, 0);
+    let p1 = vector(reals, REALS_PER_NORMAL, 3 * f + 1, 0);
+    let p2 = vector(reals, REALS_PER_NORMAL, 3 * f + 2, 0);
     let height = vec3::norms(p, p1, p2);
     store_three(reals, 3 * f, vec3::scale(p, 1.0 / height.x));
     store_three(reals, 3 * f + 1, vec3::scale(p1, 1.0 / height.y));
@@ -219,8 +229,8 @@ fn store_units(reals: &mut [f64], f: u32)
 
 // Of all faces.
 fn units(reals: &mut [f64], faces: u32)
-    requires { ⌜ (9 * faces ≤ length (now reals)) × (3 * faces < 4294967296) ⌝ }
-    ensures { λ r. ⌜ now (reals .exit) ≡ withRows 3 (unitRow (now (reals .entry))) (3 * faces) (now (reals .entry)) ⌝ }
+    requires { ⌜ (realsPerTriangle * faces ≤ length (now reals)) × (3 * faces < 4294967296) ⌝ }
+    ensures { λ r. ⌜ now (reals .exit) ≡ withRows realsPerNormal (unitRow (now (reals .entry))) (3 * faces) (now (reals .entry)) ⌝ }
 {
     let mut f: u32 = 0;
     while f < faces {
@@ -238,7 +248,7 @@ pub fn normals(
     edge_reals: &[f64],
     triangle_reals: &mut [f64],
 )
-    requires { ⌜ (length (now triangles) < 4294967296) × ((length (now triangles) % 3 ≡ 0) × (3 * length (now triangles) ≤ length (now «triangle_reals»))) ⌝ }
+    requires { ⌜ (length (now triangles) < 4294967296) × ((length (now triangles) % 3 ≡ 0) × (realsPerNormal * length (now triangles) ≤ length (now «triangle_reals»))) ⌝ }
     ensures { λ r. ⌜ now («triangle_reals» .exit) ≡ withNormals (now (vertices .entry)) (now (triangles .entry)) (now («triangle_words» .entry)) (now («edge_reals» .entry)) (length (now (triangles .entry))) (replicate (length (now («triangle_reals» .entry))) zero) ⌝ }
 {
     let faces = (triangles.len() / 3) as u32;
@@ -251,5 +261,8 @@ pub fn normals(
         triangle_reals,
     );
     units(triangle_reals, faces);
-    zero_f64_from(triangle_reals, 3 * triangles.len());
+    zero_f64_from(
+        triangle_reals,
+        (REALS_PER_NORMAL as usize) * triangles.len(),
+    );
 }

@@ -6,6 +6,7 @@ use mathlib.Core.List.{List, [], _∷_}
 use native.Mathlib.Omega.{arith}
 use lib.ListN.{length, getD, replicate, length-replicate, List·getD-append}
 use lib.Ieee.{Float}
+use Rattle.layout.specs.Layout.{wordsPerVertex, vertexStart, vertexEnd, vertexFlag, wordsPerEdge, wordsPerTriangle}
 use Rattle.float64.specs.Scalar.{zero as positiveZero}
 use Rattle.job_checks.specs.Job.{Job}
 use Rattle.job_checks.specs.Refusals.{refusals, refusalOf}
@@ -20,7 +21,7 @@ use Rattle.edge_table.specs.declared.Table.the-variants.{Edges as Table·Edges}
 use Rattle.edge_table.specs.Table.{edgeWords, triangleWords}
 use Rattle.edge_table.proofs.Reading.{low-read, high-read, first-face-read, second-face-read, windows-read, scratch-read, spare-read, number-read}
 use Rattle.vertex_faces.specs.Ranges.{withFlags, startOf, endOf, roundOf}
-use Rattle.vertex_faces.proofs.Ranges.{read-start, read-end, read-third, length-flags, read-flag}
+use Rattle.vertex_faces.proofs.Ranges.{read-start, read-end, flag-kept, length-flags, read-flag}
 use Rattle.frames.specs.Stored.{withLengths}
 use Rattle.frames.specs.Held.{HoldsEdges, HoldsFaces, HoldsSides, HoldsLengths}
 use Rattle.frames.proofs.Held.{lengths-held, normals-held}
@@ -35,8 +36,8 @@ use Rattle.mesh.proofs.Answering.{fits}
 
 -- The filled buffers, one after the other.
 module _ (v : List Float) (triangles flags : List ℕ) (n : ℕ) where
-  module _ (long : 6 * length triangles ≤ n) where
-    edge-slot : (e : ℕ) → e < length (edges triangles) → 6 * e + 6 ≤ n
+  module _ (long : wordsPerEdge * length triangles ≤ n) where
+    edge-slot : (e : ℕ) → e < length (edges triangles) → wordsPerEdge * e + wordsPerEdge ≤ n
     edge-slot e l = omega (arith, edge-count triangles)
 
     ends-held : HoldsEdges triangles (edgeWords triangles n)
@@ -45,7 +46,7 @@ module _ (v : List Float) (triangles flags : List ℕ) (n : ℕ) where
     faces-held : HoldsFaces triangles (edgeWords triangles n)
     faces-held = record { first = λ e l. first-face-read triangles n e l (edge-slot e l); second = λ e l. second-face-read triangles n e l (edge-slot e l) }
 
-  sides-held : length triangles ≡ 3 * (length triangles / 3) → 2 * length triangles ≤ n → HoldsSides triangles (triangleWords triangles n)
+  sides-held : length triangles ≡ 3 * (length triangles / 3) → wordsPerTriangle * (length triangles / 3) ≤ n → HoldsSides triangles (triangleWords triangles n)
   sides-held whole long h l =
       let z : 3 * (h / 3) + h % 3 ≡ h = omega arith in
       number-read triangles n (h / 3) (h % 3) (omega arith) (omega arith) (omega arith) ∙ ap (triEdge triangles) z
@@ -56,27 +57,25 @@ module _ (v : List Float) (triangles flags : List ℕ) (n : ℕ) where
       List·getD-append (rows (vertexFaces triangles) (length v / 3)) _ 0 (length (rows (vertexFaces triangles) k) + i) (omega (arith, row-inside (vertexFaces triangles) (length v / 3) k l))
       ∙ row-read (vertexFaces triangles) (length v / 3) k i l m
 
-  module _ (k : ℕ) (l : k < length v / 3) (long : 3 * (length v / 3) ≤ n) where
-    zeros-long : 3 * (length v / 3) ≤ length (replicate {A = ℕ} n 0)
+  module _ (k : ℕ) (l : k < length v / 3) (long : wordsPerVertex * (length v / 3) ≤ n) where
+    zeros-long : wordsPerVertex * (length v / 3) ≤ length (replicate {A = ℕ} n 0)
     zeros-long = omega (arith, length-replicate {A = ℕ} n 0)
 
-    flags-long : 3 * (length v / 3) ≤ length (withFlags flags (length v / 3) (replicate n 0))
+    flags-long : wordsPerVertex * (length v / 3) ≤ length (withFlags flags (length v / 3) (replicate n 0))
     flags-long = omega (arith, zeros-long, length-flags flags (length v / 3) (replicate n 0))
 
-    start-held : getD (vertexWords v triangles flags n) (3 * k + 0) 0 ≡ startOf triangles k
+    start-held : getD (vertexWords v triangles flags n) (wordsPerVertex * k + vertexStart) 0 ≡ startOf triangles k
     unfolding vertexWords
-    start-held =
-        let z : 3 * k + 0 ≡ 3 * k = omega arith in
-        rw z (read-start (startOf triangles) (endOf triangles) (withFlags flags (length v / 3) (replicate n 0)) k (length v / 3) l flags-long)
+    start-held = read-start (startOf triangles) (endOf triangles) (withFlags flags (length v / 3) (replicate n 0)) k (length v / 3) l flags-long
 
-    end-held : getD (vertexWords v triangles flags n) (3 * k + 1) 0 ≡ endOf triangles k
+    end-held : getD (vertexWords v triangles flags n) (wordsPerVertex * k + vertexEnd) 0 ≡ endOf triangles k
     unfolding vertexWords
     end-held = read-end (startOf triangles) (endOf triangles) (withFlags flags (length v / 3) (replicate n 0)) k (length v / 3) l flags-long
 
-    flag-held : getD (vertexWords v triangles flags n) (3 * k + 2) 0 ≡ getD flags k 0
+    flag-held : getD (vertexWords v triangles flags n) (wordsPerVertex * k + vertexFlag) 0 ≡ getD flags k 0
     unfolding vertexWords
     flag-held =
-        read-third (startOf triangles) (endOf triangles) (length v / 3) (withFlags flags (length v / 3) (replicate n 0)) k
+        flag-kept (startOf triangles) (endOf triangles) (length v / 3) (withFlags flags (length v / 3) (replicate n 0)) k
         ∙ read-flag flags (replicate n 0) k (length v / 3) l zeros-long
 
 module _ (v : List Float) (triangles flags : List ℕ) (m : MeshBuffers) where

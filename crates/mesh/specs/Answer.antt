@@ -4,6 +4,7 @@ use mathlib.Core.Path.{_≡_}
 use mathlib.Core.Bool.{Bool}
 use mathlib.Core.List.{List, [], _∷_, _++_}
 use lib.ListN.{length}
+use Rattle.layout.specs.Layout.{wordsPerVertex, wordsPerRound, wordsPerEdge, realsPerEdge, wordsPerTriangle, realsPerTriangle}
 use Rattle.buffers.specs.Slots.{slotsOf}
 use Rattle.job_checks.specs.declared.BufferCounts.{BufferCounts}
 use Rattle.job_checks.specs.Any.{firstOf}
@@ -25,10 +26,10 @@ numberOf ThirdFace = 10
 abbrev pub countsOf : ℕ → ℕ → ℕ → ℕ → ℕ → ℕ → OtherCounts → BufferCounts
 countsOf vw ew er r tw tr others =
     record {
-      vertices = min (slotsOf vw 3) (others .«vertex_reals»);
-      edges = min (slotsOf ew 6) (slotsOf er 4);
-      «vertex_faces» = slotsOf r 1;
-      triangles = min (slotsOf tw 6) (slotsOf tr 9);
+      vertices = min (slotsOf vw wordsPerVertex) (others .«vertex_reals»);
+      edges = min (slotsOf ew wordsPerEdge) (slotsOf er realsPerEdge);
+      «vertex_faces» = slotsOf r wordsPerRound;
+      triangles = min (slotsOf tw wordsPerTriangle) (slotsOf tr realsPerTriangle);
       pieces = others .pieces;
       windows = others .windows;
       scratch = others .scratch;

@@ -5,6 +5,7 @@ use mathlib.Core.Bool.{cond}
 use mathlib.Core.List.{List}
 use lib.ListN.{length, replicate}
 use lib.Ieee.{Float}
+use Rattle.layout.specs.Layout.{wordsPerVertex, wordsPerEdge, realsPerEdge, wordsPerTriangle, realsPerNormal}
 use Rattle.float64.specs.Scalar.{zero}
 use Rattle.buffers.specs.Lent.{Lent, given, left}
 use Rattle.topology.specs.Edges.{edges, sharedByThree}
@@ -48,12 +49,12 @@ module _ (v : List Float) (triangles : List ℕ) where
   -- What is asked of a mesh and of buffers of so many elements: a job that passed the checks has it.
   pub record Fits (vw ew er r tw tr : ℕ) : Type 0 where
     pub mesh : Mesh triangles (length v / 3)
-    pub vertices-fit : 3 * (length v / 3) ≤ vw
-    pub edges-fit : 6 * length triangles ≤ ew
-    pub edge-reals-fit : 4 * length triangles ≤ er
+    pub vertices-fit : wordsPerVertex * (length v / 3) ≤ vw
+    pub edges-fit : wordsPerEdge * length triangles ≤ ew
+    pub edge-reals-fit : realsPerEdge * length triangles ≤ er
     pub round-fits : length triangles ≤ r
-    pub triangles-fit : 2 * length triangles ≤ tw
-    pub triangle-reals-fit : 3 * length triangles ≤ tr
+    pub triangles-fit : wordsPerTriangle * (length triangles / 3) ≤ tw
+    pub triangle-reals-fit : realsPerNormal * length triangles ≤ tr
 
 module _ (v : List Float) (triangles flags : List ℕ) where
   -- the words of the vertices, of which there are n in all

@@ -4,6 +4,12 @@ use buffers::zero_u32;
 use edge_table::Table;
 use job_checks::BufferCounts;
 use job_checks::Checked;
+use layout::REALS_PER_EDGE;
+use layout::REALS_PER_TRIANGLE;
+use layout::WORDS_PER_EDGE;
+use layout::WORDS_PER_ROUND;
+use layout::WORDS_PER_TRIANGLE;
+use layout::WORDS_PER_VERTEX;
 ghost use mathlib.Core.Path.{_≡_};
 ghost use Prim.Native.Nat.{_≤_, min};
 ghost use lib.ListN.{length};
@@ -135,10 +141,18 @@ fn buffer_counts(
     ensures { λ r. ⌜ r ≡ countsOf «vertex_words» «edge_words» «edge_reals» round «triangle_words» «triangle_reals» others ⌝ }
 {
     BufferCounts {
-        vertices: fewer(buffers::slots(vertex_words, 3), others.vertex_reals),
-        edges: buffers::count(edge_words, 6, edge_reals, 4),
-        vertex_faces: buffers::slots(round, 1),
-        triangles: buffers::count(triangle_words, 6, triangle_reals, 9),
+        vertices: fewer(
+            buffers::slots(vertex_words, WORDS_PER_VERTEX),
+            others.vertex_reals,
+        ),
+        edges: buffers::count(edge_words, WORDS_PER_EDGE, edge_reals, REALS_PER_EDGE),
+        vertex_faces: buffers::slots(round, WORDS_PER_ROUND),
+        triangles: buffers::count(
+            triangle_words,
+            WORDS_PER_TRIANGLE,
+            triangle_reals,
+            REALS_PER_TRIANGLE,
+        ),
         pieces: others.pieces,
         windows: others.windows,
         scratch: others.scratch,

@@ -10,6 +10,7 @@ use native.Mathlib.Omega.{arith}
 use lib.Dec.{eqb}
 use lib.ListN.{length, getD}
 use lib.Ieee.{Float, nan}
+use Rattle.layout.specs.Layout.{verticesPerTriangle, wordsPerTriangle, realsPerTriangle, realsPerNormal}
 use Rattle.vec3.specs.declared.Vec3.{Vec3}
 use Rattle.vec3.specs.Vec.{subOf, dotOf}
 use Rattle.topology.specs.Edges.{Edge, noEdge, offEnds, joins, edges, triEdge, face, other, local, third, sharedVertex, edgeBetween, vertexFaces}
@@ -49,8 +50,8 @@ module _ (triangles edgeWords : List ℕ) where
     third-held e f l =
         let z : 3 * f + 0 ≡ 3 * f = omega arith in
         λ i. cond (offEnds (getD triangles (z i) 0) (edge-held e l i)) (getD triangles (z i) 0)
-        (cond (offEnds (getD triangles (3 * f + 1) 0) (edge-held e l i)) (getD triangles (3 * f + 1) 0)
-        (getD triangles (3 * f + 2) 0))
+        (cond (offEnds (getD triangles (verticesPerTriangle * f + 1) 0) (edge-held e l i)) (getD triangles (verticesPerTriangle * f + 1) 0)
+        (getD triangles (verticesPerTriangle * f + 2) 0))
 
   module _ (held : HoldsFaces triangles edgeWords) (e : ℕ) (l : e < length (edges triangles)) where
     pub faces-held : facesAt edgeWords e ≡ record { first = record { 0 = face triangles e 0 }; second = record { 0 = face triangles e 1 } }
@@ -64,7 +65,7 @@ module _ (triangles edgeWords : List ℕ) where
 module _ (triangles triangleWords : List ℕ) (sides : HoldsSides triangles triangleWords) (f : ℕ) (inside : 3 * f + 2 < length triangles) where
   pub side-held : (k : ℕ) → k < 3 → sideIn triangleWords f k ≡ triEdge triangles (3 * f + k)
   side-held k l =
-      let q : 6 * f + k ≡ 6 * ((3 * f + k) / 3) + (3 * f + k) % 3 = omega arith in
+      let q : wordsPerTriangle * f + k ≡ wordsPerTriangle * ((3 * f + k) / 3) + (3 * f + k) % 3 = omega arith in
       ap (λ (i : ℕ). getD triangleWords i 0) q ∙ sides (3 * f + k) (omega arith)
 
   pub side-first : sideIn triangleWords f 0 ≡ triEdge triangles (3 * f)
@@ -85,9 +86,9 @@ module _ (triangles triangleWords : List ℕ) (sides : HoldsSides triangles tria
 
 pub normal-held : (v : List Float) (triangles : List ℕ) (triangleReals : List Float) → HoldsNormals v triangles triangleReals → (f k : ℕ) → 3 * f + k < length triangles → normalIn triangleReals f k ≡ yhat v triangles (3 * f + k)
 normal-held v triangles triangleReals normals f k l =
-    let a : 9 * f + 3 * k ≡ 3 * (3 * f + k) + 0 = omega arith in
-    let b : 9 * f + 3 * k + 1 ≡ 3 * (3 * f + k) + 1 = omega arith in
-    let c : 9 * f + 3 * k + 2 ≡ 3 * (3 * f + k) + 2 = omega arith in
+    let a : realsPerTriangle * f + realsPerNormal * k ≡ realsPerNormal * (3 * f + k) + 0 = omega arith in
+    let b : realsPerTriangle * f + realsPerNormal * k + 1 ≡ realsPerNormal * (3 * f + k) + 1 = omega arith in
+    let c : realsPerTriangle * f + realsPerNormal * k + 2 ≡ realsPerNormal * (3 * f + k) + 2 = omega arith in
     (λ i. record { x = getD triangleReals (a i) nan; y = getD triangleReals (b i) nan; z = getD triangleReals (c i) nan }) ∙ normals (3 * f + k) l
 
 pub coords-held : (v : List Float) (triangles edgeWords : List ℕ) (edgeReals : List Float) (triangleWords : List ℕ) (triangleReals : List Float)

@@ -8,6 +8,7 @@ use borrow.Author.Tests.{eq-eqb, ne-eqb}
 use lib.Dec.{eqb}
 use lib.ListN.{getD}
 use lib.Ieee.{Float}
+use Rattle.layout.specs.Layout.{verticesPerTriangle, wordsPerRound, roundFace, wordsPerTriangle}
 use Rattle.vec3.specs.declared.Vec3.{Vec3}
 use Rattle.vec3.specs.Vec.{subOf, dotOf}
 use Rattle.buffers.specs.declared.EdgeId.{EdgeId}
@@ -31,19 +32,19 @@ pub other-there : (w : List ℕ) (e f a : ℕ) → a ≡ faceAt w e 0 → (a ≡
 unfolding otherAt
 other-there w e f a p r = rw (ne-eqb (faceAt w e 0) f (λ q. r (p ∙ q))) p
 
-module _ (w : List ℕ) (f e a : ℕ) (p : a ≡ getD w (6 * f + 0) 0) where
+module _ (w : List ℕ) (f e a : ℕ) (p : a ≡ getD w (wordsPerTriangle * f + 0) 0) where
   pub local-first : a ≡ e → 0 ≡ localAt w f e
   unfolding localAt
-  local-first r = rw (eq-eqb (getD w (6 * f + 0) 0) e (sym p ∙ r))
+  local-first r = rw (eq-eqb (getD w (wordsPerTriangle * f + 0) 0) e (sym p ∙ r))
 
-  module _ (n : a ≡ e → ⊥) (b : ℕ) (q : b ≡ getD w (6 * f + 1) 0) where
+  module _ (n : a ≡ e → ⊥) (b : ℕ) (q : b ≡ getD w (wordsPerTriangle * f + 1) 0) where
     pub local-second : b ≡ e → 1 ≡ localAt w f e
     unfolding localAt
-    local-second r = rw (ne-eqb (getD w (6 * f + 0) 0) e (λ s. n (p ∙ s)), eq-eqb (getD w (6 * f + 1) 0) e (sym q ∙ r))
+    local-second r = rw (ne-eqb (getD w (wordsPerTriangle * f + 0) 0) e (λ s. n (p ∙ s)), eq-eqb (getD w (wordsPerTriangle * f + 1) 0) e (sym q ∙ r))
 
     pub local-third : (b ≡ e → ⊥) → 2 ≡ localAt w f e
     unfolding localAt
-    local-third m = rw (ne-eqb (getD w (6 * f + 0) 0) e (λ s. n (p ∙ s)), ne-eqb (getD w (6 * f + 1) 0) e (λ s. m (q ∙ s)))
+    local-third m = rw (ne-eqb (getD w (wordsPerTriangle * f + 0) 0) e (λ s. n (p ∙ s)), ne-eqb (getD w (wordsPerTriangle * f + 1) 0) e (λ s. m (q ∙ s)))
 
 pub vertex-id : (a b : ℕ) → a ≡ b → _≡_ {A = VertexId} (record { 0 = a }) (record { 0 = b })
 vertex-id a b q i = record { 0 = q i }
@@ -55,22 +56,22 @@ pub off-both : (k low high : ℕ) → (k ≡ low → ⊥) → (k ≡ high → �
 unfolding offEnds
 off-both k low high p q = rw (ne-eqb k low p, ne-eqb k high q)
 
-module _ (t w : List ℕ) (e f low high a : ℕ) (p : low ≡ lowAt w e) (q : high ≡ highAt w e) (r : a ≡ getD t (3 * f + 0) 0) where
+module _ (t w : List ℕ) (e f low high a : ℕ) (p : low ≡ lowAt w e) (q : high ≡ highAt w e) (r : a ≡ getD t (verticesPerTriangle * f + 0) 0) where
   edge-is : (x : ℕ) (y : ℕ) → x ≡ y → offEnds x (record { low = low; high = high }) ≡ offEnds y (record { low = lowAt w e; high = highAt w e })
   edge-is x y z i = offEnds (z i) (record { low = p i; high = q i })
 
   pub third-first : (o : Bool) → o ≡ offEnds a (record { low = low; high = high }) → o ≡ true → a ≡ thirdAt t w e f
   unfolding thirdAt
-  third-first o g h = rw (sym (edge-is a (getD t (3 * f + 0) 0) r) ∙ (sym g ∙ h)) r
+  third-first o g h = rw (sym (edge-is a (getD t (verticesPerTriangle * f + 0) 0) r) ∙ (sym g ∙ h)) r
 
-  module _ (o : Bool) (g : o ≡ offEnds a (record { low = low; high = high })) (h : o ≡ false) (b : ℕ) (s : b ≡ getD t (3 * f + 1) 0) (n : Bool) (k : n ≡ offEnds b (record { low = low; high = high })) where
+  module _ (o : Bool) (g : o ≡ offEnds a (record { low = low; high = high })) (h : o ≡ false) (b : ℕ) (s : b ≡ getD t (verticesPerTriangle * f + 1) 0) (n : Bool) (k : n ≡ offEnds b (record { low = low; high = high })) where
     pub third-second : n ≡ true → b ≡ thirdAt t w e f
     unfolding thirdAt
-    third-second m = rw (sym (edge-is a (getD t (3 * f + 0) 0) r) ∙ (sym g ∙ h), sym (edge-is b (getD t (3 * f + 1) 0) s) ∙ (sym k ∙ m)) s
+    third-second m = rw (sym (edge-is a (getD t (verticesPerTriangle * f + 0) 0) r) ∙ (sym g ∙ h), sym (edge-is b (getD t (verticesPerTriangle * f + 1) 0) s) ∙ (sym k ∙ m)) s
 
-    pub third-last : n ≡ false → (c : ℕ) → c ≡ getD t (3 * f + 2) 0 → c ≡ thirdAt t w e f
+    pub third-last : n ≡ false → (c : ℕ) → c ≡ getD t (verticesPerTriangle * f + 2) 0 → c ≡ thirdAt t w e f
     unfolding thirdAt
-    third-last m c z = rw (sym (edge-is a (getD t (3 * f + 0) 0) r) ∙ (sym g ∙ h), sym (edge-is b (getD t (3 * f + 1) 0) s) ∙ (sym k ∙ m)) z
+    third-last m c z = rw (sym (edge-is a (getD t (verticesPerTriangle * f + 0) 0) r) ∙ (sym g ∙ h), sym (edge-is b (getD t (verticesPerTriangle * f + 1) 0) s) ∙ (sym k ∙ m)) z
 
 pub edge-id : (a b : ℕ) → a ≡ b → _≡_ {A = EdgeId} (record { 0 = a }) (record { 0 = b })
 edge-id a b q i = record { 0 = q i }
@@ -88,8 +89,8 @@ faces-of a b x y p q i = record { first = record { 0 = p i }; second = record { 
 pub range-of : (a b x y : ℕ) → a ≡ x → b ≡ y → _≡_ {A = RoundRange} (record { start = a; end = b }) (record { start = x; end = y })
 range-of a b x y p q i = record { start = p i; end = q i }
 
-pub round-is : (w : List ℕ) (i : ℕ) → getD w (1 * i + 0) 0 ≡ roundAt w i
-round-is w i = let z : 1 * i + 0 ≡ i = omega arith in ap (λ (k : ℕ). getD w k 0) z
+pub round-is : (w : List ℕ) (i : ℕ) → getD w (wordsPerRound * i + roundFace) 0 ≡ roundAt w i
+round-is w i = let z : wordsPerRound * i + roundFace ≡ i = omega arith in ap (λ (k : ℕ). getD w k 0) z
 
 -- ---- the vertex that two edges share
 module _ (w : List ℕ) (e o a low high : ℕ) (p : a ≡ lowAt w e) (q : low ≡ lowAt w o) (r : high ≡ highAt w o) where

@@ -5,6 +5,7 @@ use mathlib.Core.List.{List}
 use lib.Dec.{eqb}
 use lib.ListN.{getD}
 use lib.Ieee.{Float}
+use Rattle.layout.specs.Layout.{verticesPerTriangle, wordsPerVertex, vertexStart, vertexEnd, wordsPerTriangle, realsPerTriangle, realsPerNormal}
 use Rattle.vec3.specs.declared.Vec3.{Vec3}
 use Rattle.vec3.specs.Vec.{subOf, dotOf}
 use Rattle.topology.specs.Edges.{Edge, offEnds, joins}
@@ -40,10 +41,10 @@ sharedAt edgeWords e o = cond (offEnds (lowAt edgeWords e) (edgeAt edgeWords o))
 -- ---- of a face
 -- its side k, and the normal of that side
 abbrev pub sideIn : List ℕ → ℕ → ℕ → ℕ
-sideIn triangleWords f k = getD triangleWords (6 * f + k) 0
+sideIn triangleWords f k = getD triangleWords (wordsPerTriangle * f + k) 0
 
 abbrev pub normalIn : List Float → ℕ → ℕ → Vec3
-normalIn triangleReals f k = vectorFrom triangleReals (9 * f + 3 * k)
+normalIn triangleReals f k = vectorFrom triangleReals (realsPerTriangle * f + realsPerNormal * k)
 
 -- which side of it edge e is
 unfoldable pub localAt : List ℕ → ℕ → ℕ → ℕ
@@ -52,9 +53,9 @@ localAt triangleWords f e = cond (eqb (sideIn triangleWords f 0) e) 0 (cond (eqb
 -- the vertex of it that is not on edge e
 unfoldable pub thirdAt : List ℕ → List ℕ → ℕ → ℕ → ℕ
 thirdAt triangles edgeWords e f =
-    cond (offEnds (getD triangles (3 * f + 0) 0) (edgeAt edgeWords e)) (getD triangles (3 * f + 0) 0)
-    (cond (offEnds (getD triangles (3 * f + 1) 0) (edgeAt edgeWords e)) (getD triangles (3 * f + 1) 0)
-    (getD triangles (3 * f + 2) 0))
+    cond (offEnds (getD triangles (verticesPerTriangle * f + 0) 0) (edgeAt edgeWords e)) (getD triangles (verticesPerTriangle * f + 0) 0)
+    (cond (offEnds (getD triangles (verticesPerTriangle * f + 1) 0) (edgeAt edgeWords e)) (getD triangles (verticesPerTriangle * f + 1) 0)
+    (getD triangles (verticesPerTriangle * f + 2) 0))
 
 -- the edge of it between the vertices a and b
 unfoldable pub edgeBetweenAt : List ℕ → List ℕ → ℕ → ℕ → ℕ → ℕ
@@ -83,7 +84,7 @@ coordsAt v edgeWords edgeReals triangleWords triangleReals e f p =
 
 -- ---- of a vertex: where its faces stand in the list of the faces round the vertices, and an entry of that list
 abbrev pub rangeAt : List ℕ → ℕ → RoundRange
-rangeAt vertexWords k = record { start = getD vertexWords (3 * k + 0) 0; end = getD vertexWords (3 * k + 1) 0 }
+rangeAt vertexWords k = record { start = getD vertexWords (wordsPerVertex * k + vertexStart) 0; end = getD vertexWords (wordsPerVertex * k + vertexEnd) 0 }
 
 abbrev pub roundAt : List ℕ → ℕ → ℕ
 roundAt round i = getD round i 0

@@ -5,10 +5,29 @@ use buffers::FaceId;
 use buffers::VertexId;
 use buffers::read_f64;
 use buffers::read_u32;
+use layout::COORDINATES_PER_VERTEX;
+use layout::EDGE_FIRST_FACE;
+use layout::EDGE_HIGH;
+use layout::EDGE_LEN;
+use layout::EDGE_LOW;
+use layout::EDGE_SECOND_FACE;
+use layout::EDGE_UNIT;
+use layout::REALS_PER_EDGE;
+use layout::REALS_PER_NORMAL;
+use layout::REALS_PER_TRIANGLE;
+use layout::ROUND_FACE;
+use layout::VERTEX_END;
+use layout::VERTEX_START;
+use layout::VERTICES_PER_TRIANGLE;
+use layout::WORDS_PER_EDGE;
+use layout::WORDS_PER_ROUND;
+use layout::WORDS_PER_TRIANGLE;
+use layout::WORDS_PER_VERTEX;
 use vec3::Vec3;
 ghost use mathlib.Core.Path.{_≡_};
 ghost use Prim.Native.Nat.{_+_, _*_};
 ghost use lib.ListN.{getD};
+ghost use Rattle.layout.specs.Layout.{verticesPerTriangle};
 ghost use Rattle.job_checks.specs.Edge.{vertexAt};
 ghost use Rattle.topology.specs.Edges.{offEnds, joins};
 ghost use Rattle.frames.specs.Stored.{lengthAt, unitAt};
@@ -42,8 +61,8 @@ pub fn ends(edge_words: &[u32], e: EdgeId) -> EdgeEnds
     ensures { λ r. ⌜ r ≡ endsAt (now («edge_words» .entry)) (e .0) ⌝ }
 {
     EdgeEnds {
-        a: VertexId(read_u32(edge_words, 6, e.0, 0)),
-        b: VertexId(read_u32(edge_words, 6, e.0, 1)),
+        a: VertexId(read_u32(edge_words, WORDS_PER_EDGE, e.0, EDGE_LOW)),
+        b: VertexId(read_u32(edge_words, WORDS_PER_EDGE, e.0, EDGE_HIGH)),
     }
 }
 
@@ -51,9 +70,9 @@ pub fn ends(edge_words: &[u32], e: EdgeId) -> EdgeEnds
 pub fn edge(edge_words: &[u32], edge_reals: &[f64], e: EdgeId) -> windows::Edge
     ensures { λ r. ⌜ r ≡ trimEdgeAt (now («edge_words» .entry)) (now («edge_reals» .entry)) (e .0) ⌝ }
 {
-    let len = read_f64(edge_reals, 4, e.0, 0);
-    let low = read_u32(edge_words, 6, e.0, 0);
-    let high = read_u32(edge_words, 6, e.0, 1);
+    let len = read_f64(edge_reals, REALS_PER_EDGE, e.0, EDGE_LEN);
+    let low = read_u32(edge_words, WORDS_PER_EDGE, e.0, EDGE_LOW);
+    let high = read_u32(edge_words, WORDS_PER_EDGE, e.0, EDGE_HIGH);
     windows::Edge {
         id: e,
         len,
@@ -66,8 +85,8 @@ pub fn faces(edge_words: &[u32], e: EdgeId) -> FacePair
     ensures { λ r. ⌜ r ≡ facesAt (now («edge_words» .entry)) (e .0) ⌝ }
 {
     FacePair {
-        first: FaceId(read_u32(edge_words, 6, e.0, 2)),
-        second: FaceId(read_u32(edge_words, 6, e.0, 3)),
+        first: FaceId(read_u32(edge_words, WORDS_PER_EDGE, e.0, EDGE_FIRST_FACE)),
+        second: FaceId(read_u32(edge_words, WORDS_PER_EDGE, e.0, EDGE_SECOND_FACE)),
     }
 }
 
@@ -75,8 +94,8 @@ pub fn faces(edge_words: &[u32], e: EdgeId) -> FacePair
 pub fn other(edge_words: &[u32], e: EdgeId, f: FaceId) -> FaceId
     ensures { λ r. ⌜ r ≡ record { 0 = otherAt (now («edge_words» .entry)) (e .0) (f .0) } ⌝ }
 {
-    let first = read_u32(edge_words, 6, e.0, 2);
-    let second = read_u32(edge_words, 6, e.0, 3);
+    let first = read_u32(edge_words, WORDS_PER_EDGE, e.0, EDGE_FIRST_FACE);
+    let second = read_u32(edge_words, WORDS_PER_EDGE, e.0, EDGE_SECOND_FACE);
     if first == f.0 {
         return FaceId(second);
     }
@@ -86,29 +105,32 @@ pub fn other(edge_words: &[u32], e: EdgeId, f: FaceId) -> FaceId
 pub fn length(edge_reals: &[f64], e: EdgeId) -> f64
     ensures { λ r. ⌜ r ≡ lengthAt (now («edge_reals» .entry)) (e .0) ⌝ }
 {
-    read_f64(edge_reals, 4, e.0, 0)
+    read_f64(edge_reals, REALS_PER_EDGE, e.0, EDGE_LEN)
 }
 
 // The unit vector along an edge, from its first vertex to its second.
 pub fn unit(edge_reals: &[f64], e: EdgeId) -> Vec3
     ensures { λ r. ⌜ r ≡ unitAt (now («edge_reals» .entry)) (e .0) ⌝ }
 {
-    frames::vector_from(edge_reals, 4 * (e.0 as usize) + 1)
+    frames::vector_from(
+        edge_reals,
+        (REALS_PER_EDGE as usize) * (e.0 as usize) + (EDGE_UNIT as usize),
+    )
 }
 
 // Side k of face f.
 pub fn side(triangle_words: &[u32], f: FaceId, k: u32) -> EdgeId
     ensures { λ r. ⌜ r ≡ record { 0 = sideIn (now («triangle_words» .entry)) (f .0) k } ⌝ }
 {
-    EdgeId(read_u32(triangle_words, 6, f.0, k))
+    EdgeId(read_u32(triangle_words, WORDS_PER_TRIANGLE, f.0, k))
 }
 
 // Which side of face f edge e is.
 pub fn local(triangle_words: &[u32], f: FaceId, e: EdgeId) -> u32
     ensures { λ r. ⌜ r ≡ localAt (now («triangle_words» .entry)) (f .0) (e .0) ⌝ }
 {
-    let first = read_u32(triangle_words, 6, f.0, 0);
-    let second = read_u32(triangle_words, 6, f.0, 1);
+    let first = read_u32(triangle_words, WORDS_PER_TRIANGLE, f.0, 0);
+    let second = read_u32(triangle_words, WORDS_PER_TRIANGLE, f.0, 1);
     if first == e.0 {
         return 0;
     }
@@ -122,13 +144,16 @@ pub fn local(triangle_words: &[u32], f: FaceId, e: EdgeId) -> u32
 pub fn normal(triangle_reals: &[f64], f: FaceId, k: u32) -> Vec3
     ensures { λ r. ⌜ r ≡ normalIn (now («triangle_reals» .entry)) (f .0) k ⌝ }
 {
-    frames::vector_from(triangle_reals, 9 * (f.0 as usize) + 3 * (k as usize))
+    frames::vector_from(
+        triangle_reals,
+        (REALS_PER_TRIANGLE as usize) * (f.0 as usize) + (REALS_PER_NORMAL as usize) * (k as usize),
+    )
 }
 
 pub fn vertex(vertices: &[f64], k: VertexId) -> Vec3
     ensures { λ r. ⌜ r ≡ vertexAt (now (vertices .entry)) (k .0) ⌝ }
 {
-    frames::vector_from(vertices, 3 * (k.0 as usize))
+    frames::vector_from(vertices, (COORDINATES_PER_VERTEX as usize) * (k.0 as usize))
 }
 
 fn off_ends(k: u32, low: u32, high: u32) -> bool
@@ -145,26 +170,26 @@ fn off_ends(k: u32, low: u32, high: u32) -> bool
 
 // Vertex k of face f.
 pub fn face_vertex(triangles: &[u32], f: FaceId, k: u32) -> VertexId
-    ensures { λ r. ⌜ r ≡ record { 0 = getD (now (triangles .entry)) (3 * f .0 + k) 0 } ⌝ }
+    ensures { λ r. ⌜ r ≡ record { 0 = getD (now (triangles .entry)) (verticesPerTriangle * f .0 + k) 0 } ⌝ }
 {
-    VertexId(read_u32(triangles, 3, f.0, k))
+    VertexId(read_u32(triangles, VERTICES_PER_TRIANGLE, f.0, k))
 }
 
 // The vertex of face f that is not on edge e.
 pub fn third(triangles: &[u32], edge_words: &[u32], e: EdgeId, f: FaceId) -> VertexId
     ensures { λ r. ⌜ r ≡ record { 0 = thirdAt (now (triangles .entry)) (now («edge_words» .entry)) (e .0) (f .0) } ⌝ }
 {
-    let low = read_u32(edge_words, 6, e.0, 0);
-    let high = read_u32(edge_words, 6, e.0, 1);
-    let a = read_u32(triangles, 3, f.0, 0);
+    let low = read_u32(edge_words, WORDS_PER_EDGE, e.0, EDGE_LOW);
+    let high = read_u32(edge_words, WORDS_PER_EDGE, e.0, EDGE_HIGH);
+    let a = read_u32(triangles, VERTICES_PER_TRIANGLE, f.0, 0);
     if off_ends(a, low, high) {
         return VertexId(a);
     }
-    let b = read_u32(triangles, 3, f.0, 1);
+    let b = read_u32(triangles, VERTICES_PER_TRIANGLE, f.0, 1);
     if off_ends(b, low, high) {
         return VertexId(b);
     }
-    VertexId(read_u32(triangles, 3, f.0, 2))
+    VertexId(read_u32(triangles, VERTICES_PER_TRIANGLE, f.0, 2))
 }
 
 // p in the frame of edge e, of which face f is on the side of positive y.
@@ -180,7 +205,10 @@ pub fn coords(
 ) -> FrameCoords
     ensures { λ r. ⌜ r ≡ coordsAt (now (vertices .entry)) (now («edge_words» .entry)) (now («edge_reals» .entry)) (now («triangle_words» .entry)) (now («triangle_reals» .entry)) (e .0) (f .0) p ⌝ }
 {
-    let o = vertex(vertices, VertexId(read_u32(edge_words, 6, e.0, 0)));
+    let o = vertex(
+        vertices,
+        VertexId(read_u32(edge_words, WORDS_PER_EDGE, e.0, EDGE_LOW)),
+    );
     let w = vec3::sub(p, o);
     let xhat = unit(edge_reals, e);
     let yhat = normal(triangle_reals, f, local(triangle_words, f, e));
@@ -194,8 +222,8 @@ pub fn faces_round(vertex_words: &[u32], k: VertexId) -> RoundRange
     ensures { λ r. ⌜ r ≡ rangeAt (now («vertex_words» .entry)) (k .0) ⌝ }
 {
     RoundRange {
-        start: read_u32(vertex_words, 3, k.0, 0),
-        end: read_u32(vertex_words, 3, k.0, 1),
+        start: read_u32(vertex_words, WORDS_PER_VERTEX, k.0, VERTEX_START),
+        end: read_u32(vertex_words, WORDS_PER_VERTEX, k.0, VERTEX_END),
     }
 }
 
@@ -203,18 +231,18 @@ pub fn faces_round(vertex_words: &[u32], k: VertexId) -> RoundRange
 pub fn face_round(round: &[u32], i: u32) -> FaceId
     ensures { λ r. ⌜ r ≡ record { 0 = roundAt (now (round .entry)) i } ⌝ }
 {
-    FaceId(read_u32(round, 1, i, 0))
+    FaceId(read_u32(round, WORDS_PER_ROUND, i, ROUND_FACE))
 }
 
 // The vertex that two edges of one face share: the first end of e if o has it, or else the second.
 pub fn shared_vertex(edge_words: &[u32], e: EdgeId, o: EdgeId) -> VertexId
     ensures { λ r. ⌜ r ≡ record { 0 = sharedAt (now («edge_words» .entry)) (e .0) (o .0) } ⌝ }
 {
-    let a = read_u32(edge_words, 6, e.0, 0);
-    let low = read_u32(edge_words, 6, o.0, 0);
-    let high = read_u32(edge_words, 6, o.0, 1);
+    let a = read_u32(edge_words, WORDS_PER_EDGE, e.0, EDGE_LOW);
+    let low = read_u32(edge_words, WORDS_PER_EDGE, o.0, EDGE_LOW);
+    let high = read_u32(edge_words, WORDS_PER_EDGE, o.0, EDGE_HIGH);
     if off_ends(a, low, high) {
-        return VertexId(read_u32(edge_words, 6, e.0, 1));
+        return VertexId(read_u32(edge_words, WORDS_PER_EDGE, e.0, EDGE_HIGH));
     }
     VertexId(a)
 }
@@ -223,8 +251,8 @@ pub fn shared_vertex(edge_words: &[u32], e: EdgeId, o: EdgeId) -> VertexId
 fn joined(edge_words: &[u32], e: u32, a: u32, b: u32) -> bool
     ensures { λ r. ⌜ r ≡ joins a b (edgeAt (now («edge_words» .entry)) e) ⌝ }
 {
-    let low = read_u32(edge_words, 6, e, 0);
-    let high = read_u32(edge_words, 6, e, 1);
+    let low = read_u32(edge_words, WORDS_PER_EDGE, e, EDGE_LOW);
+    let high = read_u32(edge_words, WORDS_PER_EDGE, e, EDGE_HIGH);
     if off_ends(a, low, high) {
         return false;
     }
@@ -244,24 +272,24 @@ pub fn edge_between(
 ) -> EdgeId
     ensures { λ r. ⌜ r ≡ record { 0 = edgeBetweenAt (now («edge_words» .entry)) (now («triangle_words» .entry)) (f .0) (a .0) (b .0) } ⌝ }
 {
-    let first = read_u32(triangle_words, 6, f.0, 0);
+    let first = read_u32(triangle_words, WORDS_PER_TRIANGLE, f.0, 0);
     if joined(edge_words, first, a.0, b.0) {
         return EdgeId(first);
     }
-    let second = read_u32(triangle_words, 6, f.0, 1);
+    let second = read_u32(triangle_words, WORDS_PER_TRIANGLE, f.0, 1);
     if joined(edge_words, second, a.0, b.0) {
         return EdgeId(second);
     }
-    EdgeId(read_u32(triangle_words, 6, f.0, 2))
+    EdgeId(read_u32(triangle_words, WORDS_PER_TRIANGLE, f.0, 2))
 }
 
 fn has_face(edge_words: &[u32], e: u32, h: u32) -> bool
     ensures { λ r. ⌜ r ≡ faceOf (now («edge_words» .entry)) e h ⌝ }
 {
-    if read_u32(edge_words, 6, e, 2) == h {
+    if read_u32(edge_words, WORDS_PER_EDGE, e, EDGE_FIRST_FACE) == h {
         return true;
     }
-    if read_u32(edge_words, 6, e, 3) == h {
+    if read_u32(edge_words, WORDS_PER_EDGE, e, EDGE_SECOND_FACE) == h {
         return true;
     }
     false
@@ -271,13 +299,25 @@ fn has_face(edge_words: &[u32], e: u32, h: u32) -> bool
 pub fn side_to(edge_words: &[u32], triangle_words: &[u32], f: FaceId, h: FaceId) -> u32
     ensures { λ r. ⌜ r ≡ sideToAt (now («edge_words» .entry)) (now («triangle_words» .entry)) (f .0) (h .0) ⌝ }
 {
-    if has_face(edge_words, read_u32(triangle_words, 6, f.0, 0), h.0) {
+    if has_face(
+        edge_words,
+        read_u32(triangle_words, WORDS_PER_TRIANGLE, f.0, 0),
+        h.0,
+    ) {
         return 0;
     }
-    if has_face(edge_words, read_u32(triangle_words, 6, f.0, 1), h.0) {
+    if has_face(
+        edge_words,
+        read_u32(triangle_words, WORDS_PER_TRIANGLE, f.0, 1),
+        h.0,
+    ) {
         return 1;
     }
-    if has_face(edge_words, read_u32(triangle_words, 6, f.0, 2), h.0) {
+    if has_face(
+        edge_words,
+        read_u32(triangle_words, WORDS_PER_TRIANGLE, f.0, 2),
+        h.0,
+    ) {
         return 2;
     }
     3

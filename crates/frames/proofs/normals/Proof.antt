@@ -1,6 +1,7 @@
 use Prim.Native.Nat.{_*_, _/_}
 use native.Mathlib.Omega.{arith}
 use lib.ListN.{length}
+use Rattle.layout.specs.Layout.{realsPerNormal}
 use Rattle.frames.proofs.Rows.{rows-done}
 use Rattle.frames.proofs.Turns.{normals-made}
 use borrow.Author.Needs.{needs}
@@ -16,6 +17,9 @@ perpendiculars-requires c κs = search needs
 units-requires : tie.Need-units-requires
 units-requires c κs = search needs
 
+cast-zero-f64-from : tie.Need-cast-zero-f64-from
+cast-zero-f64-from c = search needs
+
 mul-zero-f64-from : tie.Need-mul-zero-f64-from
 mul-zero-f64-from c = search needs
 
@@ -30,8 +34,8 @@ returns c =
     let n = length (c .before .before .before .before .before .before .before .before .before .before .before .before .before .before .before .before .before .args .triangles .now) in
     let p = c .before .before .before .before .before .before .before .before .before .before .before .before .before .before .before .before .before .pre in
     normals-made _ _ _ _ n _ _ _ _ (p .1 .1)
-    (rows-done 3 _ _ _ (3 * (n / 3)) n (c .before .before .before .before .before .before .before .before .before .before .perpendiculars .ensures) (omega arith) (omega (arith, p .1 .0)))
-    (rows-done 3 _ _ _ (3 * (n / 3)) n (c .before .before .before .before .before .before .units .ensures) (omega arith) (omega (arith, p .1 .0)))
+    (rows-done realsPerNormal _ _ _ (3 * (n / 3)) n (c .before .before .before .before .before .before .before .before .before .before .perpendiculars .ensures) (omega arith) (omega (arith, p .1 .0)))
+    (rows-done realsPerNormal _ _ _ (3 * (n / 3)) n (c .before .before .before .before .before .before .units .ensures) (omega arith) (omega (arith, p .1 .0)))
     (c .before .before .zero-f64-from .ensures)
 
 pub normals-spec : {M : Type 1} → statement M
@@ -41,6 +45,7 @@ normals-spec =
     cast-faces
     perpendiculars-requires
     units-requires
+    cast-zero-f64-from
     mul-zero-f64-from
     zero-f64-from-requires
     same-length

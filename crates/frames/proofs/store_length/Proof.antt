@@ -1,4 +1,5 @@
 use mathlib.Core.Path.{ap, _∙_}
+use Rattle.layout.specs.Layout.{realsPerEdge}
 use Rattle.buffers.specs.Slots.{fill}
 use Rattle.frames.proofs.Turns.{length-row}
 use borrow.Author.Needs.{needs}
@@ -21,7 +22,7 @@ same-length : tie.Need-same-length
 same-length c = search needs
 
 returns : tie.Need-returns
-returns c = c .before .before .store-four .ensures ∙ ap (fill 4 (c .before .before .before .before .before .before .before .before .before .before .args .edge-reals .now) (c .before .before .before .before .before .before .before .before .before .before .args .e) 0) (length-row _ _ (c .before .before .before .before .before .before .before .before .before .before .args .e) _ _ _ (c .before .before .before .before .before .before .edge-vector .ensures) (c .before .before .before .before .before .norm .ensures) (c .before .before .before .scale .ensures))
+returns c = c .before .before .store-four .ensures ∙ ap (fill realsPerEdge (c .before .before .before .before .before .before .before .before .before .before .args .edge-reals .now) (c .before .before .before .before .before .before .before .before .before .before .args .e) 0) (length-row _ _ (c .before .before .before .before .before .before .before .before .before .before .args .e) _ _ _ (c .before .before .before .before .before .before .edge-vector .ensures) (c .before .before .before .before .before .norm .ensures) (c .before .before .before .scale .ensures))
 
 pub store-length-spec : {M : Type 1} → statement M
 store-length-spec =

@@ -1,6 +1,7 @@
 use Prim.Native.Nat.{_+_, _*_}
 use mathlib.Core.Path.{refl}
 use native.Mathlib.Omega.{arith}
+use Rattle.layout.specs.Layout.{realsPerNormal}
 use Rattle.frames.proofs.Rows.{three-stored}
 use Rattle.frames.proofs.Turns.{perpendicular-row}
 use borrow.Author.Needs.{needs}
@@ -67,7 +68,7 @@ returns c =
     let a = c .before .before .before .before .before .before .before .before .before .before .before .before .before .before .before .before .before .before .before .before .read-u32 .ensures in
     let b = c .before .before .before .before .before .before .before .before .before .before .before .before .before .before .before .before .before .before .before .read-u322 .ensures in
     let c′ = c .before .before .before .before .before .before .before .before .before .before .before .before .before .before .before .before .before .before .read-u323 .ensures in
-    three-stored 3 (3 * f) _ _ _ _ _ _ _ _ _ _ (c .before .before .before .before .before .before .before .before .before .before .store-three .ensures) (c .before .before .before .before .before .before .store-three2 .ensures) (c .before .before .store-three3 .ensures)
+    three-stored realsPerNormal (3 * f) _ _ _ _ _ _ _ _ _ _ (c .before .before .before .before .before .before .before .before .before .before .store-three .ensures) (c .before .before .before .before .before .before .store-three2 .ensures) (c .before .before .store-three3 .ensures)
     (perpendicular-row _ _ _ _ f 0 (omega arith) (3 * f) _ _ _ _ _ (omega arith) (c .before .before .before .before .before .before .before .before .before .before .before .before .before .before .before .before .before .read-u324 .ensures) a b c′ (c .before .before .before .before .before .before .before .before .before .before .before .before .before .before .perpendicular .ensures))
     (perpendicular-row _ _ _ _ f 1 (omega arith) (3 * f + 1) _ _ _ _ _ refl (c .before .before .before .before .before .before .before .before .before .before .before .before .before .before .before .before .read-u325 .ensures) b c′ a (c .before .before .before .before .before .before .before .before .before .before .before .before .before .perpendicular2 .ensures))
     (perpendicular-row _ _ _ _ f 2 (omega arith) (3 * f + 2) _ _ _ _ _ refl (c .before .before .before .before .before .before .before .before .before .before .before .before .before .before .before .read-u326 .ensures) c′ a b (c .before .before .before .before .before .before .before .before .before .before .before .before .perpendicular3 .ensures))

@@ -1,5 +1,6 @@
 use Prim.Native.Nat.{_+_}
 use native.Mathlib.Omega.{arith}
+use Rattle.layout.specs.Layout.{realsPerEdge}
 use Rattle.frames.proofs.Rows.{three-stored}
 use Rattle.frames.proofs.Turns.{length-row}
 use borrow.Author.Needs.{needs}
@@ -54,7 +55,7 @@ same-length c = search needs
 returns : tie.Need-returns
 returns c =
     let e = c .before .before .before .before .before .before .before .before .before .before .before .before .before .before .before .before .before .before .before .before .before .before .before .before .before .args .e in
-    three-stored 4 e _ _ _ _ _ _ _ _ _ _ (c .before .before .before .before .before .before .before .before .before .before .before .before .before .before .store-four .ensures) (c .before .before .before .before .before .before .before .before .store-four2 .ensures) (c .before .before .store-four3 .ensures)
+    three-stored realsPerEdge e _ _ _ _ _ _ _ _ _ _ (c .before .before .before .before .before .before .before .before .before .before .before .before .before .before .store-four .ensures) (c .before .before .before .before .before .before .before .before .store-four2 .ensures) (c .before .before .store-four3 .ensures)
     (length-row _ _ e _ _ _ (c .before .before .before .before .before .before .before .before .before .before .before .before .before .before .before .before .before .before .before .before .before .edge-vector .ensures) (c .before .before .before .before .before .before .before .before .before .before .before .before .before .before .before .before .before .before .norms .ensures .0) (c .before .before .before .before .before .before .before .before .before .before .before .before .before .before .before .scale .ensures))
     (length-row _ _ (e + 1) _ _ _ (c .before .before .before .before .before .before .before .before .before .before .before .before .before .before .before .before .before .before .before .before .edge-vector2 .ensures) (c .before .before .before .before .before .before .before .before .before .before .before .before .before .before .before .before .before .before .norms .ensures .1 .0) (c .before .before .before .before .before .before .before .before .before .scale2 .ensures))
     (length-row _ _ (e + 2) _ _ _ (c .before .before .before .before .before .before .before .before .before .before .before .before .before .before .before .before .before .before .before .edge-vector3 .ensures) (c .before .before .before .before .before .before .before .before .before .before .before .before .before .before .before .before .before .before .norms .ensures .1 .1) (c .before .before .before .scale3 .ensures))

@@ -1,5 +1,6 @@
 use Prim.Native.Nat.{_+_, _*_}
 use native.Mathlib.Omega.{arith}
+use Rattle.layout.specs.Layout.{realsPerNormal}
 use Rattle.frames.proofs.Rows.{three-stored}
 use Rattle.frames.proofs.Turns.{unit-row}
 use borrow.Author.Needs.{needs}
@@ -73,7 +74,7 @@ returns : tie.Need-returns
 returns c =
     let f = c .before .before .before .before .before .before .before .before .before .before .before .before .before .before .before .before .before .before .before .before .before .before .before .before .before .before .args .f in
     let r = c .before .before .before .before .before .before .before .before .before .before .before .before .before .before .before .before .before .before .before .before .before .before .before .before .before .before .args .reals .now in
-    three-stored 3 (3 * f) _ _ _ _ _ _ _ _ _ _ (c .before .before .before .before .before .before .before .before .before .before .before .before .before .before .store-three .ensures) (c .before .before .before .before .before .before .before .before .store-three2 .ensures) (c .before .before .store-three3 .ensures)
+    three-stored realsPerNormal (3 * f) _ _ _ _ _ _ _ _ _ _ (c .before .before .before .before .before .before .before .before .before .before .before .before .before .before .store-three .ensures) (c .before .before .before .before .before .before .before .before .store-three2 .ensures) (c .before .before .store-three3 .ensures)
     (unit-row r (3 * f) _ _ _ (c .before .before .before .before .before .before .before .before .before .before .before .before .before .before .before .before .before .before .before .before .before .before .before .vector .ensures) (c .before .before .before .before .before .before .before .before .before .before .before .before .before .before .before .before .before .before .norms .ensures .0) (c .before .before .before .before .before .before .before .before .before .before .before .before .before .before .before .scale .ensures))
     (unit-row r (3 * f + 1) _ _ _ (c .before .before .before .before .before .before .before .before .before .before .before .before .before .before .before .before .before .before .before .before .before .vector2 .ensures) (c .before .before .before .before .before .before .before .before .before .before .before .before .before .before .before .before .before .before .norms .ensures .1 .0) (c .before .before .before .before .before .before .before .before .before .scale2 .ensures))
     (unit-row r (3 * f + 2) _ _ _ (c .before .before .before .before .before .before .before .before .before .before .before .before .before .before .before .before .before .before .before .vector3 .ensures) (c .before .before .before .before .before .before .before .before .before .before .before .before .before .before .before .before .before .before .norms .ensures .1 .1) (c .before .before .before .scale3 .ensures))
