@@ -26,7 +26,7 @@ use Rattle.trim_model.proofs.Windows.{Wide}
 use Rattle.trim_model.proofs.Lists.{take-drop}
 use Rattle.trim_model.proofs.Order.{Tidy}
 use Rattle.trim_model.proofs.Turns.{run-is}
-use Rattle.trim_model.proofs.Seat.{seatAll}
+use Rattle.trim_model.specs.Seat.{seatAll}
 use Rattle.trim_state.specs.State as state
 use Rattle.trim_state.specs.State.{State, Result, put, finish}
 use Rattle.trim_state.specs.Trace.{visitings, keeping, adding}

@@ -16,7 +16,8 @@ use Rattle.actions.specs.Actions.{Action, touch, winsWith, winsAfter, play}
 use Rattle.actions.proofs.Play.{wins-none, wins-append, play-nil, play-stop-append, play-go-append}
 use Rattle.trim_model.specs.Intervals.{width, pushIf, wideOf}
 use Rattle.trim_model.specs.Windows.{Window, part, fresh, takeWhile, dropWhile}
-use Rattle.trim_model.proofs.Seat.{startsUnder, seatFront, seatRest, seatAll, seat-all-nil, seat-all-next}
+use Rattle.trim_model.specs.Seat.{startsUnder, seatFront, seatRest, seatAll}
+use Rattle.trim_model.proofs.Seat.{seat-all-nil, seat-all-next}
 use Rattle.trim_state.specs.State.{put}
 use Rattle.trim_state.specs.Trace.{near, winOf, making, touching, keeping}
 use Rattle.trim_state.proofs.Turns.{wide-skip, wide-end, keeping-none, keeping-some}

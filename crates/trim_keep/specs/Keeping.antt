@@ -9,7 +9,7 @@ use Rattle.windows.specs.declared.WindowRecord.{WindowRecord}
 use Rattle.actions.specs.Actions as actions
 use Rattle.actions.specs.Actions.{winsAfter, play}
 use Rattle.trim_model.specs.Windows.{Window, fresh}
-use Rattle.trim_model.proofs.Seat.{seatAll}
+use Rattle.trim_model.specs.Seat.{seatAll}
 use Rattle.trim_state.specs.State.{put}
 use Rattle.trim_state.specs.Trace.{keeping}
 use Rattle.live_windows.specs.Live.{Holds, lastLink}

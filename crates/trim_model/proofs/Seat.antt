@@ -15,6 +15,7 @@ use Rattle.better.specs.Stretches.{Interval}
 use Rattle.better.specs.Claim.{All, Pairs, Point}
 use Rattle.trim_model.specs.Intervals.{width, pushIf, wideOf}
 use Rattle.trim_model.specs.Windows.{Window, fresh, insert, takeWhile, dropWhile}
+use Rattle.trim_model.specs.Seat.{startsUnder, seatFront, seatRest, seatAll}
 use Rattle.trim_model.specs.Add.{Better, before, run, behind, addTo}
 use Rattle.trim_model.proofs.Ranks.{rank, rank-lt, Nonneg, wide-pos, by-cases}
 use Rattle.trim_model.proofs.Lists.{all-map, all-map2, all-append, all-left, all-right, take-drop}
@@ -25,30 +26,13 @@ use Rattle.trim_model.proofs.Order.{Tidy, top, walked-ok, news-fine, lo
 use Rattle.trim_model.proofs.Insertion.{insertAll, Start}
 use Rattle.trim_model.proofs.InPlace.{ended, add-in-place}
 
--- v starts before n, by `total_cmp`
-abbrev pub startsUnder : Window → Window → Bool
-startsUnder n v = totalLess (v .b0) (n .b0)
-
--- the same, as a fact
+-- v starts before n, as a fact
 abbrev pub Under : Window → Window → Type 0
 Under n v = startsUnder n v ≡ true
-
--- n set in behind xs: the part up to and including n
-abbrev pub seatFront : Window → List Window → List Window → List Window
-seatFront n xs zs = xs ++ (takeWhile (startsUnder n) zs ++ (n ∷ []))
-
--- what is left behind n
-abbrev pub seatRest : Window → List Window → List Window
-seatRest n zs = dropWhile (startsUnder n) zs
 
 -- the whole list
 abbrev pub seat : Window → List Window → List Window → List Window
 seat n xs zs = xs ++ (takeWhile (startsUnder n) zs ++ (n ∷ dropWhile (startsUnder n) zs))
-
--- the windows of the first list, one after the other, each behind the one before
-unfoldable pub seatAll : List Window → List Window → List Window → List Window
-seatAll [] xs zs = xs ++ zs
-seatAll (n ∷ ns) xs zs = seatAll ns (seatFront n xs zs) (seatRest n zs)
 
 -- the whole list is the two parts
 pub seat-parts : (n : Window) (xs zs : List Window) → seat n xs zs ≡ seatFront n xs zs ++ seatRest n zs

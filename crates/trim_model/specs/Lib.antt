@@ -3,3 +3,4 @@ pub mod Windows
 pub mod Add
 pub mod Model
 pub mod Claim
+pub mod Seat

@@ -19,7 +19,8 @@ use Rattle.trim_model.proofs.Order.{Tidy}
 use Rattle.trim_model.proofs.Demand3.{stretches}
 use Rattle.trim_model.proofs.Model.{not-or}
 use Rattle.trim_model.proofs.Forward.{before-is}
-use Rattle.trim_model.proofs.Seat.{seatAll, Ready, news-ready, add-seated}
+use Rattle.trim_model.specs.Seat.{seatAll}
+use Rattle.trim_model.proofs.Seat.{Ready, news-ready, add-seated}
 use Rattle.trim_model.proofs.Turns.{run-is, behind-is}
 
 -- tiny of a proper candidate's edge is not below zero
