@@ -3,7 +3,7 @@ use Prim.Native.Nat.{ℕ, _+_, _≤_, _<_}
 use mathlib.Core.List.{List, [], _∷_, _++_}
 use mathlib.Core.Path.{_≡_, refl, sym, ap, _∙_, subst}
 use native.Mathlib.Omega.{arith}
-use lib.ListN.{length}
+use lib.ListN.{length, length-append}
 use lib.Ieee.{Float}
 use borrow.Author.Tests.{le-leb, lt-leb}
 use Rattle.buffers.specs.declared.Lack.{Lack}
@@ -49,12 +49,8 @@ unfolding nums
 nums-length [] = refl
 nums-length (u ∷ us) = omega (arith, nums-length us)
 
-length-both : (xs zs : List Window) → length (xs ++ zs) ≡ length xs + length zs
-length-both [] zs = omega arith
-length-both (x ∷ xs) zs = omega (arith, length-both xs zs)
-
 part-few : (xs zs us : List Window) (n : ℕ) → xs ++ zs ≡ us → length us ≤ n → length zs ≤ n
-part-few xs zs us n h i = omega (arith, length-both xs zs, ap length h, i)
+part-few xs zs us n h i = omega (arith, length-append xs zs, ap length h, i)
 
 module _ (cuts windows : ℕ) (limit : Float) (flags : List ℕ) (e : Edge) (w : Window) (made queued : ℕ) (lk : Links) (f : List Float) (q : Queue) (vertex : List Float) where
   abbrev t : Float
