@@ -1,14 +1,13 @@
 -- The intervals of a buffer, one after the other. Assumes nothing.
 --     pairs-at       interval i of the n in front of a buffer
 --     pairs-from     from interval i on they are that one and those behind it; pairs-past, where there is none
---     pairs-front, pairs-split  the first i of them, and the others
 use Prim.Native.Nat.{ℕ, zero, suc, _+_, _≤_, _<_}
 use native.Mathlib.Omega.{arith}
 use native.Mathlib.Decide.{decLe}
-use mathlib.Core.Path.{_≡_, sym, ap, _∙_}
+use mathlib.Core.Path.{_≡_, ap, _∙_}
 use mathlib.Core.List.{List, [], _∷_, _++_}
-use lib.ListN.{take, drop, getD, take-append-drop, drop-of-length-le, List·getD-append}
-use lib.Seq.{drop-cons, getD-at, take-append-le, take-all}
+use lib.ListN.{drop, getD, drop-of-length-le, List·getD-append}
+use lib.Seq.{drop-cons, getD-at}
 use lib.Ieee.{Float, nan}
 use Rattle.better.specs.Stretches.{Interval, interval}
 use Rattle.better.specs.Buffers.{pairs}
@@ -34,15 +33,3 @@ module _ (b : List Float) where
 
   pub pairs-past : (n i : ℕ) → n ≤ i → drop i (pairs n b) ≡ []
   pairs-past n i h = drop-of-length-le (pairs n b) {i = i} (omega (arith, pairs-length n b))
-
-  pub pairs-front : (n i : ℕ) → i ≤ n → take i (pairs n b) ≡ pairs i b
-  pairs-front zero i h = let e : i ≡ 0 = omega arith in rw e
-  pairs-front (suc n) i h = go (λ k. pairs-front n i k) (decLe i n) where
-    go : (i ≤ n → take i (pairs n b) ≡ pairs i b) → Dec (i ≤ n) → take i (pairs n b ++ (entry n ∷ [])) ≡ pairs i b
-    go f (yes k) = take-append-le i (pairs n b) (entry n ∷ []) (omega (arith, pairs-length n b)) ∙ f k
-    go f (no k) =
-        let e : i ≡ suc n = omega arith in
-        rw e (take-all (suc n) (pairs (suc n) b) (omega (arith, pairs-length (suc n) b)))
-
-  pub pairs-split : (n i : ℕ) → i ≤ n → pairs n b ≡ pairs i b ++ drop i (pairs n b)
-  pairs-split n i h = sym (take-append-drop i (pairs n b)) ∙ ap (λ (l : List Interval). l ++ drop i (pairs n b)) (pairs-front n i h)

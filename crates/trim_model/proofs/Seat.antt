@@ -1,6 +1,6 @@
 -- The new windows set in by one walk forward: each is seated before the first window behind the last one seated that does not start before it. Assumes nothing.
 use Prim.Native.Nat.{ℕ, suc, _≤_, _<_}
-use mathlib.Core.Bool.{Bool, true, false, not, cond}
+use mathlib.Core.Bool.{Bool, true, not, cond}
 use mathlib.Core.List.{List, [], _∷_, _++_, append-assoc}
 use mathlib.Core.Path.{_≡_, refl, sym, ap, _∙_, subst}
 use native.Mathlib.Omega.{arith}
@@ -50,41 +50,6 @@ pub insert-seat : (n : Window) (xs zs : List Window) → All (Under n) xs → in
 unfolding insertBy
 insert-seat n [] zs h = insert-at n zs
 insert-seat n (u ∷ us) zs h = ap (λ (c : Bool). cond c (u ∷ insert n (us ++ zs)) (n ∷ u ∷ (us ++ zs))) (h .0) ∙ ap (λ (l : List Window). u ∷ l) (insert-seat n us zs (h .1))
-
--- ---- the walk to n's seat, turn by turn
--- v starts before n and is passed
-module _ (n : Window) (xs : List Window) (v : Window) (zs : List Window) (h : startsUnder n v ≡ true) where
-  -- it comes to the part before n
-  pub seat-front-pass : seatFront n xs (v ∷ zs) ≡ seatFront n (xs ++ (v ∷ [])) zs
-  unfolding takeWhile
-  seat-front-pass = ap (λ (c : Bool). xs ++ (cond c (v ∷ takeWhile (startsUnder n) zs) [] ++ (n ∷ []))) h ∙ sym (append-assoc xs (v ∷ []) (takeWhile (startsUnder n) zs ++ (n ∷ [])))
-
-  -- and leaves the rest as it was
-  pub seat-rest-pass : seatRest n (v ∷ zs) ≡ seatRest n zs
-  unfolding dropWhile
-  seat-rest-pass = ap (λ (c : Bool). cond c (dropWhile (startsUnder n) zs) (v ∷ zs)) h
-
--- it does not: n is seated before it
-module _ (n : Window) (xs : List Window) (v : Window) (zs : List Window) (h : startsUnder n v ≡ false) where
-  -- the part up to n ends
-  pub seat-front-here : seatFront n xs (v ∷ zs) ≡ xs ++ (n ∷ [])
-  unfolding takeWhile
-  seat-front-here = ap (λ (c : Bool). xs ++ (cond c (v ∷ takeWhile (startsUnder n) zs) [] ++ (n ∷ []))) h
-
-  -- and the rest starts with v
-  pub seat-rest-here : seatRest n (v ∷ zs) ≡ v ∷ zs
-  unfolding dropWhile
-  seat-rest-here = ap (λ (c : Bool). cond c (dropWhile (startsUnder n) zs) (v ∷ zs)) h
-
--- there is none left: n is seated last
-pub seat-front-end : (n : Window) (xs : List Window) → seatFront n xs [] ≡ xs ++ (n ∷ [])
-unfolding takeWhile
-seat-front-end n xs = refl
-
--- and nothing is left
-pub seat-rest-end : (n : Window) → seatRest n [] ≡ []
-unfolding dropWhile
-seat-rest-end n = refl
 
 -- ---- one new window after the other
 -- none is left

@@ -1,22 +1,21 @@
 -- The actions of an addition turn by turn: of the loop over the run, of the pieces of one window, and of the loop over `keep`. Assumes nothing.
 use Prim.Native.Nat.{ℕ, suc}
 use mathlib.Core.Bool.{Bool, true, false, not, cond}
-use mathlib.Core.List.{List, [], _∷_, _++_, append-assoc}
-use mathlib.Core.Path.{_≡_, refl, ap, _∙_}
+use mathlib.Core.List.{List, [], _∷_, _++_}
+use mathlib.Core.Path.{_≡_, refl, ap}
 use lib.ListN.{length}
 use lib.Ieee.{Float, le}
 use Rattle.float64.specs.Notation.{_⊕_}
 use Rattle.better.specs.Points.{ptsOf, walkOf}
 use Rattle.better.specs.Stretches.{Interval, betterOf}
 use Rattle.windows.specs.declared.Edge.{Edge}
-use Rattle.actions.specs.Actions.{Action, list, Stock, Outcome, stopped, went, play}
-use Rattle.actions.proofs.Play.{play-stop-append, play-go-append}
+use Rattle.actions.specs.Actions.{Action, list}
 use Rattle.trim_model.specs.Intervals.{width, tinyOf, pushIf, next, pieces, wideOf}
 use Rattle.trim_model.specs.Windows.{Window, part, takeWhile, dropWhile}
-use Rattle.trim_model.specs.Add.{Walk, startsBefore, passes, run, sharedLo, sharedHi, start, visit, visits}
+use Rattle.trim_model.specs.Add.{Walk, startsBefore, passes, run, sharedLo, sharedHi, start, visits}
 use Rattle.trim_model.proofs.Order.{Tidy}
-use Rattle.trim_model.proofs.Turns.{take-yes, take-no, take-nil, run-is}
-use Rattle.trim_state.specs.Trace.{making, makings, splitting, losing, visiting, visitings, touching, keeping, adding}
+use Rattle.trim_model.proofs.Turns.{run-is}
+use Rattle.trim_state.specs.Trace.{making, splitting, losing, visiting, visitings, touching, keeping, adding}
 
 -- ---- one window of the run
 -- `better`'s two lists, `next`, then the pieces of u
@@ -54,21 +53,6 @@ losing-some e t u n g gs = refl
 module _ (e : ℕ) (t : Float) (w : Window) where
   abbrev from-here : List Window → Walk → List Action
   from-here zs s = visitings e t w (takeWhile (startsBefore (w .b1 ⊕ t)) zs) s
-
-  -- a window of the run: its actions, then those of the rest
-  pub visitings-turn : (u : Window) (zs : List Window) (s : Walk) → startsBefore (w .b1 ⊕ t) u ≡ true → from-here (u ∷ zs) s ≡ visiting e t w u s ++ from-here zs (visit betterOf t w u s)
-  unfolding visitings
-  visitings-turn u zs s h = ap (λ (us : List Window). visitings e t w us s) (take-yes (startsBefore (w .b1 ⊕ t)) u zs h)
-
-  -- the first window behind the run
-  pub visitings-over : (u : Window) (zs : List Window) (s : Walk) → startsBefore (w .b1 ⊕ t) u ≡ false → from-here (u ∷ zs) s ≡ []
-  unfolding visitings
-  visitings-over u zs s h = ap (λ (us : List Window). visitings e t w us s) (take-no (startsBefore (w .b1 ⊕ t)) u zs h)
-
-  -- there is no window left
-  pub visitings-end : (s : Walk) → from-here [] s ≡ []
-  unfolding visitings
-  visitings-end s = ap (λ (us : List Window). visitings e t w us s) (take-nil (startsBefore (w .b1 ⊕ t)))
 
   -- the whole walk of an addition to a tidy list, from the first window that is not passed
   pub visitings-start : (l : List Window) (made : ℕ) → Tidy t l → visitings e t w (run t w l) (start w made) ≡ from-here (dropWhile (passes t (w .b0)) l) (start w made)
