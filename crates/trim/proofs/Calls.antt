@@ -217,7 +217,7 @@ pub seat-ready : (e made before made′ last k cuts : ℕ) (s s′ : Slices) →
 seat-ready e made before made′ last k cuts s s′ same r i h = ready-same e made′ before s s′ same (r .edge) (h .0) (le-trans i (h .1 .1 .1))
 
 pub kept-fit : (size k : ℕ) (out keep next keep′ : List Float) → Sizes size out keep next → length keep′ ≡ length keep → k ≤ size → k + k ≤ length keep′
-kept-fit size k keep out next keep′ h same i = omega (arith, h .keeps, same, i)
+kept-fit size k out keep next keep′ h same i = omega (arith, h .keeps, same, i)
 
 pub bounded-in : (s s′ : Slices) (r : Made) → SameLengths s s′ → Bounded (windowsOf s′) r → Bounded (windowsOf s) r
 bounded-in s s′ r same = subst (λ (n : ℕ). Bounded n r) (same-windows s s′ same)

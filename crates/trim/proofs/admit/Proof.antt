@@ -52,7 +52,7 @@ keep-parts-requires c κs =
             keys = visits .kept .1 .1 .1 .0;
             events = visits .kept .1 .1 .1 .1 .0;
           }) (start .pre .0) (pass-front .ensures .made) b,
-      kept-fit (length (a .pts .now)) (visited2 .given .0 .1 .1 .0) (a .keep .now) (a .out .now) (a .next .now)
+      kept-fit (length (a .pts .now)) (visited2 .given .0 .1 .1 .0) (a .out .now) (a .keep .now) (a .next .now)
           (visits .last .1 .1 .1 .1 .1 .1 .1 .0) (start .pre .1) (visits .kept .1 .1 .1 .1 .1 .1 .1 .0 ∙ at-whole .whole .kept .0) (b .1 .1 .0),
     )
 
