@@ -36,6 +36,9 @@ returns-7 : tie.Need-returns-7
 unfolding wrongCounts
 returns-7 c = sym (next-of _ _ _ (ap not (eq-eqb _ _ (c .before .before .before .before .before .before .if1 .left))) (next-of _ _ _ (ap not (eq-eqb _ _ (c .before .before .before .before .before .if2 .left))) (next-of _ _ _ (le-ltb _ _ (c .before .before .before .before .if3 .left)) (next-of _ _ _ (le-ltb _ _ (c .before .before .before .if4 .left)) (next-of _ _ _ (le-ltb _ _ (c .before .before .if5 .left)) (next-of _ _ _ (ap not (eq-eqb _ _ (c .before .if6 .left))) (one-holds _ _ (ap not (ne-eqb _ _ (c .if7 .taken))))))))))
 
+cast-if8 : tie.Need-cast-if8
+cast-if8 c = search needs
+
 mul-if8 : tie.Need-mul-if8
 mul-if8 c = search needs
 
@@ -58,6 +61,7 @@ wrong-counts-spec =
     returns-5
     returns-6
     returns-7
+    cast-if8
     mul-if8
     returns-8
     returns-9)
