@@ -7,6 +7,7 @@ use borrow.Author.Tests.{le-ltb}
 use lib.Dec.{eqb}
 use lib.ListN.{length, getD}
 use lib.Ieee.{Float, nan, inf, fin, lt, le}
+use Rattle.layout.specs.Layout.{wordsPerVertex, vertexFlag, realsPerVertex, vertexEmitted}
 use Rattle.heap.specs.declared.Event.{Event}
 use Rattle.heap.specs.declared.Pushed.{Pushed}
 use Rattle.heap.specs.declared.Pushed.the-variants.{Queued}
@@ -22,9 +23,9 @@ below-nan (fin s m e) = refl
 
 module _ (cuts windows : ℕ) (limit : Float) (flags : List ℕ) (made n : ℕ) (q : Queue) (vertex : List Float) where
   -- a vertex whose two numbers are not both there is not reached
-  pub touch-half : (v : ℕ) (d : Float) → length vertex ≤ 2 * v + 1 → act cuts windows limit flags (touch v d) (stock made n q vertex) ≡ went (stock made n q vertex)
+  pub touch-half : (v : ℕ) (d : Float) → length vertex ≤ realsPerVertex * v + vertexEmitted → act cuts windows limit flags (touch v d) (stock made n q vertex) ≡ went (stock made n q vertex)
   unfolding act
-  touch-half v d h = rw (le-ltb (2 * v + 1) (length vertex) h, below-nan d)
+  touch-half v d h = rw (le-ltb (realsPerVertex * v + vertexEmitted) (length vertex) h, below-nan d)
 
   -- what `heap::push` ensures
   pub push-is : (e : Event) (p : Pushed × Queue) → p ≡ pushing q n e → act cuts windows limit flags (push e) (stock made n q vertex) ≡ queueing made vertex p
@@ -36,19 +37,19 @@ module _ (cuts windows : ℕ) (limit : Float) (flags : List ℕ) (made n : ℕ) 
     unfolding act queueing
     touch-longer h = let k : lt d (distanceOf vertex v) ≡ false = ap (lt d) (sym isRead) ∙ h in rw k
 
-    module _ (shorter : lt d r ≡ true) (vertex' : List Float) (isWritten : vertex' ≡ withDistance vertex v d) (f : Bool) (isFlag : f ≡ eqb (getD flags (3 * v + 2) 0) 1) where
+    module _ (shorter : lt d r ≡ true) (vertex' : List Float) (isWritten : vertex' ≡ withDistance vertex v d) (f : Bool) (isFlag : f ≡ eqb (getD flags (wordsPerVertex * v + vertexFlag) 0) 1) where
       pub touch-unflagged : f ≡ false → act cuts windows limit flags (touch v d) (stock made n q vertex) ≡ queueing made vertex' (Queued n, q)
       unfolding act queueing
       touch-unflagged h =
           let k : lt d (distanceOf vertex v) ≡ true = ap (lt d) (sym isRead) ∙ shorter in
-          let u : eqb (getD flags (3 * v + 2) 0) 1 ≡ false = sym isFlag ∙ h in
+          let u : eqb (getD flags (wordsPerVertex * v + vertexFlag) 0) 1 ≡ false = sym isFlag ∙ h in
           rw (k, u, isWritten)
 
       pub touch-beyond : f ≡ true → le d limit ≡ false → act cuts windows limit flags (touch v d) (stock made n q vertex) ≡ queueing made vertex' (Queued n, q)
       unfolding act queueing
       touch-beyond h b =
           let k : lt d (distanceOf vertex v) ≡ true = ap (lt d) (sym isRead) ∙ shorter in
-          let u : eqb (getD flags (3 * v + 2) 0) 1 ≡ true = sym isFlag ∙ h in
+          let u : eqb (getD flags (wordsPerVertex * v + vertexFlag) 0) 1 ≡ true = sym isFlag ∙ h in
           rw (k, u, b, isWritten)
 
       pub touch-queued : f ≡ true → le d limit ≡ true → (e : Event) → e ≡ record { key = d; item = Vertex (record { 0 = v }) } → (p : Pushed × Queue) → p ≡ pushing q n e
@@ -56,5 +57,5 @@ module _ (cuts windows : ℕ) (limit : Float) (flags : List ℕ) (made n : ℕ) 
       unfolding act
       touch-queued h b e isEvent p isPushed =
           let k : lt d (distanceOf vertex v) ≡ true = ap (lt d) (sym isRead) ∙ shorter in
-          let u : eqb (getD flags (3 * v + 2) 0) 1 ≡ true = sym isFlag ∙ h in
+          let u : eqb (getD flags (wordsPerVertex * v + vertexFlag) 0) 1 ≡ true = sym isFlag ∙ h in
           rw (k, u, b, isWritten, isPushed, isEvent)

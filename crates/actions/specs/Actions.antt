@@ -5,6 +5,7 @@ use mathlib.Core.List.{List, [], _∷_, _++_}
 use lib.Dec.{ltb, leb, eqb}
 use lib.ListN.{length, getD, set}
 use lib.Ieee.{Float, nan, lt, le}
+use Rattle.layout.specs.Layout.{wordsPerVertex, vertexFlag, realsPerVertex, vertexDistance, vertexEmitted}
 use Rattle.buffers.specs.declared.Lack.the-variants.{Windows, Cuts}
 use Rattle.buffers.specs.Lack.{lackNumber}
 use Rattle.float64.specs.Notation.{if_then_else_}
@@ -41,10 +42,10 @@ stock made queued queue vertex = record { made = made; queued = queued; queue = 
 
 -- the Rust's `vertex[v]`, of a vertex whose two numbers are there, and with d in its place
 abbrev pub distanceOf : List Float → ℕ → Float
-distanceOf vertex v = cond (ltb (2 * v + 1) (length vertex)) (getD vertex (2 * v + 0) nan) nan
+distanceOf vertex v = cond (ltb (realsPerVertex * v + vertexEmitted) (length vertex)) (getD vertex (realsPerVertex * v + vertexDistance) nan) nan
 
 abbrev pub withDistance : List Float → ℕ → Float → List Float
-withDistance vertex v d = set vertex (2 * v + 0) d
+withDistance vertex v d = set vertex (realsPerVertex * v + vertexDistance) d
 
 -- what a push answers
 unfoldable pub queueing : ℕ → List Float → Pushed × Queue → Outcome
@@ -69,8 +70,7 @@ unfolding winsWith
 winsAfter [] wins = wins
 winsAfter (a ∷ rest) wins = winsAfter rest (winsWith a wins)
 
--- ---- the cut buffer's count and the window buffer's, the limit, and the vertices' words, three for each: the third is 1 where a vertex passes distances
--- round itself
+-- ---- the cut buffer's count and the window buffer's, the limit, and the vertices' words: a vertex's flag is 1 where it passes distances round itself
 module _ (cuts windows : ℕ) (limit : Float) (vertexWords : List ℕ) where
   unfoldable pub act : Action → Stock → Outcome
   unfolding queueing
@@ -82,7 +82,7 @@ module _ (cuts windows : ℕ) (limit : Float) (vertexWords : List ℕ) where
   act (touch v d) s =
       if lt d (distanceOf (s .vertex) v) then
       (let vertex = withDistance (s .vertex) v d in
-      if eqb (getD vertexWords (3 * v + 2) 0) 1 && le d limit then
+      if eqb (getD vertexWords (wordsPerVertex * v + vertexFlag) 0) 1 && le d limit then
       queueing (s .made) vertex (pushing (s .queue) (s .queued) (record { key = d; item = Vertex (record { 0 = v }) }))
       else went (stock (s .made) (s .queued) (s .queue) vertex))
       else went s

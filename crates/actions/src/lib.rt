@@ -3,19 +3,25 @@ use buffers::VertexId;
 use buffers::read_u32;
 use buffers::write_f64;
 use heap::Pushed;
+use layout::REALS_PER_VERTEX;
+use layout::VERTEX_DISTANCE;
+use layout::VERTEX_EMITTED;
+use layout::VERTEX_FLAG;
+use layout::WORDS_PER_VERTEX;
 ghost use mathlib.Core.Path.{_≡_};
 ghost use Prim.Native.Nat.{ℕ, _+_, _*_};
 ghost use lib.Dec.{eqb};
 ghost use lib.ListN.{getD};
+ghost use Rattle.layout.specs.Layout.{wordsPerVertex, vertexFlag};
 ghost use Rattle.heap.specs.Queue.{queue};
 ghost use Rattle.actions.specs.Actions.{stock, distanceOf, queueing, act};
 ghost use Rattle.actions.specs.Actions.{touch as Action·touch};
 
 // Whether vertex v passes distances round itself.
 fn flagged(vertex_words: &[u32], v: VertexId) -> bool
-    ensures { λ r. ⌜ r ≡ eqb (getD (now («vertex_words» .entry)) (3 * v .0 + 2) 0) 1 ⌝ }
+    ensures { λ r. ⌜ r ≡ eqb (getD (now («vertex_words» .entry)) (wordsPerVertex * v .0 + vertexFlag) 0) 1 ⌝ }
 {
-    if read_u32(vertex_words, 3, v.0, 2) == 1 {
+    if read_u32(vertex_words, WORDS_PER_VERTEX, v.0, VERTEX_FLAG) == 1 {
         return true;
     }
     false
@@ -25,9 +31,9 @@ fn flagged(vertex_words: &[u32], v: VertexId) -> bool
 fn distance(vertex: &[f64], v: VertexId) -> f64
     ensures { λ r. ⌜ r ≡ distanceOf (now (vertex .entry)) (v .0) ⌝ }
 {
-    let i = 2 * (v.0 as usize);
-    if i + 1 < vertex.len() {
-        return vertex[i];
+    let i = (REALS_PER_VERTEX as usize) * (v.0 as usize);
+    if i + (VERTEX_EMITTED as usize) < vertex.len() {
+        return vertex[i + (VERTEX_DISTANCE as usize)];
     }
     0.0 / 0.0
 }
@@ -47,7 +53,7 @@ pub fn touch(
     ensures { λ r. ⌜ ((cuts windows made : ℕ) → act cuts windows limit (now («vertex_words» .entry)) (Action·touch (v .0) d) (stock made n (queue (now (keys .entry)) (now (words .entry))) (now (vertex .entry))) ≡ queueing made (now (vertex .exit)) (r, queue (now (keys .exit)) (now (words .exit)))) ⌝ }
 {
     if d < distance(vertex, v) {
-        write_f64(vertex, 2, v.0, 0, d);
+        write_f64(vertex, REALS_PER_VERTEX, v.0, VERTEX_DISTANCE, d);
         if flagged(vertex_words, v) {
             if d <= limit {
                 return heap::push(keys, words, n, heap::vertex_event(d, v));

@@ -8,6 +8,7 @@ use mathlib.Core.List.{List, []}
 use mathlib.Core.Logic.{_≢_}
 use lib.ListN.{getD, set, length, length-set}
 use lib.Seq.{getD-set-other}
+use Rattle.layout.specs.Layout.{wordsPerEdge, edgeHead, wordsPerWindow, windowEdge, windowFlags, windowLink, lineFlag}
 use Rattle.nat_laws.specs.Lists.{All}
 use Rattle.nat_laws.proofs.Lists.{all-of, all-map, all-map2}
 use Rattle.buffers.specs.Slots.{slot}
@@ -21,17 +22,17 @@ use Rattle.chains.specs.Chains.{Links, links, headOf, edgeOf, nextOf, wi
 -- ---- a store of a link changes nothing of the windows but links, and nothing of the edges but one head
 pub record OnlyLinks (w w′ : List ℕ) : Type 0 where
   pub same-length : length w′ ≡ length w
-  pub fields : (i a : ℕ) → a < 3 → getD w′ (4 * i + a) 0 ≡ getD w (4 * i + a) 0
+  pub fields : (i a : ℕ) → a < windowLink → getD w′ (wordsPerWindow * i + a) 0 ≡ getD w (wordsPerWindow * i + a) 0
 
 pub record OnlyHead (e : ℕ) (v v′ : List ℕ) : Type 0 where
   pub same-length : length v′ ≡ length v
-  pub fields : (p : ℕ) → p ≢ 6 * e + 4 → getD v′ p 0 ≡ getD v p 0
+  pub fields : (p : ℕ) → p ≢ wordsPerEdge * e + edgeHead → getD v′ p 0 ≡ getD v p 0
 
 only-none : (w : List ℕ) → OnlyLinks w w
 only-none w = record { same-length = refl; fields = λ i a h. refl }
 
 only-set : (w : List ℕ) (k v : ℕ) → OnlyLinks w (linkWith w k v)
-only-set w k v = record { same-length = simp length-set; fields = λ i a h. other-fields 4 w k i 3 a v 0 (omega arith) (omega arith) (omega arith) }
+only-set w k v = record { same-length = simp length-set; fields = λ i a h. other-fields wordsPerWindow w k i windowLink a v 0 (omega arith) (omega arith) (omega arith) }
 
 pub only-with : (b : Links) (e k v : ℕ) → OnlyLinks (b .words) (withLink b e k v .words)
 unfolding withLink
@@ -40,7 +41,7 @@ only-with b e (suc k) v = only-set (b .words) k v
 
 pub head-with : (b : Links) (e k v : ℕ) → OnlyHead e (b .edges) (withLink b e k v .edges)
 unfolding withLink
-head-with b e zero v = record { same-length = simp length-set; fields = λ p ne. getD-set-other (b .edges) (6 * e + 4) p v 0 ne }
+head-with b e zero v = record { same-length = simp length-set; fields = λ p ne. getD-set-other (b .edges) (wordsPerEdge * e + edgeHead) p v 0 ne }
 head-with b e (suc k) v = record { same-length = refl; fields = λ p ne. refl }
 
 -- ---- what chains see of a window
@@ -48,16 +49,16 @@ pub record Agrees (w w′ : List ℕ) (i : ℕ) : Type 0 where
   pub edge : edgeOf w′ i ≡ edgeOf w i
   pub next : nextOf w′ i ≡ nextOf w i
 
-slot-agrees : (w w′ : List ℕ) (i : ℕ) → slot 4 w′ i ≡ slot 4 w i → Agrees w w′ i
-slot-agrees w w′ i h = record { edge = field 0 (omega arith); next = field 3 (omega arith) } where
-  field : (a : ℕ) → a < 4 → getD w′ (4 * i + a) 0 ≡ getD w (4 * i + a) 0
-  field a l = sym (slot-at 4 w′ i a 0 l) ∙ ap (λ s. getD s a 0) h ∙ slot-at 4 w i a 0 l
+slot-agrees : (w w′ : List ℕ) (i : ℕ) → slot wordsPerWindow w′ i ≡ slot wordsPerWindow w i → Agrees w w′ i
+slot-agrees w w′ i h = record { edge = field windowEdge (omega arith); next = field windowLink (omega arith) } where
+  field : (a : ℕ) → a < wordsPerWindow → getD w′ (wordsPerWindow * i + a) 0 ≡ getD w (wordsPerWindow * i + a) 0
+  field a l = sym (slot-at wordsPerWindow w′ i a 0 l) ∙ ap (λ s. getD s a 0) h ∙ slot-at wordsPerWindow w i a 0 l
 
 flags-agree : (w : List ℕ) (k : ℕ) (alive queued : Bool) (i : ℕ) → Agrees w (flagsWith w k alive queued) i
 unfolding flagsWith
-flags-agree w k alive queued i = record { edge = field 0 (omega arith) (omega arith); next = field 3 (omega arith) (omega arith) } where
-  field : (a : ℕ) → 2 ≢ a → a < 4 → getD (set w (4 * k + 2) (flagsOf (hasFlag (getD w (4 * k + 2) 0) 1) alive queued)) (4 * i + a) 0 ≡ getD w (4 * i + a) 0
-  field a ne l = other-fields 4 w k i 2 a (flagsOf (hasFlag (getD w (4 * k + 2) 0) 1) alive queued) 0 ne (omega arith) l
+flags-agree w k alive queued i = record { edge = field windowEdge (omega arith) (omega arith); next = field windowLink (omega arith) (omega arith) } where
+  field : (a : ℕ) → windowFlags ≢ a → a < wordsPerWindow → getD (set w (wordsPerWindow * k + windowFlags) (flagsOf (hasFlag (getD w (wordsPerWindow * k + windowFlags) 0) lineFlag) alive queued)) (wordsPerWindow * i + a) 0 ≡ getD w (wordsPerWindow * i + a) 0
+  field a ne l = other-fields wordsPerWindow w k i windowFlags a (flagsOf (hasFlag (getD w (wordsPerWindow * k + windowFlags) 0) lineFlag) alive queued) 0 ne (omega arith) l
 
 length-flags : (w : List ℕ) (k : ℕ) (alive queued : Bool) → length (flagsWith w k alive queued) ≡ length w
 unfolding flagsWith
@@ -76,7 +77,7 @@ module _ (made : ℕ) where
   pub all-set : (w : List ℕ) (e : ℕ) (is : List ℕ) (k v : ℕ) → AllBelong made w e is → AllBelong made (linkWith w k v) e is
   all-set w e is k v =
       all-same w (linkWith w k v) e is (simp length-set)
-      (all-of (λ i. edgeOf (linkWith w k v) i ≡ edgeOf w i) is (λ i. other-fields 4 w k i 3 0 v 0 (λ z. omega (arith, z)) (omega arith) (omega arith)))
+      (all-of (λ i. edgeOf (linkWith w k v) i ≡ edgeOf w i) is (λ i. other-fields wordsPerWindow w k i windowLink windowEdge v 0 (λ z. omega (arith, z)) (omega arith) (omega arith)))
 
   -- a window of another edge is not among them, so chains never meet
   pub elsewhere : (w : List ℕ) (e : ℕ) (is : List ℕ) (k : ℕ) → edgeOf w k ≢ e → AllBelong made w e is → Out k is
@@ -93,7 +94,7 @@ module _ (made : ℕ) where
     pub with-frame : (k v : ℕ) → Before made (b .words) e k → OnEdge made b e′ is → OnEdge made (withLink b e k v) e′ is
     unfolding withLink Before
     with-frame zero v h o =
-        record { path = rw (other-slot 6 (b .edges) e e′ 4 4 v 0 ne (omega arith) (omega arith)) (o .path); belong = o .belong }
+        record { path = rw (other-slot wordsPerEdge (b .edges) e e′ edgeHead edgeHead v 0 ne (omega arith) (omega arith)) (o .path); belong = o .belong }
     with-frame (suc k) v h o = set-frame k v h o
 
   -- below the count every window made is counted
@@ -139,5 +140,5 @@ module _ (made : ℕ) where
       let kept : OnEdge made (links (b .edges) w′) e is = chain-same b (links (b .edges) w′) e is refl (length-stored w made x) (all-map {P = λ i. made ≢ i} {Q = Agrees w w′} other is (new-out w e is (o .belong))) o in
       record { path = kept .path; belong = all-grown w′ e is (kept .belong) }
 
-  pub stored-belongs : (w : List ℕ) (x : WindowRecord) → 4 * made + 4 ≤ length w → Belongs (suc made) (wordsWith w made x) (x .edge .0) made
+  pub stored-belongs : (w : List ℕ) (x : WindowRecord) → wordsPerWindow * made + wordsPerWindow ≤ length w → Belongs (suc made) (wordsWith w made x) (x .edge .0) made
   stored-belongs w x h = record { edge = stored-edge w made x h; made = omega arith; there = rw (length-stored w made x) h }

@@ -7,6 +7,7 @@ use mathlib.Core.List.{List, [], _∷_, _++_}
 use mathlib.Core.Logic.{_≢_}
 use lib.ListN.{length, length-append}
 use lib.Seq.{getD-set-same}
+use Rattle.layout.specs.Layout.{wordsPerWindow, windowLink}
 use Rattle.nat_laws.specs.Lists.{All}
 use Rattle.nat_laws.proofs.Lists.{all-map, all-right}
 use Rattle.buffers.proofs.Strides.{other-slot}
@@ -62,7 +63,7 @@ path-same w w′ l (i ∷ is) h p = (p .0, rw (h .0) (path-same w w′ (nextOf w
 pub path-set : (w : List ℕ) (l : ℕ) (is : List ℕ) (k v : ℕ) → Out k is → Path w l is → Path (linkWith w k v) l is
 path-set w l is k v o =
     path-same w (linkWith w k v) l is
-    (all-map {P = λ i. k ≢ i} {Q = λ i. nextOf (linkWith w k v) i ≡ nextOf w i} (λ i ne. other-slot 4 w k i 3 3 v 0 ne (omega arith) (omega arith)) is o)
+    (all-map {P = λ i. k ≢ i} {Q = λ i. nextOf (linkWith w k v) i ≡ nextOf w i} (λ i ne. other-slot wordsPerWindow w k i windowLink windowLink v 0 ne (omega arith) (omega arith)) is o)
 
 -- from link l on the windows xs are passed, and the next is k
 unfoldable pub Front : List ℕ → ℕ → List ℕ → ℕ → Type 0
@@ -75,12 +76,12 @@ front-of w l [] k zs p = p .0
 front-of w l (x ∷ xs) k zs p = (p .0, front-of w (nextOf w x) xs k zs (p .1))
 
 -- the link of k points at the path vs
-pub splice : (w : List ℕ) (l : ℕ) (xs : List ℕ) (k : ℕ) (vs : List ℕ) (v : ℕ) → 4 * k + 4 ≤ length w → Out k xs → Out k vs
+pub splice : (w : List ℕ) (l : ℕ) (xs : List ℕ) (k : ℕ) (vs : List ℕ) (v : ℕ) → wordsPerWindow * k + wordsPerWindow ≤ length w → Out k xs → Out k vs
     → Front w l xs k → Path w v vs → Path (linkWith w k v) l (xs ++ k ∷ vs)
 unfolding Path Front
-splice w l [] k vs v b ox ov p q = (p, rw (getD-set-same w (4 * k + 3) v 0 (omega arith)) (path-set w v vs k v ov q))
+splice w l [] k vs v b ox ov p q = (p, rw (getD-set-same w (wordsPerWindow * k + windowLink) v 0 (omega arith)) (path-set w v vs k v ov q))
 splice w l (x ∷ xs) k vs v b ox ov p q =
-    (p .0, rw (other-slot 4 w k x 3 3 v 0 (ox .0) (omega arith) (omega arith)) (splice w (nextOf w x) xs k vs v b (ox .1) ov (p .1) q))
+    (p .0, rw (other-slot wordsPerWindow w k x windowLink windowLink v 0 (ox .0) (omega arith) (omega arith)) (splice w (nextOf w x) xs k vs v b (ox .1) ov (p .1) q))
 
 -- ---- the link at which a path starts
 pub path-first : (w : List ℕ) (l : ℕ) (zs : List ℕ) → Path w l zs → l ≡ firstLink zs

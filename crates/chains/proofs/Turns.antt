@@ -7,6 +7,7 @@ use mathlib.Core.List.{List}
 use mathlib.Core.Logic.{_≢_}
 use borrow.Author.Tests.{le-leb, lt-leb}
 use lib.ListN.{set}
+use Rattle.layout.specs.Layout.{wordsPerEdge, edgeHead}
 use Rattle.windows.specs.Windows.{linkWith}
 use Rattle.chains.specs.Chains.{Links, links, headOf, nextOf, linkIn, linkAt, withLink}
 
@@ -41,7 +42,7 @@ module _ (b : Links) (e : ℕ) where
   unfolding linkAt
   link-next k h = sym (from-link (linkAt b e) (nextOf (b .words)) (λ i. refl) k h)
 
-  pub with-head : (k v : ℕ) → k ≡ 0 → links (set (b .edges) (6 * e + 4) v) (b .words) ≡ withLink b e k v
+  pub with-head : (k v : ℕ) → k ≡ 0 → links (set (b .edges) (wordsPerEdge * e + edgeHead) v) (b .words) ≡ withLink b e k v
   unfolding withLink
   with-head k v h = rw h refl
 

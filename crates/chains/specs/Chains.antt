@@ -1,5 +1,5 @@
 -- The Rust's `on_edge` as chains of window numbers. A link is a window's number plus one, and 0 is none. An edge's slot has the
--- head of its chain, field 4 of 6; a window's slot has its edge and the next link (`edgeOf`, `linkOf` of windows).
+-- head of its chain; a window's slot has its edge and the next link (`edgeOf`, `linkOf` of windows).
 use Prim.Native.Nat.{ℕ, zero, suc, _+_, _*_, _≤_, _<_}
 use mathlib.Core.Bool.{cond}
 use mathlib.Core.List.{List, [], _∷_}
@@ -7,6 +7,7 @@ use mathlib.Core.Logic.{_≢_}
 use mathlib.Core.Path.{_≡_}
 use lib.Dec.{leb}
 use lib.ListN.{getD, set, length}
+use Rattle.layout.specs.Layout.{wordsPerEdge, edgeHead, wordsPerWindow}
 use Rattle.nat_laws.specs.Lists.{All}
 use Rattle.windows.specs.Windows.{linkOf, linkWith}
 use Rattle.windows.specs.Windows.{edgeOf as Windows·edgeOf}
@@ -19,7 +20,7 @@ abbrev pub links : List ℕ → List ℕ → Links
 links edges words = record { edges = edges; words = words }
 
 abbrev pub headOf : List ℕ → ℕ → ℕ
-headOf edges e = getD edges (6 * e + 4) 0
+headOf edges e = getD edges (wordsPerEdge * e + edgeHead) 0
 
 abbrev pub edgeOf : List ℕ → ℕ → ℕ
 edgeOf words i = Windows·edgeOf words i
@@ -37,7 +38,7 @@ linkAt b e zero = headOf (b .edges) e
 linkAt b e (suc k) = nextOf (b .words) k
 
 unfoldable pub withLink : Links → ℕ → ℕ → ℕ → Links
-withLink b e zero v = links (set (b .edges) (6 * e + 4) v) (b .words)
+withLink b e zero v = links (set (b .edges) (wordsPerEdge * e + edgeHead) v) (b .words)
 withLink b e (suc k) v = links (b .edges) (linkWith (b .words) k v)
 
 -- ---- what a chain is
@@ -54,7 +55,7 @@ Out i is = All (λ j. i ≢ j) is
 pub record Belongs (n : ℕ) (w : List ℕ) (e i : ℕ) : Type 0 where
   pub edge : edgeOf w i ≡ e
   pub made : i < n
-  pub there : 4 * i + 4 ≤ length w
+  pub there : wordsPerWindow * i + wordsPerWindow ≤ length w
 
 abbrev pub AllBelong : ℕ → List ℕ → ℕ → List ℕ → Type 0
 AllBelong n w e is = All (Belongs n w e) is

@@ -4,9 +4,14 @@
 use buffers::EdgeId;
 use buffers::read_u32;
 use buffers::write_u32;
+use layout::EDGE_HEAD;
+use layout::WINDOW_LINK;
+use layout::WORDS_PER_EDGE;
+use layout::WORDS_PER_WINDOW;
 ghost use mathlib.Core.Path.{_≡_};
 ghost use Prim.Native.Nat.{_+_, _-_, _≤_, _<_};
 ghost use lib.ListN.{length};
+ghost use Rattle.layout.specs.Layout.{wordsPerEdge};
 ghost use Rattle.buffers.specs.Slots.{slotsOf};
 ghost use Rattle.windows.specs.Windows.{capacityOf};
 ghost use Rattle.chains.specs.Chains.{links, linkIn, linkAt, withLink};
@@ -30,14 +35,14 @@ pub fn link_at(
     e: EdgeId,
     before: u32,
 ) -> u32
-    requires { ⌜ (e .0 < slotsOf (length (now edges)) 6) × (before ≤ count) × (count ≤ capacityOf (length (now words)) (length (now reals))) ⌝ }
+    requires { ⌜ (e .0 < slotsOf (length (now edges)) wordsPerEdge) × (before ≤ count) × (count ≤ capacityOf (length (now words)) (length (now reals))) ⌝ }
     ensures { λ r. ⌜ r ≡ linkIn count (linkAt (links (now (edges .entry)) (now (words .entry))) (e .0) before) ⌝ }
 {
     if before == 0 {
-        let head = read_u32(edges, 6, e.0, 4);
+        let head = read_u32(edges, WORDS_PER_EDGE, e.0, EDGE_HEAD);
         return within(head, count);
     }
-    let next = read_u32(words, 4, before - 1, 3);
+    let next = read_u32(words, WORDS_PER_WINDOW, before - 1, WINDOW_LINK);
     within(next, count)
 }
 
@@ -50,12 +55,12 @@ pub fn set_link(
     before: u32,
     link: u32,
 )
-    requires { ⌜ (e .0 < slotsOf (length (now edges)) 6) × (before ≤ count) × (count ≤ capacityOf (length (now words)) (length (now reals))) ⌝ }
+    requires { ⌜ (e .0 < slotsOf (length (now edges)) wordsPerEdge) × (before ≤ count) × (count ≤ capacityOf (length (now words)) (length (now reals))) ⌝ }
     ensures { λ r. ⌜ links (now (edges .exit)) (now (words .exit)) ≡ withLink (links (now (edges .entry)) (now (words .entry))) (e .0) before link ⌝ }
 {
     if before == 0 {
-        write_u32(edges, 6, e.0, 4, link);
+        write_u32(edges, WORDS_PER_EDGE, e.0, EDGE_HEAD, link);
         return;
     }
-    write_u32(words, 4, before - 1, 3, link);
+    write_u32(words, WORDS_PER_WINDOW, before - 1, WINDOW_LINK, link);
 }

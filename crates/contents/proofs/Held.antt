@@ -11,6 +11,7 @@ use lib.Dec.{eqb}
 use lib.ListN.{length, getD, take, drop, replicate, take-append-drop}
 use lib.Seq.{take-add, length-take-le}
 use lib.Ieee.{Float, nan}
+use Rattle.layout.specs.Layout.{wordsPerWindow, windowEdge, windowInto, windowFlags, windowLink, lineFlag, aliveFlag, queuedFlag, realsPerWindow, windowB0, windowB1, windowLow, windowS0, windowS1, windowS2}
 use Rattle.nat_laws.specs.Lists.{listOf}
 use Rattle.buffers.specs.Slots.{slot}
 use Rattle.buffers.proofs.Strides.{slot-at, length-slot}
@@ -46,7 +47,7 @@ six (a ∷ b ∷ c ∷ d ∷ e ∷ f ∷ g ∷ l) h = absurd (omega arith)
 
 -- ---- flags
 -- a number below 8 is what its flags make
-below-eight : (n : ℕ) → n < 8 → n ≡ flagsOf (hasFlag n 1) (hasFlag n 2) (hasFlag n 4)
+below-eight : (n : ℕ) → n < 8 → n ≡ flagsOf (hasFlag n lineFlag) (hasFlag n aliveFlag) (hasFlag n queuedFlag)
 below-eight zero h = refl
 below-eight (suc zero) h = refl
 below-eight (suc (suc zero)) h = refl
@@ -102,14 +103,14 @@ filled z l k n h d g =
     ∙ (λ t. d t ++ g t)
     ∙ ap (λ (j : ℕ). k ++ replicate (length l - j) z) (sym e)
 
-module _ (n : ℕ) (wins : List WindowRecord) (edges w : List ℕ) (f : List Float) (live : ℕ → List Window) (H : Holds n wins (links edges w) f live) (fitsWords : 4 * n ≤ length w) (fitsReals : 6 * n ≤ length f) where
+module _ (n : ℕ) (wins : List WindowRecord) (edges w : List ℕ) (f : List Float) (live : ℕ → List Window) (H : Holds n wins (links edges w) f live) (fitsWords : wordsPerWindow * n ≤ length w) (fitsReals : realsPerWindow * n ≤ length f) where
   abbrev x : ℕ → WindowRecord
   x i = bare (windowAt w f i)
 
   link-of : (i : ℕ) → i < n → linkOf w i ≡ cond (x i .alive) (linkAfter i (nums (live (x i .edge .0)))) (x i .link)
   unfolding bare relinked windowAt
-  link-of i l = go (hasFlag (flagsAt w i) 2) refl where
-    go : (b : Bool) → hasFlag (flagsAt w i) 2 ≡ b → linkOf w i ≡ cond b (linkAfter i (nums (live (edgeOf w i)))) (cond b 0 (linkOf w i))
+  link-of i l = go (hasFlag (flagsAt w i) aliveFlag) refl where
+    go : (b : Bool) → hasFlag (flagsAt w i) aliveFlag ≡ b → linkOf w i ≡ cond b (linkAfter i (nums (live (edgeOf w i)))) (cond b 0 (linkOf w i))
     go true h =
         let s = H .on-edge (edgeOf w i) in
         after-head w (headOf edges (edgeOf w i)) i (nums (live (edgeOf w i))) (s .chain .path) (s .complete i l refl h)
@@ -119,7 +120,7 @@ module _ (n : ℕ) (wins : List WindowRecord) (edges w : List ℕ) (f : List Flo
   unfolding bare relinked windowAt winAt
   flags-of i l =
       below-eight (flagsAt w i) (H .flags i l)
-      ∙ ap (λ b. flagsOf b (hasFlag (flagsAt w i) 2) (hasFlag (flagsAt w i) 4)) (sym (line-is (hasFlag (flagsAt w i) 1) (getD f (6 * i + 3) nan) (getD f (6 * i + 4) nan) (getD f (6 * i + 5) nan)))
+      ∙ ap (λ b. flagsOf b (hasFlag (flagsAt w i) aliveFlag) (hasFlag (flagsAt w i) queuedFlag)) (sym (line-is (hasFlag (flagsAt w i) lineFlag) (getD f (realsPerWindow * i + windowS0) nan) (getD f (realsPerWindow * i + windowS1) nan) (getD f (realsPerWindow * i + windowS2) nan)))
 
   edge-of : (i : ℕ) → edgeOf w i ≡ x i .edge .0
   unfolding bare relinked windowAt
@@ -129,53 +130,53 @@ module _ (n : ℕ) (wins : List WindowRecord) (edges w : List ℕ) (f : List Flo
   unfolding bare relinked windowAt
   into-of i = refl
 
-  words-at : (i : ℕ) → i < n → slot 4 w i ≡ fourWords live i (x i)
+  words-at : (i : ℕ) → i < n → slot wordsPerWindow w i ≡ fourWords live i (x i)
   words-at i l =
-      let h : 4 * i + 4 ≤ length w = omega (arith, l, fitsWords) in
-      four (slot 4 w i) (length-slot 4 w i h)
-      ∙ (λ t. slot-at 4 w i 0 0 (omega arith) t ∷ slot-at 4 w i 1 0 (omega arith) t ∷ slot-at 4 w i 2 0 (omega arith) t ∷ slot-at 4 w i 3 0 (omega arith) t ∷ [])
+      let h : wordsPerWindow * i + wordsPerWindow ≤ length w = omega (arith, l, fitsWords) in
+      four (slot wordsPerWindow w i) (length-slot wordsPerWindow w i h)
+      ∙ (λ t. slot-at wordsPerWindow w i windowEdge 0 (omega arith) t ∷ slot-at wordsPerWindow w i windowInto 0 (omega arith) t ∷ slot-at wordsPerWindow w i windowFlags 0 (omega arith) t ∷ slot-at wordsPerWindow w i windowLink 0 (omega arith) t ∷ [])
       ∙ (λ t. edge-of i t ∷ into-of i t ∷ flags-of i l t ∷ link-of i l t ∷ [])
 
-  reals-at : (i : ℕ) → i < n → slot 6 f i ≡ sixReals (x i)
+  reals-at : (i : ℕ) → i < n → slot realsPerWindow f i ≡ sixReals (x i)
   unfolding bare relinked windowAt winAt
   reals-at i l =
-      let h : 6 * i + 6 ≤ length f = omega (arith, l, fitsReals) in
-      let at : (a : ℕ) → a < 6 → getD (slot 6 f i) a nan ≡ getD f (6 * i + a) nan = λ a k. slot-at 6 f i a nan k in
-      six (slot 6 f i) (length-slot 6 f i h)
-      ∙ (λ t. at 0 (omega arith) t ∷ at 1 (omega arith) t ∷ at 2 (omega arith) t ∷ at 3 (omega arith) t ∷ at 4 (omega arith) t ∷ at 5 (omega arith) t ∷ [])
-      ∙ ap (λ r. getD f (6 * i + 0) nan ∷ getD f (6 * i + 1) nan ∷ getD f (6 * i + 2) nan ∷ r)
-      (sym (reals-are (hasFlag (flagsAt w i) 1) (getD f (6 * i + 3) nan) (getD f (6 * i + 4) nan) (getD f (6 * i + 5) nan)))
+      let h : realsPerWindow * i + realsPerWindow ≤ length f = omega (arith, l, fitsReals) in
+      let at : (a : ℕ) → a < realsPerWindow → getD (slot realsPerWindow f i) a nan ≡ getD f (realsPerWindow * i + a) nan = λ a k. slot-at realsPerWindow f i a nan k in
+      six (slot realsPerWindow f i) (length-slot realsPerWindow f i h)
+      ∙ (λ t. at windowB0 (omega arith) t ∷ at windowB1 (omega arith) t ∷ at windowLow (omega arith) t ∷ at windowS0 (omega arith) t ∷ at windowS1 (omega arith) t ∷ at windowS2 (omega arith) t ∷ [])
+      ∙ ap (λ r. getD f (realsPerWindow * i + windowB0) nan ∷ getD f (realsPerWindow * i + windowB1) nan ∷ getD f (realsPerWindow * i + windowLow) nan ∷ r)
+      (sym (reals-are (hasFlag (flagsAt w i) lineFlag) (getD f (realsPerWindow * i + windowS0) nan) (getD f (realsPerWindow * i + windowS1) nan) (getD f (realsPerWindow * i + windowS2) nan)))
 
   -- ---- all of them
-  words-upto : (k : ℕ) → k ≤ n → take (4 * k) w ≡ wordsFrom live 0 (winsOf k w f)
+  words-upto : (k : ℕ) → k ≤ n → take (wordsPerWindow * k) w ≡ wordsFrom live 0 (winsOf k w f)
   unfolding winsOf listOf wordsFrom
   words-upto zero h = refl
   words-upto (suc k) h =
-      let e : 4 * suc k ≡ 4 * k + 4 = omega arith in
+      let e : wordsPerWindow * suc k ≡ wordsPerWindow * k + wordsPerWindow = omega arith in
       let last : 0 + length (winsOf k w f) ≡ k = omega (arith, length-wins k w f) in
       ap (λ (j : ℕ). take j w) e
-      ∙ take-add (4 * k) 4 w
+      ∙ take-add (wordsPerWindow * k) wordsPerWindow w
       ∙ (λ t. words-upto k (omega (arith, h)) t ++ (slot-is 4 w k ∙ words-at k (omega (arith, h))) t)
       ∙ sym (words-snoc live 0 (winsOf k w f) (x k) ∙ ap (λ (j : ℕ). wordsFrom live 0 (winsOf k w f) ++ fourWords live j (x k)) last)
 
-  reals-upto : (k : ℕ) → k ≤ n → take (6 * k) f ≡ realsFrom (winsOf k w f)
+  reals-upto : (k : ℕ) → k ≤ n → take (realsPerWindow * k) f ≡ realsFrom (winsOf k w f)
   unfolding winsOf listOf realsFrom
   reals-upto zero h = refl
   reals-upto (suc k) h =
-      let e : 6 * suc k ≡ 6 * k + 6 = omega arith in
+      let e : realsPerWindow * suc k ≡ realsPerWindow * k + realsPerWindow = omega arith in
       ap (λ (j : ℕ). take j f) e
-      ∙ take-add (6 * k) 6 f
+      ∙ take-add (realsPerWindow * k) realsPerWindow f
       ∙ (λ t. reals-upto k (omega (arith, h)) t ++ (slot-is 6 f k ∙ reals-at k (omega (arith, h))) t)
       ∙ sym (reals-snoc (winsOf k w f) (x k))
 
-  words-whole : take (4 * n) w ≡ wordsFrom live 0 wins
+  words-whole : take (wordsPerWindow * n) w ≡ wordsFrom live 0 wins
   words-whole = words-upto n (omega arith) ∙ ap (wordsFrom live 0) (H .all)
 
-  reals-whole : take (6 * n) f ≡ realsFrom wins
+  reals-whole : take (realsPerWindow * n) f ≡ realsFrom wins
   reals-whole = reals-upto n (omega arith) ∙ ap realsFrom (H .all)
 
-  pub words-are : drop (4 * n) w ≡ replicate (length w - 4 * n) 0 → w ≡ wordsOf (length w) wins live
-  words-are z = filled 0 w (wordsFrom live 0 wins) (4 * n) fitsWords words-whole z
+  pub words-are : drop (wordsPerWindow * n) w ≡ replicate (length w - wordsPerWindow * n) 0 → w ≡ wordsOf (length w) wins live
+  words-are z = filled 0 w (wordsFrom live 0 wins) (wordsPerWindow * n) fitsWords words-whole z
 
-  pub reals-are-all : drop (6 * n) f ≡ replicate (length f - 6 * n) zero64 → f ≡ realsOfAll (length f) wins
-  reals-are-all z = filled zero64 f (realsFrom wins) (6 * n) fitsReals reals-whole z
+  pub reals-are-all : drop (realsPerWindow * n) f ≡ replicate (length f - realsPerWindow * n) zero64 → f ≡ realsOfAll (length f) wins
+  reals-are-all z = filled zero64 f (realsFrom wins) (realsPerWindow * n) fitsReals reals-whole z

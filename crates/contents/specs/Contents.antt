@@ -5,6 +5,7 @@ use mathlib.Core.List.{List, [], _∷_, _++_}
 use lib.Dec.{eqb}
 use lib.ListN.{length, set, replicate}
 use lib.Ieee.{Float}
+use Rattle.layout.specs.Layout.{wordsPerEdge, edgeHead, edgeScratch}
 use Rattle.float64.specs.Scalar.{zero as zero64}
 use Rattle.nat_laws.specs.Lists.{listOf}
 use Rattle.windows.specs.declared.WindowRecord.{WindowRecord}
@@ -33,9 +34,9 @@ module _ (live : ℕ → List Window) where
   wordsFrom i [] = []
   wordsFrom i (x ∷ wins) = fourWords i x ++ wordsFrom (suc i) wins
 
-  -- the heads of the chains stand in field 4 of each edge's six words, and in a slice of n words there is nothing else
+  -- the heads of the chains, and in a slice of n words of edges nothing else
   abbrev pub headsIn : ℕ → List ℕ
-  headsIn n = listOf n (λ p. cond (eqb (p % 6) 4) (firstLink (nums (live (p / 6)))) 0)
+  headsIn n = listOf n (λ p. cond (eqb (p % wordsPerEdge) edgeHead) (firstLink (nums (live (p / wordsPerEdge)))) 0)
 
 -- the six reals of a window, and of all
 abbrev pub sixReals : WindowRecord → List Float
@@ -55,7 +56,7 @@ wordsOf n wins live = padded 0 n (wordsFrom live 0 wins)
 abbrev pub realsOfAll : ℕ → List WindowRecord → List Float
 realsOfAll n wins = padded zero64 n (realsFrom wins)
 
--- field 5 of the first n edges zeroed
+-- the scratch word of the first n edges zeroed
 unfoldable pub forgotten : ℕ → List ℕ → List ℕ
 forgotten zero edges = edges
-forgotten (suc n) edges = set (forgotten n edges) (6 * n + 5) 0
+forgotten (suc n) edges = set (forgotten n edges) (wordsPerEdge * n + edgeScratch) 0

@@ -1,18 +1,21 @@
 // What the buffers hold as a function of the state, and the scratch word of each edge.
 use buffers::write_u32;
+use layout::EDGE_SCRATCH;
+use layout::WORDS_PER_EDGE;
 ghost use mathlib.Core.Path.{_≡_};
 ghost use lib.ListN.{length};
+ghost use Rattle.layout.specs.Layout.{wordsPerEdge};
 ghost use Rattle.buffers.specs.Slots.{slotsOf};
 ghost use Rattle.contents.specs.Contents.{forgotten};
 
 // The link that each edge remembers for the next walk is forgotten.
 pub fn forget(edges: &mut [u32])
-    ensures { λ r. ⌜ now (edges .exit) ≡ forgotten (slotsOf (length (now (edges .entry))) 6) (now (edges .entry)) ⌝ }
+    ensures { λ r. ⌜ now (edges .exit) ≡ forgotten (slotsOf (length (now (edges .entry))) wordsPerEdge) (now (edges .entry)) ⌝ }
 {
-    let n = buffers::slots(edges.len(), 6);
+    let n = buffers::slots(edges.len(), WORDS_PER_EDGE);
     let mut e = 0;
     while e < n {
-        write_u32(edges, 6, e, 5, 0);
+        write_u32(edges, WORDS_PER_EDGE, e, EDGE_SCRATCH, 0);
         e += 1;
     }
 }

@@ -5,7 +5,7 @@ use mathlib.Core.List.{List, [], _∷_}
 use native.Mathlib.Omega.{arith}
 use lib.ListN.{length, getD, replicate}
 use lib.Ieee.{Float, nan, neg}
-use Rattle.layout.specs.Layout.{realsPerEdge, wordsPerTriangle, realsPerNormal}
+use Rattle.layout.specs.Layout.{coordinatesPerVertex, realsPerEdge, wordsPerTriangle, realsPerNormal}
 use Rattle.float64.specs.Scalar.{one, zero as zero64}
 use Rattle.float64.specs.Notation.{_⊘_}
 use Rattle.vec3.specs.declared.Vec3.{Vec3}
@@ -28,8 +28,8 @@ vector-at s reals i a =
 
 pub vertex-is : (v : List Float) (k : ℕ) → vectorAt realsPerNormal v k 0 ≡ vertexAt v k
 vertex-is v k =
-    let e : 3 * k + 0 ≡ 3 * k = omega arith in
-    λ i. record { x = getD v (e i) nan; y = getD v (3 * k + 1) nan; z = getD v (3 * k + 2) nan }
+    let e : coordinatesPerVertex * k + 0 ≡ coordinatesPerVertex * k = omega arith in
+    λ i. record { x = getD v (e i) nan; y = getD v (coordinatesPerVertex * k + 1) nan; z = getD v (coordinatesPerVertex * k + 2) nan }
 
 pub perpendicular-steps : (v reals : List Float) (e a b l t : ℕ) (o xhat third w p : Vec3) (k : Float) → l ≡ lower a b → o ≡ vertexAt v l → xhat ≡ unitAt reals e → third ≡ vertexAt v t → w ≡ subOf third o → k ≡ dotOf w xhat → p ≡ axpyOf w (neg k) xhat → p ≡ perpendicularFrom (vertexAt v (lower a b)) (unitAt reals e) (vertexAt v t)
 unfolding perpendicularFrom

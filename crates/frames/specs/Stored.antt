@@ -1,6 +1,5 @@
 -- What the topology's buffers hold, read and written. Definitions only.
--- An edge has six words (its two vertices, its two faces, and two of other functions) and four reals (its length and its unit vector); a triangle has six
--- words, of which the first three are its edges, and nine reals, the inward normals of its sides.
+-- Where each number stands is said in crate layout.
 use Prim.Native.Nat.{ℕ, zero, suc, _+_, _*_, _/_, _%_}
 use mathlib.Core.List.{List, [], _∷_}
 use lib.ListN.{getD}

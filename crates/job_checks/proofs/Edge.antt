@@ -7,6 +7,7 @@ use native.Mathlib.Omega.{arith}
 use lib.Dec.{ltb}
 use lib.ListN.{getD}
 use lib.Ieee.{Float, nan, le, neg}
+use Rattle.layout.specs.Layout.{coordinatesPerVertex}
 use Rattle.float64.specs.Scalar.{one}
 use Rattle.float64.specs.Notation.{_⊘_}
 use Rattle.vec3.specs.declared.Vec3.{Vec3}
@@ -16,9 +17,9 @@ use Rattle.job_checks.specs.Refusals.{minLength, degenerate}
 use Rattle.job_checks.proofs.Altitude.{minRadicand, altitude-test}
 
 -- a vertex from what is read of its slot
-pub vertex-of : (v : List Float) (k : ℕ) (x y z : Float) → x ≡ getD v (3 * k + 0) nan → y ≡ getD v (3 * k + 1) nan → z ≡ getD v (3 * k + 2) nan → record { x = x; y = y; z = z } ≡ vertexAt v k
+pub vertex-of : (v : List Float) (k : ℕ) (x y z : Float) → x ≡ getD v (coordinatesPerVertex * k + 0) nan → y ≡ getD v (coordinatesPerVertex * k + 1) nan → z ≡ getD v (coordinatesPerVertex * k + 2) nan → record { x = x; y = y; z = z } ≡ vertexAt v k
 vertex-of v k x y z p q r =
-    let e : 3 * k + 0 ≡ 3 * k = omega arith in
+    let e : coordinatesPerVertex * k + 0 ≡ coordinatesPerVertex * k = omega arith in
     λ i. record { x = (p ∙ ap (λ (n : ℕ). getD v n nan) e) i; y = q i; z = r i }
 
 pub ends-below : (a b n : ℕ) → a < n → b < n → (lower a b < n) × (higher a b < n)

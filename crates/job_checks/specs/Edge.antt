@@ -5,6 +5,7 @@ use mathlib.Core.List.{List}
 use lib.Dec.{ltb}
 use lib.ListN.{getD}
 use lib.Ieee.{Float, nan, neg}
+use Rattle.layout.specs.Layout.{coordinatesPerVertex}
 use Rattle.float64.specs.Scalar.{one}
 use Rattle.float64.specs.Notation.{_⊘_}
 use Rattle.vec3.specs.declared.Vec3.{Vec3}
@@ -12,7 +13,7 @@ use Rattle.vec3.specs.Vec.{scaleOf, axpyOf, subOf, dotOf, normOf}
 
 -- vertex k of a list with three coordinates for each
 abbrev pub vertexAt : List Float → ℕ → Vec3
-vertexAt v k = record { x = getD v (3 * k) nan; y = getD v (3 * k + 1) nan; z = getD v (3 * k + 2) nan }
+vertexAt v k = record { x = getD v (coordinatesPerVertex * k) nan; y = getD v (coordinatesPerVertex * k + 1) nan; z = getD v (coordinatesPerVertex * k + 2) nan }
 
 -- the two vertex numbers of an edge in order
 abbrev pub lower : ℕ → ℕ → ℕ

@@ -6,6 +6,7 @@ use mathlib.Core.List.{List, [], _∷_}
 use lib.Dec.{ltb, leb, eqb}
 use lib.ListN.{length, getD}
 use lib.Ieee.{Float, nan, binary64, ofBits, le, neg}
+use Rattle.layout.specs.Layout.{coordinatesPerVertex, coordinatesPerPiece}
 use Rattle.float64.specs.Scalar.{zero}
 use Rattle.vec3.specs.declared.Vec3.{Vec3}
 use Rattle.job_checks.specs.declared.BufferCounts.{BufferCounts}
@@ -68,7 +69,7 @@ wrongCounts vertices triangles flags kinds faces coords = anyOf (
     ltb maxPieces kinds ∷
     not (eqb flags (vertices / 3)) ∷
     not (eqb faces kinds) ∷
-    not (eqb coords (6 * kinds)) ∷ [])
+    not (eqb coords (coordinatesPerPiece * kinds)) ∷ [])
 
 -- 1: a count over its bound, or flags not one per vertex or not 0 or 1; and whatever else is no list of whole records
 unfoldable pub malformed : ℕ → ℕ → List ℕ → List ℕ → ℕ → ℕ → Bool
@@ -130,7 +131,7 @@ missingFace triangles faces = anyBelow (missing triangles faces) (length faces)
 
 -- coordinate i is out of range and its piece uses it: a point, of kind 0, has only the first three of six
 unfoldable pub usedOutOfRange : List ℕ → List Float → ℕ → Bool
-usedOutOfRange kinds coords i = outOfRangeAt coords i && (ltb (i % 6) 3 || not (eqb (getD kinds (i / 6) 0) 0))
+usedOutOfRange kinds coords i = outOfRangeAt coords i && (ltb (i % coordinatesPerPiece) coordinatesPerVertex || not (eqb (getD kinds (i / coordinatesPerPiece) 0) 0))
 
 -- 7: a piece's coordinate is out of range
 abbrev pub pieceOutOfRange : List ℕ → List Float → Bool

@@ -5,6 +5,7 @@ use mathlib.Core.Bool.{false}
 use mathlib.Core.List.{List}
 use lib.ListN.{length, getD}
 use lib.Ieee.{Float, nan}
+use Rattle.layout.specs.Layout.{coordinatesPerPiece}
 use Rattle.job_checks.specs.declared.BufferCounts.{BufferCounts}
 use Rattle.job_checks.specs.Job.{Job, vertexCount, triangleCount, pieceCount}
 use Rattle.job_checks.specs.Refusals.{maxVertices, maxTriangles, maxPieces, outOfRange, degenerateIn, usedOutOfRange, limitOutside}
@@ -18,7 +19,7 @@ pub record WholeRecords (vertices triangles flags kinds faces coords : ℕ) : Ty
   pub few-pieces : kinds ≤ maxPieces
   pub flag-each : flags ≡ vertices / 3
   pub face-each : faces ≡ kinds
-  pub six-each : coords ≡ 6 * kinds
+  pub six-each : coords ≡ coordinatesPerPiece * kinds
 
 -- three different numbers
 pub record Distinct (a b c : ℕ) : Type 0 where

@@ -2,6 +2,9 @@
 // The checks only read, and each is also a function of its own: 1, 2 to 4, 5, 6 and 7, 8, 9. They take any bits, so a vertex or a kind that is not there reads
 // as NaN or 0. The step budget is any u32, so there is nothing to check of it.
 use buffers::read_f64;
+use layout::COORDINATES_PER_PIECE;
+use layout::COORDINATES_PER_VERTEX;
+use vec3::Vec3;
 ghost use mathlib.Core.Path.{_≡_};
 ghost use Prim.Native.Nat.{_/_, _<_};
 ghost use lib.ListN.{length, getD};
@@ -32,7 +35,6 @@ ghost use Rattle.job_checks.specs.Refusals.{
   meshTests,
   pieceTests,
 };
-use vec3::Vec3;
 
 // The answer: `refusalNumber` of specs/ gives each case its number.
 pub enum Checked {
@@ -172,9 +174,9 @@ fn vertex(v: &[f64], k: u32) -> Vec3
     ensures { λ r. ⌜ r ≡ vertexAt (now (v .entry)) k ⌝ }
 {
     Vec3 {
-        x: read_f64(v, 3, k, 0),
-        y: read_f64(v, 3, k, 1),
-        z: read_f64(v, 3, k, 2),
+        x: read_f64(v, COORDINATES_PER_VERTEX, k, 0),
+        y: read_f64(v, COORDINATES_PER_VERTEX, k, 1),
+        z: read_f64(v, COORDINATES_PER_VERTEX, k, 2),
     }
 }
 
@@ -360,7 +362,7 @@ fn wrong_counts(
     if faces != kinds {
         return true;
     }
-    if coords != 6 * kinds {
+    if coords != (COORDINATES_PER_PIECE as usize) * kinds {
         return true;
     }
     false

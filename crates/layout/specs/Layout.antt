@@ -190,7 +190,7 @@ eventKind = 1
 abbrev pub wordsPerOperation : ℕ
 wordsPerOperation = 4
 
--- what it does
+-- which it is
 abbrev pub operationKind : ℕ
 operationKind = 0
 
@@ -202,9 +202,9 @@ operationNumber = 1
 abbrev pub operationInto : ℕ
 operationInto = 2
 
--- 1 where its source is a line
-abbrev pub operationLine : ℕ
-operationLine = 3
+-- 1 where an added window is queued
+abbrev pub operationQueued : ℕ
+operationQueued = 3
 
 -- a list of operations, f64: reals of each
 abbrev pub realsPerOperation : ℕ

@@ -114,7 +114,7 @@ pub const OPERATION_NUMBER: u32 = 1;
 
 pub const OPERATION_INTO: u32 = 2;
 
-pub const OPERATION_LINE: u32 = 3;
+pub const OPERATION_QUEUED: u32 = 3;
 
 // A list of operations, f64.
 pub const REALS_PER_OPERATION: u32 = 5;

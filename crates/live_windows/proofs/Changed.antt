@@ -11,6 +11,7 @@ use lib.Dec.{eqb}
 use lib.ListN.{length, getD, drop}
 use lib.Seq.{drop-set-lt}
 use lib.Ieee.{Float}
+use Rattle.layout.specs.Layout.{wordsPerWindow, windowFlags, aliveFlag, realsPerWindow}
 use Rattle.windows.specs.declared.WindowRecord.{WindowRecord}
 use Rattle.windows.specs.Windows.{hasFlag, windowAt, rangeWith, flagsWith, trimmedWin, trimmed, reflagged, relinked, popped, adjust}
 use Rattle.windows.proofs.WindowList.{edge-is, trim-same, trim-other, flags-same, flags-other}
@@ -43,7 +44,7 @@ reals-complete : (n : ℕ) (w : List ℕ) (f f′ : List Float) (e : ℕ) (is : 
 unfolding windowAt
 reals-complete n w f f′ e is c = c
 
-module _ (f : List Float) (i : ℕ) (b0 b1 low : Float) (there : 6 * i + 6 ≤ length f) where
+module _ (f : List Float) (i : ℕ) (b0 b1 low : Float) (there : realsPerWindow * i + realsPerWindow ≤ length f) where
   abbrev f1 : List Float
   f1 = rangeWith f i b0 b1 low
 
@@ -75,7 +76,7 @@ module _ (f : List Float) (i : ℕ) (b0 b1 low : Float) (there : 6 * i + 6 ≤ l
   pub trim-done : (f′ : List Float) → f′ ≡ f1 → Trims f f′ i b0 b1 low
   unfolding rangeWith
   trim-done f′ h = subst (λ z. Trims f z i b0 b1 low) (sym h) (record {
-    reals = λ n l. fill-outside 6 n (b0 ∷ b1 ∷ low ∷ []) f i 0 l (omega arith);
+    reals = λ n l. fill-outside realsPerWindow n (b0 ∷ b1 ∷ low ∷ []) f i 0 l (omega arith);
     holds = λ n wins b e live xs u zs H d g. go n wins b e live xs u zs H g (at-edge n wins b f live e (xs ++ u ∷ zs) H d);
   }) where
     go : (n : ℕ) (wins : List WindowRecord) (b : Links) (e : ℕ) (live : ℕ → List Window) (xs : List Window) (u : Window) (zs : List Window) → Holds n wins b f live → i ≡ u .num → Stands n b f e (xs ++ u ∷ zs)
@@ -105,11 +106,11 @@ nums-unqueued i (u ∷ us) = head (eqb (u .num) i) ∙ ap (λ l. u .num ∷ l) (
 
 -- window i, on whatever edge or on none, is no more queued
 pub record Unqueues (w w′ : List ℕ) (i : ℕ) : Type 0 where
-  pub words : (n : ℕ) → i < n → drop (4 * n) w′ ≡ drop (4 * n) w
+  pub words : (n : ℕ) → i < n → drop (wordsPerWindow * n) w′ ≡ drop (wordsPerWindow * n) w
   pub holds : (n : ℕ) (wins : List WindowRecord) (edges : List ℕ) (f : List Float) (live : ℕ → List Window) → Holds n wins (links edges w) f live
       → Holds n (adjust i popped wins) (links edges w′) f (λ e. unqueuedIn i (live e))
 
-module _ (w : List ℕ) (i : ℕ) (alive : Bool) (there : 4 * i + 4 ≤ length w) (is : alive ≡ hasFlag (getD w (4 * i + 2) 0) 2) where
+module _ (w : List ℕ) (i : ℕ) (alive : Bool) (there : wordsPerWindow * i + wordsPerWindow ≤ length w) (is : alive ≡ hasFlag (getD w (wordsPerWindow * i + windowFlags) 0) aliveFlag) where
   abbrev w1 : List ℕ
   w1 = flagsWith w i alive false
 
@@ -148,7 +149,7 @@ module _ (w : List ℕ) (i : ℕ) (alive : Bool) (there : 4 * i + 4 ≤ length w
   pub unqueue-done : (w′ : List ℕ) → w′ ≡ w1 → Unqueues w w′ i
   unfolding flagsWith
   unqueue-done w′ h = subst (λ z. Unqueues w z i) (sym h) (record {
-    words = λ n l. drop-set-lt (4 * n) w (4 * i + 2) _ (omega arith);
+    words = λ n l. drop-set-lt (wordsPerWindow * n) w (wordsPerWindow * i + windowFlags) _ (omega arith);
     holds = λ n wins edges f live H. record {
       on-edge = λ e. record {
         chain = subst (OnEdge n (links edges w1) e) (sym (nums-unqueued i (live e))) (flags-frame n (links edges w) i alive false e (nums (live e)) (H .on-edge e .chain));

@@ -8,6 +8,7 @@ use mathlib.Core.Logic.{_≢_}
 use mathlib.Core.Path.{_≡_, refl, sym, ap, subst, _∙_}
 use lib.ListN.{getD, set}
 use lib.Ieee.{Float}
+use Rattle.layout.specs.Layout.{wordsPerEdge, edgeHead, edgeScratch, wordsPerWindow, windowEdge, windowFlags, aliveFlag}
 use Rattle.float64.specs.Notation.{_⊖_}
 use Rattle.buffers.proofs.Strides.{other-fields}
 use Rattle.windows.specs.declared.WindowRecord.{WindowRecord}
@@ -53,8 +54,8 @@ unfolding nums endLink
 from-head p n b f e = record { made = omega arith; lead = λ wins live H g. record { xs = []; zs = live e; is = refl; link = refl; pass = tt } }
 
 -- the window of link r is alive, of edge e, and passes
-module _ (tiny b0 : Float) (n : ℕ) (b : Links) (f : List Float) (e r : ℕ) (made : r ≤ n) (some : r ≢ 0) (edge : getD (b .words) (4 * (r - 1) + 0) 0 ≡ e)
-    (alive : hasFlag (getD (b .words) (4 * (r - 1) + 2) 0) 2 ≡ true) (pass : passesAt b0 (b0 ⊖ tiny) f (r - 1) ≡ true) where
+module _ (tiny b0 : Float) (n : ℕ) (b : Links) (f : List Float) (e r : ℕ) (made : r ≤ n) (some : r ≢ 0) (edge : getD (b .words) (wordsPerWindow * (r - 1) + windowEdge) 0 ≡ e)
+    (alive : hasFlag (getD (b .words) (wordsPerWindow * (r - 1) + windowFlags) 0) aliveFlag ≡ true) (pass : passesAt b0 (b0 ⊖ tiny) f (r - 1) ≡ true) where
   edge-at : windowAt (b .words) f (r - 1) .edge .0 ≡ e
   unfolding windowAt
   edge-at = edge
@@ -79,20 +80,20 @@ module _ (tiny b0 : Float) (n : ℕ) (b : Links) (f : List Float) (e r : ℕ) (m
         }
 
 -- ---- what the edge remembers is no part of its chain
-hint-stands : (n : ℕ) (b : Links) (e v : ℕ) (f : List Float) (x : ℕ) (us : List Window) → Stands n b f x us → Stands n (links (set (b .edges) (6 * e + 5) v) (b .words)) f x us
+hint-stands : (n : ℕ) (b : Links) (e v : ℕ) (f : List Float) (x : ℕ) (us : List Window) → Stands n b f x us → Stands n (links (set (b .edges) (wordsPerEdge * e + edgeScratch) v) (b .words)) f x us
 hint-stands n b e v f x us s =
-    let head : headOf (set (b .edges) (6 * e + 5) v) x ≡ headOf (b .edges) x = other-fields 6 (b .edges) e x 5 4 v 0 (λ z. omega (arith, z)) (omega arith) (omega arith) in
+    let head : headOf (set (b .edges) (wordsPerEdge * e + edgeScratch) v) x ≡ headOf (b .edges) x = other-fields wordsPerEdge (b .edges) e x edgeScratch edgeHead v 0 (λ z. omega (arith, z)) (omega arith) (omega arith) in
     record {
       chain = record { path = subst (λ h. Path (b .words) h (nums us)) (sym head) (s .chain .path); belong = s .chain .belong };
       windows = s .windows;
       complete = s .complete;
     }
 
-pub hint-holds : (n : ℕ) (b : Links) (e v : ℕ) (wins : List WindowRecord) (f : List Float) (live : ℕ → List Window) → Holds n wins b f live → Holds n wins (links (set (b .edges) (6 * e + 5) v) (b .words)) f live
+pub hint-holds : (n : ℕ) (b : Links) (e v : ℕ) (wins : List WindowRecord) (f : List Float) (live : ℕ → List Window) → Holds n wins b f live → Holds n wins (links (set (b .edges) (wordsPerEdge * e + edgeScratch) v) (b .words)) f live
 hint-holds n b e v wins f live H = record { on-edge = λ x. hint-stands n b e v f x (live x) (H .on-edge x); all = H .all; flags = H .flags }
 
 -- the walk from link k ended at link r
-pub fronted : (p : Window → Bool) (n : ℕ) (b : Links) (f : List Float) (edges′ : List ℕ) (e k r : ℕ) → Begins p n b f e k → Walked p n b f e k r → edges′ ≡ set (b .edges) (6 * e + 5) r → Fronted p n b f edges′ e r
+pub fronted : (p : Window → Bool) (n : ℕ) (b : Links) (f : List Float) (edges′ : List ℕ) (e k r : ℕ) → Begins p n b f e k → Walked p n b f e k r → edges′ ≡ set (b .edges) (wordsPerEdge * e + edgeScratch) r → Fronted p n b f edges′ e r
 fronted p n b f edges′ e k r s w h = record {
   edges = h;
   made = w .made;

@@ -8,6 +8,7 @@ use mathlib.Core.Logic.{_≢_}
 use lib.ListN.{length, getD, set, drop, length-set}
 use lib.Seq.{drop-set-lt}
 use lib.Ieee.{Float}
+use Rattle.layout.specs.Layout.{wordsPerEdge, wordsPerWindow, windowFlags, windowLink, queuedFlag}
 use Rattle.windows.specs.declared.WindowRecord.{WindowRecord}
 use Rattle.windows.specs.Windows.{hasFlag, windowAt, flagsWith, reflagged, relinked, dead, adjust}
 use Rattle.windows.proofs.WindowList.{flags-same, flags-other, link-same, link-other}
@@ -24,13 +25,13 @@ use Rattle.live_windows.proofs.Stored.{Same, others, Behind, with-bare,
 use Rattle.live_windows.proofs.Standing.{Around, at-edge, stands-put, stands-both, around, not-there, behind-is, last-out, with-words, with-belongs, not-both, out-more, complete-but, complete-at}
 
 -- ---- a window is taken out
-module _ (n : ℕ) (b : Links) (e k i v : ℕ) (q : Bool) (p : 4 * i + 4 ≤ length (b .words)) (r : 6 * e + 6 ≤ length (b .edges)) (kn : k ≤ n) (il : i < n)
-    (read : v ≡ linkIn n (nextOf (b .words) i)) (flag : q ≡ hasFlag (getD (b .words) (4 * i + 2) 0) 4) where
+module _ (n : ℕ) (b : Links) (e k i v : ℕ) (q : Bool) (p : wordsPerWindow * i + wordsPerWindow ≤ length (b .words)) (r : wordsPerEdge * e + wordsPerEdge ≤ length (b .edges)) (kn : k ≤ n) (il : i < n)
+    (read : v ≡ linkIn n (nextOf (b .words) i)) (flag : q ≡ hasFlag (getD (b .words) (wordsPerWindow * i + windowFlags) 0) queuedFlag) where
   abbrev kb : Links
   kb = withLink b e k v
 
   abbrev kw : List ℕ
-  kw = set (kb .words) (4 * i + 3) 0
+  kw = set (kb .words) (wordsPerWindow * i + windowLink) 0
 
   abbrev kw2 : List ℕ
   kw2 = flagsWith kw i false q
@@ -46,10 +47,10 @@ module _ (n : ℕ) (b : Links) (e k i v : ℕ) (q : Bool) (p : 4 * i + 4 ≤ len
   unfolding bare relinked reflagged
   kill-bare z z1 h g = ap (λ a. relinked (reflagged a false q) 0) h ∙ ap (λ a. relinked (reflagged (bare z) false a) 0) g
 
-  length-kb : 4 * i + 4 ≤ length (kb .words)
+  length-kb : wordsPerWindow * i + wordsPerWindow ≤ length (kb .words)
   length-kb = rw (only-with b e k v .same-length) p
 
-  length-kw : 4 * i + 4 ≤ length kw
+  length-kw : wordsPerWindow * i + wordsPerWindow ≤ length kw
   length-kw = simp length-set length-kb
 
   module _ (f : List Float) (xs : List Window) (u : Window) (zs : List Window) (s : Stands n b f e (xs ++ u ∷ zs)) (kq : k ≡ lastLink xs) (g : i ≡ u .num) where
@@ -125,9 +126,9 @@ module _ (n : ℕ) (b : Links) (e k i v : ℕ) (q : Bool) (p : 4 * i + 4 ≤ len
     kill-wins : winsOf n kw2 f ≡ adjust i dead (winsOf n (b .words) f)
     kill-wins = wins-adjust n (b .words) f kw2 f i dead kill-same kill-here
 
-  kill-words : drop (4 * n) kw2 ≡ drop (4 * n) (b .words)
+  kill-words : drop (wordsPerWindow * n) kw2 ≡ drop (wordsPerWindow * n) (b .words)
   unfolding flagsWith
-  kill-words = drop-set-lt (4 * n) kw (4 * i + 2) _ (omega arith) ∙ drop-set-lt (4 * n) (kb .words) (4 * i + 3) 0 (omega arith) ∙ with-words n b e k v kn
+  kill-words = drop-set-lt (wordsPerWindow * n) kw (wordsPerWindow * i + windowFlags) _ (omega arith) ∙ drop-set-lt (wordsPerWindow * n) (kb .words) (wordsPerWindow * i + windowLink) 0 (omega arith) ∙ with-words n b e k v kn
 
   kill-core : Kills n b kb2 e k i
   kill-core = record {
@@ -139,7 +140,7 @@ module _ (n : ℕ) (b : Links) (e k i v : ℕ) (q : Bool) (p : 4 * i + 4 ≤ len
     };
   }
 
-  pub kill-done : (e1 w1 w2 w3 : List ℕ) → links e1 w1 ≡ kb → w2 ≡ set w1 (4 * i + 3) 0 → w3 ≡ flagsWith w2 i false q → Kills n b (links e1 w3) e k i
+  pub kill-done : (e1 w1 w2 w3 : List ℕ) → links e1 w1 ≡ kb → w2 ≡ set w1 (wordsPerWindow * i + windowLink) 0 → w3 ≡ flagsWith w2 i false q → Kills n b (links e1 w3) e k i
   kill-done e1 w1 w2 w3 h1 h2 h3 =
-      let d : links e1 w3 ≡ kb2 = ap (links e1) (h3 ∙ ap (λ w. flagsWith w i false q) h2) ∙ ap (λ c. links (c .edges) (flagsWith (set (c .words) (4 * i + 3) 0) i false q)) h1 in
+      let d : links e1 w3 ≡ kb2 = ap (links e1) (h3 ∙ ap (λ w. flagsWith w i false q) h2) ∙ ap (λ c. links (c .edges) (flagsWith (set (c .words) (wordsPerWindow * i + windowLink) 0) i false q)) h1 in
       subst (λ c. Kills n b c e k i) (sym d) kill-core

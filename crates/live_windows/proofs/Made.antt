@@ -7,6 +7,7 @@ use mathlib.Core.List.{List, [], _∷_, _++_}
 use mathlib.Core.Logic.{_≢_}
 use lib.ListN.{length, drop}
 use lib.Ieee.{Float}
+use Rattle.layout.specs.Layout.{wordsPerEdge, wordsPerWindow, realsPerWindow}
 use Rattle.buffers.specs.declared.EdgeId.{EdgeId}
 use Rattle.source.specs.declared.Win.{Win}
 use Rattle.windows.specs.declared.Carried.{Carried}
@@ -29,7 +30,7 @@ use Rattle.buffers.proofs.Strides.{fill-outside}
 
 -- ---- a window is made
 module _ (n : ℕ) (b : Links) (f : List Float) (e : EdgeId) (k v : ℕ) (carried : Carried) (win : Win)
-    (p : 4 * n + 4 ≤ length (b .words)) (q : 6 * n + 6 ≤ length f) (r : 6 * e .0 + 6 ≤ length (b .edges)) (kn : k ≤ n) (read : v ≡ linkIn n (linkAt b (e .0) k)) where
+    (p : wordsPerWindow * n + wordsPerWindow ≤ length (b .words)) (q : realsPerWindow * n + realsPerWindow ≤ length f) (r : wordsPerEdge * e .0 + wordsPerEdge ≤ length (b .edges)) (kn : k ≤ n) (read : v ≡ linkIn n (linkAt b (e .0) k)) where
   abbrev x : WindowRecord
   x = windowOf e carried v win
 
@@ -141,13 +142,13 @@ module _ (n : ℕ) (b : Links) (f : List Float) (e : EdgeId) (k v : ℕ) (carrie
         ap (λ l. l ++ (bare (windowAt (mb2 .words) mf n) ∷ [])) (wins-same n (b .words) f (mb2 .words) mf (λ j l. made-same j (λ z. omega (arith, z, l))))
         ∙ ap (λ z. winsOf n (b .words) f ++ (z ∷ [])) made-new
 
-  make-words : drop (4 * suc n) (mb2 .words) ≡ drop (4 * suc n) (b .words)
+  make-words : drop (wordsPerWindow * suc n) (mb2 .words) ≡ drop (wordsPerWindow * suc n) (b .words)
   unfolding wordsWith
-  make-words = with-words (suc n) mb (e .0) k (suc n) (omega arith) ∙ fill-outside 4 (suc n) _ (b .words) n 0 (omega arith) (omega arith)
+  make-words = with-words (suc n) mb (e .0) k (suc n) (omega arith) ∙ fill-outside wordsPerWindow (suc n) _ (b .words) n 0 (omega arith) (omega arith)
 
-  make-reals : drop (6 * suc n) mf ≡ drop (6 * suc n) f
+  make-reals : drop (realsPerWindow * suc n) mf ≡ drop (realsPerWindow * suc n) f
   unfolding realsWith
-  make-reals = fill-outside 6 (suc n) (win .b0 ∷ win .b1 ∷ win .low ∷ realsOf (win .src)) f n 0 (omega arith) (let h = length-realsOf (win .src) in omega arith)
+  make-reals = fill-outside realsPerWindow (suc n) (win .b0 ∷ win .b1 ∷ win .low ∷ realsOf (win .src)) f n 0 (omega arith) (let h = length-realsOf (win .src) in omega arith)
 
   make-done : (b′ : Links) (f′ : List Float) → b′ ≡ mb2 → f′ ≡ mf → Makes n b b′ f f′ (e .0) k y
   make-done b′ f′ hb hf =

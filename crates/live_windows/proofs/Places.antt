@@ -10,6 +10,7 @@ use borrow.Author.Tests.{eq-eqb, ne-eqb}
 use lib.Dec.{eqb}
 use lib.ListN.{length}
 use lib.Seq.{getD-set-same, append-snoc}
+use Rattle.layout.specs.Layout.{wordsPerEdge, edgeHead}
 use Rattle.chains.proofs.Turns.{link-in}
 use Rattle.nat_laws.specs.Lists.{All, Pairs}
 use Rattle.nat_laws.proofs.Lists.{all-map2, all-append, all-left, all-right}
@@ -74,9 +75,9 @@ module _ (made : ℕ) where
       ap (linkIn made) f ∙ link-in made (firstLink zs) (first-in (b .words) e zs (all-right (Belongs made (b .words) e) xs zs (o .belong)))
 
   -- ---- the link behind xs points at another path
-  point-head : (b : Links) (e : ℕ) (vs : List ℕ) (v : ℕ) → 6 * e + 6 ≤ length (b .edges) → Path (b .words) v vs → AllBelong made (b .words) e vs → OnEdge made (withLink b e 0 v) e vs
+  point-head : (b : Links) (e : ℕ) (vs : List ℕ) (v : ℕ) → wordsPerEdge * e + wordsPerEdge ≤ length (b .edges) → Path (b .words) v vs → AllBelong made (b .words) e vs → OnEdge made (withLink b e 0 v) e vs
   unfolding withLink
-  point-head b e vs v h p a = record { path = rw (getD-set-same (b .edges) (6 * e + 4) v 0 (omega arith)) p; belong = a }
+  point-head b e vs v h p a = record { path = rw (getD-set-same (b .edges) (wordsPerEdge * e + edgeHead) v 0 (omega arith)) p; belong = a }
 
   point-after : (b : Links) (e k : ℕ) (front ys vs : List ℕ) (v : ℕ) → OnEdge made b e (front ++ k ∷ ys) → Path (b .words) v vs → AllBelong made (b .words) e vs → Out k vs
       → OnEdge made (withLink b e (suc k) v) e (front ++ k ∷ vs)
@@ -90,7 +91,7 @@ module _ (made : ℕ) where
         belong = all-set made w e (front ++ k ∷ vs) k v (all-append (Belongs made w e) front (k ∷ vs) (all-left (Belongs made w e) front (k ∷ ys) (o .belong)) (m .0, a));
       }
 
-  pub point : (b : Links) (e k : ℕ) (xs ys vs : List ℕ) (v : ℕ) → 6 * e + 6 ≤ length (b .edges) → k ≡ endLink 0 xs → OnEdge made b e (xs ++ ys) → Path (b .words) v vs → AllBelong made (b .words) e vs
+  pub point : (b : Links) (e k : ℕ) (xs ys vs : List ℕ) (v : ℕ) → wordsPerEdge * e + wordsPerEdge ≤ length (b .edges) → k ≡ endLink 0 xs → OnEdge made b e (xs ++ ys) → Path (b .words) v vs → AllBelong made (b .words) e vs
       → ((front : List ℕ) (i : ℕ) → xs ≡ front ++ (i ∷ []) → Out i vs) → OnEdge made (withLink b e k v) e (xs ++ vs)
   unfolding endLink
   point b e k [] ys vs v h q o p a out = rw q (point-head b e vs v h p a)

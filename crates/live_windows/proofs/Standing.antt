@@ -11,6 +11,7 @@ use lib.Dec.{T, eqb}
 use lib.ListN.{drop}
 use lib.Seq.{append-snoc, drop-set-lt}
 use lib.Ieee.{Float}
+use Rattle.layout.specs.Layout.{wordsPerWindow, windowLink}
 use Rattle.nat_laws.proofs.Lists.{all-append, all-left, all-right}
 use Rattle.nat_laws.specs.Lists.{listOf}
 use Rattle.windows.specs.declared.WindowRecord.{WindowRecord}
@@ -125,10 +126,10 @@ module _ (n : ℕ) (w : List ℕ) (f : List Float) (w′ : List ℕ) (f′ : Lis
     go (no d) = complete-but i d l g a
 
 -- ---- what a link that is pointed elsewhere leaves
-pub with-words : (n : ℕ) (b : Links) (e k v : ℕ) → k ≤ n → drop (4 * n) (withLink b e k v .words) ≡ drop (4 * n) (b .words)
+pub with-words : (n : ℕ) (b : Links) (e k v : ℕ) → k ≤ n → drop (wordsPerWindow * n) (withLink b e k v .words) ≡ drop (wordsPerWindow * n) (b .words)
 unfolding withLink
 with-words n b e zero v h = refl
-with-words n b e (suc k) v h = drop-set-lt (4 * n) (b .words) (4 * k + 3) v (omega arith)
+with-words n b e (suc k) v h = drop-set-lt (wordsPerWindow * n) (b .words) (wordsPerWindow * k + windowLink) v (omega arith)
 
 pub with-belongs : (n : ℕ) (b : Links) (e k v i : ℕ) → Belongs n (b .words) e i → Belongs n (withLink b e k v .words) e i
 unfolding withLink

@@ -8,6 +8,7 @@ use mathlib.Core.List.{List, [], _∷_, _++_}
 use mathlib.Core.Logic.{_≢_}
 use lib.ListN.{length, getD, set, length-append}
 use lib.Ieee.{Float}
+use Rattle.layout.specs.Layout.{wordsPerWindow, windowLink}
 use Rattle.nat_laws.specs.Lists.{listOf}
 use Rattle.nat_laws.proofs.Lists.{length-listOf, getD-listOf, listOf-same}
 use Rattle.windows.specs.declared.WindowRecord.{WindowRecord}
@@ -37,16 +38,16 @@ bare-link : (x : WindowRecord) (v : ℕ) → x .alive ≡ true → bare (relinke
 unfolding bare relinked
 bare-link x v h = ap (λ a. relinked x (cond a 0 v)) h ∙ sym (ap (λ a. relinked x (cond a 0 (x .link))) h)
 
-pub link-bare : (w : List ℕ) (f : List Float) (k v j : ℕ) → 4 * k + 4 ≤ length w → windowAt w f k .alive ≡ true → Same w f (set w (4 * k + 3) v) f j
+pub link-bare : (w : List ℕ) (f : List Float) (k v j : ℕ) → wordsPerWindow * k + wordsPerWindow ≤ length w → windowAt w f k .alive ≡ true → Same w f (set w (wordsPerWindow * k + windowLink) v) f j
 link-bare w f k v j b h = go (ℕ-discrete k j) where
-  go : Dec (k ≡ j) → Same w f (set w (4 * k + 3) v) f j
-  go (yes e) = subst (λ i. Same w f (set w (4 * k + 3) v) f i) e (ap bare (link-same w f k v b) ∙ bare-link (windowAt w f k) v h)
+  go : Dec (k ≡ j) → Same w f (set w (wordsPerWindow * k + windowLink) v) f j
+  go (yes e) = subst (λ i. Same w f (set w (wordsPerWindow * k + windowLink) v) f i) e (ap bare (link-same w f k v b) ∙ bare-link (windowAt w f k) v h)
   go (no e) = ap bare (link-other w f k v j e)
 
 -- before the first window, or behind a live one
 unfoldable pub Behind : List ℕ → List Float → ℕ → Type 0
 Behind w f zero = Unit {0}
-Behind w f (suc k) = (4 * k + 4 ≤ length w) × (windowAt w f k .alive ≡ true)
+Behind w f (suc k) = (wordsPerWindow * k + wordsPerWindow ≤ length w) × (windowAt w f k .alive ≡ true)
 
 pub with-bare : (b : Links) (f : List Float) (e k v j : ℕ) → Behind (b .words) f k → Same (b .words) f (withLink b e k v .words) f j
 unfolding withLink Behind

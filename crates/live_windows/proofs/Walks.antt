@@ -7,6 +7,7 @@ use mathlib.Core.List.{List, [], _∷_, _++_}
 use mathlib.Core.Logic.{_≢_}
 use lib.ListN.{length, getD}
 use lib.Ieee.{Float, nan, lt}
+use Rattle.layout.specs.Layout.{realsPerWindow, windowB0, windowB1}
 use Rattle.float64.specs.TotalOrder.{totalLess}
 use Rattle.float64.specs.Notation.{_⊖_}
 use Rattle.windows.proofs.WindowList.{b0-is, b1-is}
@@ -94,20 +95,20 @@ module _ (p : ℕ → Bool) (q : Window → Bool) (f : List Float) where
 
 -- ---- the two tests
 abbrev pub passesAt : Float → Float → List Float → ℕ → Bool
-passesAt b0 lo f i = lt (getD f (6 * i + 0) nan) b0 && not (lt lo (getD f (6 * i + 1) nan))
+passesAt b0 lo f i = lt (getD f (realsPerWindow * i + windowB0) nan) b0 && not (lt lo (getD f (realsPerWindow * i + windowB1) nan))
 
 abbrev pub startsAt : Float → List Float → ℕ → Bool
-startsAt b0 f i = totalLess (getD f (6 * i + 0) nan) b0
+startsAt b0 f i = totalLess (getD f (realsPerWindow * i + windowB0) nan) b0
 
 module _ (w : List ℕ) (f : List Float) (u : Window) (a : Alive w f u) where
-  start-is : getD f (6 * u .num + 0) nan ≡ u .b0
+  start-is : getD f (realsPerWindow * u .num + windowB0) nan ≡ u .b0
   start-is = sym (b0-is w f (u .num)) ∙ ap (λ v. v .b0) (a .same)
 
-  end-is : getD f (6 * u .num + 1) nan ≡ u .b1
+  end-is : getD f (realsPerWindow * u .num + windowB1) nan ≡ u .b1
   end-is = sym (b1-is w f (u .num)) ∙ ap (λ v. v .b1) (a .same)
 
   pub passes-is : (b0 lo : Float) → passesAt b0 lo f (u .num) ≡ (lt (u .b0) b0 && not (lt lo (u .b1)))
-  passes-is b0 lo = ap (λ x. lt x b0 && not (lt lo (getD f (6 * u .num + 1) nan))) start-is ∙ ap (λ x. lt (u .b0) b0 && not (lt lo x)) end-is
+  passes-is b0 lo = ap (λ x. lt x b0 && not (lt lo (getD f (realsPerWindow * u .num + windowB1) nan))) start-is ∙ ap (λ x. lt (u .b0) b0 && not (lt lo x)) end-is
 
   starts-is : (b0 : Float) → startsAt b0 f (u .num) ≡ totalLess (u .b0) b0
   starts-is b0 = ap (λ x. totalLess x b0) start-is
@@ -120,9 +121,9 @@ pub seated : (b0 : Float) (f : List Float) (n : ℕ) (b : Links) (e k r : ℕ) �
 seated b0 f n b e k r h i = walked (startsAt b0 f) (sortsBefore b0) f n b e k r (λ u a. starts-is (b .words) f u a b0) h i
 
 -- a window that passes, or not; x and y are what was read
-module _ (b0 lo : Float) (f : List Float) (i : ℕ) (x y : Float) (start : x ≡ getD f (6 * i + 0) nan) (end : y ≡ getD f (6 * i + 1) nan) where
+module _ (b0 lo : Float) (f : List Float) (i : ℕ) (x y : Float) (start : x ≡ getD f (realsPerWindow * i + windowB0) nan) (end : y ≡ getD f (realsPerWindow * i + windowB1) nan) where
   read-both : (lt x b0 && not (lt lo y)) ≡ passesAt b0 lo f i
-  read-both = ap (λ z. lt z b0 && not (lt lo y)) start ∙ ap (λ z. lt (getD f (6 * i + 0) nan) b0 && not (lt lo z)) end
+  read-both = ap (λ z. lt z b0 && not (lt lo y)) start ∙ ap (λ z. lt (getD f (realsPerWindow * i + windowB0) nan) b0 && not (lt lo z)) end
 
   pub starts-late : lt x b0 ≡ false → false ≡ passesAt b0 lo f i
   starts-late p = sym (ap (λ c. c && not (lt lo y)) p) ∙ read-both

@@ -7,6 +7,7 @@ use mathlib.Core.Path.{_≡_}
 use lib.Dec.{eqb}
 use lib.ListN.{getD, set, drop}
 use lib.Ieee.{Float}
+use Rattle.layout.specs.Layout.{wordsPerEdge, edgeHead, edgeScratch, wordsPerWindow, realsPerWindow}
 use Rattle.float64.specs.TotalOrder.{totalLess}
 use Rattle.float64.specs.Notation.{if_then_else_}
 use Rattle.nat_laws.specs.Lists.{listOf}
@@ -95,8 +96,8 @@ sortsBefore b0 v = totalLess (v .b0) b0
 -- ---- the contracts, b and f at entry, b′ and f′ at exit; n is the number of windows made
 -- nothing changes from window n on, and of the edges nothing but the head of e
 pub record Outside (n e : ℕ) (b b′ : Links) : Type 0 where
-  pub edges : (p : ℕ) → p ≢ 6 * e + 4 → getD (b′ .edges) p 0 ≡ getD (b .edges) p 0
-  pub words : drop (4 * n) (b′ .words) ≡ drop (4 * n) (b .words)
+  pub edges : (p : ℕ) → p ≢ wordsPerEdge * e + edgeHead → getD (b′ .edges) p 0 ≡ getD (b .edges) p 0
+  pub words : drop (wordsPerWindow * n) (b′ .words) ≡ drop (wordsPerWindow * n) (b .words)
 
 -- r is the link that follows k on the chain of edge e
 pub record Follows (n : ℕ) (b : Links) (e k r : ℕ) : Type 0 where
@@ -128,7 +129,7 @@ pub record Begins (p : Window → Bool) (n : ℕ) (b : Links) (f : List Float) (
 
 -- r is the link of the last of those first windows of edge e that pass p, or 0, and the edge remembers it
 pub record Fronted (p : Window → Bool) (n : ℕ) (b : Links) (f : List Float) (edges′ : List ℕ) (e r : ℕ) : Type 0 where
-  pub edges : edges′ ≡ set (b .edges) (6 * e + 5) r
+  pub edges : edges′ ≡ set (b .edges) (wordsPerEdge * e + edgeScratch) r
   pub made : r ≤ n
   pub holds : (wins : List WindowRecord) (g : List Float) (live : ℕ → List Window) → Holds n wins b g live → Holds n wins (links edges′ (b .words)) g live
   pub last : (wins : List WindowRecord) (live : ℕ → List Window) → Holds n wins b f live → Leads p (live e) → r ≡ lastLink (takeWhile p (live e))
@@ -142,13 +143,13 @@ pub record Loads (w : List ℕ) (f : List Float) (i : ℕ) (x : WindowRecord) : 
 -- x is made as window n, behind link k of edge e
 pub record Makes (n : ℕ) (b b′ : Links) (f f′ : List Float) (e k : ℕ) (x : WindowRecord) : Type 0 where
   pub outside : Outside (suc n) e b b′
-  pub reals : drop (6 * suc n) f′ ≡ drop (6 * suc n) f
+  pub reals : drop (realsPerWindow * suc n) f′ ≡ drop (realsPerWindow * suc n) f
   pub holds : (wins : List WindowRecord) (live : ℕ → List Window) (xs zs : List Window) → Holds n wins b f live → live e ≡ xs ++ zs → k ≡ lastLink xs
       → Holds (suc n) (wins ++ (x ∷ [])) b′ f′ (put e (xs ++ liveOf x n ∷ zs) live)
 
 -- window i has its ends and lowest value changed
 pub record Trims (f f′ : List Float) (i : ℕ) (b0 b1 low : Float) : Type 0 where
-  pub reals : (n : ℕ) → i < n → drop (6 * n) f′ ≡ drop (6 * n) f
+  pub reals : (n : ℕ) → i < n → drop (realsPerWindow * n) f′ ≡ drop (realsPerWindow * n) f
   pub holds : (n : ℕ) (wins : List WindowRecord) (b : Links) (e : ℕ) (live : ℕ → List Window) (xs : List Window) (u : Window) (zs : List Window) → Holds n wins b f live → live e ≡ xs ++ u ∷ zs → i ≡ u .num
       → Holds n (adjust i (λ x. trimmed x b0 b1 low) wins) b f′ (put e (xs ++ ranged u b0 b1 low ∷ zs) live)
 

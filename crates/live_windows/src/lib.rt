@@ -6,6 +6,17 @@ use buffers::WindowId;
 use buffers::read_f64;
 use buffers::read_u32;
 use buffers::write_u32;
+use layout::ALIVE_FLAG;
+use layout::EDGE_SCRATCH;
+use layout::QUEUED_FLAG;
+use layout::REALS_PER_WINDOW;
+use layout::WINDOW_B0;
+use layout::WINDOW_B1;
+use layout::WINDOW_EDGE;
+use layout::WINDOW_FLAGS;
+use layout::WINDOW_LINK;
+use layout::WORDS_PER_EDGE;
+use layout::WORDS_PER_WINDOW;
 use source::Win;
 use windows::Carried;
 use windows::WindowRecord;
@@ -14,6 +25,7 @@ ghost use mathlib.Core.Bool.{_&&_, not};
 ghost use Prim.Native.Nat.{_+_, _*_, _≤_, _<_};
 ghost use lib.ListN.{getD, length};
 ghost use lib.Ieee.{nan, lt};
+ghost use Rattle.layout.specs.Layout.{wordsPerEdge, realsPerWindow, windowB0, windowB1};
 ghost use Rattle.float64.specs.TotalOrder.{totalLess};
 ghost use Rattle.buffers.specs.Slots.{slotsOf};
 ghost use Rattle.windows.specs.Windows.{capacityOf};
@@ -30,7 +42,7 @@ pub fn next_link(
     e: EdgeId,
     before: u32,
 ) -> u32
-    requires { ⌜ (made ≤ capacityOf (length (now words)) (length (now reals))) × ((e .0 < slotsOf (length (now edges)) 6) × (before ≤ made)) ⌝ }
+    requires { ⌜ (made ≤ capacityOf (length (now words)) (length (now reals))) × ((e .0 < slotsOf (length (now edges)) wordsPerEdge) × (before ≤ made)) ⌝ }
     ensures { λ r. ⌜ Follows made (links (now (edges .entry)) (now (words .entry))) (e .0) before r ⌝ }
 {
     chains::link_at(edges, words, reals, made, e, before)
@@ -38,10 +50,10 @@ pub fn next_link(
 
 // Whether a window starts before b0 and ends at or before lo.
 fn passes_by(reals: &[f64], i: u32, b0: f64, lo: f64) -> bool
-    ensures { λ r. ⌜ r ≡ (lt (getD (now (reals .entry)) (6 * i + 0) nan) b0 && not (lt lo (getD (now (reals .entry)) (6 * i + 1) nan))) ⌝ }
+    ensures { λ r. ⌜ r ≡ (lt (getD (now (reals .entry)) (realsPerWindow * i + windowB0) nan) b0 && not (lt lo (getD (now (reals .entry)) (realsPerWindow * i + windowB1) nan))) ⌝ }
 {
-    let start = read_f64(reals, 6, i, 0);
-    let end = read_f64(reals, 6, i, 1);
+    let start = read_f64(reals, REALS_PER_WINDOW, i, WINDOW_B0);
+    let end = read_f64(reals, REALS_PER_WINDOW, i, WINDOW_B1);
     if start < b0 {
         if lo < end {
             return false;
@@ -53,9 +65,9 @@ fn passes_by(reals: &[f64], i: u32, b0: f64, lo: f64) -> bool
 
 // Whether a window starts before b0, as windows are sorted.
 fn starts_by(reals: &[f64], i: u32, b0: f64) -> bool
-    ensures { λ r. ⌜ r ≡ totalLess (getD (now (reals .entry)) (6 * i + 0) nan) b0 ⌝ }
+    ensures { λ r. ⌜ r ≡ totalLess (getD (now (reals .entry)) (realsPerWindow * i + windowB0) nan) b0 ⌝ }
 {
-    let start = read_f64(reals, 6, i, 0);
+    let start = read_f64(reals, REALS_PER_WINDOW, i, WINDOW_B0);
     float64::total_less(start, b0)
 }
 
@@ -71,17 +83,17 @@ fn remembered(
 ) -> u32
     ensures { λ r. ⌜ Begins (passes tiny b0) made (links (now (edges .entry)) (now (words .entry))) (now (reals .entry)) (e .0) r ⌝ }
 {
-    let link = read_u32(edges, 6, e.0, 5);
+    let link = read_u32(edges, WORDS_PER_EDGE, e.0, EDGE_SCRATCH);
     let at = chains::within(link, made);
     if at == 0 {
         return 0;
     }
-    let edge = read_u32(words, 4, at - 1, 0);
+    let edge = read_u32(words, WORDS_PER_WINDOW, at - 1, WINDOW_EDGE);
     if edge != e.0 {
         return 0;
     }
-    let flags = read_u32(words, 4, at - 1, 2);
-    let alive = windows::has_flag(flags, 2);
+    let flags = read_u32(words, WORDS_PER_WINDOW, at - 1, WINDOW_FLAGS);
+    let alive = windows::has_flag(flags, ALIVE_FLAG);
     if alive {
         let go = passes_by(reals, at - 1, b0, b0 - tiny);
         if go {
@@ -102,7 +114,7 @@ fn pass_from(
     b0: f64,
     tiny: f64,
 ) -> u32
-    requires { ⌜ (made ≤ capacityOf (length (now words)) (length (now reals))) × ((e .0 < slotsOf (length (now edges)) 6) × (from ≤ made)) ⌝ }
+    requires { ⌜ (made ≤ capacityOf (length (now words)) (length (now reals))) × ((e .0 < slotsOf (length (now edges)) wordsPerEdge) × (from ≤ made)) ⌝ }
     ensures { λ r. ⌜ Walked (passes tiny b0) made (links (now (edges .entry)) (now (words .entry))) (now (reals .entry)) (e .0) from r ⌝ }
 {
     let lo = b0 - tiny;
@@ -134,12 +146,12 @@ pub fn pass_front(
     b0: f64,
     tiny: f64,
 ) -> u32
-    requires { ⌜ (made ≤ capacityOf (length (now words)) (length (now reals))) × (e .0 < slotsOf (length (now edges)) 6) ⌝ }
+    requires { ⌜ (made ≤ capacityOf (length (now words)) (length (now reals))) × (e .0 < slotsOf (length (now edges)) wordsPerEdge) ⌝ }
     ensures { λ r. ⌜ Fronted (passes tiny b0) made (links (now (edges .entry)) (now (words .entry))) (now (reals .entry)) (now (edges .exit)) (e .0) r ⌝ }
 {
     let from = remembered(edges, words, reals, made, e, b0, tiny);
     let last = pass_from(edges, words, reals, made, e, from, b0, tiny);
-    write_u32(edges, 6, e.0, 5, last);
+    write_u32(edges, WORDS_PER_EDGE, e.0, EDGE_SCRATCH, last);
     last
 }
 
@@ -153,7 +165,7 @@ pub fn seat_from(
     from: u32,
     b0: f64,
 ) -> u32
-    requires { ⌜ (made ≤ capacityOf (length (now words)) (length (now reals))) × ((e .0 < slotsOf (length (now edges)) 6) × (from ≤ made)) ⌝ }
+    requires { ⌜ (made ≤ capacityOf (length (now words)) (length (now reals))) × ((e .0 < slotsOf (length (now edges)) wordsPerEdge) × (from ≤ made)) ⌝ }
     ensures { λ r. ⌜ Walked (sortsBefore b0) made (links (now (edges .entry)) (now (words .entry))) (now (reals .entry)) (e .0) from r ⌝ }
 {
     let mut before = from;
@@ -192,7 +204,7 @@ pub fn make_window(
     carried: Carried,
     win: Win,
 )
-    requires { ⌜ (made < capacityOf (length (now words)) (length (now reals))) × ((e .0 < slotsOf (length (now edges)) 6) × (before ≤ made)) ⌝ }
+    requires { ⌜ (made < capacityOf (length (now words)) (length (now reals))) × ((e .0 < slotsOf (length (now edges)) wordsPerEdge) × (before ≤ made)) ⌝ }
     ensures { λ r. ⌜ Makes made (links (now (edges .entry)) (now (words .entry))) (links (now (edges .exit)) (now (words .exit))) (now (reals .entry)) (now (reals .exit)) (e .0) before (windowOf e carried 0 win) ⌝ }
 {
     let next = next_link(edges, words, reals, made, e, before);
@@ -225,14 +237,14 @@ pub fn kill_window(
     before: u32,
     id: WindowId,
 )
-    requires { ⌜ (made ≤ capacityOf (length (now words)) (length (now reals))) × ((e .0 < slotsOf (length (now edges)) 6) × ((before ≤ made) × (id .0 < made))) ⌝ }
+    requires { ⌜ (made ≤ capacityOf (length (now words)) (length (now reals))) × ((e .0 < slotsOf (length (now edges)) wordsPerEdge) × ((before ≤ made) × (id .0 < made))) ⌝ }
     ensures { λ r. ⌜ Kills made (links (now (edges .entry)) (now (words .entry))) (links (now (edges .exit)) (now (words .exit))) (e .0) before (id .0) ⌝ }
 {
-    let link = read_u32(words, 4, id.0, 3);
+    let link = read_u32(words, WORDS_PER_WINDOW, id.0, WINDOW_LINK);
     let next = chains::within(link, made);
-    let flags = read_u32(words, 4, id.0, 2);
-    let queued = windows::has_flag(flags, 4);
+    let flags = read_u32(words, WORDS_PER_WINDOW, id.0, WINDOW_FLAGS);
+    let queued = windows::has_flag(flags, QUEUED_FLAG);
     chains::set_link(edges, words, reals, made, e, before, next);
-    write_u32(words, 4, id.0, 3, 0);
+    write_u32(words, WORDS_PER_WINDOW, id.0, WINDOW_LINK, 0);
     windows::store_flags(words, id, false, queued);
 }

@@ -14,14 +14,14 @@ use Rattle.edge_table.specs.Table.{Mesh, tableOf, edgeWords, triangleWords}
 use Rattle.vertex_faces.specs.Ranges.{withRanges, withFlags, startOf, endOf, roundOf}
 use Rattle.frames.specs.Stored.{withLengths, withNormals}
 
--- document 01's rooms of the mesh
+-- document 01's rooms of the mesh, laid out as crate layout says
 pub record MeshBuffers : Type 0 where
-  pub vertex-words : List ℕ  -- three for each vertex: where its faces start and end in `round`; its flag
-  pub edge-words : List ℕ  -- six for each edge: its two vertices, its two faces, and its chain head and a scratch word, zero at first
-  pub edge-reals : List Float  -- four for each edge: its length and its unit vector
+  pub vertex-words : List ℕ  -- of each vertex: where its faces start and end in `round`; its flag
+  pub edge-words : List ℕ  -- of each edge: its two vertices, its two faces, and its chain head and a scratch word, zero at first
+  pub edge-reals : List Float  -- of each edge: its length and its unit vector
   pub round : List ℕ  -- the faces round each vertex, one vertex after the other
-  pub triangle-words : List ℕ  -- six for each triangle: its three edges, its first and its last entry and a spare word, zero at first
-  pub triangle-reals : List Float  -- nine for each triangle: the inward normals of its sides
+  pub triangle-words : List ℕ  -- of each triangle: its three edges, its first and its last entry and a spare word, zero at first
+  pub triangle-reals : List Float  -- of each triangle: the inward normals of its sides
 
 abbrev pub meshBuffers : List ℕ → List ℕ → List Float → List ℕ → List ℕ → List Float → MeshBuffers
 meshBuffers vw ew er r tw tr = record { vertex-words = vw; edge-words = ew; edge-reals = er; round = r; triangle-words = tw; triangle-reals = tr }

@@ -12,6 +12,7 @@ use lib.Ieee.{Float, nan, binary64, ofBits, neg, add, mul, div, lt, le, fits}
 use lib.Ieee.Bits.{ofBits-fits}
 use lib.Ieee.Scale.{finite}
 use Rattle.nat_laws.proofs.Tests.{holds}
+use Rattle.layout.specs.Layout.{coordinatesPerVertex}
 use Rattle.root_spec.specs.Root.{sqrtOf}
 use Rattle.float64.specs.Scalar.{zero, one}
 use Rattle.float64.specs.Notation.{_⊕_, _⊗_, _⊘_}
@@ -106,12 +107,12 @@ number-in-range x e =
     let both = and-eq-true-iff (le (neg maxCoordinate) x) (le x maxCoordinate) .0 (not-false _ e) in
     within-of maxCoordinate x (holds (le (neg maxCoordinate) x) (both .0)) (holds (le x maxCoordinate) (both .1))
 
-pub vertex-in-range : (v : List Float) (k : ℕ) → VerticesInRange v → 3 * k + 2 < length v → PointInRange (vertexAt v k)
+pub vertex-in-range : (v : List Float) (k : ℕ) → VerticesInRange v → coordinatesPerVertex * k + 2 < length v → PointInRange (vertexAt v k)
 vertex-in-range v k r l =
     record {
-      x-within = number-in-range (getD v (3 * k) nan) (r .in-range (3 * k) (omega arith));
-      y-within = number-in-range (getD v (3 * k + 1) nan) (r .in-range (3 * k + 1) (omega arith));
-      z-within = number-in-range (getD v (3 * k + 2) nan) (r .in-range (3 * k + 2) l);
+      x-within = number-in-range (getD v (coordinatesPerVertex * k) nan) (r .in-range (coordinatesPerVertex * k) (omega arith));
+      y-within = number-in-range (getD v (coordinatesPerVertex * k + 1) nan) (r .in-range (coordinatesPerVertex * k + 1) (omega arith));
+      z-within = number-in-range (getD v (coordinatesPerVertex * k + 2) nan) (r .in-range (coordinatesPerVertex * k + 2) l);
     }
 
 difference-of : (p q : Vec3) → PointInRange p → PointInRange q → VecWithin difference (subOf p q)

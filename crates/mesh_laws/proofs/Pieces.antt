@@ -9,6 +9,7 @@ use borrow.Author.Tests.{lt-ltb, ne-eqb}
 use lib.Dec.{ltb, eqb}
 use lib.ListN.{length, getD}
 use lib.Ieee.{Float, nan}
+use Rattle.layout.specs.Layout.{coordinatesPerVertex, coordinatesPerPiece}
 use Rattle.float_bounds.specs.Within.{Within}
 use Rattle.job_checks.specs.Refusals.{maxCoordinate, outOfRange, usedOutOfRange}
 use Rattle.job_checks.specs.Sound.{SoundPieces}
@@ -18,24 +19,24 @@ use Rattle.mesh_laws.proofs.Edges.{number-in-range}
 
 module _ (triangles : ℕ) (kinds faces : List ℕ) (coords : List Float) (s : SoundPieces triangles kinds faces coords) where
   -- a coordinate that is used
-  used : (i : ℕ) → i < length coords → (ltb (i % 6) 3 || not (eqb (getD kinds (i / 6) 0) 0)) ≡ true → Within maxCoordinate (getD coords i nan)
+  used : (i : ℕ) → i < length coords → (ltb (i % coordinatesPerPiece) coordinatesPerVertex || not (eqb (getD kinds (i / coordinatesPerPiece) 0) 0)) ≡ true → Within maxCoordinate (getD coords i nan)
   unfolding usedOutOfRange
   used i l q = number-in-range (getD coords i nan) (sym (and-true (outOfRange (getD coords i nan))) ∙ ((λ t. outOfRange (getD coords i nan) && sym q t) ∙ s .piece-in-range i l))
 
-  module _ (p : ℕ) (l : 6 * p + 5 < length coords) where
-    first : (a : ℕ) → a < 3 → Within maxCoordinate (getD coords (6 * p + a) nan)
-    first a m = used (6 * p + a) (omega arith) (rw (lt-ltb ((6 * p + a) % 6) 3 (omega arith)) refl)
+  module _ (p : ℕ) (l : coordinatesPerPiece * p + 5 < length coords) where
+    first : (a : ℕ) → a < coordinatesPerVertex → Within maxCoordinate (getD coords (coordinatesPerPiece * p + a) nan)
+    first a m = used (coordinatesPerPiece * p + a) (omega arith) (rw (lt-ltb ((coordinatesPerPiece * p + a) % coordinatesPerPiece) coordinatesPerVertex (omega arith)) refl)
 
     pub start-in-range : PointInRange (pieceStart coords p)
     start-in-range =
-        let z : 6 * p + 0 ≡ 6 * p = omega arith in
+        let z : coordinatesPerPiece * p + 0 ≡ coordinatesPerPiece * p = omega arith in
         record { x-within = rw z at (first 0 (omega arith)); y-within = first 1 (omega arith); z-within = first 2 (omega arith) }
 
     module _ (segment : getD kinds p 0 ≡ 0 → ⊥) where
-      last : (a : ℕ) → a < 6 → Within maxCoordinate (getD coords (6 * p + a) nan)
+      last : (a : ℕ) → a < coordinatesPerPiece → Within maxCoordinate (getD coords (coordinatesPerPiece * p + a) nan)
       last a m =
-          let z : (6 * p + a) / 6 ≡ p = omega arith in
-          used (6 * p + a) (omega arith) (rw (z, ne-eqb (getD kinds p 0) 0 segment) (or-true (ltb ((6 * p + a) % 6) 3)))
+          let z : (coordinatesPerPiece * p + a) / coordinatesPerPiece ≡ p = omega arith in
+          used (coordinatesPerPiece * p + a) (omega arith) (rw (z, ne-eqb (getD kinds p 0) 0 segment) (or-true (ltb ((coordinatesPerPiece * p + a) % coordinatesPerPiece) coordinatesPerVertex)))
 
       pub end-in-range : PointInRange (pieceEnd coords p)
       end-in-range = record { x-within = last 3 (omega arith); y-within = last 4 (omega arith); z-within = last 5 (omega arith) }

@@ -2,6 +2,15 @@
 // of the topology, and what is left in the buffers. tests/mesh/make_vectors.py has the format and makes the files.
 use buffers::read_f64;
 use buffers::read_u32;
+use layout::REALS_PER_EDGE;
+use layout::REALS_PER_TRIANGLE;
+use layout::ROUND_FACE;
+use layout::VERTEX_END;
+use layout::VERTEX_START;
+use layout::WORDS_PER_EDGE;
+use layout::WORDS_PER_ROUND;
+use layout::WORDS_PER_TRIANGLE;
+use layout::WORDS_PER_VERTEX;
 use mesh::Meshed;
 use mesh::OtherCounts;
 use stored_numbers::all_f64;
@@ -133,7 +142,12 @@ fn visit_faces(s: &[u8], detail: u32, w: Walk, round: &[u32], start: u32, end: u
     let mut now = visit(s, detail, w, end - start);
     let mut i = start;
     while i < end {
-        now = visit(s, detail, now, read_u32(round, 1, i, 0));
+        now = visit(
+            s,
+            detail,
+            now,
+            read_u32(round, WORDS_PER_ROUND, i, ROUND_FACE),
+        );
         i += 1;
     }
     now
@@ -148,8 +162,8 @@ fn visit_vertices(s: &[u8], detail: u32, w: Walk, words: &[u32], round: &[u32], 
             detail,
             now,
             round,
-            read_u32(words, 3, i, 0),
-            read_u32(words, 3, i, 1),
+            read_u32(words, WORDS_PER_VERTEX, i, VERTEX_START),
+            read_u32(words, WORDS_PER_VERTEX, i, VERTEX_END),
         );
         i += 1;
     }
@@ -310,10 +324,25 @@ fn same_topology(
         same: true,
     };
     let counted = visit(s, 1, start, edges);
-    let ends = visit_u32(s, detail, counted, edge_words, 6, edges, 4);
-    let lengths = visit_f64(s, detail, ends, edge_reals, 4, edges);
-    let numbered = visit_u32(s, detail, lengths, triangle_words, 6, triangles, 3);
-    let normals = visit_f64(s, detail, numbered, triangle_reals, 9, triangles);
+    let ends = visit_u32(s, detail, counted, edge_words, WORDS_PER_EDGE, edges, 4);
+    let lengths = visit_f64(s, detail, ends, edge_reals, REALS_PER_EDGE, edges);
+    let numbered = visit_u32(
+        s,
+        detail,
+        lengths,
+        triangle_words,
+        WORDS_PER_TRIANGLE,
+        triangles,
+        3,
+    );
+    let normals = visit_f64(
+        s,
+        detail,
+        numbered,
+        triangle_reals,
+        REALS_PER_TRIANGLE,
+        triangles,
+    );
     let last = visit_vertices(s, detail, normals, vertex_words, round, vertices);
     if last.same {
         return tails_zero(

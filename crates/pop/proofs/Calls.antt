@@ -4,6 +4,7 @@ use mathlib.Core.Bool.{Bool, true, false}
 use mathlib.Core.List.{List}
 use mathlib.Core.Path.{_≡_, refl, sym, ap, _∙_}
 use borrow.Author.Tests.{lt-ltb, le-ltb}
+use Rattle.layout.specs.Layout.{aliveFlag, queuedFlag}
 use Rattle.windows.specs.Windows.{hasFlag, flagsAt, flagsWith}
 use Rattle.heap.specs.declared.Event.{Event}
 use Rattle.heap.specs.declared.Popped.{Popped}
@@ -20,16 +21,16 @@ module _ (made : ℕ) (w : List ℕ) (i : ℕ) where
   pub claims-far : made ≤ i → Claims false w
   claims-far h = rw (le-ltb i made h) (refl, refl)
 
-  module _ (l : i < made) (flags : ℕ) (is : flags ≡ flagsAt w i) (alive : Bool) (isAlive : alive ≡ hasFlag flags 2) where
-    alive-is : (b : Bool) → alive ≡ b → hasFlag (flagsAt w i) 2 ≡ b
-    alive-is b h = ap (λ n. hasFlag n 2) (sym is) ∙ sym isAlive ∙ h
+  module _ (l : i < made) (flags : ℕ) (is : flags ≡ flagsAt w i) (alive : Bool) (isAlive : alive ≡ hasFlag flags aliveFlag) where
+    alive-is : (b : Bool) → alive ≡ b → hasFlag (flagsAt w i) aliveFlag ≡ b
+    alive-is b h = ap (λ n. hasFlag n aliveFlag) (sym is) ∙ sym isAlive ∙ h
 
     pub claims-dead : alive ≡ false → Claims false w
     claims-dead h = rw (lt-ltb i made l, alive-is false h) (refl, refl)
 
-    module _ (yes : alive ≡ true) (queued : Bool) (isQueued : queued ≡ hasFlag flags 4) where
-      queued-is : (b : Bool) → queued ≡ b → hasFlag (flagsAt w i) 4 ≡ b
-      queued-is b h = ap (λ n. hasFlag n 4) (sym is) ∙ sym isQueued ∙ h
+    module _ (yes : alive ≡ true) (queued : Bool) (isQueued : queued ≡ hasFlag flags queuedFlag) where
+      queued-is : (b : Bool) → queued ≡ b → hasFlag (flagsAt w i) queuedFlag ≡ b
+      queued-is b h = ap (λ n. hasFlag n queuedFlag) (sym is) ∙ sym isQueued ∙ h
 
       pub claims-idle : queued ≡ false → Claims false w
       claims-idle h = rw (lt-ltb i made l, alive-is true yes, queued-is false h) (refl, refl)

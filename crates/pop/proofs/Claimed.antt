@@ -11,6 +11,7 @@ use lib.Dec.{T, eqb, ltb}
 use lib.ListN.{length, getD, drop}
 use lib.Seq.{drop-set-lt}
 use lib.Ieee.{Float}
+use Rattle.layout.specs.Layout.{wordsPerWindow, windowFlags, aliveFlag, queuedFlag}
 use Rattle.nat_laws.specs.Lists.{listOf}
 use Rattle.nat_laws.proofs.Lists.{length-listOf}
 use Rattle.windows.specs.declared.WindowRecord.{WindowRecord}
@@ -50,15 +51,15 @@ contradiction : {A : Type 0} (b : Bool) → b ≡ true → b ≡ false → A
 contradiction b p q = absurd (subst T (sym p ∙ q) tt)
 
 -- window i is dead
-dead-kept : (w : List ℕ) (f : List Float) (i : ℕ) → hasFlag (flagsAt w i) 2 ≡ false → (u : Window) → Alive w f u → Kept i u
+dead-kept : (w : List ℕ) (f : List Float) (i : ℕ) → hasFlag (flagsAt w i) aliveFlag ≡ false → (u : Window) → Alive w f u → Kept i u
 unfolding windowAt
-dead-kept w f i h u a d = contradiction (hasFlag (flagsAt w (u .num)) 2) (a .alive) (ap (λ (n : ℕ). hasFlag (flagsAt w n) 2) d ∙ h)
+dead-kept w f i h u a d = contradiction (hasFlag (flagsAt w (u .num)) aliveFlag) (a .alive) (ap (λ (n : ℕ). hasFlag (flagsAt w n) aliveFlag) d ∙ h)
 
 -- or is not queued
-idle-kept : (w : List ℕ) (f : List Float) (i : ℕ) → hasFlag (flagsAt w i) 4 ≡ false → (u : Window) → Alive w f u → Kept i u
+idle-kept : (w : List ℕ) (f : List Float) (i : ℕ) → hasFlag (flagsAt w i) queuedFlag ≡ false → (u : Window) → Alive w f u → Kept i u
 unfolding windowAt
 idle-kept w f i h u a d =
-    let q : u .carried .queued ≡ false = ap (λ (v : Window). v .carried .queued) (sym (a .same)) ∙ ap (λ (n : ℕ). hasFlag (flagsAt w n) 4) d ∙ h in
+    let q : u .carried .queued ≡ false = ap (λ (v : Window). v .carried .queued) (sym (a .same)) ∙ ap (λ (n : ℕ). hasFlag (flagsAt w n) queuedFlag) d ∙ h in
     ap (λ (b : Bool). record { b0 = u .b0; b1 = u .b1; low = u .low; src = u .src; carried = record { into = u .carried .into; queued = b }; num = u .num }) (sym q)
 
 -- ---- and the list of all windows
@@ -75,11 +76,11 @@ claim-idle x h = go (x .alive) refl where
 claim-live : (x : WindowRecord) → x .alive ≡ true → claimedWin x ≡ popped x
 claim-live x h = ap (λ (b : Bool). cond b (popped x) x) h
 
-bare-alive : (w : List ℕ) (f : List Float) (i : ℕ) → bare (windowAt w f i) .alive ≡ hasFlag (flagsAt w i) 2
+bare-alive : (w : List ℕ) (f : List Float) (i : ℕ) → bare (windowAt w f i) .alive ≡ hasFlag (flagsAt w i) aliveFlag
 unfolding bare relinked windowAt
 bare-alive w f i = refl
 
-bare-queued : (w : List ℕ) (f : List Float) (i : ℕ) → bare (windowAt w f i) .carried .queued ≡ hasFlag (flagsAt w i) 4
+bare-queued : (w : List ℕ) (f : List Float) (i : ℕ) → bare (windowAt w f i) .carried .queued ≡ hasFlag (flagsAt w i) queuedFlag
 unfolding bare relinked windowAt
 bare-queued w f i = refl
 
@@ -101,14 +102,14 @@ module _ (made : ℕ) (w : List ℕ) (f : List Float) (edges : List ℕ) (wins :
   unchanged : (i : ℕ) → i < made → claimedWin (bare (windowAt w f i)) ≡ bare (windowAt w f i) → adjust i claimedWin wins ≡ wins
   unchanged i l h = subst (λ (ws : List WindowRecord). adjust i claimedWin ws ≡ ws) (H .all) (adjust-same claimedWin i (winsOf made w f) (bare (windowAt w f i)) (wins-at made w f i (bare (windowAt w f i)) l) h)
 
-  claim-not-alive : (i : ℕ) → i < made → hasFlag (flagsAt w i) 2 ≡ false → Holds made (adjust i claimedWin wins) (links edges w) f (λ e. unqueuedIn i (live e))
+  claim-not-alive : (i : ℕ) → i < made → hasFlag (flagsAt w i) aliveFlag ≡ false → Holds made (adjust i claimedWin wins) (links edges w) f (λ e. unqueuedIn i (live e))
   claim-not-alive i l h = same i (λ e. all-map {P = Alive w f} {Q = Kept i} (dead-kept w f i h) (live e) (H .on-edge e .windows)) (unchanged i l (claim-dead (bare (windowAt w f i)) (bare-alive w f i ∙ h)))
 
-  claim-not-queued : (i : ℕ) → i < made → hasFlag (flagsAt w i) 4 ≡ false → Holds made (adjust i claimedWin wins) (links edges w) f (λ e. unqueuedIn i (live e))
+  claim-not-queued : (i : ℕ) → i < made → hasFlag (flagsAt w i) queuedFlag ≡ false → Holds made (adjust i claimedWin wins) (links edges w) f (λ e. unqueuedIn i (live e))
   claim-not-queued i l h = same i (λ e. all-map {P = Alive w f} {Q = Kept i} (idle-kept w f i h) (live e) (H .on-edge e .windows)) (unchanged i l (claim-idle (bare (windowAt w f i)) (bare-queued w f i ∙ h)))
 
   -- it is alive and queued
-  claim-done : (i : ℕ) → i < made → 4 * i + 4 ≤ length w → hasFlag (flagsAt w i) 2 ≡ true → Holds made (adjust i claimedWin wins) (links edges (flagsWith w i true false)) f (λ e. unqueuedIn i (live e))
+  claim-done : (i : ℕ) → i < made → wordsPerWindow * i + wordsPerWindow ≤ length w → hasFlag (flagsAt w i) aliveFlag ≡ true → Holds made (adjust i claimedWin wins) (links edges (flagsWith w i true false)) f (λ e. unqueuedIn i (live e))
   claim-done i l there h =
       let u = unqueue-done w i true there (sym h) (flagsWith w i true false) refl in
       subst (λ (ws : List WindowRecord). Holds made ws (links edges (flagsWith w i true false)) f (λ e. unqueuedIn i (live e)))
@@ -117,11 +118,11 @@ module _ (made : ℕ) (w : List ℕ) (f : List Float) (edges : List ℕ) (wins :
       (u .holds made wins edges f live H)
 
   claim-holds : (i : ℕ) → made ≤ capacityOf (length w) (length f) → Holds made (adjust i claimedWin wins) (links edges (claimed made w i)) f (λ e. unqueuedIn i (live e))
-  claim-holds i fits = go (decLe made i) (hasFlag (flagsAt w i) 2) refl (hasFlag (flagsAt w i) 4) refl where
+  claim-holds i fits = go (decLe made i) (hasFlag (flagsAt w i) aliveFlag) refl (hasFlag (flagsAt w i) queuedFlag) refl where
     Goal : List ℕ → Type 0
     Goal v = Holds made (adjust i claimedWin wins) (links edges v) f (λ e. unqueuedIn i (live e))
 
-    go : Dec (made ≤ i) → (a : Bool) → hasFlag (flagsAt w i) 2 ≡ a → (q : Bool) → hasFlag (flagsAt w i) 4 ≡ q → Goal (claimed made w i)
+    go : Dec (made ≤ i) → (a : Bool) → hasFlag (flagsAt w i) aliveFlag ≡ a → (q : Bool) → hasFlag (flagsAt w i) queuedFlag ≡ q → Goal (claimed made w i)
     go (yes d) a ha q hq = rw (le-ltb i made d) (claim-far i d)
     go (no d) false ha q hq = let l : i < made = omega (arith, d) in rw (lt-ltb i made l, ha) (claim-not-alive i l ha)
     go (no d) true ha false hq = let l : i < made = omega (arith, d) in rw (lt-ltb i made l, ha, hq) (claim-not-queued i l hq)
@@ -137,14 +138,14 @@ module _ (made : ℕ) (w : List ℕ) (f : List Float) (edges : List ℕ) (wins :
   item-holds (Vertex v) fits = H
 
 -- the words past the windows made stay
-pub item-words : (made : ℕ) (w : List ℕ) (x : Item) → drop (4 * made) (itemClaimed made w x) ≡ drop (4 * made) w
+pub item-words : (made : ℕ) (w : List ℕ) (x : Item) → drop (wordsPerWindow * made) (itemClaimed made w x) ≡ drop (wordsPerWindow * made) w
 unfolding itemClaimed
 item-words made w (Vertex v) = refl
 item-words made w (Item·Window id) = go (decLe made (id .0)) where
-  rest : (a : Bool) → id .0 < made → drop (4 * made) (cond a (flagsWith w (id .0) true false) w) ≡ drop (4 * made) w
-  rest true l = unfold flagsWith in drop-set-lt (4 * made) w (4 * id .0 + 2) _ (omega arith)
+  rest : (a : Bool) → id .0 < made → drop (wordsPerWindow * made) (cond a (flagsWith w (id .0) true false) w) ≡ drop (wordsPerWindow * made) w
+  rest true l = unfold flagsWith in drop-set-lt (wordsPerWindow * made) w (wordsPerWindow * id .0 + windowFlags) _ (omega arith)
   rest false l = refl
 
-  go : Dec (made ≤ id .0) → drop (4 * made) (claimed made w (id .0)) ≡ drop (4 * made) w
+  go : Dec (made ≤ id .0) → drop (wordsPerWindow * made) (claimed made w (id .0)) ≡ drop (wordsPerWindow * made) w
   go (yes d) = rw (le-ltb (id .0) made d)
   go (no d) = rest (isPending made w (id .0)) (omega (arith, d))

@@ -3,6 +3,7 @@ use Prim.Native.Nat.{ℕ}
 use mathlib.Core.Bool.{Bool, true, false, cond, _&&_}
 use mathlib.Core.List.{List}
 use lib.Dec.{ltb}
+use Rattle.layout.specs.Layout.{aliveFlag, queuedFlag}
 use Rattle.windows.specs.Windows.{hasFlag, flagsAt, flagsWith}
 use Rattle.heap.specs.declared.Item.{Item}
 use Rattle.heap.specs.declared.Item.the-variants.{Window, Vertex}
@@ -13,7 +14,7 @@ use Rattle.pop.specs.declared.Taken.the-variants.{Empty as Taken·Empty,
 
 -- the Rust's `w.alive && w.queued`, of one of the first `made` windows
 abbrev pub isPending : ℕ → List ℕ → ℕ → Bool
-isPending made w i = ltb i made && (hasFlag (flagsAt w i) 2 && hasFlag (flagsAt w i) 4)
+isPending made w i = ltb i made && (hasFlag (flagsAt w i) aliveFlag && hasFlag (flagsAt w i) queuedFlag)
 
 -- `wins[id].queued = false`
 abbrev pub claimed : ℕ → List ℕ → ℕ → List ℕ

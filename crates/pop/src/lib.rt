@@ -4,6 +4,10 @@ use buffers::read_u32;
 use heap::Event;
 use heap::Item;
 use heap::Popped;
+use layout::ALIVE_FLAG;
+use layout::QUEUED_FLAG;
+use layout::WINDOW_FLAGS;
+use layout::WORDS_PER_WINDOW;
 ghost use mathlib.Core.Path.{_≡_};
 ghost use Rattle.heap.specs.Queue.{queue, popping};
 ghost use Rattle.pop.specs.Words.{isPending, claimed, itemPending, itemClaimed, takenOf, wordsAfter};
@@ -19,9 +23,9 @@ pub fn claim(words: &mut [u32], made: u32, id: WindowId) -> bool
     ensures { λ r. ⌜ (r ≡ isPending made (now (words .entry)) (id .0)) × (now (words .exit) ≡ claimed made (now (words .entry)) (id .0)) ⌝ }
 {
     if id.0 < made {
-        let flags = read_u32(words, 4, id.0, 2);
-        if windows::has_flag(flags, 2) {
-            if windows::has_flag(flags, 4) {
+        let flags = read_u32(words, WORDS_PER_WINDOW, id.0, WINDOW_FLAGS);
+        if windows::has_flag(flags, ALIVE_FLAG) {
+            if windows::has_flag(flags, QUEUED_FLAG) {
                 windows::store_flags(words, id, true, false);
                 return true;
             }

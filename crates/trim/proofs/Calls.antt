@@ -10,6 +10,7 @@ use lib.Dec.{T}
 use lib.ListN.{length, getD}
 use lib.Seq.{getD-set-other}
 use lib.Ieee.{Float, lt, le}
+use Rattle.layout.specs.Layout.{wordsPerEdge, edgeScratch}
 use Rattle.buffers.specs.declared.Lack.{Lack}
 use Rattle.buffers.specs.Lack.{lackNumber}
 use Rattle.source.specs.Distance.{lowestOf}
@@ -124,7 +125,7 @@ module _ (cuts : ℕ) (limit : Float) (flags : List ℕ) (e : Edge) (x : WindowR
           (fronted .last wins live hold (tidy-leads tiny (x .win .b0) (live id) (subst (λ (y : Float). Tidy y (live id)) (sym is) t)))
 
     front-untouched : Untouched (λ k. k ≡ id) p (placeOf s₁ made queued before vertex)
-    front-untouched = record { more = omega arith; edges = λ i h. ap (λ (l : List ℕ). getD l i 0) (fronted .edges) ∙ getD-set-other (s .edges) (6 * id + 5) i before 0 (h id refl .1); words = refl; reals = refl }
+    front-untouched = record { more = omega arith; edges = λ i h. ap (λ (l : List ℕ). getD l i 0) (fronted .edges) ∙ getD-set-other (s .edges) (wordsPerEdge * id + edgeScratch) i before 0 (h id refl .1); words = refl; reals = refl }
 
     abbrev Few : List Window → Type 0
     Few zs = length zs ≤ made

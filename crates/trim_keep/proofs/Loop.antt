@@ -6,6 +6,7 @@ use mathlib.Core.Path.{_≡_, refl, sym, ap, _∙_, subst}
 use native.Mathlib.Numerals.{add-one}
 use lib.ListN.{length, drop}
 use lib.Ieee.{Float, le}
+use Rattle.layout.specs.Layout.{wordsPerEdge}
 use Rattle.buffers.specs.Slots.{slotsOf}
 use Rattle.better.specs.Stretches.{Interval}
 use Rattle.windows.specs.declared.Edge.{Edge}
@@ -28,7 +29,7 @@ module _ (limit : Float) (flags : List ℕ) (e : Edge) (x : WindowRecord) (t : F
   pub record KeepInv (s : Slices) (vertex : List Float) (made queued last i : ℕ) : Type 0 where
     pub same : SameLengths s₀ s
     pub same-vertex : length vertex ≡ length vertex₀
-    pub edge : e .id .0 < slotsOf (length (s₀ .edges)) 6
+    pub edge : e .id .0 < slotsOf (length (s₀ .edges)) wordsPerEdge
     pub fits : made ≤ windowsOf s₀
     pub linked : last ≤ made
     pub goal : (cuts j : ℕ) (end : End) → From i s vertex made queued last cuts j end → Whole cuts j end

@@ -9,6 +9,7 @@ use lib.Dec.{T, ltb, ltb→lt}
 use lib.ListN.{length, getD}
 use lib.Ieee.{Float, nan, binary64, fits}
 use lib.Ieee.Fits.{and-l, and-r}
+use Rattle.layout.specs.Layout.{wordsPerEnds, endsLow, endsHigh}
 use Rattle.buffers.specs.Slots.{slotsOf}
 use Rattle.buffers.specs.declared.EdgeId.{EdgeId}
 use Rattle.buffers.specs.declared.Lack.{Lack}
@@ -93,7 +94,7 @@ module _ (limit : Float) (flags ends : List ℕ) (lens : List Float) (m : ℕ) (
     candidate-there = ltb→lt (c .edge) m (and-l (ltb (c .edge) m) (hasLength l) (passed-first first second is))
 
     -- of the ends that were read
-    module _ (low high : ℕ) (isLow : low ≡ getD ends (2 * c .edge + 0) 0) (isHigh : high ≡ getD ends (2 * c .edge + 1) 0) where
+    module _ (low high : ℕ) (isLow : low ≡ getD ends (wordsPerEnds * c .edge + endsLow) 0) (isHigh : high ≡ getD ends (wordsPerEnds * c .edge + endsHigh) 0) where
       abbrev edge : Edge
       edge = record { id = id; len = l; a = record { 0 = low }; b = record { 0 = high } }
 

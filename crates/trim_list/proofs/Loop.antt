@@ -5,6 +5,7 @@ use mathlib.Core.List.{List, [], _∷_, _++_, append-assoc, append-nil}
 use mathlib.Core.Path.{_≡_, refl, sym, ap, subst, _∙_}
 use lib.ListN.{length}
 use lib.Ieee.{Float}
+use Rattle.layout.specs.Layout.{realsPerVertex}
 use Rattle.windows.specs.Windows.{capacityOf}
 use Rattle.buffers.specs.Slots.{slotsOf}
 use Rattle.chains.specs.Chains.{links, headOf}
@@ -169,7 +170,7 @@ pub record SameCuts (c c₀ : Cuts) : Type 0 where
 
 module _ (limit : Float) (flags ends : List ℕ) (lens : List Float) (m : ℕ) where
   abbrev settingFor : ℕ → ℕ → ℕ → ℕ → Setting
-  settingFor pts words reals vertex = record { cuts = pts; windows = capacityOf words reals; limit = limit; flags = flags; mesh = meshOf ends lens; edges = m; vertices = slotsOf vertex 2 }
+  settingFor pts words reals vertex = record { cuts = pts; windows = capacityOf words reals; limit = limit; flags = flags; mesh = meshOf ends lens; edges = m; vertices = slotsOf vertex realsPerVertex }
 
   setting-same : (c c₀ : Cuts) (b b₀ : Slices) → SameCuts c c₀ → SameLengths b b₀ → settingOf c b limit flags ends lens m ≡ settingOf c₀ b₀ limit flags ends lens m
   setting-same c c₀ b b₀ u v = λ t. settingFor (u .pts t) (v .words t) (v .reals t) (v .vertex t)

@@ -6,6 +6,7 @@ use mathlib.Core.Path.{_≡_, refl, sym, ap, subst, _∙_}
 use lib.Dec.{leb, ltb}
 use lib.ListN.{length, drop}
 use lib.Ieee.{Float}
+use Rattle.layout.specs.Layout.{wordsPerWindow}
 use Rattle.windows.specs.Windows.{capacityOf}
 use Rattle.heap.specs.declared.Event.{Event}
 use Rattle.heap.specs.declared.Popped.{Popped}
@@ -68,12 +69,12 @@ module _ (made queued : ℕ) (edges words : List ℕ) (reals keys : List Float) 
   same-pop = ap (λ (k : Stock). popping (k .queue) (k .queued)) (S .stock)
 
   abbrev After : ℕ → Popped × Queue → Type 0
-  After n z = (drop (4 * made) words′ ≡ drop (4 * made) words) × Represents made n edges words′ reals keys′ events′ vertex (afterPop s z)
+  After n z = (drop (wordsPerWindow * made) words′ ≡ drop (wordsPerWindow * made) words) × Represents made n edges words′ reals keys′ events′ vertex (afterPop s z)
 
   after-none : words′ ≡ wordsAfter made words Empty → queue keys′ events′ ≡ queue keys events → After queued (Empty, p .1)
   unfolding afterPop wordsAfter
   after-none w q = (
-    ap (drop (4 * made)) w,
+    ap (drop (wordsPerWindow * made)) w,
     record {
       holds = subst (λ (v : List ℕ). Holds made (s .wins) (links edges v) reals (s .live)) (sym w) (S .holds);
       stock = S .stock ∙ ap (λ (z : Queue). actions.stock made queued z vertex) (sym q);
@@ -84,7 +85,7 @@ module _ (made queued : ℕ) (edges words : List ℕ) (reals keys : List Float) 
   unfolding afterPop wordsAfter
   after-one room x n w q =
       let y = x .item in (
-        ap (drop (4 * made)) w ∙ item-words made words y,
+        ap (drop (wordsPerWindow * made)) w ∙ item-words made words y,
         record {
           holds = subst (λ (v : List ℕ). Holds made (winsClaimed y (s .wins)) (links edges v) reals (λ e. liveClaimed y (s .live e))) (sym w) (item-holds made words reals edges (s .wins) (s .live) (S .holds) y room);
           stock = λ t. actions.stock (S .stock t .made) n (sym q t) (S .stock t .vertex);
@@ -92,7 +93,7 @@ module _ (made queued : ℕ) (edges words : List ℕ) (reals keys : List Float) 
       )
 
   pub after-pop : made ≤ capacityOf (length words) (length reals) → (n : ℕ) → PopsFirst made queued words keys events n words′ keys′ events′
-      → (drop (4 * made) words′ ≡ drop (4 * made) words) × Represents made n edges words′ reals keys′ events′ vertex (afterPop s (popping (s .stock .queue) (s .stock .queued)))
+      → (drop (wordsPerWindow * made) words′ ≡ drop (wordsPerWindow * made) words) × Represents made n edges words′ reals keys′ events′ vertex (afterPop s (popping (s .stock .queue) (s .stock .queued)))
   unfolding leftOf
   after-pop room n h = subst (λ (z : Popped × Queue). After n z) (sym same-pop) (go (p .0) refl) where
     go : (x : Popped) → p .0 ≡ x → After n p

@@ -6,6 +6,7 @@ use mathlib.Core.Path.{_≡_, refl, sym, ap, subst, _∙_}
 use borrow.Author.Tests.{le-ltb, lt-ltb}
 use lib.ListN.{length}
 use lib.Ieee.{Float}
+use Rattle.layout.specs.Layout.{realsPerVertex}
 use Rattle.buffers.specs.Slots.{slotsOf}
 use Rattle.windows.specs.Windows.{capacityOf}
 use Rattle.heap.specs.declared.Pushed.{Pushed}
@@ -27,11 +28,11 @@ use Rattle.trim.specs.Buffers.{Slices, slices}
 
 -- ---- a touch
 module _ (v : ℕ) (d limit : Float) (flags : List ℕ) (made queued : ℕ) (keys : List Float) (events : List ℕ) (vertex : List Float) where
-  pub touch-missing : slotsOf (length vertex) 2 ≤ v → Touches v d limit flags made queued keys events vertex (Stopped 73) keys events vertex
+  pub touch-missing : slotsOf (length vertex) realsPerVertex ≤ v → Touches v d limit flags made queued keys events vertex (Stopped 73) keys events vertex
   unfolding operate
-  touch-missing h = record { fits = tt; says = λ cuts windows mesh m edges words reals s R. rw (le-ltb v (slotsOf (length vertex) 2) h) }
+  touch-missing h = record { fits = tt; says = λ cuts windows mesh m edges words reals s R. rw (le-ltb v (slotsOf (length vertex) realsPerVertex) h) }
 
-  module _ (there : v < slotsOf (length vertex) 2) (keys′ : List Float) (events′ : List ℕ) (vertex′ : List Float) where
+  module _ (there : v < slotsOf (length vertex) realsPerVertex) (keys′ : List Float) (events′ : List ℕ) (vertex′ : List Float) where
     -- what `actions::touch` ensures
     abbrev Answers : Pushed → Type 0
     Answers p = (cuts windows made : ℕ) → act cuts windows limit flags (actions.touch v d) (actions.stock made queued (queue keys events) vertex) ≡ queueing made vertex′ (p, queue keys′ events′)
@@ -41,7 +42,7 @@ module _ (v : ℕ) (d limit : Float) (flags : List ℕ) (made queued : ℕ) (key
     touch-full h = record {
       fits = tt;
       says = λ cuts windows mesh m edges words reals s R.
-          rw (lt-ltb v (slotsOf (length vertex) 2) there)
+          rw (lt-ltb v (slotsOf (length vertex) realsPerVertex) there)
           (ap (finish (s .wins) (s .live)) (ap (act cuts windows limit flags (actions.touch v d)) (R .stock) ∙ h cuts windows made));
     }
 
@@ -52,7 +53,7 @@ module _ (v : ℕ) (d limit : Float) (flags : List ℕ) (made queued : ℕ) (key
       says = λ cuts windows mesh m edges words reals s R. record {
         state = record { wins = s .wins; live = s .live; stock = actions.stock made n (queue keys′ events′) vertex′ };
         is =
-            rw (lt-ltb v (slotsOf (length vertex) 2) there)
+            rw (lt-ltb v (slotsOf (length vertex) realsPerVertex) there)
             (ap (finish (s .wins) (s .live)) (ap (act cuts windows limit flags (actions.touch v d)) (R .stock) ∙ h cuts windows made));
         stands = record { holds = R .holds; stock = refl };
         untouched = untouched-same (λ e. e < m) (placeIn made queued (slices edges words reals keys events vertex)) n 0 (queue keys′ events′) vertex′;
@@ -84,7 +85,7 @@ module _ (g : Setting) (made queued : ℕ) where
           record { state = afterPop s (popping (s .stock .queue) (s .stock .queued)); is = refl; stands = a .1; untouched = record { more = omega arith; edges = λ i z. refl; words = a .0; reals = refl } };
     }
 
-    pub op-touch : (v : ℕ) (d : Float) → g .vertices ≡ slotsOf (length vertex) 2 → (r : Step) (keys′ : List Float) (events′ : List ℕ) (vertex′ : List Float)
+    pub op-touch : (v : ℕ) (d : Float) → g .vertices ≡ slotsOf (length vertex) realsPerVertex → (r : Step) (keys′ : List Float) (events′ : List ℕ) (vertex′ : List Float)
         → Touches v d (g .limit) (g .flags) made queued keys events vertex r keys′ events′ vertex′ → Operated g (touch v d) made queued (slices edges words reals keys events vertex) r (slices edges words reals keys′ events′ vertex′)
     op-touch v d e r keys′ events′ vertex′ t = record {
       doubles = tt;

@@ -6,6 +6,7 @@ use mathlib.Core.Path.{_≡_, refl, sym, ap, subst, _∙_}
 use lib.ListN.{length, getD, take, drop, replicate, length-replicate}
 use lib.Seq.{length-take-le}
 use lib.Ieee.{Float}
+use Rattle.layout.specs.Layout.{realsPerVertex, wordsPerEdge, edgeHead, wordsPerWindow, realsPerWindow, wordsPerEnds, realsPerLen}
 use Rattle.float64.specs.Scalar.{zero as zero64}
 use Rattle.windows.specs.Windows.{capacityOf}
 use Rattle.buffers.specs.Slots.{slotsOf}
@@ -80,7 +81,7 @@ module _ (ends : List ℕ) (lens : List Float) (b : Slices) (c : Cuts) (m x : �
   pub parts-ready : Ready m 0 b (parts x c)
   parts-ready = record {
     fits = omega arith;
-    edges = least-last (min (slotsOf (length ends) 2) (slotsOf (length lens) 1)) (slotsOf (length (b .edges)) 6) m isEdges;
+    edges = least-last (min (slotsOf (length ends) wordsPerEnds) (slotsOf (length lens) realsPerLen)) (slotsOf (length (b .edges)) wordsPerEdge) m isEdges;
     outs = twice x _ _ (length-take-le (2 * x) (c .out) (out-fit c x isCuts)) pts-length;
     keeps = twice x _ _ (length-take-le (2 * x) (c .keep) (keep-fit c x isCuts)) pts-length;
     nexts = twice x _ _ (length-take-le (2 * x) (c .next) (next-fit c x isCuts)) pts-length;
@@ -88,7 +89,7 @@ module _ (ends : List ℕ) (lens : List Float) (b : Slices) (c : Cuts) (m x : �
 
   module _ (limit : Float) (flags : List ℕ) where
     abbrev settingAt : ℕ → ℕ → Setting
-    settingAt k e = record { cuts = k; windows = capacityOf (length (b .words)) (length (b .reals)); limit = limit; flags = flags; mesh = meshOf ends lens; edges = e; vertices = slotsOf (length (b .vertex)) 2 }
+    settingAt k e = record { cuts = k; windows = capacityOf (length (b .words)) (length (b .reals)); limit = limit; flags = flags; mesh = meshOf ends lens; edges = e; vertices = slotsOf (length (b .vertex)) realsPerVertex }
 
     same-setting : settingOf (parts x c) b limit flags ends lens m ≡ lentSetting c b limit flags ends lens
     same-setting = let p : length (take x (c .pts)) ≡ cutCount c = pts-length ∙ isCuts in λ t. settingAt (p t) (isEdges t)
@@ -101,7 +102,7 @@ module _ (ends : List ℕ) (lens : List Float) (b : Slices) (c : Cuts) (m x : �
 
 -- ---- zeros
 pub heads-zero : (edges : List ℕ) → edges ≡ replicate (length edges) 0 → (e : ℕ) → headOf edges e ≡ 0
-heads-zero edges h e = ap (λ (l : List ℕ). headOf l e) h ∙ zero-at 0 (length edges) (6 * e + 4)
+heads-zero edges h e = ap (λ (l : List ℕ). headOf l e) h ∙ zero-at 0 (length edges) (wordsPerEdge * e + edgeHead)
 
 pub zeroed-cuts : (c c₁ c′ : Cuts) → SameCuts c₁ c → ZeroCuts c₁ c′ → ZeroCuts c c′
 zeroed-cuts c c₁ c′ s z = record {
@@ -131,13 +132,13 @@ drop-zeros z (suc n) zero = let e : zero ≡ zero - suc n = omega arith in ap (�
 drop-zeros z (suc n) (suc m) = let e : m - n ≡ suc m - suc n = omega arith in drop-zeros z n m ∙ ap (λ (k : ℕ). replicate k z) e
 
 -- windows that fit have their slots
-counted : (made m n : ℕ) → made ≤ capacityOf m n → (4 * made ≤ m) × (6 * made ≤ n)
+counted : (made m n : ℕ) → made ≤ capacityOf m n → (wordsPerWindow * made ≤ m) × (realsPerWindow * made ≤ n)
 counted made m n h = (omega (arith, h), omega (arith, h))
 
 -- ---- the whole: edges and windows are zeroed, the run leaves b₂ and c₁, and the cut buffers are zeroed to c′
 module _ (limit : Float) (flags ends : List ℕ) (lens : List Float) (ops : List ℕ) (args : List Float) (b : Slices) (c : Cuts) where
   abbrev settingFor : ℕ → ℕ → ℕ → Setting
-  settingFor edges words reals = record { cuts = cutCount c; windows = capacityOf words reals; limit = limit; flags = flags; mesh = meshOf ends lens; edges = min (min (slotsOf (length ends) 2) (slotsOf (length lens) 1)) (slotsOf edges 6); vertices = slotsOf (length (b .vertex)) 2 }
+  settingFor edges words reals = record { cuts = cutCount c; windows = capacityOf words reals; limit = limit; flags = flags; mesh = meshOf ends lens; edges = min (min (slotsOf (length ends) wordsPerEnds) (slotsOf (length lens) realsPerLen)) (slotsOf edges wordsPerEdge); vertices = slotsOf (length (b .vertex)) realsPerVertex }
 
   same-lent : lentSetting c (cleared b) limit flags ends lens ≡ lentSetting c b limit flags ends lens
   same-lent = λ t. settingFor (length-replicate {A = ℕ} (length (b .edges)) 0 t) (length-replicate {A = ℕ} (length (b .words)) 0 t) (length-replicate (length (b .reals)) zero64 t)
@@ -157,7 +158,7 @@ module _ (limit : Float) (flags ends : List ℕ) (lens : List Float) (ops : List
         (subst (λ (z : Slices). WholeRuns (lentSetting c z limit flags ends lens) z r b₂) (λ t. with (isEdges t) (isWords t) (isReals t)) runs)
 
     -- the slices keep their lengths, and the edges forget their links
-    pub whole-done : (made queued : ℕ) → r ≡ Done made queued → SameLengths b₂ b → (edges′ : List ℕ) → edges′ ≡ forgotten (slotsOf (length (b₂ .edges)) 6) (b₂ .edges)
+    pub whole-done : (made queued : ℕ) → r ≡ Done made queued → SameLengths b₂ b → (edges′ : List ℕ) → edges′ ≡ forgotten (slotsOf (length (b₂ .edges)) wordsPerEdge) (b₂ .edges)
         → RunWhole limit flags ends lens ops args b c (Done made queued) (slices edges′ (b₂ .words) (b₂ .reals) (b₂ .keys) (b₂ .events) (b₂ .vertex)) c′
     whole-done made queued h s edges′ forget =
         let F : Finishes (lentSetting c b limit flags ends lens) ops args (operationCount ops args) (placeIn 0 0 (cleared b)) made queued b₂ = subst (λ (z : Ran). WholeRuns (lentSetting c b limit flags ends lens) (cleared b) z b₂) h whole-runs in
@@ -171,15 +172,15 @@ module _ (limit : Float) (flags ends : List ℕ) (lens : List Float) (ops : List
             state = F .state;
             is = F .is;
             demand3 = F .demand3;
-            edges = forget ∙ heads-only m (slotsOf (length (b₂ .edges)) 6) made wins (b₂ .edges) (b₂ .words) (b₂ .reals) live H
-                (rw (s .edges) (least-last (min (slotsOf (length ends) 2) (slotsOf (length lens) 1)) (slotsOf (length (b .edges)) 6) m refl))
+            edges = forget ∙ heads-only m (slotsOf (length (b₂ .edges)) wordsPerEdge) made wins (b₂ .edges) (b₂ .words) (b₂ .reals) live H
+                (rw (s .edges) (least-last (min (slotsOf (length ends) wordsPerEnds) (slotsOf (length lens) realsPerLen)) (slotsOf (length (b .edges)) wordsPerEdge) m refl))
                 (λ p q. F .untouched .edges p q ∙ zero-at 0 (length (b .edges)) p)
                 ∙ ap (headsIn live) (s .edges);
             words = words-are made wins (b₂ .edges) (b₂ .words) (b₂ .reals) live H (room .0) (room .1)
-                (F .untouched .words ∙ drop-zeros 0 (4 * made) (length (b .words)) ∙ ap (λ (n : ℕ). replicate (n - 4 * made) 0) (sym (s .words)))
+                (F .untouched .words ∙ drop-zeros 0 (wordsPerWindow * made) (length (b .words)) ∙ ap (λ (n : ℕ). replicate (n - wordsPerWindow * made) 0) (sym (s .words)))
                 ∙ ap (λ (n : ℕ). wordsOf n wins live) (s .words);
             reals = reals-are-all made wins (b₂ .edges) (b₂ .words) (b₂ .reals) live H (room .0) (room .1)
-                (F .untouched .reals ∙ drop-zeros zero64 (6 * made) (length (b .reals)) ∙ ap (λ (n : ℕ). replicate (n - 6 * made) zero64) (sym (s .reals)))
+                (F .untouched .reals ∙ drop-zeros zero64 (realsPerWindow * made) (length (b .reals)) ∙ ap (λ (n : ℕ). replicate (n - realsPerWindow * made) zero64) (sym (s .reals)))
                 ∙ ap (λ (n : ℕ). realsOfAll n wins) (s .reals);
             rest = F .stands .stock;
           };

@@ -4,6 +4,7 @@ use mathlib.Core.List.{List}
 use mathlib.Core.Path.{_≡_}
 use lib.ListN.{length, getD, replicate}
 use lib.Ieee.{Float, nan}
+use Rattle.layout.specs.Layout.{realsPerVertex, wordsPerEdge, wordsPerOperation, realsPerOperation, wordsPerEnds, endsLow, endsHigh, realsPerLen}
 use Rattle.float64.specs.Scalar.{zero}
 use Rattle.buffers.specs.Slots.{slotsOf}
 use Rattle.windows.specs.Windows.{capacityOf}
@@ -32,7 +33,7 @@ use Rattle.trim_list.specs.declared.Ran.the-variants.{Done, Ended}
 -- ---- what is lent
 -- of each edge its two ends, and its length
 abbrev pub meshOf : List ℕ → List Float → Mesh
-meshOf ends lens = record { len = λ (e : ℕ). getD lens (1 * e + 0) nan; low = λ (e : ℕ). getD ends (2 * e + 0) 0; high = λ (e : ℕ). getD ends (2 * e + 1) 0 }
+meshOf ends lens = record { len = λ (e : ℕ). getD lens (realsPerLen * e + 0) nan; low = λ (e : ℕ). getD ends (wordsPerEnds * e + endsLow) 0; high = λ (e : ℕ). getD ends (wordsPerEnds * e + endsHigh) 0 }
 
 -- the counts of the buffers, and what stays the same
 pub record Setting : Type 0 where
@@ -52,13 +53,13 @@ settingOf c b limit flags ends lens m = record {
   flags = flags;
   mesh = meshOf ends lens;
   edges = m;
-  vertices = slotsOf (length (b .vertex)) 2;
+  vertices = slotsOf (length (b .vertex)) realsPerVertex;
 }
 
 -- so many windows are made and m edges counted, no more than the buffers have slots, and the cut buffers have as many slots each
 pub record Ready (m made : ℕ) (b : Slices) (c : Cuts) : Type 0 where
   pub fits : made ≤ capacityOf (length (b .words)) (length (b .reals))
-  pub edges : m ≤ slotsOf (length (b .edges)) 6
+  pub edges : m ≤ slotsOf (length (b .edges)) wordsPerEdge
   pub outs : length (c .out) ≡ length (c .pts) + length (c .pts)
   pub keeps : length (c .keep) ≡ length (c .pts) + length (c .pts)
   pub nexts : length (c .next) ≡ length (c .pts) + length (c .pts)
@@ -101,7 +102,7 @@ pub record PopsFirst (made queued : ℕ) (words : List ℕ) (keys : List Float) 
 pub record Touches (v : ℕ) (d limit : Float) (flags : List ℕ) (made queued : ℕ) (keys : List Float) (events : List ℕ) (vertex : List Float) (r : Step) (keys′ : List Float) (events′ : List ℕ) (vertex′ : List Float) : Type 0 where
   pub fits : Within made r
   pub says : (cuts windows : ℕ) (mesh : Mesh) (m : ℕ) (edges words : List ℕ) (reals : List Float) (s : State) → Represents made queued edges words reals keys events vertex s
-      → Says m (placeIn made queued (slices edges words reals keys events vertex)) r (slices edges words reals keys′ events′ vertex′) (operate cuts windows limit flags mesh m (slotsOf (length vertex) 2) (touch v d) s)
+      → Says m (placeIn made queued (slices edges words reals keys events vertex)) r (slices edges words reals keys′ events′ vertex′) (operate cuts windows limit flags mesh m (slotsOf (length vertex) realsPerVertex) (touch v d) s)
 
 -- from buffers b to b′, whatever state they stand for that follows the reference model
 pub record Operated (g : Setting) (o : Operation) (made queued : ℕ) (b : Slices) (r : Step) (b′ : Slices) : Type 0 where
@@ -142,10 +143,10 @@ module _ (g : Setting) (ops : List ℕ) (args : List Float) (n : ℕ) (p : Place
 
 -- ---- whole slices as they are lent: what they all have slots for
 abbrev pub edgeCount : List ℕ → List Float → List ℕ → ℕ
-edgeCount ends lens edges = min (min (slotsOf (length ends) 2) (slotsOf (length lens) 1)) (slotsOf (length edges) 6)
+edgeCount ends lens edges = min (min (slotsOf (length ends) wordsPerEnds) (slotsOf (length lens) realsPerLen)) (slotsOf (length edges) wordsPerEdge)
 
 abbrev pub operationCount : List ℕ → List Float → ℕ
-operationCount ops args = min (slotsOf (length ops) 4) (slotsOf (length args) 5)
+operationCount ops args = min (slotsOf (length ops) wordsPerOperation) (slotsOf (length args) realsPerOperation)
 
 abbrev pub cutCount : Cuts → ℕ
 cutCount c = min (min (slotsOf (length (c .pts)) 1) (slotsOf (length (c .out)) 2)) (min (slotsOf (length (c .keep)) 2) (slotsOf (length (c .next)) 2))
@@ -158,7 +159,7 @@ lentSetting c b limit flags ends lens = record {
   flags = flags;
   mesh = meshOf ends lens;
   edges = edgeCount ends lens (b .edges);
-  vertices = slotsOf (length (b .vertex)) 2;
+  vertices = slotsOf (length (b .vertex)) realsPerVertex;
 }
 
 pub record ZeroSlices (b b′ : Slices) : Type 0 where

@@ -4,6 +4,14 @@ use buffers::VertexId;
 use buffers::read_f64;
 use buffers::read_u32;
 use heap::Pushed;
+use layout::ENDS_HIGH;
+use layout::ENDS_LOW;
+use layout::REALS_PER_LEN;
+use layout::REALS_PER_OPERATION;
+use layout::REALS_PER_VERTEX;
+use layout::WORDS_PER_EDGE;
+use layout::WORDS_PER_ENDS;
+use layout::WORDS_PER_OPERATION;
 use pop::Taken;
 use trim::Added;
 use trim_run::Op;
@@ -46,7 +54,7 @@ fn touch(
 ) -> Step
     ensures { λ r. ⌜ Touches (v .0) d limit (given «vertex_words») made queued (now (keys .entry)) (now (events .entry)) (now (vertex .entry)) r (now (keys .exit)) (now (events .exit)) (now (vertex .exit)) ⌝ }
 {
-    if buffers::slots(vertex.len(), 2) <= v.0 {
+    if buffers::slots(vertex.len(), REALS_PER_VERTEX) <= v.0 {
         return Step::Stopped(73);
     }
     let touched = actions::touch(vertex, vertex_words, keys, events, queued, limit, v, d);
@@ -71,8 +79,8 @@ fn pop_first(words: &mut [u32], keys: &mut [f64], events: &mut [u32], made: u32,
 fn edge_count(ends: &[u32], lens: &[f64], edges: &[u32]) -> u32
     ensures { λ r. ⌜ r ≡ edgeCount (given ends) (given lens) (now (edges .entry)) ⌝ }
 {
-    let n = buffers::count(ends.len(), 2, lens.len(), 1);
-    let heads = buffers::slots(edges.len(), 6);
+    let n = buffers::count(ends.len(), WORDS_PER_ENDS, lens.len(), REALS_PER_LEN);
+    let heads = buffers::slots(edges.len(), WORDS_PER_EDGE);
     if n <= heads {
         return n;
     }
@@ -144,13 +152,13 @@ fn add_candidate(
     ensures { λ r. ⌜ Operated (settingOf (cutsBefore pts out keep next) (before edges words reals keys events vertex) limit (given «vertex_words») (given ends) (given lens) m)
         (Operations·add (asCandidate (id .0) w)) made queued (before edges words reals keys events vertex) r (after edges words reals keys events vertex) ⌝ }
 {
-    let len = read_f64(lens, 1, id.0, 0);
+    let len = read_f64(lens, REALS_PER_LEN, id.0, 0);
     let number = trim_run::refusal(m, id, len, w.b0, w.b1);
     if number != 0 {
         return Step::Stopped(number);
     }
-    let low = read_u32(ends, 2, id.0, 0);
-    let high = read_u32(ends, 2, id.0, 1);
+    let low = read_u32(ends, WORDS_PER_ENDS, id.0, ENDS_LOW);
+    let high = read_u32(ends, WORDS_PER_ENDS, id.0, ENDS_HIGH);
     let e = Edge {
         id,
         len,
@@ -387,7 +395,12 @@ pub fn run(
 {
     let m = edge_count(ends, lens, edges);
     let x = cut_count(pts, out, keep, next);
-    let n = buffers::count(ops.len(), 4, args.len(), 5);
+    let n = buffers::count(
+        ops.len(),
+        WORDS_PER_OPERATION,
+        args.len(),
+        REALS_PER_OPERATION,
+    );
     buffers::zero_u32(edges);
     buffers::zero_u32(words);
     buffers::zero_f64(reals);

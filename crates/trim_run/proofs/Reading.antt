@@ -7,22 +7,23 @@ use mathlib.Core.Path.{_≡_, sym, ap, _∙_}
 use borrow.Author.Tests.{eq-eqb, ne-eqb}
 use lib.Dec.{eqb}
 use lib.Ieee.{Float}
+use Rattle.layout.specs.Layout.{operationKind, operationNumber, operationB0}
 use Rattle.source.specs.declared.Src.{Src}
 use Rattle.windows.specs.declared.NewWindow.{NewWindow}
 use Rattle.trim_model.specs.Model.{Candidate}
 use Rattle.trim_run.specs.Operations.{add, pop, touch, unknown, wordAt, realAt, asCandidate, newWindowAt, candidateAt, sourceAt, operationAt}
 
 -- an edge and a window that were read
-pub read-candidate : (words : List ℕ) (reals : List Float) (k e : ℕ) (w : NewWindow) (src : Src) → e ≡ wordAt words k 1 → w ≡ newWindowAt words reals k src → asCandidate e w ≡ candidateAt words reals k src
-read-candidate words reals k e w src h d = ap (λ n. asCandidate n w) h ∙ ap (asCandidate (wordAt words k 1)) d
+pub read-candidate : (words : List ℕ) (reals : List Float) (k e : ℕ) (w : NewWindow) (src : Src) → e ≡ wordAt words k operationNumber → w ≡ newWindowAt words reals k src → asCandidate e w ≡ candidateAt words reals k src
+read-candidate words reals k e w src h d = ap (λ n. asCandidate n w) h ∙ ap (asCandidate (wordAt words k operationNumber)) d
 
-module _ (words : List ℕ) (reals : List Float) (k kind : ℕ) (is : kind ≡ wordAt words k 0) where
+module _ (words : List ℕ) (reals : List Float) (k kind : ℕ) (is : kind ≡ wordAt words k operationKind) where
   -- the tests of the kind, in their order
-  test : (n : ℕ) → kind ≡ n → eqb (wordAt words k 0) n ≡ true
-  test n h = eq-eqb (wordAt words k 0) n (sym is ∙ h)
+  test : (n : ℕ) → kind ≡ n → eqb (wordAt words k operationKind) n ≡ true
+  test n h = eq-eqb (wordAt words k operationKind) n (sym is ∙ h)
 
-  other : (n : ℕ) → kind ≢ n → eqb (wordAt words k 0) n ≡ false
-  other n h = ne-eqb (wordAt words k 0) n (λ d. h (is ∙ d))
+  other : (n : ℕ) → kind ≢ n → eqb (wordAt words k operationKind) n ≡ false
+  other n h = ne-eqb (wordAt words k operationKind) n (λ d. h (is ∙ d))
 
   pub read-point : kind ≡ 0 → (c : Candidate) → c ≡ candidateAt words reals k (sourceAt reals k false) → add c ≡ operationAt words reals k
   unfolding operationAt
@@ -39,7 +40,7 @@ module _ (words : List ℕ) (reals : List Float) (k kind : ℕ) (is : kind ≡ w
       read-pop h = rw (other 0 not0, other 1 not1, test 2 h)
 
       module _ (not2 : kind ≢ 2) where
-        pub read-touch : kind ≡ 3 → (v : ℕ) (d : Float) → v ≡ wordAt words k 1 → d ≡ realAt reals k 0 → touch v d ≡ operationAt words reals k
+        pub read-touch : kind ≡ 3 → (v : ℕ) (d : Float) → v ≡ wordAt words k operationNumber → d ≡ realAt reals k operationB0 → touch v d ≡ operationAt words reals k
         unfolding operationAt
         read-touch h v d i j = rw (other 0 not0, other 1 not1, other 2 not2, test 3 h, i, j)
 

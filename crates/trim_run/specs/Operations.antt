@@ -7,6 +7,7 @@ use mathlib.Core.List.{List, [], _∷_, _++_}
 use lib.Dec.{T, eqb}
 use lib.ListN.{getD}
 use lib.Ieee.{Float, nan, binary64, fits}
+use Rattle.layout.specs.Layout.{wordsPerOperation, operationKind, operationNumber, operationInto, operationQueued, realsPerOperation, operationB0, operationB1, operationS0, operationS1, operationS2}
 use Rattle.float64.specs.Notation.{if_then_else_}
 use Rattle.source.specs.declared.Src.{Src}
 use Rattle.source.specs.declared.Src.the-variants.{Point, Line}
@@ -27,13 +28,13 @@ abbrev pub asCandidate : ℕ → NewWindow → Candidate
 asCandidate e w = record { edge = e; b0 = w .b0; b1 = w .b1; src = w .src; carried = w .carried }
 
 abbrev pub wordAt : List ℕ → ℕ → ℕ → ℕ
-wordAt words k a = getD words (4 * k + a) 0
+wordAt words k a = getD words (wordsPerOperation * k + a) 0
 
 abbrev pub realAt : List Float → ℕ → ℕ → Float
-realAt reals k a = getD reals (5 * k + a) nan
+realAt reals k a = getD reals (realsPerOperation * k + a) nan
 
 abbrev pub isQueued : List ℕ → ℕ → Bool
-isQueued words k = eqb (wordAt words k 3) 1
+isQueued words k = eqb (wordAt words k operationQueued) 1
 
 module _ (words : List ℕ) (reals : List Float) where
   abbrev word : ℕ → ℕ → ℕ
@@ -43,17 +44,17 @@ module _ (words : List ℕ) (reals : List Float) where
   real = realAt reals
 
   abbrev pub newWindowAt : ℕ → Src → NewWindow
-  newWindowAt k s = record { b0 = real k 0; b1 = real k 1; src = s; carried = record { into = record { 0 = word k 2 }; queued = isQueued words k } }
+  newWindowAt k s = record { b0 = real k operationB0; b1 = real k operationB1; src = s; carried = record { into = record { 0 = word k operationInto }; queued = isQueued words k } }
 
   abbrev pub candidateAt : ℕ → Src → Candidate
-  candidateAt k s = asCandidate (word k 1) (newWindowAt k s)
+  candidateAt k s = asCandidate (word k operationNumber) (newWindowAt k s)
 
   unfoldable pub operationAt : ℕ → Operation
   operationAt k =
-      cond (eqb (word k 0) 0) (add (candidateAt k (Point (real k 2) (real k 3) (real k 4))))
-      (cond (eqb (word k 0) 1) (add (candidateAt k (Line (real k 2) (real k 3) (real k 4))))
-      (cond (eqb (word k 0) 2) pop
-      (cond (eqb (word k 0) 3) (touch (word k 1) (real k 0))
+      cond (eqb (word k operationKind) 0) (add (candidateAt k (Point (real k operationS0) (real k operationS1) (real k operationS2))))
+      (cond (eqb (word k operationKind) 1) (add (candidateAt k (Line (real k operationS0) (real k operationS1) (real k operationS2))))
+      (cond (eqb (word k operationKind) 2) pop
+      (cond (eqb (word k operationKind) 3) (touch (word k operationNumber) (real k operationB0))
       unknown)))
 
   -- the first n of them
@@ -77,7 +78,7 @@ candidates (o ∷ ops) = candidateOf o ++ candidates ops
 -- ---- an operation that was read
 -- the source of a candidate, from a line or else a point
 abbrev pub sourceAt : List Float → ℕ → Bool → Src
-sourceAt reals k line = srcOf line (realAt reals k 2) (realAt reals k 3) (realAt reals k 4)
+sourceAt reals k line = srcOf line (realAt reals k operationS0) (realAt reals k operationS1) (realAt reals k operationS2)
 
 abbrev pub asOperation : Op → Operation
 asOperation (Add e w) = add (asCandidate (e .0) w)

@@ -4,6 +4,17 @@ use buffers::FaceId;
 use buffers::VertexId;
 use buffers::read_f64;
 use buffers::read_u32;
+use layout::OPERATION_B0;
+use layout::OPERATION_B1;
+use layout::OPERATION_INTO;
+use layout::OPERATION_KIND;
+use layout::OPERATION_NUMBER;
+use layout::OPERATION_QUEUED;
+use layout::OPERATION_S0;
+use layout::OPERATION_S1;
+use layout::OPERATION_S2;
+use layout::REALS_PER_OPERATION;
+use layout::WORDS_PER_OPERATION;
 use source::Src;
 use windows::Carried;
 use windows::NewWindow;
@@ -23,9 +34,9 @@ pub enum Op {
 fn source_at(args: &[f64], k: u32, line: bool) -> Src
     ensures { λ r. ⌜ r ≡ sourceAt (now (args .entry)) k line ⌝ }
 {
-    let s0 = read_f64(args, 5, k, 2);
-    let s1 = read_f64(args, 5, k, 3);
-    let s2 = read_f64(args, 5, k, 4);
+    let s0 = read_f64(args, REALS_PER_OPERATION, k, OPERATION_S0);
+    let s1 = read_f64(args, REALS_PER_OPERATION, k, OPERATION_S1);
+    let s2 = read_f64(args, REALS_PER_OPERATION, k, OPERATION_S2);
     if line {
         return Src::Line {
             ux: s0,
@@ -43,7 +54,7 @@ fn source_at(args: &[f64], k: u32, line: bool) -> Src
 fn is_queued(ops: &[u32], k: u32) -> bool
     ensures { λ r. ⌜ r ≡ isQueued (now (ops .entry)) k ⌝ }
 {
-    if read_u32(ops, 4, k, 3) == 1 {
+    if read_u32(ops, WORDS_PER_OPERATION, k, OPERATION_QUEUED) == 1 {
         return true;
     }
     false
@@ -52,10 +63,10 @@ fn is_queued(ops: &[u32], k: u32) -> bool
 fn new_window_at(ops: &[u32], args: &[f64], k: u32, line: bool) -> NewWindow
     ensures { λ r. ⌜ r ≡ newWindowAt (now (ops .entry)) (now (args .entry)) k (sourceAt (now (args .entry)) k line) ⌝ }
 {
-    let into = read_u32(ops, 4, k, 2);
+    let into = read_u32(ops, WORDS_PER_OPERATION, k, OPERATION_INTO);
     let queued = is_queued(ops, k);
-    let b0 = read_f64(args, 5, k, 0);
-    let b1 = read_f64(args, 5, k, 1);
+    let b0 = read_f64(args, REALS_PER_OPERATION, k, OPERATION_B0);
+    let b1 = read_f64(args, REALS_PER_OPERATION, k, OPERATION_B1);
     let src = source_at(args, k, line);
     let carried = Carried {
         into: FaceId(into),
@@ -73,8 +84,8 @@ fn new_window_at(ops: &[u32], args: &[f64], k: u32, line: bool) -> NewWindow
 pub fn operation_at(ops: &[u32], args: &[f64], k: u32) -> Op
     ensures { λ r. ⌜ asOperation r ≡ operationAt (now (ops .entry)) (now (args .entry)) k ⌝ }
 {
-    let kind = read_u32(ops, 4, k, 0);
-    let number = read_u32(ops, 4, k, 1);
+    let kind = read_u32(ops, WORDS_PER_OPERATION, k, OPERATION_KIND);
+    let number = read_u32(ops, WORDS_PER_OPERATION, k, OPERATION_NUMBER);
     if kind == 0 {
         let w = new_window_at(ops, args, k, false);
         return Op::Add(EdgeId(number), w);
@@ -87,7 +98,7 @@ pub fn operation_at(ops: &[u32], args: &[f64], k: u32) -> Op
         return Op::Pop;
     }
     if kind == 3 {
-        let d = read_f64(args, 5, k, 0);
+        let d = read_f64(args, REALS_PER_OPERATION, k, OPERATION_B0);
         return Op::Touch(VertexId(number), d);
     }
     Op::Unknown

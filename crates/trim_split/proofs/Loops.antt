@@ -6,6 +6,7 @@ use native.Mathlib.Omega.{arith}
 use native.Mathlib.Numerals.{add-one}
 use lib.ListN.{length, drop}
 use lib.Ieee.{Float}
+use Rattle.layout.specs.Layout.{wordsPerEdge}
 use Rattle.buffers.specs.Slots.{slotsOf}
 use Rattle.source.specs.Distance.{lowestOf}
 use Rattle.better.specs.Stretches.{Interval}
@@ -57,8 +58,8 @@ same-windows s s′ h = ap (λ (n : ℕ). capacityOf n (length (s′ .reals))) (
 abbrev pub ReadyIn : ℕ → ℕ → ℕ → Slices → Type 0
 ReadyIn e made last s = Ready e made last (s .edges) (s .words) (s .reals)
 
-pub ready-same : (e made last : ℕ) (s s′ : Slices) → SameLengths s s′ → e < slotsOf (length (s .edges)) 6 → made ≤ windowsOf s → last ≤ made → ReadyIn e made last s′
-ready-same e made last s s′ h i j k = record { fits = subst (λ (n : ℕ). made ≤ n) (sym (same-windows s s′ h)) j; linked = k; edge = subst (λ (n : ℕ). e < slotsOf n 6) (sym (h .edges)) i }
+pub ready-same : (e made last : ℕ) (s s′ : Slices) → SameLengths s s′ → e < slotsOf (length (s .edges)) wordsPerEdge → made ≤ windowsOf s → last ≤ made → ReadyIn e made last s′
+ready-same e made last s s′ h i j k = record { fits = subst (λ (n : ℕ). made ≤ n) (sym (same-windows s s′ h)) j; linked = k; edge = subst (λ (n : ℕ). e < slotsOf n wordsPerEdge) (sym (h .edges)) i }
 
 -- ---- the loop over the pieces: ps are all of them
 module _ (e : ℕ) (x : WindowRecord) (ps : List Interval) (s₀ : Slices) (made₀ queued₀ last₀ : ℕ) where
@@ -67,7 +68,7 @@ module _ (e : ℕ) (x : WindowRecord) (ps : List Interval) (s₀ : Slices) (made
 
   pub record PartsInv (s : Slices) (made queued last i : ℕ) : Type 0 where
     pub same : SameLengths s₀ s
-    pub edge : e < slotsOf (length (s₀ .edges)) 6
+    pub edge : e < slotsOf (length (s₀ .edges)) wordsPerEdge
     pub fits : made ≤ windowsOf s₀
     pub linked : last ≤ made
     pub from-one : 1 ≤ i
@@ -157,7 +158,7 @@ module _ (e : ℕ) (x : WindowRecord) (id made queued last : ℕ) (s : Slices) (
     abbrev pub trimmed : Slices
     trimmed = slices (s .edges) (s .words) reals (s .keys) (s .events)
 
-    pub trimmed-ready : e < slotsOf (length (s .edges)) 6 → (at1 : ℕ) → at1 ≡ suc id → ReadyIn e made at1 trimmed
+    pub trimmed-ready : e < slotsOf (length (s .edges)) wordsPerEdge → (at1 : ℕ) → at1 ≡ suc id → ReadyIn e made at1 trimmed
     trimmed-ready i at1 h = ready-same e made at1 s trimmed (record { edges = refl; words = refl; reals = same; keys = refl; events = refl }) i fits (subst (λ (j : ℕ). j ≤ made) (sym h) inside)
 
     pub split-made : (at1 : ℕ) → at1 ≡ suc id → (end : List Float → End)

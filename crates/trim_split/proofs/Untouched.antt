@@ -6,6 +6,7 @@ use mathlib.Core.Path.{_≡_, refl, sym, ap, _∙_}
 use lib.ListN.{drop}
 use lib.Seq.{drop-drop}
 use lib.Ieee.{Float}
+use Rattle.layout.specs.Layout.{wordsPerWindow, realsPerWindow}
 use Rattle.heap.specs.Queue.{Queue}
 use Rattle.windows.specs.declared.WindowRecord.{WindowRecord}
 use Rattle.chains.specs.Chains.{Links}
@@ -26,8 +27,8 @@ pub untouched-then : (AtWork : ℕ → Type 0) (p p1 p2 : Place) → Untouched A
 untouched-then AtWork p p1 p2 a b = record {
   more = omega (arith, a .more, b .more);
   edges = λ i h. b .edges i h ∙ a .edges i h;
-  words = b .words ∙ further (4 * p1 .made) (4 * p2 .made) (p1 .links .words) (p .links .words) (omega (arith, b .more)) (a .words);
-  reals = b .reals ∙ further (6 * p1 .made) (6 * p2 .made) (p1 .reals) (p .reals) (omega (arith, b .more)) (a .reals);
+  words = b .words ∙ further (wordsPerWindow * p1 .made) (wordsPerWindow * p2 .made) (p1 .links .words) (p .links .words) (omega (arith, b .more)) (a .words);
+  reals = b .reals ∙ further (realsPerWindow * p1 .made) (realsPerWindow * p2 .made) (p1 .reals) (p .reals) (omega (arith, b .more)) (a .reals);
 }
 
 -- more edges are at work

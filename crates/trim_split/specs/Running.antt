@@ -5,6 +5,7 @@ use mathlib.Core.Logic.{_≢_}
 use mathlib.Core.Path.{_≡_}
 use lib.ListN.{length, getD, drop}
 use lib.Ieee.{Float}
+use Rattle.layout.specs.Layout.{wordsPerEdge, edgeHead, edgeScratch, wordsPerWindow, realsPerWindow}
 use Rattle.buffers.specs.Lack.{lackNumber}
 use Rattle.buffers.specs.Lent.{Lent, given, left}
 use Rattle.buffers.specs.Slots.{slotsOf}
@@ -66,14 +67,14 @@ Counted (Went c last) made = c .made ≡ made
 pub record Ready (e made last : ℕ) (edges words : List ℕ) (reals : List Float) : Type 0 where
   pub fits : made ≤ capacityOf (length words) (length reals)
   pub linked : last ≤ made
-  pub edge : e < slotsOf (length edges) 6
+  pub edge : e < slotsOf (length edges) wordsPerEdge
 
 -- what stays as it is from p to p′: the slots past the windows that are made by then, and the edges' words but for the head of each edge at work and the link that it remembers
 pub record Untouched (AtWork : ℕ → Type 0) (p p′ : Place) : Type 0 where
   pub more : p .made ≤ p′ .made
-  pub edges : (i : ℕ) → ((e : ℕ) → AtWork e → (i ≢ 6 * e + 4) × (i ≢ 6 * e + 5)) → getD (p′ .links .edges) i 0 ≡ getD (p .links .edges) i 0
-  pub words : drop (4 * p′ .made) (p′ .links .words) ≡ drop (4 * p′ .made) (p .links .words)
-  pub reals : drop (6 * p′ .made) (p′ .reals) ≡ drop (6 * p′ .made) (p .reals)
+  pub edges : (i : ℕ) → ((e : ℕ) → AtWork e → (i ≢ wordsPerEdge * e + edgeHead) × (i ≢ wordsPerEdge * e + edgeScratch)) → getD (p′ .links .edges) i 0 ≡ getD (p .links .edges) i 0
+  pub words : drop (wordsPerWindow * p′ .made) (p′ .links .words) ≡ drop (wordsPerWindow * p′ .made) (p .links .words)
+  pub reals : drop (realsPerWindow * p′ .made) (p′ .reals) ≡ drop (realsPerWindow * p′ .made) (p .reals)
 
 -- the counts of the cut buffer and the window buffer, the limit, the flags of the vertices, and the edge
 module _ (cuts windows : ℕ) (limit : Float) (flags : List ℕ) (e : ℕ) where

@@ -4,6 +4,14 @@
 use buffers::read_f64;
 use buffers::read_u32;
 use heap::Popped;
+use layout::EDGE_HEAD;
+use layout::REALS_PER_VERTEX;
+use layout::REALS_PER_WINDOW;
+use layout::WINDOW_FLAGS;
+use layout::WINDOW_INTO;
+use layout::WINDOW_LINK;
+use layout::WORDS_PER_EDGE;
+use layout::WORDS_PER_WINDOW;
 use stored_numbers::all_f64;
 use stored_numbers::all_u32;
 use stored_numbers::at_most;
@@ -56,9 +64,13 @@ fn visit_reals(s: &[u8], w: Walk, reals: &[f64], stride: u32, i: u32, fields: u3
 
 fn visit_window(s: &[u8], w: Walk, words: &[u32], reals: &[f64], id: u32) -> Walk {
     let numbered = visit(s, w, id);
-    let into = visit(s, numbered, read_u32(words, 4, id, 1));
-    let flagged = visit(s, into, read_u32(words, 4, id, 2));
-    visit_reals(s, flagged, reals, 6, id, 6)
+    let into = visit(
+        s,
+        numbered,
+        read_u32(words, WORDS_PER_WINDOW, id, WINDOW_INTO),
+    );
+    let flagged = visit(s, into, read_u32(words, WORDS_PER_WINDOW, id, WINDOW_FLAGS));
+    visit_reals(s, flagged, reals, REALS_PER_WINDOW, id, REALS_PER_WINDOW)
 }
 
 // Where a chain ends there is no link.
@@ -74,14 +86,14 @@ fn visit_chain(s: &[u8], w: Walk, edges: &[u32], words: &[u32], reals: &[f64], e
     let at = at_most(w.at, 3_000_000);
     let n = number(s, at);
     let mut now = visit(s, w, n);
-    let mut link = read_u32(edges, 6, e, 4);
+    let mut link = read_u32(edges, WORDS_PER_EDGE, e, EDGE_HEAD);
     let mut i: u32 = 0;
     while i < n {
         if link == 0 {
             return wrong();
         }
         now = visit_window(s, now, words, reals, link - 1);
-        link = read_u32(words, 4, link - 1, 3);
+        link = read_u32(words, WORDS_PER_WINDOW, link - 1, WINDOW_LINK);
         i += 1;
     }
     visit_end(now, link)
@@ -102,7 +114,7 @@ fn visit_vertices(s: &[u8], w: Walk, vertex: &[f64], n: u32) -> Walk {
     let mut now = w;
     let mut v: u32 = 0;
     while v < n {
-        now = visit_reals(s, now, vertex, 2, v, 1);
+        now = visit_reals(s, now, vertex, REALS_PER_VERTEX, v, 1);
         v += 1;
     }
     now

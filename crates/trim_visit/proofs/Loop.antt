@@ -7,6 +7,7 @@ use native.Mathlib.Nat.{le-refl, le-trans}
 use native.Mathlib.Omega.{arith}
 use lib.ListN.{length}
 use lib.Ieee.{Float, lt}
+use Rattle.layout.specs.Layout.{wordsPerEdge}
 use Rattle.buffers.specs.declared.Lack.{Lack}
 use Rattle.buffers.specs.Lack.{lackNumber}
 use Rattle.buffers.specs.Slots.{slotsOf}
@@ -59,7 +60,7 @@ module _ (e : ℕ) (t : Float) (w : Window) (s₀ : Slices) (c₀ : Cuts) (made�
     pub same : SameLengths s₀ s
     pub same-cuts : SameCuts c₀ c
     pub sizes : SizesOf c₀
-    pub edge : e < slotsOf (length (s₀ .edges)) 6
+    pub edge : e < slotsOf (length (s₀ .edges)) wordsPerEdge
     pub fits : made ≤ windowsOf s₀
     pub linked : last ≤ made
     pub few : k ≤ size

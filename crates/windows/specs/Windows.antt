@@ -5,6 +5,7 @@ use mathlib.Core.List.{List, [], _∷_}
 use lib.Dec.{eqb}
 use lib.ListN.{getD, set}
 use lib.Ieee.{Float, nan}
+use Rattle.layout.specs.Layout.{wordsPerWindow, windowEdge, windowInto, windowFlags, windowLink, lineFlag, aliveFlag, queuedFlag, realsPerWindow, windowB0, windowB1, windowLow, windowS0, windowS1, windowS2}
 use Rattle.buffers.specs.Slots.{slotsOf, fill}
 use Rattle.source.specs.declared.Src.{Src}
 use Rattle.source.specs.declared.Src.the-variants.{Point, Line}
@@ -13,7 +14,7 @@ use Rattle.windows.specs.declared.WindowRecord.{WindowRecord}
 
 -- 01's count of the window room, of m u32 and n f64: the slots that both have
 abbrev pub capacityOf : ℕ → ℕ → ℕ
-capacityOf m n = min (slotsOf m 4) (slotsOf n 6)
+capacityOf m n = min (slotsOf m wordsPerWindow) (slotsOf n realsPerWindow)
 
 -- a source as its kind and three numbers, in the order of its fields
 unfoldable pub isLine : Src → Bool
@@ -27,64 +28,64 @@ realsOf (Line ux uy c) = ux ∷ uy ∷ c ∷ []
 abbrev pub srcOf : Bool → Float → Float → Float → Src
 srcOf line s0 s1 s2 = cond line (Line s0 s1 s2) (Point s0 s1 s2)
 
--- the kind and the flags in one number: 1 for a line, 2 for alive, 4 for queued
+-- the kind and the flags in one number
 abbrev pub flagsOf : Bool → Bool → Bool → ℕ
-flagsOf line alive queued = cond line 1 0 + cond alive 2 0 + cond queued 4 0
+flagsOf line alive queued = cond line lineFlag 0 + cond alive aliveFlag 0 + cond queued queuedFlag 0
 
 abbrev pub hasFlag : ℕ → ℕ → Bool
 hasFlag flags v = eqb (flags / v % 2) 1
 
 -- the four u32 of window k
 abbrev pub edgeOf : List ℕ → ℕ → ℕ
-edgeOf w k = getD w (4 * k + 0) 0
+edgeOf w k = getD w (wordsPerWindow * k + windowEdge) 0
 
 abbrev pub intoOf : List ℕ → ℕ → ℕ
-intoOf w k = getD w (4 * k + 1) 0
+intoOf w k = getD w (wordsPerWindow * k + windowInto) 0
 
 abbrev pub flagsAt : List ℕ → ℕ → ℕ
-flagsAt w k = getD w (4 * k + 2) 0
+flagsAt w k = getD w (wordsPerWindow * k + windowFlags) 0
 
 abbrev pub linkOf : List ℕ → ℕ → ℕ
-linkOf w k = getD w (4 * k + 3) 0
+linkOf w k = getD w (wordsPerWindow * k + windowLink) 0
 
 -- the ends, the least value and the source of window k, whose source is a line or else a point
 unfoldable pub winAt : Bool → List Float → ℕ → Win
 winAt line f k = record {
-  b0 = getD f (6 * k + 0) nan;
-  b1 = getD f (6 * k + 1) nan;
-  low = getD f (6 * k + 2) nan;
-  src = srcOf line (getD f (6 * k + 3) nan) (getD f (6 * k + 4) nan) (getD f (6 * k + 5) nan);
+  b0 = getD f (realsPerWindow * k + windowB0) nan;
+  b1 = getD f (realsPerWindow * k + windowB1) nan;
+  low = getD f (realsPerWindow * k + windowLow) nan;
+  src = srcOf line (getD f (realsPerWindow * k + windowS0) nan) (getD f (realsPerWindow * k + windowS1) nan) (getD f (realsPerWindow * k + windowS2) nan);
 }
 
 -- the window of number k
 unfoldable pub windowAt : List ℕ → List Float → ℕ → WindowRecord
 windowAt w f k = record {
   edge = record { 0 = edgeOf w k };
-  carried = record { into = record { 0 = intoOf w k }; queued = hasFlag (flagsAt w k) 4 };
-  alive = hasFlag (flagsAt w k) 2;
+  carried = record { into = record { 0 = intoOf w k }; queued = hasFlag (flagsAt w k) queuedFlag };
+  alive = hasFlag (flagsAt w k) aliveFlag;
   link = linkOf w k;
-  win = winAt (hasFlag (flagsAt w k) 1) f k;
+  win = winAt (hasFlag (flagsAt w k) lineFlag) f k;
 }
 
 -- the two slices with window k stored
 unfoldable pub wordsWith : List ℕ → ℕ → WindowRecord → List ℕ
 wordsWith w k x =
-    fill 4 w k 0 (x .edge .0 ∷ x .carried .into .0 ∷ flagsOf (isLine (x .win .src)) (x .alive) (x .carried .queued) ∷ x .link ∷ [])
+    fill wordsPerWindow w k 0 (x .edge .0 ∷ x .carried .into .0 ∷ flagsOf (isLine (x .win .src)) (x .alive) (x .carried .queued) ∷ x .link ∷ [])
 
 unfoldable pub realsWith : List Float → ℕ → Win → List Float
-realsWith f k x = fill 6 f k 0 (x .b0 ∷ x .b1 ∷ x .low ∷ realsOf (x .src))
+realsWith f k x = fill realsPerWindow f k 0 (x .b0 ∷ x .b1 ∷ x .low ∷ realsOf (x .src))
 
 -- the reals with the ends and the least value of window k stored
 unfoldable pub rangeWith : List Float → ℕ → Float → Float → Float → List Float
-rangeWith f k b0 b1 low = fill 6 f k 0 (b0 ∷ b1 ∷ low ∷ [])
+rangeWith f k b0 b1 low = fill realsPerWindow f k 0 (b0 ∷ b1 ∷ low ∷ [])
 
 -- the words with the flags of window k stored, and the kind of its source as it was
 unfoldable pub flagsWith : List ℕ → ℕ → Bool → Bool → List ℕ
-flagsWith w k alive queued = set w (4 * k + 2) (flagsOf (hasFlag (flagsAt w k) 1) alive queued)
+flagsWith w k alive queued = set w (wordsPerWindow * k + windowFlags) (flagsOf (hasFlag (flagsAt w k) lineFlag) alive queued)
 
 -- the words with the link of window k stored
 abbrev pub linkWith : List ℕ → ℕ → ℕ → List ℕ
-linkWith w k link = set w (4 * k + 3) link
+linkWith w k link = set w (wordsPerWindow * k + windowLink) link
 
 -- a window with its ends and least value changed
 unfoldable pub trimmedWin : Win → Float → Float → Float → Win

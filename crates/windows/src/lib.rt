@@ -7,6 +7,21 @@ use buffers::WindowId;
 use buffers::read_u32;
 use buffers::write_f64;
 use buffers::write_u32;
+use layout::ALIVE_FLAG;
+use layout::LINE_FLAG;
+use layout::QUEUED_FLAG;
+use layout::REALS_PER_WINDOW;
+use layout::WINDOW_B0;
+use layout::WINDOW_B1;
+use layout::WINDOW_EDGE;
+use layout::WINDOW_FLAGS;
+use layout::WINDOW_INTO;
+use layout::WINDOW_LINK;
+use layout::WINDOW_LOW;
+use layout::WINDOW_S0;
+use layout::WINDOW_S1;
+use layout::WINDOW_S2;
+use layout::WORDS_PER_WINDOW;
 use source::Src;
 use source::Win;
 ghost use mathlib.Core.Path.{_≡_};
@@ -14,6 +29,7 @@ ghost use mathlib.Core.Bool.{cond};
 ghost use Prim.Native.Nat.{_+_, _*_, _/_, _%_, _≤_, _<_};
 ghost use mathlib.Core.List.{[], _∷_};
 ghost use lib.ListN.{length};
+ghost use Rattle.layout.specs.Layout.{realsPerWindow, windowS0};
 ghost use Rattle.buffers.specs.Slots.{fill};
 ghost use Rattle.windows.specs.Windows.{isLine, srcOf, realsOf, winAt, windowAt, wordsWith, realsWith, rangeWith, flagsWith, flagsOf, hasFlag, capacityOf};
 
@@ -53,7 +69,7 @@ pub struct WindowRecord {
 pub fn capacity(words: &[u32], reals: &[f64]) -> u32
     ensures { λ r. ⌜ r ≡ capacityOf (length (now (words .entry))) (length (now (reals .entry))) ⌝ }
 {
-    buffers::count(words.len(), 4, reals.len(), 6)
+    buffers::count(words.len(), WORDS_PER_WINDOW, reals.len(), REALS_PER_WINDOW)
 }
 
 fn weight(flag: bool, v: u32) -> u32
@@ -69,7 +85,7 @@ fn weight(flag: bool, v: u32) -> u32
 pub fn flags(line: bool, alive: bool, queued: bool) -> u32
     ensures { λ r. ⌜ r ≡ flagsOf line alive queued ⌝ }
 {
-    weight(line, 1) + weight(alive, 2) + weight(queued, 4)
+    weight(line, LINE_FLAG) + weight(alive, ALIVE_FLAG) + weight(queued, QUEUED_FLAG)
 }
 
 // Whether a number has the flag of weight v.
@@ -110,15 +126,20 @@ fn source_of(line: bool, s0: f64, s1: f64, s2: f64) -> Src
 }
 
 fn load_win(reals: &[f64], id: WindowId, line: bool) -> Win
-    requires { ⌜ 6 * id .0 + 6 ≤ length (now reals) ⌝ }
+    requires { ⌜ realsPerWindow * id .0 + realsPerWindow ≤ length (now reals) ⌝ }
     ensures { λ r. ⌜ r ≡ winAt line (now (reals .entry)) (id .0) ⌝ }
 {
-    let i = 6 * (id.0 as usize);
-    let src = source_of(line, reals[i + 3], reals[i + 4], reals[i + 5]);
+    let i = (REALS_PER_WINDOW as usize) * (id.0 as usize);
+    let src = source_of(
+        line,
+        reals[i + (WINDOW_S0 as usize)],
+        reals[i + (WINDOW_S1 as usize)],
+        reals[i + (WINDOW_S2 as usize)],
+    );
     Win {
-        b0: reals[i],
-        b1: reals[i + 1],
-        low: reals[i + 2],
+        b0: reals[i + (WINDOW_B0 as usize)],
+        b1: reals[i + (WINDOW_B1 as usize)],
+        low: reals[i + (WINDOW_LOW as usize)],
         src,
     }
 }
@@ -128,18 +149,18 @@ pub fn load(words: &[u32], reals: &[f64], id: WindowId) -> WindowRecord
     requires { ⌜ id .0 < capacityOf (length (now words)) (length (now reals)) ⌝ }
     ensures { λ r. ⌜ r ≡ windowAt (now (words .entry)) (now (reals .entry)) (id .0) ⌝ }
 {
-    let i = 4 * (id.0 as usize);
-    let flags = words[i + 2];
-    let win = load_win(reals, id, has_flag(flags, 1));
+    let i = (WORDS_PER_WINDOW as usize) * (id.0 as usize);
+    let flags = words[i + (WINDOW_FLAGS as usize)];
+    let win = load_win(reals, id, has_flag(flags, LINE_FLAG));
     let carried = Carried {
-        into: FaceId(words[i + 1]),
-        queued: has_flag(flags, 4),
+        into: FaceId(words[i + (WINDOW_INTO as usize)]),
+        queued: has_flag(flags, QUEUED_FLAG),
     };
     WindowRecord {
-        edge: EdgeId(words[i]),
+        edge: EdgeId(words[i + (WINDOW_EDGE as usize)]),
         carried,
-        alive: has_flag(flags, 2),
-        link: words[i + 3],
+        alive: has_flag(flags, ALIVE_FLAG),
+        link: words[i + (WINDOW_LINK as usize)],
         win,
     }
 }
@@ -155,23 +176,23 @@ fn store_words(words: &mut [u32], id: WindowId, x: WindowRecord)
     let src = win.src;
     let line = is_line(src);
     let flags = flags(line, x.alive, carried.queued);
-    write_u32(words, 4, k, 0, edge.0);
-    write_u32(words, 4, k, 1, into.0);
-    write_u32(words, 4, k, 2, flags);
-    write_u32(words, 4, k, 3, x.link);
+    write_u32(words, WORDS_PER_WINDOW, k, WINDOW_EDGE, edge.0);
+    write_u32(words, WORDS_PER_WINDOW, k, WINDOW_INTO, into.0);
+    write_u32(words, WORDS_PER_WINDOW, k, WINDOW_FLAGS, flags);
+    write_u32(words, WORDS_PER_WINDOW, k, WINDOW_LINK, x.link);
 }
 
 fn store_three(reals: &mut [f64], id: WindowId, s0: f64, s1: f64, s2: f64)
-    ensures { λ r. ⌜ now (reals .exit) ≡ fill 6 (now (reals .entry)) (id .0) 3 (s0 ∷ s1 ∷ s2 ∷ []) ⌝ }
+    ensures { λ r. ⌜ now (reals .exit) ≡ fill realsPerWindow (now (reals .entry)) (id .0) windowS0 (s0 ∷ s1 ∷ s2 ∷ []) ⌝ }
 {
     let k = id.0;
-    write_f64(reals, 6, k, 3, s0);
-    write_f64(reals, 6, k, 4, s1);
-    write_f64(reals, 6, k, 5, s2);
+    write_f64(reals, REALS_PER_WINDOW, k, WINDOW_S0, s0);
+    write_f64(reals, REALS_PER_WINDOW, k, WINDOW_S1, s1);
+    write_f64(reals, REALS_PER_WINDOW, k, WINDOW_S2, s2);
 }
 
 fn store_src(reals: &mut [f64], id: WindowId, src: Src)
-    ensures { λ r. ⌜ now (reals .exit) ≡ fill 6 (now (reals .entry)) (id .0) 3 (realsOf src) ⌝ }
+    ensures { λ r. ⌜ now (reals .exit) ≡ fill realsPerWindow (now (reals .entry)) (id .0) windowS0 (realsOf src) ⌝ }
 {
     match src {
         Src::Point { x, y, s } => store_three(reals, id, x, y, s),
@@ -184,9 +205,9 @@ fn store_reals(reals: &mut [f64], id: WindowId, x: Win)
 {
     let k = id.0;
     let src = x.src;
-    write_f64(reals, 6, k, 0, x.b0);
-    write_f64(reals, 6, k, 1, x.b1);
-    write_f64(reals, 6, k, 2, x.low);
+    write_f64(reals, REALS_PER_WINDOW, k, WINDOW_B0, x.b0);
+    write_f64(reals, REALS_PER_WINDOW, k, WINDOW_B1, x.b1);
+    write_f64(reals, REALS_PER_WINDOW, k, WINDOW_LOW, x.low);
     store_src(reals, id, src);
 }
 
@@ -205,17 +226,17 @@ pub fn store_range(words: &[u32], reals: &mut [f64], id: WindowId, b0: f64, b1: 
     ensures { λ r. ⌜ now (reals .exit) ≡ rangeWith (now (reals .entry)) (id .0) b0 b1 low ⌝ }
 {
     let k = id.0;
-    write_f64(reals, 6, k, 0, b0);
-    write_f64(reals, 6, k, 1, b1);
-    write_f64(reals, 6, k, 2, low);
+    write_f64(reals, REALS_PER_WINDOW, k, WINDOW_B0, b0);
+    write_f64(reals, REALS_PER_WINDOW, k, WINDOW_B1, b1);
+    write_f64(reals, REALS_PER_WINDOW, k, WINDOW_LOW, low);
 }
 
 // A window's flags change, and nothing else.
 pub fn store_flags(words: &mut [u32], id: WindowId, alive: bool, queued: bool)
     ensures { λ r. ⌜ now (words .exit) ≡ flagsWith (now (words .entry)) (id .0) alive queued ⌝ }
 {
-    let old = read_u32(words, 4, id.0, 2);
-    let line = has_flag(old, 1);
+    let old = read_u32(words, WORDS_PER_WINDOW, id.0, WINDOW_FLAGS);
+    let line = has_flag(old, LINE_FLAG);
     let flags = flags(line, alive, queued);
-    write_u32(words, 4, id.0, 2, flags);
+    write_u32(words, WORDS_PER_WINDOW, id.0, WINDOW_FLAGS, flags);
 }

@@ -56,6 +56,9 @@ returns-7 c =
     (next-of _ _ _ (le-ltb _ _ (at-if4 .if4 .left))
     (next-of _ _ _ (le-ltb _ _ (at-if5 .if5 .left)) (next-of _ _ _ (ap not (eq-eqb _ _ (at-if6 .if6 .left))) (one-holds _ _ (ap not (ne-eqb _ _ (c .if7 .taken))))))))))
 
+cast-if8 : tie.Need-cast-if8
+cast-if8 c = search needs
+
 mul-if8 : tie.Need-mul-if8
 mul-if8 c = search needs
 
@@ -104,6 +107,7 @@ wrong-counts-spec =
     returns-5
     returns-6
     returns-7
+    cast-if8
     mul-if8
     returns-8
     returns-9)

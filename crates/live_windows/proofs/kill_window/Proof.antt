@@ -1,6 +1,7 @@
 use native.Mathlib.Omega.{arith}
 use mathlib.Core.Path.{ap, _∙_}
 use lib.ListN.{length}
+use Rattle.layout.specs.Layout.{wordsPerEdge, queuedFlag}
 use Rattle.buffers.proofs.Strides.{in-slots}
 use Rattle.windows.proofs.WindowList.{counted}
 use Rattle.windows.specs.Windows.{hasFlag}
@@ -49,8 +50,8 @@ returns c =
     let s = link .before .before .before .before .before in
     let a = s .args in
     kill-done (a .made) (links (a .edges .now) (a .words .now)) (a .e .0) (a .before) (a .id .0) (next .within .result) (flag .has-flag .result)
-    (counted (a .id .0) (length (a .words .now)) (length (a .reals .now)) (omega (arith, s .pre)) .0) (in-slots (length (a .edges .now)) 6 (a .e .0) (s .pre .1 .0)) (s .pre .1 .1 .0) (s .pre .1 .1 .1)
-    (next .within .ensures ∙ ap (linkIn (a .made)) (link .read-u32 .ensures)) (flag .has-flag .ensures ∙ ap (λ z. hasFlag z 4) (flags .read-u322 .ensures))
+    (counted (a .id .0) (length (a .words .now)) (length (a .reals .now)) (omega (arith, s .pre)) .0) (in-slots (length (a .edges .now)) wordsPerEdge (a .e .0) (s .pre .1 .0)) (s .pre .1 .1 .0) (s .pre .1 .1 .1)
+    (next .within .ensures ∙ ap (linkIn (a .made)) (link .read-u32 .ensures)) (flag .has-flag .ensures ∙ ap (λ z. hasFlag z queuedFlag) (flags .read-u322 .ensures))
     _ _ _ _ (set .set-link .ensures) (written .write-u32 .ensures) (flagged .store-flags .ensures)
 
 pub kill-window-spec : {M : Type 1} → statement M

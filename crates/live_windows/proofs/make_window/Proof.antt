@@ -1,5 +1,6 @@
 use native.Mathlib.Numerals.{add-one}
 use lib.ListN.{length}
+use Rattle.layout.specs.Layout.{wordsPerEdge}
 use Rattle.buffers.proofs.Strides.{in-slots}
 use Rattle.windows.proofs.WindowList.{counted}
 use Rattle.chains.specs.Chains.{links}
@@ -38,7 +39,7 @@ returns c =
     let a = s .args in
     let fits = counted (a .made) (length (a .words .now)) (length (a .reals .now)) (s .pre .0) in
     make-after (a .made) (links (a .edges .now) (a .words .now)) (a .reals .now) (a .e) (a .before) (read .next-link .result) (a .carried) (a .win)
-    (fits .0) (fits .1) (in-slots (length (a .edges .now)) 6 (a .e .0) (s .pre .1 .0)) (s .pre .1 .1) (read .next-link .ensures .is)
+    (fits .0) (fits .1) (in-slots (length (a .edges .now)) wordsPerEdge (a .e .0) (s .pre .1 .0)) (s .pre .1 .1) (read .next-link .ensures .is)
     _ _ _ _ (stored .store .ensures .0) (add-one (a .made)) (set .set-link .ensures) (stored .store .ensures .1)
 
 pub make-window-spec : {M : Type 1} → statement M

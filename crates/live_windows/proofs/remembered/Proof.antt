@@ -1,4 +1,5 @@
 use mathlib.Core.Path.{sym, ap, _∙_}
+use Rattle.layout.specs.Layout.{aliveFlag}
 use Rattle.chains.specs.Chains.{links}
 use Rattle.chains.proofs.Turns.{link-le}
 use Rattle.trim_model.specs.Add.{passes}
@@ -46,7 +47,7 @@ returns-3 c =
     let a = c .before .before .before .before .before .before .before .before .before .before .before .before .before .before .args in
     from-hint (a .tiny) (a .b0) (a .made) (links (a .edges .now) (a .words .now)) (a .reals .now) (a .e .0) (c .before .before .before .before .before .before .before .before .before .within .result)
     (link-le (a .made) (c .before .before .before .before .before .before .before .before .before .before .read-u32 .result) (c .before .before .before .before .before .before .before .before .before .within .result) (c .before .before .before .before .before .before .before .before .before .within .ensures)) (c .before .before .before .before .before .before .before .before .if1 .left) (sym (c .before .before .before .before .before .before .before .read-u322 .ensures) ∙ c .before .before .before .before .before .if2 .left)
-    (sym (ap (λ z. hasFlag z 2) (c .before .before .before .before .read-u323 .ensures)) ∙ sym (c .before .before .before .has-flag .ensures) ∙ c .before .before .if3 .taken) (sym (c .before .passes-by .ensures) ∙ c .if4 .taken)
+    (sym (ap (λ z. hasFlag z aliveFlag) (c .before .before .before .before .read-u323 .ensures)) ∙ sym (c .before .before .before .has-flag .ensures) ∙ c .before .before .if3 .taken) (sym (c .before .passes-by .ensures) ∙ c .if4 .taken)
 
 returns-4 : tie.Need-returns-4
 returns-4 c = let a = c .before .before .before .before .before .before .before .before .before .before .before .before .before .before .args in from-head (passes (a .tiny) (a .b0)) (a .made) (links (a .edges .now) (a .words .now)) (a .reals .now) (a .e .0)

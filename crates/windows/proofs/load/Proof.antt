@@ -1,8 +1,5 @@
-use Prim.Native.Nat.{_+_, _*_}
-use mathlib.Core.Path.{_≡_, ap, _∙_}
-use native.Mathlib.Omega.{arith}
-use lib.ListN.{getD}
-use Rattle.windows.specs.Windows.{intoOf, linkOf, winAt, windowAt}
+use mathlib.Core.Path.{ap, _∙_}
+use Rattle.windows.specs.Windows.{edgeOf, intoOf, linkOf, winAt, windowAt}
 use borrow.Author.Needs.{needs}
 use Rattle.windows.proofs.load.Statement.{statement}
 use Rattle.windows.proofs.load.Tie as tie
@@ -10,8 +7,14 @@ use Rattle.windows.proofs.load.Tie as tie
 cast-i : tie.Need-cast-i
 cast-i c = search needs
 
+cast-i-2 : tie.Need-cast-i-2
+cast-i-2 c = search needs
+
 mul-i : tie.Need-mul-i
 mul-i c = search needs
+
+cast-flags : tie.Need-cast-flags
+cast-flags c = search needs
 
 add-flags : tie.Need-add-flags
 add-flags c = search needs
@@ -28,35 +31,47 @@ has-flag-requires c κs = search needs
 load-win-requires : tie.Need-load-win-requires
 load-win-requires c κs = search needs
 
-add-t8 : tie.Need-add-t8
-add-t8 c = search needs
-
-mul-t9 : tie.Need-mul-t9
-mul-t9 c = search needs
-
-shared-slice-read-t11 : tie.Need-shared-slice-read-t11
-shared-slice-read-t11 c = search needs
-
-has-flag-requires-2 : tie.Need-has-flag-requires-2
-has-flag-requires-2 c κs = search needs
-
-mul-t8 : tie.Need-mul-t8
-mul-t8 c = search needs
-
-shared-slice-read-t11-2 : tie.Need-shared-slice-read-t11-2
-shared-slice-read-t11-2 c = search needs
-
-has-flag-requires-3 : tie.Need-has-flag-requires-3
-has-flag-requires-3 c κs = search needs
+cast-t8 : tie.Need-cast-t8
+cast-t8 c = search needs
 
 add-t9 : tie.Need-add-t9
 add-t9 c = search needs
 
-mul-t17 : tie.Need-mul-t17
-mul-t17 c = search needs
+mul-t10 : tie.Need-mul-t10
+mul-t10 c = search needs
 
-shared-slice-read-t19 : tie.Need-shared-slice-read-t19
-shared-slice-read-t19 c = search needs
+shared-slice-read-t12 : tie.Need-shared-slice-read-t12
+shared-slice-read-t12 c = search needs
+
+has-flag-requires-2 : tie.Need-has-flag-requires-2
+has-flag-requires-2 c κs = search needs
+
+cast-t8-2 : tie.Need-cast-t8-2
+cast-t8-2 c = search needs
+
+add-t9-2 : tie.Need-add-t9-2
+add-t9-2 c = search needs
+
+mul-t10-2 : tie.Need-mul-t10-2
+mul-t10-2 c = search needs
+
+shared-slice-read-t12-2 : tie.Need-shared-slice-read-t12-2
+shared-slice-read-t12-2 c = search needs
+
+has-flag-requires-3 : tie.Need-has-flag-requires-3
+has-flag-requires-3 c κs = search needs
+
+cast-t18 : tie.Need-cast-t18
+cast-t18 c = search needs
+
+add-t19 : tie.Need-add-t19
+add-t19 c = search needs
+
+mul-t20 : tie.Need-mul-t20
+mul-t20 c = search needs
+
+shared-slice-read-t22 : tie.Need-shared-slice-read-t22
+shared-slice-read-t22 c = search needs
 
 returns : tie.Need-returns
 unfolding windowAt
@@ -64,9 +79,8 @@ returns c =
     let a = c .before .before .before .before .before .before .before .before .before .before .before .args in
     let w = a .words .now in
     let k = a .id .0 in
-    let z : 4 * k ≡ 4 * k + 0 = omega arith in
     λ t. record {
-      edge = record { 0 = getD w (z t) 0 };
+      edge = record { 0 = edgeOf w k };
       carried = record { into = record { 0 = intoOf w k }; queued = c .before .before .before .has-flag2 .ensures t };
       alive = c .before .has-flag3 .ensures t;
       link = linkOf w k;
@@ -78,20 +92,26 @@ load-spec =
     tie.close
     (tie.spec
     cast-i
+    cast-i-2
     mul-i
+    cast-flags
     add-flags
     mul-flags
     shared-slice-read-flags
     has-flag-requires
     load-win-requires
-    add-t8
-    mul-t9
-    shared-slice-read-t11
-    has-flag-requires-2
-    mul-t8
-    shared-slice-read-t11-2
-    has-flag-requires-3
+    cast-t8
     add-t9
-    mul-t17
-    shared-slice-read-t19
+    mul-t10
+    shared-slice-read-t12
+    has-flag-requires-2
+    cast-t8-2
+    add-t9-2
+    mul-t10-2
+    shared-slice-read-t12-2
+    has-flag-requires-3
+    cast-t18
+    add-t19
+    mul-t20
+    shared-slice-read-t22
     returns)

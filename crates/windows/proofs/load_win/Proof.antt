@@ -1,8 +1,7 @@
 use Prim.Native.Nat.{_+_, _*_}
-use mathlib.Core.Path.{_≡_}
-use native.Mathlib.Omega.{arith}
 use lib.ListN.{getD}
 use lib.Ieee.{nan}
+use Rattle.layout.specs.Layout.{realsPerWindow, windowB0, windowB1, windowLow}
 use Rattle.windows.specs.Windows.{winAt}
 use borrow.Author.Needs.{needs}
 use Rattle.windows.proofs.load_win.Statement.{statement}
@@ -11,8 +10,14 @@ use Rattle.windows.proofs.load_win.Tie as tie
 cast-i : tie.Need-cast-i
 cast-i c = search needs
 
+cast-i-2 : tie.Need-cast-i-2
+cast-i-2 c = search needs
+
 mul-i : tie.Need-mul-i
 mul-i c = search needs
+
+cast-source-of : tie.Need-cast-source-of
+cast-source-of c = search needs
 
 add-source-of : tie.Need-add-source-of
 add-source-of c = search needs
@@ -23,6 +28,9 @@ mul-source-of c = search needs
 shared-slice-read-source-of : tie.Need-shared-slice-read-source-of
 shared-slice-read-source-of c = search needs
 
+cast-source-of-2 : tie.Need-cast-source-of-2
+cast-source-of-2 c = search needs
+
 add-source-of-2 : tie.Need-add-source-of-2
 add-source-of-2 c = search needs
 
@@ -31,6 +39,9 @@ mul-source-of-2 c = search needs
 
 shared-slice-read-source-of-2 : tie.Need-shared-slice-read-source-of-2
 shared-slice-read-source-of-2 c = search needs
+
+cast-source-of-3 : tie.Need-cast-source-of-3
+cast-source-of-3 c = search needs
 
 add-source-of-3 : tie.Need-add-source-of-3
 add-source-of-3 c = search needs
@@ -44,39 +55,52 @@ shared-slice-read-source-of-3 c = search needs
 source-of-requires : tie.Need-source-of-requires
 source-of-requires c κs = search needs
 
-mul-t6 : tie.Need-mul-t6
-mul-t6 c = search needs
+cast-t6 : tie.Need-cast-t6
+cast-t6 c = search needs
 
-shared-slice-read-t17 : tie.Need-shared-slice-read-t17
-shared-slice-read-t17 c = search needs
+add-t7 : tie.Need-add-t7
+add-t7 c = search needs
 
-add-t15 : tie.Need-add-t15
-add-t15 c = search needs
+mul-t18 : tie.Need-mul-t18
+mul-t18 c = search needs
 
-mul-t14 : tie.Need-mul-t14
-mul-t14 c = search needs
+shared-slice-read-t20 : tie.Need-shared-slice-read-t20
+shared-slice-read-t20 c = search needs
 
-shared-slice-read-t13 : tie.Need-shared-slice-read-t13
-shared-slice-read-t13 c = search needs
+cast-t16 : tie.Need-cast-t16
+cast-t16 c = search needs
 
-add-t11 : tie.Need-add-t11
-add-t11 c = search needs
+add-t17 : tie.Need-add-t17
+add-t17 c = search needs
 
-mul-t10 : tie.Need-mul-t10
-mul-t10 c = search needs
+mul-t13 : tie.Need-mul-t13
+mul-t13 c = search needs
 
-shared-slice-read-t9 : tie.Need-shared-slice-read-t9
-shared-slice-read-t9 c = search needs
+shared-slice-read-t15 : tie.Need-shared-slice-read-t15
+shared-slice-read-t15 c = search needs
+
+cast-t11 : tie.Need-cast-t11
+cast-t11 c = search needs
+
+add-t12 : tie.Need-add-t12
+add-t12 c = search needs
+
+mul-t8 : tie.Need-mul-t8
+mul-t8 c = search needs
+
+shared-slice-read-t10 : tie.Need-shared-slice-read-t10
+shared-slice-read-t10 c = search needs
 
 returns : tie.Need-returns
 unfolding winAt
 returns c =
     let a = c .before .before .before .before .before .before .before .before .before .args in
-    let z : 6 * a .id .0 ≡ 6 * a .id .0 + 0 = omega arith in
+    let f = a .reals .now in
+    let k = a .id .0 in
     λ t. record {
-      b0 = getD (a .reals .now) (z t) nan;
-      b1 = getD (a .reals .now) (6 * a .id .0 + 1) nan;
-      low = getD (a .reals .now) (6 * a .id .0 + 2) nan;
+      b0 = getD f (realsPerWindow * k + windowB0) nan;
+      b1 = getD f (realsPerWindow * k + windowB1) nan;
+      low = getD f (realsPerWindow * k + windowLow) nan;
       src = c .before .before .before .source-of .ensures t;
     }
 
@@ -85,23 +109,31 @@ load-win-spec =
     tie.close
     (tie.spec
     cast-i
+    cast-i-2
     mul-i
+    cast-source-of
     add-source-of
     mul-source-of
     shared-slice-read-source-of
+    cast-source-of-2
     add-source-of-2
     mul-source-of-2
     shared-slice-read-source-of-2
+    cast-source-of-3
     add-source-of-3
     mul-source-of-3
     shared-slice-read-source-of-3
     source-of-requires
-    mul-t6
-    shared-slice-read-t17
-    add-t15
-    mul-t14
-    shared-slice-read-t13
-    add-t11
-    mul-t10
-    shared-slice-read-t9
+    cast-t6
+    add-t7
+    mul-t18
+    shared-slice-read-t20
+    cast-t16
+    add-t17
+    mul-t13
+    shared-slice-read-t15
+    cast-t11
+    add-t12
+    mul-t8
+    shared-slice-read-t10
     returns)
