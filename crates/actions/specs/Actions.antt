@@ -15,7 +15,7 @@ use Rattle.heap.specs.declared.Event.{Event}
 use Rattle.heap.specs.declared.Pushed.{Pushed}
 use Rattle.heap.specs.declared.Pushed.the-variants.{Full, Queued}
 use Rattle.heap.specs.declared.Item.the-variants.{Vertex}
-use Rattle.heap.specs.Queue.{Queue, pushing, refusalNumber}
+use Rattle.heap.specs.Queue.{Queue, pushing, pushedNumber}
 
 pub data Action : Type 0 where
   list : ℕ → Action  -- one of the lists `pts`, `out`, `keep`, `next` and `pieces` comes to so many entries
@@ -49,7 +49,7 @@ withDistance vertex v d = set vertex (realsPerVertex * v + vertexDistance) d
 
 -- what a push answers
 unfoldable pub queueing : ℕ → List Float → Pushed × Queue → Outcome
-queueing made vertex (Full, q) = stopped (refusalNumber Full)
+queueing made vertex (Full, q) = stopped (pushedNumber Full)
 queueing made vertex (Queued n, q) = went (stock made n q vertex)
 
 unfoldable pub andThen : Outcome → (Stock → Outcome) → Outcome

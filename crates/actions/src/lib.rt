@@ -16,10 +16,11 @@ ghost use Rattle.layout.specs.Layout.{wordsPerVertex, vertexFlag};
 ghost use Rattle.heap.specs.Queue.{queue};
 ghost use Rattle.actions.specs.Actions.{stock, distanceOf, queueing, act};
 ghost use Rattle.actions.specs.Actions.{touch as Action·touch};
+ghost use Rattle.buffers.specs.Lent.{given, left};
 
 // Whether vertex v passes distances round itself.
 fn flagged(vertex_words: &[u32], v: VertexId) -> bool
-    ensures { λ r. ⌜ r ≡ eqb (getD (now («vertex_words» .entry)) (wordsPerVertex * v .0 + vertexFlag) 0) 1 ⌝ }
+    ensures { λ r. ⌜ r ≡ eqb (getD (given «vertex_words») (wordsPerVertex * v .0 + vertexFlag) 0) 1 ⌝ }
 {
     if read_u32(vertex_words, WORDS_PER_VERTEX, v.0, VERTEX_FLAG) == 1 {
         return true;
@@ -29,7 +30,7 @@ fn flagged(vertex_words: &[u32], v: VertexId) -> bool
 
 // The distance of vertex v, a NaN where its two numbers are not both there: then no distance is less.
 fn distance(vertex: &[f64], v: VertexId) -> f64
-    ensures { λ r. ⌜ r ≡ distanceOf (now (vertex .entry)) (v .0) ⌝ }
+    ensures { λ r. ⌜ r ≡ distanceOf (given vertex) (v .0) ⌝ }
 {
     let i = (REALS_PER_VERTEX as usize) * (v.0 as usize);
     if i + (VERTEX_EMITTED as usize) < vertex.len() {
@@ -50,7 +51,8 @@ pub fn touch(
     v: VertexId,
     d: f64,
 ) -> Pushed
-    ensures { λ r. ⌜ ((cuts windows made : ℕ) → act cuts windows limit (now («vertex_words» .entry)) (Action·touch (v .0) d) (stock made n (queue (now (keys .entry)) (now (words .entry))) (now (vertex .entry))) ≡ queueing made (now (vertex .exit)) (r, queue (now (keys .exit)) (now (words .exit)))) ⌝ }
+    ensures { λ r. ⌜ ((cuts windows made : ℕ) → act cuts windows limit (given «vertex_words») (Action·touch (v .0) d) (stock made n (queue (given keys) (given words)) (given vertex))
+        ≡ queueing made (left vertex) (r, queue (left keys) (left words))) ⌝ }
 {
     if d < distance(vertex, v) {
         write_f64(vertex, REALS_PER_VERTEX, v.0, VERTEX_DISTANCE, d);

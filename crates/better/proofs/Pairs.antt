@@ -18,7 +18,7 @@ use Rattle.nat_laws.proofs.Tests.{branch}
 use Rattle.better.specs.Stretches.{Interval, interval, joined, shorterBetween, stretches, outOf}
 use Rattle.float64.specs.Notation.{if_then_else_}
 use Rattle.source.specs.declared.Src.{Src}
-use Rattle.better.specs.Buffers.{pairs, endsAt}
+use Rattle.better.specs.Buffers.{pairs, lastEndsAt}
 
 pub pairs-length : (m : ℕ) (l : List Float) → length (pairs m l) ≡ m
 pairs-length zero l = refl
@@ -46,32 +46,32 @@ joined-none : (x0 x1 : Float) → joined [] x0 x1 ≡ interval x0 x1 ∷ []
 unfolding joined
 joined-none x0 x1 = refl
 
-pub ends-pos : (m : ℕ) (l : List Float) (x : Float) → endsAt m l x ≡ true → 0 < m
+pub ends-pos : (m : ℕ) (l : List Float) (x : Float) → lastEndsAt m l x ≡ true → 0 < m
 ends-pos zero l x h = absurd (subst T (sym h) tt)
 ends-pos (suc m) l x h = omega arith
 
-pub ends-read : (m : ℕ) (l : List Float) (x : Float) → m ≢ 0 → endsAt m l x ≡ eq (getD l (2 * m - 1) nan) x
+pub ends-read : (m : ℕ) (l : List Float) (x : Float) → m ≢ 0 → lastEndsAt m l x ≡ eq (getD l (2 * m - 1) nan) x
 ends-read zero l x h = absurd (h refl)
 ends-read (suc m) l x h = let e : 2 * suc m - 1 ≡ suc (m + m) = omega arith in rw e
 
 module _ (l : List Float) (x0 x1 : Float) where
-  pub joined-no : (m : ℕ) → endsAt m l x0 ≡ false → joined (pairs m l) x0 x1 ≡ pairs m l ++ (interval x0 x1 ∷ [])
+  pub joined-no : (m : ℕ) → lastEndsAt m l x0 ≡ false → joined (pairs m l) x0 x1 ≡ pairs m l ++ (interval x0 x1 ∷ [])
   joined-no zero h = joined-none x0 x1
   joined-no (suc m) h =
       let g = interval (getD l (m + m) nan) (getD l (suc (m + m)) nan) in
       joined-last (pairs m l) g x0 x1 ∙ ap (λ (z : List Interval). pairs m l ++ z) (joined-two g x0 x1 h) ∙ sym (append-assoc (pairs m l) (g ∷ []) (interval x0 x1 ∷ []))
 
-  pub joined-length : (m : ℕ) → endsAt m l x0 ≡ false → length (joined (pairs m l) x0 x1) ≡ suc m
+  pub joined-length : (m : ℕ) → lastEndsAt m l x0 ≡ false → length (joined (pairs m l) x0 x1) ≡ suc m
   joined-length m h = rw (joined-no m h, length-append) (omega (arith, pairs-length m l))
 
   pub pairs-push : (m e : ℕ) → e ≡ m + m → e + 1 < length l → pairs (m + 1) (set (set l e x0) (e + 1) x1) ≡ pairs m l ++ (interval x0 x1 ∷ [])
   pairs-push m e i b =
       rw (add-one m, add-one e, i, pairs-set m (set l (m + m) x0) (suc (m + m)) x1 (omega arith), pairs-set m l (m + m) x0 (omega arith), getD-set-other (set l (m + m) x0) (suc (m + m)) (m + m) x1 nan (omega arith), getD-set-same l (m + m) x0 nan (omega arith), getD-set-same (set l (m + m) x0) (suc (m + m)) x1 nan (rw length-set (omega arith)))
 
-  pub pairs-more : (m e : ℕ) → e ≡ m + m → e + 1 < length l → endsAt m l x0 ≡ false → pairs (m + 1) (set (set l e x0) (e + 1) x1) ≡ joined (pairs m l) x0 x1
+  pub pairs-more : (m e : ℕ) → e ≡ m + m → e + 1 < length l → lastEndsAt m l x0 ≡ false → pairs (m + 1) (set (set l e x0) (e + 1) x1) ≡ joined (pairs m l) x0 x1
   pairs-more m e i b h = rw (joined-no m h) (pairs-push m e i b)
 
-  pub pairs-longer : (m i : ℕ) → i + 1 ≡ m + m → i < length l → endsAt m l x0 ≡ true → pairs m (set l i x1) ≡ joined (pairs m l) x0 x1
+  pub pairs-longer : (m i : ℕ) → i + 1 ≡ m + m → i < length l → lastEndsAt m l x0 ≡ true → pairs m (set l i x1) ≡ joined (pairs m l) x0 x1
   pairs-longer zero i e b h = let y : ⊥ = omega arith in absurd y
   pairs-longer (suc m) i e b h =
       let g = interval (getD l (m + m) nan) (getD l (suc (m + m)) nan) in

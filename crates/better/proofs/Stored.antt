@@ -20,7 +20,7 @@ use Rattle.source.specs.declared.Src.{Src}
 use Rattle.better.specs.declared.Listed.{Listed}
 use Rattle.better.specs.declared.Listed.the-variants.{Full, Entries}
 use Rattle.better.specs.Stretches.{Interval, interval, joined, shorterBetween, stretches}
-use Rattle.better.specs.Buffers.{pairs, HoldsPairs, Answers, refusalNumber, stored, hasEntries, bettering}
+use Rattle.better.specs.Buffers.{pairs, HoldsPairs, Answers, listedNumber, stored, hasEntries, bettering}
 use Rattle.better.proofs.Pairs.{step, rest, pairs-length, joined-more}
 
 pairs-cons : (m : ℕ) (a b : Float) (l : List Float) → pairs (suc m) (a ∷ b ∷ l) ≡ interval a b ∷ pairs m l
@@ -130,20 +130,20 @@ answers (Entries m) size before after pts gs l b h s =
     rw (le-leb (length pts) size b, le-leb (length gs + length gs) (length before) (omega (arith, h .0, l, n)), n) (λ t. (Entries m, s t))
 
 -- its number in document 01
-number-of : (size : ℕ) (out pts : List Float) (gs : List Interval) → refusalNumber (bettering size out pts gs .0) ≡ cond (leb (length pts) size && hasEntries gs out) 0 14
+number-of : (size : ℕ) (out pts : List Float) (gs : List Interval) → listedNumber (bettering size out pts gs .0) ≡ cond (leb (length pts) size && hasEntries gs out) 0 14
 unfolding bettering
 number-of size out pts gs = go (leb (length pts) size) (hasEntries gs out) where
-  go : (s t : Bool) → refusalNumber (cond {A = Listed × List Float} s (cond t (Entries (length gs)) Full, stored gs out) (Full, out) .0) ≡ cond (s && t) 0 14
+  go : (s t : Bool) → listedNumber (cond {A = Listed × List Float} s (cond t (Entries (length gs)) Full, stored gs out) (Full, out) .0) ≡ cond (s && t) 0 14
   go true true = refl
   go true false = refl
   go false t = refl
 
 pub said : (r : Listed) (size : ℕ) (before after pts : List Float) (gs : List Interval) → (r, after) ≡ bettering size before pts gs
-    → ((r, after) ≡ bettering size before pts gs) × (refusalNumber r ≡ cond (leb (length pts) size && hasEntries gs before) 0 14)
-said r size before after pts gs e = (e, ap (λ (a : Listed × List Float). refusalNumber (a .0)) e ∙ number-of size before pts gs)
+    → ((r, after) ≡ bettering size before pts gs) × (listedNumber r ≡ cond (leb (length pts) size && hasEntries gs before) 0 14)
+said r size before after pts gs e = (e, ap (λ (a : Listed × List Float). listedNumber (a .0)) e ∙ number-of size before pts gs)
 
 -- the number of a list that stands in a buffer or outgrew it
-pub numbered : (r : Listed) (before after : List Float) (gs : List Interval) → length after ≡ length before → HoldsPairs r after gs → HoldsPairs r after gs × (refusalNumber r ≡ cond (hasEntries gs before) 0 14)
+pub numbered : (r : Listed) (before after : List Float) (gs : List Interval) → length after ≡ length before → HoldsPairs r after gs → HoldsPairs r after gs × (listedNumber r ≡ cond (hasEntries gs before) 0 14)
 numbered Full before after gs l h = (h, rw (lt-leb (length gs + length gs) (length before) (omega (arith, h, l))) refl)
 numbered (Entries m) before after gs l h =
     let n : length gs ≡ m = sym (ap length (h .1)) ∙ pairs-length m after in

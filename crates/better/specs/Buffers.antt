@@ -17,31 +17,31 @@ use Rattle.better.specs.declared.Listed.{Listed}
 use Rattle.better.specs.declared.Listed.the-variants.{Full, Entries}
 
 -- the number in document 01 of a list's answer; 0 is no refusal
-abbrev pub refusalNumber : Listed → ℕ
-refusalNumber Full = 14
-refusalNumber (Entries n) = 0
+abbrev pub listedNumber : Listed → ℕ
+listedNumber Full = 14
+listedNumber (Entries n) = 0
 
 -- the list stands in front of the buffer; or it has more entries than the buffer
-abbrev pub Holds : Listed → List Float → List Float → Type 0
-Holds Full buffer xs = length buffer < length xs
-Holds (Entries n) buffer xs = (length xs ≡ n) × (take n buffer ≡ xs)
+abbrev pub ListsEntries : Listed → List Float → List Float → Type 0
+ListsEntries Full buffer xs = length buffer < length xs
+ListsEntries (Entries n) buffer xs = (length xs ≡ n) × (take n buffer ≡ xs)
 
 -- the list stands at the end of the buffer; or it has more entries than the buffer
-abbrev pub Within : Placed → List Float → Type 0
-Within placed.Full buffer = Unit {0}
-Within (From t) buffer = t ≤ length buffer
+abbrev pub PlacedWithin : Placed → List Float → Type 0
+PlacedWithin placed.Full buffer = Unit {0}
+PlacedWithin (From t) buffer = t ≤ length buffer
 
-abbrev pub Ends : Placed → List Float → List Float → Type 0
-Ends placed.Full buffer xs = length buffer < length xs
-Ends (From t) buffer xs = drop t buffer ≡ xs
+abbrev pub EndsWith : Placed → List Float → List Float → Type 0
+EndsWith placed.Full buffer xs = length buffer < length xs
+EndsWith (From t) buffer xs = drop t buffer ≡ xs
 
 -- a point that is put in its order if it is kept
 abbrev pub keptOf : Bool → Float → List Float → List Float
 keptOf keep x xs = if keep then insertOf x xs else xs
 
 -- what holds of the list before holds of it after, with x put in
-abbrev pub Adds : Placed → List Float → Bool → Float → Placed → List Float → Type 0
-Adds from buffer keep x r after = Within r after × ((xs : List Float) → Ends from buffer xs → Ends r after (keptOf keep x xs))
+abbrev pub Inserts : Placed → List Float → Bool → Float → Placed → List Float → Type 0
+Inserts from buffer keep x r after = PlacedWithin r after × ((xs : List Float) → EndsWith from buffer xs → EndsWith r after (keptOf keep x xs))
 
 -- m intervals in front of a buffer, each its two ends
 abbrev pub pairs : ℕ → List Float → List Interval
@@ -59,9 +59,9 @@ Spares Full buffer after = after ≡ buffer
 Spares (Entries m) buffer after = drop (m + m) after ≡ drop (m + m) buffer
 
 -- the last of them ends at x
-abbrev pub endsAt : ℕ → List Float → Float → Bool
-endsAt zero buffer x = false
-endsAt (suc m) buffer x = eq (getD buffer (suc (m + m)) nan) x
+abbrev pub lastEndsAt : ℕ → List Float → Float → Bool
+lastEndsAt zero buffer x = false
+lastEndsAt (suc m) buffer x = eq (getD buffer (suc (m + m)) nan) x
 
 -- a buffer with intervals over its front, as many as it has entries for; what stands behind them is as it was
 unfoldable pub stored : List Interval → List Float → List Float

@@ -16,8 +16,8 @@ use Rattle.better.specs.Stretches.{betterOf}
 use Rattle.better.specs.Buffers.{Answers}
 
 -- the capacity and the count of stretches of the record at byte i
-unfoldable pub capacityOf : List ℕ → ℕ → ℕ
-capacityOf s i = wordFrom s (i + 66) % 4294967296
+unfoldable pub slotCountOf : List ℕ → ℕ → ℕ
+slotCountOf s i = wordFrom s (i + 66) % 4294967296
 
 unfoldable pub stretchesOf : List ℕ → ℕ → ℕ
 stretchesOf s i = wordFrom s (i + 67) / 4294967296
@@ -32,9 +32,9 @@ sameAnswer Full out s i = eqb (getD s (i + 70) 0) 14
 sameAnswer (Entries m) out s i = eqb (getD s (i + 70) 0) 0 && (eqb m (stretchesOf s i) && eqb (otherFloats out s (i + 75) (2 * m)) 0)
 
 -- the stretches of an answer are within its buffer
-abbrev pub Within : Listed → List Float → Type 0
-Within Full out = Unit {0}
-Within (Entries m) out = m + m ≤ length out
+abbrev pub FitsOut : Listed → List Float → Type 0
+FitsOut Full out = Unit {0}
+FitsOut (Entries m) out = m + m ≤ length out
 
 -- b says whether the right answer to the record's case, in lists of `size` points and of out's stretches, is the record's
 pub record Decides (s : List ℕ) (i size : ℕ) (out : List Float) (b : Bool) : Type 0 where
@@ -48,9 +48,9 @@ pub record Decides (s : List ℕ) (i size : ℕ) (out : List Float) (b : Bool) :
 -- the same in lists of the record's capacity, an entry of out two numbers
 pub record Replayed (s : List ℕ) (i : ℕ) (b : Bool) : Type 0 where
   pub out : List Float
-  pub entries : length out ≡ 2 * capacityOf s i
-  pub decides : Decides s i (capacityOf s i) out b
+  pub entries : length out ≡ 2 * slotCountOf s i
+  pub decides : Decides s i (slotCountOf s i) out b
 
 -- it is so where the buffers have that many numbers
 abbrev pub Replays : List ℕ → ℕ → List Float → List Float → Bool → Type 0
-Replays s i pts out b = capacityOf s i ≤ length pts → 2 * capacityOf s i ≤ length out → Replayed s i b
+Replays s i pts out b = slotCountOf s i ≤ length pts → 2 * slotCountOf s i ≤ length out → Replayed s i b

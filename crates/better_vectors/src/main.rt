@@ -9,12 +9,12 @@ ghost use mathlib.Core.Path.{_≡_};
 ghost use Prim.Native.Nat.{_+_, _*_, _≤_, _<_};
 ghost use lib.ListN.{length};
 ghost use Rattle.source_records.specs.Records.{wordFrom, floatFrom, srcFrom};
-ghost use Rattle.better_vectors.specs.Replay.{capacityOf, stretchesOf, otherFloats, sameAnswer, Within, Decides, Replays};
+ghost use Rattle.better_vectors.specs.Replay.{slotCountOf, stretchesOf, otherFloats, sameAnswer, FitsOut, Decides, Replays};
 
 // The capacity and the count of stretches of the record at byte i: the low and the high 4 bytes of 8.
 fn capacity(s: &[u8], i: usize) -> usize
     requires { ⌜ i + 75 ≤ length (now s) ⌝ }
-    ensures { λ r. ⌜ (r ≡ capacityOf (now (s .entry)) i) × (r < 4294967296) ⌝ }
+    ensures { λ r. ⌜ (r ≡ slotCountOf (now (s .entry)) i) × (r < 4294967296) ⌝ }
 {
     (word_from(s, i + 66) % 0x1_0000_0000) as usize
 }
@@ -44,7 +44,7 @@ fn other_floats(out: &[f64], s: &[u8], i: usize, n: usize) -> u64
 
 // Whether an answer of `better` is the one that the record at byte i says.
 fn same_answer(listed: Listed, out: &[f64], s: &[u8], i: usize) -> bool
-    requires { ⌜ (i + 75 + 16 * stretchesOf (now s) i ≤ length (now s)) × Within listed (now out) ⌝ }
+    requires { ⌜ (i + 75 + 16 * stretchesOf (now s) i ≤ length (now s)) × FitsOut listed (now out) ⌝ }
     ensures { λ b. ⌜ b ≡ sameAnswer listed (now (out .entry)) (now (s .entry)) i ⌝ }
 {
     let refusal = s[i + 70];

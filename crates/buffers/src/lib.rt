@@ -7,7 +7,7 @@ ghost use lib.ListN.{set, getD, length, replicate};
 ghost use lib.Ieee.{nan};
 ghost use Rattle.buffers.specs.Lack.{lackNumber};
 ghost use Rattle.buffers.specs.Slots.{slotsOf};
-ghost use Rattle.float64.specs.Scalar.{zero as zero64};
+ghost use Rattle.float64.specs.Scalar.{zero64};
 ghost use Rattle.buffers.specs.Zero.{zeroFrom};
 
 // Vertices, edges, faces and windows are counted apart: where the number of one is asked for, that of another is a type error.

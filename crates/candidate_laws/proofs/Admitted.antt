@@ -6,14 +6,14 @@ use mathlib.Core.Bool.{not}
 use lib.Dec.{T}
 use lib.Ieee.{Float, binary64, lt, le, fits}
 use mathlib.Core.Path.{_≡_, subst, sym}
-use Rattle.float64.specs.Scalar.{zero, minOf, maxOf}
+use Rattle.float64.specs.Scalar.{zero64, minOf, maxOf}
 use Rattle.source.specs.Distance.{lowestOf}
 use Rattle.source_windows.specs.Ends.{EndsOn}
 use Rattle.source_windows.proofs.Ends.{ends-of}
 use Rattle.source_windows.specs.declared.CandidateRange.{CandidateRange}
 use Rattle.source_windows.specs.declared.CandidateRange.the-variants.{Window}
 use Rattle.better.specs.Claim.{Point}
-use Rattle.float_bounds.specs.Within.{Start, End, Inside}
+use Rattle.float_bounds.specs.Within.{Start, ClippedEnd, Inside}
 use Rattle.float_bounds.proofs.Ends.{start-zero, max-start, end-length, min-end, wide-inside}
 use Rattle.mesh_laws.specs.Bounds.{EdgeLength}
 use Rattle.trim_model.specs.Intervals.{width, tinyOf}
@@ -26,12 +26,12 @@ use Rattle.trim_model.proofs.Model.{not-or}
 pub length-point : (l : Float) → EdgeLength l → Point l
 length-point l h = record { number = h .number; double = h .double }
 
-module _ (limit : Float) (len : ℕ → Float) (c : Candidate) (long : Point (len (c .edge))) (above : T (lt zero (len (c .edge)))) (offered : T (admits limit len c)) where
+module _ (limit : Float) (len : ℕ → Float) (c : Candidate) (long : Point (len (c .edge))) (above : T (lt zero64 (len (c .edge)))) (offered : T (admits limit len c)) where
   -- not at most tiny
   wide : T (not (le (width (c .b0) (c .b1)) (tinyOf (len (c .edge)))))
   wide = not-or (le (width (c .b0) (c .b1)) (tinyOf (len (c .edge)))) (lt limit (lowestOf (c .src) (c .b0) (c .b1))) offered
 
-  module _ (start : Start (c .b0)) (end : End (len (c .edge)) (c .b1)) where
+  module _ (start : Start (c .b0)) (end : ClippedEnd (len (c .edge)) (c .b1)) where
     pub admitted-inside : Inside (len (c .edge)) (c .b0) (c .b1)
     admitted-inside = wide-inside (len (c .edge)) (tinyOf (len (c .edge))) (c .b0) (c .b1) (long .number) (tiny-nonneg (len (c .edge)) long above .nonneg) start end wide
 
@@ -45,14 +45,14 @@ module _ (limit : Float) (len : ℕ → Float) (c : Candidate) (long : Point (le
         }
 
   -- `x.max(0.)` and `y.min(l)`, whatever doubles x and y are
-  pub clipped-proper : (x y : Float) → T (fits binary64 x) → T (fits binary64 y) → c .b0 ≡ maxOf x zero → c .b1 ≡ minOf y (len (c .edge)) → Proper len c
+  pub clipped-proper : (x y : Float) → T (fits binary64 x) → T (fits binary64 y) → c .b0 ≡ maxOf x zero64 → c .b1 ≡ minOf y (len (c .edge)) → Proper len c
   clipped-proper x y p q s e =
-      admitted-proper (subst Start (sym s) (max-start zero x start-zero p))
-      (subst (End (len (c .edge))) (sym e) (min-end (len (c .edge)) (len (c .edge)) y (end-length (len (c .edge)) (long .number) (long .double)) q))
+      admitted-proper (subst Start (sym s) (max-start zero64 x start-zero p))
+      (subst (ClippedEnd (len (c .edge))) (sym e) (min-end (len (c .edge)) (len (c .edge)) y (end-length (len (c .edge)) (long .number) (long .double)) q))
 
   -- the whole edge
-  pub whole-proper : c .b0 ≡ zero → c .b1 ≡ len (c .edge) → Proper len c
-  whole-proper s e = admitted-proper (subst Start (sym s) start-zero) (subst (End (len (c .edge))) (sym e) (end-length (len (c .edge)) (long .number) (long .double)))
+  pub whole-proper : c .b0 ≡ zero64 → c .b1 ≡ len (c .edge) → Proper len c
+  whole-proper s e = admitted-proper (subst Start (sym s) start-zero) (subst (ClippedEnd (len (c .edge))) (sym e) (end-length (len (c .edge)) (long .number) (long .double)))
 
   -- what insertion, a vertex or propagation offers an edge, by the laws of source_windows and propagation
   pub offered-proper : {r : CandidateRange} → EndsOn (len (c .edge)) r → r ≡ Window (c .b0) (c .b1) (c .src) → Proper len c

@@ -17,7 +17,7 @@ use Rattle.windows.specs.declared.WindowRecord.{WindowRecord}
 use Rattle.windows.specs.Windows.{linkWith, flagsOf, hasFlag, wordsWith, flagsWith}
 use Rattle.windows.proofs.WindowList.{stored-edge, stored-other, length-stored}
 use Rattle.chains.proofs.Paths.{path-same, path-set}
-use Rattle.chains.specs.Chains.{Links, links, headOf, edgeOf, nextOf, withLink, Path, Out, Belongs, AllBelong, Before, OnEdge, Chains}
+use Rattle.chains.specs.Chains.{Links, links, headOf, edgeOf, nextLink, withLink, Path, Out, Belongs, AllBelong, Before, OnEdge, Chains}
 
 -- ---- a store of a link changes nothing of the windows but links, and nothing of the edges but one head
 pub record OnlyLinks (w w′ : List ℕ) : Type 0 where
@@ -47,7 +47,7 @@ head-with b e (suc k) v = record { same-length = refl; fields = λ p ne. refl }
 -- ---- what chains see of a window
 pub record Agrees (w w′ : List ℕ) (i : ℕ) : Type 0 where
   pub edge : edgeOf w′ i ≡ edgeOf w i
-  pub next : nextOf w′ i ≡ nextOf w i
+  pub next : nextLink w′ i ≡ nextLink w i
 
 slot-agrees : (w w′ : List ℕ) (i : ℕ) → slot wordsPerWindow w′ i ≡ slot wordsPerWindow w i → Agrees w w′ i
 slot-agrees w w′ i h = record { edge = field windowEdge (omega arith); next = field windowLink (omega arith) } where
@@ -113,7 +113,7 @@ module _ (made : ℕ) where
       let w = b .words in
       let w′ = b′ .words in
       record {
-        path = rw h (path-same w w′ (headOf (b .edges) e) is (all-map {P = Agrees w w′} {Q = λ i. nextOf w′ i ≡ nextOf w i} (λ i g. g .next) is a) (o .path));
+        path = rw h (path-same w w′ (headOf (b .edges) e) is (all-map {P = Agrees w w′} {Q = λ i. nextLink w′ i ≡ nextLink w i} (λ i g. g .next) is a) (o .path));
         belong = all-same w w′ e is n (all-map {P = Agrees w w′} {Q = λ i. edgeOf w′ i ≡ edgeOf w i} (λ i g. g .edge) is a) (o .belong);
       }
 

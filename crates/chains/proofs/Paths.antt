@@ -12,7 +12,7 @@ use Rattle.nat_laws.specs.Lists.{All}
 use Rattle.nat_laws.proofs.Lists.{all-map, all-right}
 use Rattle.buffers.proofs.Strides.{other-slot}
 use Rattle.windows.specs.Windows.{linkWith}
-use Rattle.chains.specs.Chains.{nextOf, Path, Out, firstLink}
+use Rattle.chains.specs.Chains.{nextLink, Path, Out, firstLink}
 
 -- ---- a path
 -- from a link there is one path
@@ -23,12 +23,12 @@ path-unique w l [] (j ∷ js) p q = absurd (omega (arith, p, q .0))
 path-unique w l (i ∷ is) [] p q = absurd (omega (arith, p .0, q))
 path-unique w l (i ∷ is) (j ∷ js) p q =
     let e : i ≡ j = omega (arith, p .0, q .0) in
-    ap (λ k. k ∷ is) e ∙ ap (λ t. j ∷ t) (path-unique w (nextOf w j) is js (subst (λ k. Path w (nextOf w k) is) e (p .1)) (q .1))
+    ap (λ k. k ∷ is) e ∙ ap (λ t. j ∷ t) (path-unique w (nextLink w j) is js (subst (λ k. Path w (nextLink w k) is) e (p .1)) (q .1))
 
-pub path-drop : (w : List ℕ) (l : ℕ) (xs : List ℕ) (i : ℕ) (zs : List ℕ) → Path w l (xs ++ i ∷ zs) → Path w (nextOf w i) zs
+pub path-drop : (w : List ℕ) (l : ℕ) (xs : List ℕ) (i : ℕ) (zs : List ℕ) → Path w l (xs ++ i ∷ zs) → Path w (nextLink w i) zs
 unfolding Path
 path-drop w l [] i zs p = p .1
-path-drop w l (x ∷ xs) i zs p = path-drop w (nextOf w x) xs i zs (p .1)
+path-drop w l (x ∷ xs) i zs p = path-drop w (nextLink w x) xs i zs (p .1)
 
 out-of : (i : ℕ) (ys : List ℕ) → ((xs zs : List ℕ) → ys ≡ xs ++ i ∷ zs → ⊥) → Out i ys
 out-of i [] f = tt
@@ -40,8 +40,8 @@ unfolding Path
 path-once w l i ys p = out-of i ys go where
   go : (xs zs : List ℕ) → ys ≡ xs ++ i ∷ zs → ⊥
   go xs zs e =
-      let q : Path w (nextOf w i) zs = path-drop w (nextOf w i) xs i zs (subst (Path w (nextOf w i)) e (p .1)) in
-      let n : length ys ≡ length zs = ap length (path-unique w (nextOf w i) ys zs (p .1) q) in
+      let q : Path w (nextLink w i) zs = path-drop w (nextLink w i) xs i zs (subst (Path w (nextLink w i)) e (p .1)) in
+      let n : length ys ≡ length zs = ap length (path-unique w (nextLink w i) ys zs (p .1) q) in
       omega (arith, n, ap length e ∙ length-append xs (i ∷ zs))
 
 -- on a path each window of the front is none of what follows
@@ -50,30 +50,30 @@ unfolding Path
 front-out w l [] k zs p = (tt, path-once w l k zs p)
 front-out w l (x ∷ xs) k zs p =
     let o = all-right (λ j. x ≢ j) xs (k ∷ zs) (path-once w l x (xs ++ k ∷ zs) p) in
-    let r = front-out w (nextOf w x) xs k zs (p .1) in
+    let r = front-out w (nextLink w x) xs k zs (p .1) in
     ((λ e. o .0 (sym e), r .0), r .1)
 
 -- ---- a link changes
 -- a path depends on nothing but the links of its windows
-pub path-same : (w w′ : List ℕ) (l : ℕ) (is : List ℕ) → All (λ i. nextOf w′ i ≡ nextOf w i) is → Path w l is → Path w′ l is
+pub path-same : (w w′ : List ℕ) (l : ℕ) (is : List ℕ) → All (λ i. nextLink w′ i ≡ nextLink w i) is → Path w l is → Path w′ l is
 unfolding Path
 path-same w w′ l [] h p = p
-path-same w w′ l (i ∷ is) h p = (p .0, rw (h .0) (path-same w w′ (nextOf w i) is (h .1) (p .1)))
+path-same w w′ l (i ∷ is) h p = (p .0, rw (h .0) (path-same w w′ (nextLink w i) is (h .1) (p .1)))
 
 pub path-set : (w : List ℕ) (l : ℕ) (is : List ℕ) (k v : ℕ) → Out k is → Path w l is → Path (linkWith w k v) l is
 path-set w l is k v o =
     path-same w (linkWith w k v) l is
-    (all-map {P = λ i. k ≢ i} {Q = λ i. nextOf (linkWith w k v) i ≡ nextOf w i} (λ i ne. other-slot wordsPerWindow w k i windowLink windowLink v 0 ne (omega arith) (omega arith)) is o)
+    (all-map {P = λ i. k ≢ i} {Q = λ i. nextLink (linkWith w k v) i ≡ nextLink w i} (λ i ne. other-slot wordsPerWindow w k i windowLink windowLink v 0 ne (omega arith) (omega arith)) is o)
 
 -- from link l on the windows xs are passed, and the next is k
 unfoldable pub Front : List ℕ → ℕ → List ℕ → ℕ → Type 0
 Front w l [] k = l ≡ suc k
-Front w l (x ∷ xs) k = (l ≡ suc x) × Front w (nextOf w x) xs k
+Front w l (x ∷ xs) k = (l ≡ suc x) × Front w (nextLink w x) xs k
 
 pub front-of : (w : List ℕ) (l : ℕ) (xs : List ℕ) (k : ℕ) (zs : List ℕ) → Path w l (xs ++ k ∷ zs) → Front w l xs k
 unfolding Path Front
 front-of w l [] k zs p = p .0
-front-of w l (x ∷ xs) k zs p = (p .0, front-of w (nextOf w x) xs k zs (p .1))
+front-of w l (x ∷ xs) k zs p = (p .0, front-of w (nextLink w x) xs k zs (p .1))
 
 -- the link of k points at the path vs
 pub splice : (w : List ℕ) (l : ℕ) (xs : List ℕ) (k : ℕ) (vs : List ℕ) (v : ℕ) → wordsPerWindow * k + wordsPerWindow ≤ length w → Out k xs → Out k vs
@@ -81,7 +81,7 @@ pub splice : (w : List ℕ) (l : ℕ) (xs : List ℕ) (k : ℕ) (vs : List ℕ) 
 unfolding Path Front
 splice w l [] k vs v b ox ov p q = (p, rw (getD-set-same w (wordsPerWindow * k + windowLink) v 0 (omega arith)) (path-set w v vs k v ov q))
 splice w l (x ∷ xs) k vs v b ox ov p q =
-    (p .0, rw (other-slot wordsPerWindow w k x windowLink windowLink v 0 (ox .0) (omega arith) (omega arith)) (splice w (nextOf w x) xs k vs v b (ox .1) ov (p .1) q))
+    (p .0, rw (other-slot wordsPerWindow w k x windowLink windowLink v 0 (ox .0) (omega arith) (omega arith)) (splice w (nextLink w x) xs k vs v b (ox .1) ov (p .1) q))
 
 -- ---- the link at which a path starts
 pub path-first : (w : List ℕ) (l : ℕ) (zs : List ℕ) → Path w l zs → l ≡ firstLink zs
@@ -92,4 +92,4 @@ path-first w l (z ∷ zs) p = p .0
 pub path-after : (w : List ℕ) (l : ℕ) (ys zs : List ℕ) → Path w l (ys ++ zs) → Path w (firstLink zs) zs
 unfolding Path
 path-after w l [] zs p = subst (λ k. Path w k zs) (path-first w l zs p) p
-path-after w l (y ∷ ys) zs p = path-after w (nextOf w y) ys zs (p .1)
+path-after w l (y ∷ ys) zs p = path-after w (nextLink w y) ys zs (p .1)

@@ -9,7 +9,7 @@ use borrow.Author.Tests.{le-leb, lt-leb}
 use lib.ListN.{set}
 use Rattle.layout.specs.Layout.{wordsPerEdge, edgeHead}
 use Rattle.windows.specs.Windows.{linkWith}
-use Rattle.chains.specs.Chains.{Links, links, headOf, nextOf, linkIn, linkAt, withLink}
+use Rattle.chains.specs.Chains.{Links, links, headOf, nextLink, linkIn, linkAt, withLink}
 
 -- ---- a link that is read: up to the count it is as it stands, above it is none, so none leads past the count
 module _ (count l : ℕ) where
@@ -38,9 +38,9 @@ module _ (b : Links) (e : ℕ) where
   unfolding linkAt
   link-head k h = rw h refl
 
-  pub link-next : (k : ℕ) → k ≢ 0 → nextOf (b .words) (k - 1) ≡ linkAt b e k
+  pub link-next : (k : ℕ) → k ≢ 0 → nextLink (b .words) (k - 1) ≡ linkAt b e k
   unfolding linkAt
-  link-next k h = sym (from-link (linkAt b e) (nextOf (b .words)) (λ i. refl) k h)
+  link-next k h = sym (from-link (linkAt b e) (nextLink (b .words)) (λ i. refl) k h)
 
   pub with-head : (k v : ℕ) → k ≡ 0 → links (set (b .edges) (wordsPerEdge * e + edgeHead) v) (b .words) ≡ withLink b e k v
   unfolding withLink

@@ -10,7 +10,7 @@ use lib.ListN.{getD, set, length}
 use Rattle.layout.specs.Layout.{wordsPerEdge, edgeHead, wordsPerWindow}
 use Rattle.nat_laws.specs.Lists.{All}
 use Rattle.windows.specs.Windows.{linkOf, linkWith}
-use Rattle.windows.specs.Windows.{edgeOf as Windows·edgeOf}
+use Rattle.windows.specs.Windows.{edgeWord as Windows·edgeOf}
 
 pub record Links : Type 0 where
   pub edges : List ℕ
@@ -25,8 +25,8 @@ headOf edges e = getD edges (wordsPerEdge * e + edgeHead) 0
 abbrev pub edgeOf : List ℕ → ℕ → ℕ
 edgeOf words i = Windows·edgeOf words i
 
-abbrev pub nextOf : List ℕ → ℕ → ℕ
-nextOf words i = linkOf words i
+abbrev pub nextLink : List ℕ → ℕ → ℕ
+nextLink words i = linkOf words i
 
 -- a link that was read, where the window buffer counts for `count` windows: one that names a window past the count is none
 unfoldable pub linkIn : ℕ → ℕ → ℕ
@@ -35,7 +35,7 @@ linkIn count l = cond (leb l count) l 0
 -- the link stored after `before` on the chain of edge e: the head where `before` is none, else the link of that window
 unfoldable pub linkAt : Links → ℕ → ℕ → ℕ
 linkAt b e zero = headOf (b .edges) e
-linkAt b e (suc k) = nextOf (b .words) k
+linkAt b e (suc k) = nextLink (b .words) k
 
 unfoldable pub withLink : Links → ℕ → ℕ → ℕ → Links
 withLink b e zero v = links (set (b .edges) (wordsPerEdge * e + edgeHead) v) (b .words)
@@ -45,7 +45,7 @@ withLink b e (suc k) v = links (b .edges) (linkWith (b .words) k v)
 -- the windows from link l on are those of the list, and the chain ends there
 unfoldable pub Path : List ℕ → ℕ → List ℕ → Type 0
 Path w l [] = l ≡ 0
-Path w l (i ∷ is) = (l ≡ suc i) × Path w (nextOf w i) is
+Path w l (i ∷ is) = (l ≡ suc i) × Path w (nextLink w i) is
 
 -- i is none of the list
 abbrev pub Out : ℕ → List ℕ → Type 0

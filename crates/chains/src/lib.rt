@@ -15,6 +15,7 @@ ghost use Rattle.layout.specs.Layout.{wordsPerEdge};
 ghost use Rattle.buffers.specs.Slots.{slotsOf};
 ghost use Rattle.windows.specs.Windows.{capacityOf};
 ghost use Rattle.chains.specs.Chains.{links, linkIn, linkAt, withLink};
+ghost use Rattle.buffers.specs.Lent.{given, left};
 
 // A link that was read.
 pub fn within(link: u32, count: u32) -> u32
@@ -36,7 +37,7 @@ pub fn link_at(
     before: u32,
 ) -> u32
     requires { ⌜ (e .0 < slotsOf (length (now edges)) wordsPerEdge) × (before ≤ count) × (count ≤ capacityOf (length (now words)) (length (now reals))) ⌝ }
-    ensures { λ r. ⌜ r ≡ linkIn count (linkAt (links (now (edges .entry)) (now (words .entry))) (e .0) before) ⌝ }
+    ensures { λ r. ⌜ r ≡ linkIn count (linkAt (links (given edges) (given words)) (e .0) before) ⌝ }
 {
     if before == 0 {
         let head = read_u32(edges, WORDS_PER_EDGE, e.0, EDGE_HEAD);
@@ -56,7 +57,7 @@ pub fn set_link(
     link: u32,
 )
     requires { ⌜ (e .0 < slotsOf (length (now edges)) wordsPerEdge) × (before ≤ count) × (count ≤ capacityOf (length (now words)) (length (now reals))) ⌝ }
-    ensures { λ r. ⌜ links (now (edges .exit)) (now (words .exit)) ≡ withLink (links (now (edges .entry)) (now (words .entry))) (e .0) before link ⌝ }
+    ensures { λ r. ⌜ links (left edges) (left words) ≡ withLink (links (given edges) (given words)) (e .0) before link ⌝ }
 {
     if before == 0 {
         write_u32(edges, WORDS_PER_EDGE, e.0, EDGE_HEAD, link);

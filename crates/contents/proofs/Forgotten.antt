@@ -19,7 +19,7 @@ use Rattle.windows.specs.declared.WindowRecord.{WindowRecord}
 use Rattle.chains.specs.Chains.{links, headOf, firstLink}
 use Rattle.chains.proofs.Paths.{path-first}
 use Rattle.trim_model.specs.Windows.{Window}
-use Rattle.live_windows.specs.Live.{nums, Holds}
+use Rattle.live_windows.specs.Live.{nums, HoldsWindows}
 use Rattle.live_windows.proofs.Fronts.{hint-holds}
 use Rattle.contents.specs.Contents.{forgotten, headsIn}
 
@@ -56,13 +56,13 @@ kept zero l p h = refl
 kept (suc n) l p h = getD-set-other (forgotten n l) (wordsPerEdge * n + edgeScratch) p 0 0 (λ z. h n (omega arith) z) ∙ kept n l p (λ e i. h e (omega (arith, i)))
 
 -- the windows stand as they did
-pub forget-holds : (k : ℕ) (n : ℕ) (wins : List WindowRecord) (edges words : List ℕ) (f : List Float) (live : ℕ → List Window) → Holds n wins (links edges words) f live → Holds n wins (links (forgotten k edges) words) f live
+pub forget-holds : (k : ℕ) (n : ℕ) (wins : List WindowRecord) (edges words : List ℕ) (f : List Float) (live : ℕ → List Window) → HoldsWindows n wins (links edges words) f live → HoldsWindows n wins (links (forgotten k edges) words) f live
 unfolding forgotten
 forget-holds zero n wins edges words f live H = H
 forget-holds (suc k) n wins edges words f live H = hint-holds n (links (forgotten k edges) words) k 0 wins f live (forget-holds k n wins edges words f live H)
 
 -- where nothing but the heads and the links of the first m edges was written on zeros, the heads are all that is left
-module _ (m k n : ℕ) (wins : List WindowRecord) (edges words : List ℕ) (f : List Float) (live : ℕ → List Window) (H : Holds n wins (links edges words) f live) (few : m ≤ k)
+module _ (m k n : ℕ) (wins : List WindowRecord) (edges words : List ℕ) (f : List Float) (live : ℕ → List Window) (H : HoldsWindows n wins (links edges words) f live) (few : m ≤ k)
     (zeros : (p : ℕ) → ((e : ℕ) → e < m → (p ≢ wordsPerEdge * e + edgeHead) × (p ≢ wordsPerEdge * e + edgeScratch)) → getD edges p 0 ≡ 0) where
   head-is : (e : ℕ) → getD (forgotten k edges) (wordsPerEdge * e + edgeHead) 0 ≡ firstLink (nums (live e))
   head-is e = path-first words (headOf (forgotten k edges) e) (nums (live e)) (forget-holds k n wins edges words f live H .on-edge e .chain .path)

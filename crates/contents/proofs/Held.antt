@@ -15,14 +15,14 @@ use Rattle.layout.specs.Layout.{wordsPerWindow, windowEdge, windowInto, windowF
 use Rattle.nat_laws.specs.Lists.{listOf}
 use Rattle.buffers.specs.Slots.{slot}
 use Rattle.buffers.proofs.Strides.{slot-at, length-slot}
-use Rattle.float64.specs.Scalar.{zero as zero64}
+use Rattle.float64.specs.Scalar.{zero64}
 use Rattle.windows.specs.declared.WindowRecord.{WindowRecord}
-use Rattle.windows.specs.Windows.{isLine, realsOf, srcOf, flagsOf, hasFlag, edgeOf, intoOf, flagsAt, linkOf, winAt, windowAt, relinked}
+use Rattle.windows.specs.Windows.{isLine, realsOf, srcOf, flagsOf, hasFlag, edgeWord, intoOf, flagsAt, linkOf, winAt, windowAt, relinked}
 use Rattle.windows.proofs.WindowList.{length-realsOf}
-use Rattle.chains.specs.Chains.{links, headOf, nextOf, Path, Out, firstLink}
+use Rattle.chains.specs.Chains.{links, headOf, nextLink, Path, Out, firstLink}
 use Rattle.chains.proofs.Paths.{path-first}
 use Rattle.trim_model.specs.Windows.{Window}
-use Rattle.live_windows.specs.Live.{nums, In, Holds, bare, winsOf}
+use Rattle.live_windows.specs.Live.{nums, Among, HoldsWindows, bare, winsOf}
 use Rattle.live_windows.proofs.Stored.{length-wins}
 use Rattle.contents.specs.Contents.{linkAfter, fourWords, wordsFrom, sixReals, realsFrom, padded, wordsOf, realsOfAll}
 
@@ -69,12 +69,12 @@ reals-are true a b c = refl
 reals-are false a b c = refl
 
 -- ---- links along a path
-after-head : (w : List ℕ) (l i : ℕ) (is : List ℕ) → Path w l is → In i is → nextOf w i ≡ linkAfter i is
+after-head : (w : List ℕ) (l i : ℕ) (is : List ℕ) → Path w l is → Among i is → nextLink w i ≡ linkAfter i is
 unfolding Path linkAfter
 after-head w l i [] p m = absurd (m tt)
-after-head w l i (j ∷ js) p m = go (ℕ-discrete i j) (after-head w (nextOf w j) i js (p .1)) where
-  go : Dec (i ≡ j) → (In i js → nextOf w i ≡ linkAfter i js) → nextOf w i ≡ cond (eqb i j) (firstLink js) (linkAfter i js)
-  go (yes d) ih = rw (eq-eqb i j d) (ap (nextOf w) d ∙ path-first w (nextOf w j) js (p .1))
+after-head w l i (j ∷ js) p m = go (ℕ-discrete i j) (after-head w (nextLink w j) i js (p .1)) where
+  go : Dec (i ≡ j) → (Among i js → nextLink w i ≡ linkAfter i js) → nextLink w i ≡ cond (eqb i j) (firstLink js) (linkAfter i js)
+  go (yes d) ih = rw (eq-eqb i j d) (ap (nextLink w) d ∙ path-first w (nextLink w j) js (p .1))
   go (no d) ih = rw (ne-eqb i j d) (ih (λ o. m (d, o)))
 
 slot-is : {A : Type 0} (s : ℕ) (l : List A) (k : ℕ) → take s (drop (s * k) l) ≡ slot s l k
@@ -103,17 +103,17 @@ filled z l k n h d g =
     ∙ (λ t. d t ++ g t)
     ∙ ap (λ (j : ℕ). k ++ replicate (length l - j) z) (sym e)
 
-module _ (n : ℕ) (wins : List WindowRecord) (edges w : List ℕ) (f : List Float) (live : ℕ → List Window) (H : Holds n wins (links edges w) f live) (fitsWords : wordsPerWindow * n ≤ length w) (fitsReals : realsPerWindow * n ≤ length f) where
+module _ (n : ℕ) (wins : List WindowRecord) (edges w : List ℕ) (f : List Float) (live : ℕ → List Window) (H : HoldsWindows n wins (links edges w) f live) (fitsWords : wordsPerWindow * n ≤ length w) (fitsReals : realsPerWindow * n ≤ length f) where
   abbrev x : ℕ → WindowRecord
   x i = bare (windowAt w f i)
 
   link-of : (i : ℕ) → i < n → linkOf w i ≡ cond (x i .alive) (linkAfter i (nums (live (x i .edge .0)))) (x i .link)
   unfolding bare relinked windowAt
   link-of i l = go (hasFlag (flagsAt w i) aliveFlag) refl where
-    go : (b : Bool) → hasFlag (flagsAt w i) aliveFlag ≡ b → linkOf w i ≡ cond b (linkAfter i (nums (live (edgeOf w i)))) (cond b 0 (linkOf w i))
+    go : (b : Bool) → hasFlag (flagsAt w i) aliveFlag ≡ b → linkOf w i ≡ cond b (linkAfter i (nums (live (edgeWord w i)))) (cond b 0 (linkOf w i))
     go true h =
-        let s = H .on-edge (edgeOf w i) in
-        after-head w (headOf edges (edgeOf w i)) i (nums (live (edgeOf w i))) (s .chain .path) (s .complete i l refl h)
+        let s = H .on-edge (edgeWord w i) in
+        after-head w (headOf edges (edgeWord w i)) i (nums (live (edgeWord w i))) (s .chain .path) (s .complete i l refl h)
     go false h = refl
 
   flags-of : (i : ℕ) → i < n → flagsAt w i ≡ flagsOf (isLine (x i .win .src)) (x i .alive) (x i .carried .queued)
@@ -122,7 +122,7 @@ module _ (n : ℕ) (wins : List WindowRecord) (edges w : List ℕ) (f : List Flo
       below-eight (flagsAt w i) (H .flags i l)
       ∙ ap (λ b. flagsOf b (hasFlag (flagsAt w i) aliveFlag) (hasFlag (flagsAt w i) queuedFlag)) (sym (line-is (hasFlag (flagsAt w i) lineFlag) (getD f (realsPerWindow * i + windowS0) nan) (getD f (realsPerWindow * i + windowS1) nan) (getD f (realsPerWindow * i + windowS2) nan)))
 
-  edge-of : (i : ℕ) → edgeOf w i ≡ x i .edge .0
+  edge-of : (i : ℕ) → edgeWord w i ≡ x i .edge .0
   unfolding bare relinked windowAt
   edge-of i = refl
 

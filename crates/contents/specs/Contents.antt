@@ -6,7 +6,7 @@ use lib.Dec.{eqb}
 use lib.ListN.{length, set, replicate}
 use lib.Ieee.{Float}
 use Rattle.layout.specs.Layout.{wordsPerEdge, edgeHead, edgeScratch}
-use Rattle.float64.specs.Scalar.{zero as zero64}
+use Rattle.float64.specs.Scalar.{zero64}
 use Rattle.nat_laws.specs.Lists.{listOf}
 use Rattle.windows.specs.declared.WindowRecord.{WindowRecord}
 use Rattle.windows.specs.Windows.{isLine, realsOf, flagsOf}

@@ -7,10 +7,11 @@ ghost use lib.ListN.{length};
 ghost use Rattle.layout.specs.Layout.{wordsPerEdge};
 ghost use Rattle.buffers.specs.Slots.{slotsOf};
 ghost use Rattle.contents.specs.Contents.{forgotten};
+ghost use Rattle.buffers.specs.Lent.{given, left};
 
 // The link that each edge remembers for the next walk is forgotten.
 pub fn forget(edges: &mut [u32])
-    ensures { λ r. ⌜ now (edges .exit) ≡ forgotten (slotsOf (length (now (edges .entry))) wordsPerEdge) (now (edges .entry)) ⌝ }
+    ensures { λ r. ⌜ left edges ≡ forgotten (slotsOf (length (given edges)) wordsPerEdge) (given edges) ⌝ }
 {
     let n = buffers::slots(edges.len(), WORDS_PER_EDGE);
     let mut e = 0;

@@ -15,7 +15,7 @@ use Rattle.better.specs.declared.Listed.the-variants.{Full, Entries}
 use Rattle.better.proofs.Pairs.{pairs-length}
 use Rattle.trim_model.specs.Intervals.{next, pieces}
 use Rattle.trim_model.specs.Claim.{Any}
-use Rattle.cut_lists.specs.Cut.{lossLengths, lengths, Leaves}
+use Rattle.cut_lists.specs.Cut.{lossLengths, lengths, LeavesLists}
 
 -- intervals that a buffer of so many slots holds, or does not
 few : (l : List Float) (size n : ℕ) → length l ≡ size + size → n + n ≤ length l → n ≤ size
@@ -70,7 +70,7 @@ module _ (p q : Src) (lo hi b0 b1 tiny : Float) (size : ℕ) (keep : List Interv
       kept : pairs k keep' ≡ next lo hi better keep
       kept = isKeep ∙ (rw (answer .1 .1) at (isNext .1))
 
-      pub none-lost : m ≡ 0 → (next' : List Float) → Leaves p q lo hi b0 b1 tiny size keep k 0 0 keep' next'
+      pub none-lost : m ≡ 0 → (next' : List Float) → LeavesLists p q lo hi b0 b1 tiny size keep k 0 0 keep' next'
       unfolding lengths
       none-lost z next' =
           let g = pairs-count m out better (answer .1 .1) in
@@ -85,7 +85,7 @@ module _ (p q : Src) (lo hi b0 b1 tiny : Float) (size : ℕ) (keep : List Interv
             rest = λ x. let y : ⊥ = omega arith in absurd y;
           }
 
-      pub some-lost : (l' : List Float) → length l' ≡ size + size → (n : ℕ) → HoldsPairs (Entries n) l' (pieces tiny b0 b1 (pairs m out)) → Leaves p q lo hi b0 b1 tiny size keep k m n keep' l'
+      pub some-lost : (l' : List Float) → length l' ≡ size + size → (n : ℕ) → HoldsPairs (Entries n) l' (pieces tiny b0 b1 (pairs m out)) → LeavesLists p q lo hi b0 b1 tiny size keep k m n keep' l'
       unfolding lengths
       some-lost l' el' n isPieces =
           let g = pairs-count m out better (answer .1 .1) in

@@ -17,7 +17,7 @@ use Rattle.better.specs.Buffers.{pairs, HoldsPairs}
 use Rattle.better.specs.declared.Listed.{Listed}
 use Rattle.better.specs.declared.Listed.the-variants.{Full, Entries}
 use Rattle.better.proofs.Pairs.{pairs-length, pairs-push}
-use Rattle.trim_model.specs.Intervals.{width, pushIf, cuts, nextOf, next, pieces}
+use Rattle.trim_model.specs.Intervals.{width, pushIf, cutsWithin, nextOf, next, pieces}
 use Rattle.cut_lists.proofs.Entries.{entry, pairs-from, pairs-past}
 
 -- two numbers each, they need more than a buffer has
@@ -31,12 +31,12 @@ pub then-full : (size : ℕ) (gs hs : List Interval) → Outgrows size gs → Ou
 then-full size gs hs h = rw length-append (omega arith)
 
 -- ---- what each list comes to, entry by entry
-cuts-cons : (o0 o1 : Float) (g : Interval) (gs : List Interval) → cuts o0 o1 (g ∷ gs) ≡ pushIf (lt (maxOf (g .from) o0) (minOf (g .to) o1)) (interval (maxOf (g .from) o0) (minOf (g .to) o1)) ++ cuts o0 o1 gs
-unfolding cuts
+cuts-cons : (o0 o1 : Float) (g : Interval) (gs : List Interval) → cutsWithin o0 o1 (g ∷ gs) ≡ pushIf (lt (maxOf (g .from) o0) (minOf (g .to) o1)) (interval (maxOf (g .from) o0) (minOf (g .to) o1)) ++ cutsWithin o0 o1 gs
+unfolding cutsWithin
 cuts-cons o0 o1 g gs = refl
 
-cuts-nil : (o0 o1 : Float) → cuts o0 o1 [] ≡ []
-unfolding cuts
+cuts-nil : (o0 o1 : Float) → cutsWithin o0 o1 [] ≡ []
+unfolding cutsWithin
 cuts-nil o0 o1 = refl
 
 next-cons : (lo hi : Float) (better : List Interval) (k : Interval) (keep : List Interval) → next lo hi better (k ∷ keep) ≡ nextOf lo hi better k ++ next lo hi better keep
@@ -61,27 +61,27 @@ module _ (lo hi : Float) (better : List Interval) (k0 k1 o0 o1 : Float) (e0 : o0
   unfolding nextOf
   apart r b t h = rw (← e0, ← e1, t) h
 
-  overlapping : le o1 o0 ≡ false → nextOf lo hi better (interval k0 k1) ≡ pushIf (lt k0 o0) (interval k0 o0) ++ (cuts o0 o1 better ++ pushIf (lt o1 k1) (interval o1 k1))
+  overlapping : le o1 o0 ≡ false → nextOf lo hi better (interval k0 k1) ≡ pushIf (lt k0 o0) (interval k0 o0) ++ (cutsWithin o0 o1 better ++ pushIf (lt o1 k1) (interval o1 k1))
   unfolding nextOf
   overlapping t = rw (← e0, ← e1, t)
 
   pub left-full : (size : ℕ) → le o1 o0 ≡ false → Outgrows size (gs ++ pushIf (lt k0 o0) (interval k0 o0)) → Outgrows size (gs ++ nextOf lo hi better (interval k0 k1))
   left-full size t h =
       let left = pushIf (lt k0 o0) (interval k0 o0) in
-      let others = cuts o0 o1 better ++ pushIf (lt o1 k1) (interval o1 k1) in
+      let others = cutsWithin o0 o1 better ++ pushIf (lt o1 k1) (interval o1 k1) in
       rw (overlapping t, ← append-assoc gs left others) (then-full size (gs ++ left) others h)
 
-  pub inner-full : (size : ℕ) (ls : List Interval) → le o1 o0 ≡ false → ls ≡ gs ++ pushIf (lt k0 o0) (interval k0 o0) → Outgrows size (ls ++ cuts o0 o1 better) → Outgrows size (gs ++ nextOf lo hi better (interval k0 k1))
+  pub inner-full : (size : ℕ) (ls : List Interval) → le o1 o0 ≡ false → ls ≡ gs ++ pushIf (lt k0 o0) (interval k0 o0) → Outgrows size (ls ++ cutsWithin o0 o1 better) → Outgrows size (gs ++ nextOf lo hi better (interval k0 k1))
   inner-full size ls t ea h =
       let left = pushIf (lt k0 o0) (interval k0 o0) in
       let right = pushIf (lt o1 k1) (interval o1 k1) in
-      rw (overlapping t, ← append-assoc gs left (cuts o0 o1 better ++ right), ← ea, ← append-assoc ls (cuts o0 o1 better) right) (then-full size (ls ++ cuts o0 o1 better) right h)
+      rw (overlapping t, ← append-assoc gs left (cutsWithin o0 o1 better ++ right), ← ea, ← append-assoc ls (cutsWithin o0 o1 better) right) (then-full size (ls ++ cutsWithin o0 o1 better) right h)
 
-  pub right-held : (r : Listed) (b : List Float) (ls is : List Interval) → le o1 o0 ≡ false → ls ≡ gs ++ pushIf (lt k0 o0) (interval k0 o0) → is ≡ ls ++ cuts o0 o1 better → HoldsPairs r b (is ++ pushIf (lt o1 k1) (interval o1 k1)) → HoldsPairs r b (gs ++ nextOf lo hi better (interval k0 k1))
+  pub right-held : (r : Listed) (b : List Float) (ls is : List Interval) → le o1 o0 ≡ false → ls ≡ gs ++ pushIf (lt k0 o0) (interval k0 o0) → is ≡ ls ++ cutsWithin o0 o1 better → HoldsPairs r b (is ++ pushIf (lt o1 k1) (interval o1 k1)) → HoldsPairs r b (gs ++ nextOf lo hi better (interval k0 k1))
   right-held r b ls is t ea eb h =
       let left = pushIf (lt k0 o0) (interval k0 o0) in
       let right = pushIf (lt o1 k1) (interval o1 k1) in
-      rw (overlapping t, ← append-assoc gs left (cuts o0 o1 better ++ right), ← ea, ← append-assoc ls (cuts o0 o1 better) right, ← eb) h
+      rw (overlapping t, ← append-assoc gs left (cutsWithin o0 o1 better ++ right), ← ea, ← append-assoc ls (cutsWithin o0 o1 better) right, ← eb) h
 
 -- ---- the loops, with gs pushed so far: what interval i of a buffer adds, and what the others do
 module _ (b : List Float) (i : ℕ) where
@@ -92,13 +92,13 @@ module _ (b : List Float) (i : ℕ) where
   pieceOf tiny at = pushIf (lt tiny (width at (entry b i .from))) (interval at (entry b i .from))
 
 module _ (b : List Float) (m i : ℕ) (gs : List Interval) where
-  pub cuts-turn : (o0 o1 : Float) → i < m → gs ++ cuts o0 o1 (drop i (pairs m b)) ≡ gs ++ cutOf b i o0 o1 ++ cuts o0 o1 (drop (i + 1) (pairs m b))
+  pub cuts-turn : (o0 o1 : Float) → i < m → gs ++ cutsWithin o0 o1 (drop i (pairs m b)) ≡ gs ++ cutOf b i o0 o1 ++ cutsWithin o0 o1 (drop (i + 1) (pairs m b))
   cuts-turn o0 o1 h = rw (append-assoc, add-one i, pairs-from b m i h, cuts-cons o0 o1 (entry b i) (drop (suc i) (pairs m b)))
 
-  pub cuts-full : (o0 o1 : Float) (size : ℕ) → i < m → Outgrows size (gs ++ cutOf b i o0 o1) → Outgrows size (gs ++ cuts o0 o1 (drop i (pairs m b)))
-  cuts-full o0 o1 size h f = rw (cuts-turn o0 o1 h) (then-full size (gs ++ cutOf b i o0 o1) (cuts o0 o1 (drop (i + 1) (pairs m b))) f)
+  pub cuts-full : (o0 o1 : Float) (size : ℕ) → i < m → Outgrows size (gs ++ cutOf b i o0 o1) → Outgrows size (gs ++ cutsWithin o0 o1 (drop i (pairs m b)))
+  cuts-full o0 o1 size h f = rw (cuts-turn o0 o1 h) (then-full size (gs ++ cutOf b i o0 o1) (cutsWithin o0 o1 (drop (i + 1) (pairs m b))) f)
 
-  pub cuts-done : (o0 o1 : Float) → m ≤ i → gs ++ cuts o0 o1 (drop i (pairs m b)) ≡ gs
+  pub cuts-done : (o0 o1 : Float) → m ≤ i → gs ++ cutsWithin o0 o1 (drop i (pairs m b)) ≡ gs
   cuts-done o0 o1 h = rw (pairs-past b m i h, cuts-nil o0 o1, append-nil gs)
 
   pub next-turn : (lo hi : Float) (better : List Interval) → i < m → gs ++ next lo hi better (drop i (pairs m b)) ≡ gs ++ nextOf lo hi better (entry b i) ++ next lo hi better (drop (i + 1) (pairs m b))

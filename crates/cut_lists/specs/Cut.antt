@@ -35,7 +35,7 @@ module _ (p q : Src) (lo hi b0 b1 tiny : Float) where
       length (walkOf p q (ptsOf p q lo hi)) ∷ length better ∷ length (next lo hi better keep) ∷ lossLengths b0 b1 tiny better
 
   -- k intervals kept, m stretches, n pieces
-  pub record Leaves (size : ℕ) (keep : List Interval) (k m n : ℕ) (keep' next' : List Float) : Type 0 where
+  pub record LeavesLists (size : ℕ) (keep : List Interval) (k m n : ℕ) (keep' next' : List Float) : Type 0 where
     pub fits : All (λ (l : ℕ). l ≤ size) (lengths keep)
     pub few : k ≤ size
     pub kept : pairs k keep' ≡ next lo hi (betterOf p q lo hi) keep
@@ -45,4 +45,4 @@ module _ (p q : Src) (lo hi b0 b1 tiny : Float) where
   -- 01's refusal 14, or what is left
   abbrev pub Meets : ℕ → List Interval → Met → List Float → List Float → Type 0
   Meets size keep Full keep' next' = Any (λ (l : ℕ). size < l) (lengths keep)
-  Meets size keep (Left k m n) keep' next' = Leaves size keep k m n keep' next'
+  Meets size keep (Left k m n) keep' next' = LeavesLists size keep k m n keep' next'

@@ -9,22 +9,22 @@ ghost use Prim.Native.Nat.{suc, _+_, _≤_, _<_};
 ghost use lib.ListN.{length, getD};
 ghost use lib.Ieee.{nan};
 ghost use Rattle.better.specs.Stretches.{interval};
-ghost use Rattle.better.specs.Buffers.{pairs, HoldsPairs, hasEntries, refusalNumber};
-ghost use Rattle.trim_model.specs.Intervals.{pushIf, cuts, nextOf, next, pieces};
+ghost use Rattle.better.specs.Buffers.{pairs, HoldsPairs, hasEntries, listedNumber};
+ghost use Rattle.trim_model.specs.Intervals.{pushIf, cutsWithin, nextOf, next, pieces};
 ghost use Rattle.buffers.specs.Lent.{given, left};
 ghost use Rattle.cut_lists.specs.Cut.{Sizes, Meets};
 
 // Where interval i of a buffer starts, and where it ends.
 pub fn from_of(buffer: &[f64], i: usize) -> f64
     requires { ⌜ i + i < length (now buffer) ⌝ }
-    ensures { λ r. ⌜ r ≡ getD (now (buffer .entry)) (i + i) nan ⌝ }
+    ensures { λ r. ⌜ r ≡ getD (given buffer) (i + i) nan ⌝ }
 {
     buffer[i + i]
 }
 
 pub fn to_of(buffer: &[f64], i: usize) -> f64
     requires { ⌜ suc (i + i) < length (now buffer) ⌝ }
-    ensures { λ r. ⌜ r ≡ getD (now (buffer .entry)) (suc (i + i)) nan ⌝ }
+    ensures { λ r. ⌜ r ≡ getD (given buffer) (suc (i + i)) nan ⌝ }
 {
     buffer[i + i + 1]
 }
@@ -32,7 +32,7 @@ pub fn to_of(buffer: &[f64], i: usize) -> f64
 // The first n intervals of another buffer.
 pub fn copy(from: &[f64], n: usize, to: &mut [f64])
     requires { ⌜ (n + n ≤ length (now from)) × (n + n ≤ length (now to)) ⌝ }
-    ensures { λ r. ⌜ pairs n (now (to .exit)) ≡ pairs n (now (from .entry)) ⌝ }
+    ensures { λ r. ⌜ pairs n (left to) ≡ pairs n (given from) ⌝ }
 {
     let mut i = 0;
     while i < n {
@@ -45,7 +45,7 @@ pub fn copy(from: &[f64], n: usize, to: &mut [f64])
 // One more interval behind the n in front of out.
 fn push(out: &mut [f64], n: usize, x0: f64, x1: f64) -> Listed
     requires { ⌜ n + n ≤ length (now out) ⌝ }
-    ensures { λ r. ⌜ HoldsPairs r (now (out .exit)) (pairs n (now (out .entry)) ++ (interval x0 x1 ∷ [])) ⌝ }
+    ensures { λ r. ⌜ HoldsPairs r (left out) (pairs n (given out) ++ (interval x0 x1 ∷ [])) ⌝ }
 {
     let end = 2 * n;
     if out.len() - end < 2 {
@@ -58,7 +58,7 @@ fn push(out: &mut [f64], n: usize, x0: f64, x1: f64) -> Listed
 
 fn push_if(b: bool, out: &mut [f64], n: usize, x0: f64, x1: f64) -> Listed
     requires { ⌜ n + n ≤ length (now out) ⌝ }
-    ensures { λ r. ⌜ HoldsPairs r (now (out .exit)) (pairs n (now (out .entry)) ++ pushIf b (interval x0 x1)) ⌝ }
+    ensures { λ r. ⌜ HoldsPairs r (left out) (pairs n (given out) ++ pushIf b (interval x0 x1)) ⌝ }
 {
     if b {
         return push(out, n, x0, x1);
@@ -69,7 +69,7 @@ fn push_if(b: bool, out: &mut [f64], n: usize, x0: f64, x1: f64) -> Listed
 // `better` within [o0, o1], behind the n in front of out.
 fn push_cuts(better: &[f64], m: usize, o0: f64, o1: f64, out: &mut [f64], n: usize) -> Listed
     requires { ⌜ (m + m ≤ length (now better)) × (n + n ≤ length (now out)) ⌝ }
-    ensures { λ r. ⌜ HoldsPairs r (now (out .exit)) (pairs n (now (out .entry)) ++ cuts o0 o1 (pairs m (now (better .entry)))) ⌝ }
+    ensures { λ r. ⌜ HoldsPairs r (left out) (pairs n (given out) ++ cutsWithin o0 o1 (pairs m (given better))) ⌝ }
 {
     let mut k = n;
     let mut i = 0;
@@ -98,7 +98,7 @@ fn push_next(
     n: usize,
 ) -> Listed
     requires { ⌜ (m + m ≤ length (now better)) × (n + n ≤ length (now out)) ⌝ }
-    ensures { λ r. ⌜ HoldsPairs r (now (out .exit)) (pairs n (now (out .entry)) ++ nextOf lo hi (pairs m (now (better .entry))) (interval k0 k1)) ⌝ }
+    ensures { λ r. ⌜ HoldsPairs r (left out) (pairs n (given out) ++ nextOf lo hi (pairs m (given better)) (interval k0 k1)) ⌝ }
 {
     let o0 = float64::max(k0, lo);
     let o1 = float64::min(k1, hi);
@@ -128,8 +128,8 @@ pub fn next_keep(
     out: &mut [f64],
 ) -> Listed
     requires { ⌜ (k + k ≤ length (now keep)) × (m + m ≤ length (now better)) ⌝ }
-    ensures { λ r. ⌜ HoldsPairs r (now (out .exit)) (next lo hi (pairs m (now (better .entry))) (pairs k (now (keep .entry)))) ⌝ }
-    ensures { λ r. ⌜ refusalNumber r ≡ cond (hasEntries (next lo hi (pairs m (now (better .entry))) (pairs k (now (keep .entry)))) (now (out .entry))) 0 14 ⌝ }
+    ensures { λ r. ⌜ HoldsPairs r (left out) (next lo hi (pairs m (given better)) (pairs k (given keep))) ⌝ }
+    ensures { λ r. ⌜ listedNumber r ≡ cond (hasEntries (next lo hi (pairs m (given better)) (pairs k (given keep))) (given out)) 0 14 ⌝ }
 {
     let mut n = 0;
     let mut i = 0;
@@ -148,8 +148,8 @@ pub fn next_keep(
 // out.
 pub fn pieces(better: &[f64], m: usize, b0: f64, b1: f64, tiny: f64, out: &mut [f64]) -> Listed
     requires { ⌜ m + m ≤ length (now better) ⌝ }
-    ensures { λ r. ⌜ HoldsPairs r (now (out .exit)) (pieces tiny b0 b1 (pairs m (now (better .entry)))) ⌝ }
-    ensures { λ r. ⌜ refusalNumber r ≡ cond (hasEntries (pieces tiny b0 b1 (pairs m (now (better .entry)))) (now (out .entry))) 0 14 ⌝ }
+    ensures { λ r. ⌜ HoldsPairs r (left out) (pieces tiny b0 b1 (pairs m (given better))) ⌝ }
+    ensures { λ r. ⌜ listedNumber r ≡ cond (hasEntries (pieces tiny b0 b1 (pairs m (given better))) (given out)) 0 14 ⌝ }
 {
     let mut n = 0;
     let mut at = b0;

@@ -16,7 +16,7 @@ use Rattle.layout.specs.Layout.{wordsPerRound, roundHead, wordsPerEdge, edgeLow
 use Rattle.buffers.specs.Slots.{fill}
 use Rattle.job_checks.specs.Edge.{lower, higher}
 use Rattle.job_checks.proofs.Edge.{ends-below as both-below}
-use Rattle.topology.specs.Edges.{Edge, noEdge, noFace, between, corner, sideEdge, find, edgesOf, facesAmong, sharedByThree}
+use Rattle.topology.specs.Edges.{Edge, noEdge, noFace, between, sideVertex, sideEdge, find, edgesOf, facesAmong, sharedByThree}
 use Rattle.topology.proofs.Triangles.{ends}
 use Rattle.topology.proofs.Find.{entered, find-at, find-last}
 use Rattle.topology.proofs.Edges.{numbered, few-edges, number-kept}
@@ -24,8 +24,8 @@ use Rattle.topology.proofs.Faces.{OfSide, listed-face}
 use Rattle.topology.proofs.Growth.{other-edge, faces-more, faces-same, faces-none, faces-some, third-face}
 use Rattle.edge_table.specs.declared.Table.the-variants.{Edges, ThirdFace}
 use Rattle.edge_table.specs.Words.{bucketOf, lastIn, headWord, triangleWord}
-use Rattle.edge_table.specs.Table.{Mesh, LongEnough}
-use Rattle.edge_table.specs.Sides.{Holds, linkedRow, linkedWord, Partial, Turned, Falling, facesSoFar, numberSoFar, seek}
+use Rattle.edge_table.specs.Table.{Mesh, TableFits}
+use Rattle.edge_table.specs.Sides.{HoldsWords, linkedRow, linkedWord, Partial, Turned, Falling, facesSoFar, numberSoFar, seek}
 use Rattle.edge_table.proofs.Buckets.{bucket-below, last-le, last-append, last-new, last-kept}
 use Rattle.edge_table.proofs.Holding.{holds-set, holds-fill}
 use Rattle.edge_table.proofs.Seeking.{Linked, seek-missing, seek-found}
@@ -79,20 +79,20 @@ second-face fs f q = (List·getD-append fs (f ∷ []) noFace 0 (omega arith), (g
 module _ (triangles : List ℕ) (h : ℕ) where
   module _ (a b : ℕ) (ea : a ≡ getD triangles (3 * (h / 3) + h % 3) 0) (eb : b ≡ getD triangles (3 * (h / 3) + (h % 3 + 1) % 3) 0) where
     pub side-is : (low high : ℕ) → low ≡ lower a b → high ≡ higher a b → record { low = low; high = high } ≡ sideEdge triangles h
-    unfolding sideEdge between corner
+    unfolding sideEdge between sideVertex
     side-is low high p q =
         let z : (h % 3 + 0) % 3 ≡ h % 3 = omega arith in
         rw (p, q, z, ea, eb) refl
 
   side-ordered : sideEdge triangles h .low ≤ sideEdge triangles h .high
   unfolding sideEdge
-  side-ordered = ⊎-elim (λ w. omega arith) (λ w. omega arith) (ends (corner triangles h 0) (corner triangles h 1))
+  side-ordered = ⊎-elim (λ w. omega arith) (λ w. omega arith) (ends (sideVertex triangles h 0) (sideVertex triangles h 1))
 
   module _ (v : ℕ) (m : Mesh triangles v) (l : h < length triangles) where
     side-below : (sideEdge triangles h .low < v) × (sideEdge triangles h .high < v)
-    unfolding sideEdge between corner
+    unfolding sideEdge between sideVertex
     side-below =
-        both-below (corner triangles h 0) (corner triangles h 1) v
+        both-below (sideVertex triangles h 0) (sideVertex triangles h 1) v
         (m .there (3 * (h / 3) + (h % 3 + 0) % 3) (omega (arith, m .whole)))
         (m .there (3 * (h / 3) + (h % 3 + 1) % 3) (omega (arith, m .whole)))
 
@@ -104,7 +104,7 @@ module _ (triangles : List ℕ) (h : ℕ) where
 
 -- the numbers of the sides
 module _ (triangles : List ℕ) (h k : ℕ) (number : find (sideEdge triangles h) (edgesOf triangles (suc h)) ≡ k) (words : List ℕ) (fits : wordsPerTriangle * (h / 3) + h % 3 < length words)
-    (holds : Holds wordsPerTriangle words (triangleWord h (numberSoFar triangles h)))
+    (holds : HoldsWords wordsPerTriangle words (triangleWord h (numberSoFar triangles h)))
   where
     new-number : triangleWord (suc h) (numberSoFar triangles (suc h)) (h / 3) (h % 3) ≡ k
     unfolding triangleWord numberSoFar
@@ -121,7 +121,7 @@ module _ (triangles : List ℕ) (h k : ℕ) (number : find (sideEdge triangles h
       go (no p) (yes q) (yes r) = absurd (ne (omega arith) (omega arith))
       go (no p) (yes q) (no r) = rw (lt-ltb b 3 (omega arith), lt-ltb (3 * j + b) (suc h) (omega arith), lt-ltb (3 * j + b) h (omega arith)) (number-kept triangles h (3 * j + b) (omega arith))
 
-    numbers-turn : Holds wordsPerTriangle (set words (wordsPerTriangle * (h / 3) + h % 3) k) (triangleWord (suc h) (numberSoFar triangles (suc h)))
+    numbers-turn : HoldsWords wordsPerTriangle (set words (wordsPerTriangle * (h / 3) + h % 3) k) (triangleWord (suc h) (numberSoFar triangles (suc h)))
     numbers-turn =
         holds-set wordsPerTriangle words (triangleWord h (numberSoFar triangles h)) (triangleWord (suc h) (numberSoFar triangles (suc h))) holds (h / 3) (h % 3) k (omega arith) fits new-number old-number
 
@@ -175,17 +175,17 @@ facesIn triangles es n j = facesAmong triangles (getD es j noEdge) n
 
 -- The buffers after one more side, whose edges are es.
 module _ (triangles : List ℕ) (size h : ℕ) (es : List Edge) (e : edgesOf triangles (suc h) ≡ es) where
-  partial : (heads edge triangle : List ℕ) → Holds wordsPerRound heads (headWord size es) → Holds wordsPerEdge edge (linkedWord size es (facesIn triangles es (suc h))) → Holds wordsPerTriangle triangle (triangleWord (suc h) (numberSoFar triangles (suc h))) → ((j : ℕ) → j < length es → length (facesIn triangles es (suc h) j) ≤ 2) → Partial triangles size (suc h) heads edge triangle
+  partial : (heads edge triangle : List ℕ) → HoldsWords wordsPerRound heads (headWord size es) → HoldsWords wordsPerEdge edge (linkedWord size es (facesIn triangles es (suc h))) → HoldsWords wordsPerTriangle triangle (triangleWord (suc h) (numberSoFar triangles (suc h))) → ((j : ℕ) → j < length es → length (facesIn triangles es (suc h) j) ≤ 2) → Partial triangles size (suc h) heads edge triangle
   unfolding facesSoFar
   partial heads edge triangle a b c d =
       record {
-        head-words = subst (λ (z : List Edge). Holds wordsPerRound heads (headWord size z)) (sym e) a;
-        edge-words = subst (λ (z : List Edge). Holds wordsPerEdge edge (linkedWord size z (facesIn triangles z (suc h)))) (sym e) b;
+        head-words = subst (λ (z : List Edge). HoldsWords wordsPerRound heads (headWord size z)) (sym e) a;
+        edge-words = subst (λ (z : List Edge). HoldsWords wordsPerEdge edge (linkedWord size z (facesIn triangles z (suc h)))) (sym e) b;
         triangle-words = c;
         two-faces = subst (λ (z : List Edge). (j : ℕ) → j < length z → length (facesIn triangles z (suc h) j) ≤ 2) (sym e) d;
       }
 
-module _ (triangles : List ℕ) (size h : ℕ) (heads edge triangle : List ℕ) (m : Mesh triangles 65535) (long : LongEnough triangles (length heads) (length edge) (length triangle)) (l : h < length triangles) (all : size ≡ length triangles) (p : Partial triangles size h heads edge triangle) where
+module _ (triangles : List ℕ) (size h : ℕ) (heads edge triangle : List ℕ) (m : Mesh triangles 65535) (long : TableFits triangles (length heads) (length edge) (length triangle)) (l : h < length triangles) (all : size ≡ length triangles) (p : Partial triangles size h heads edge triangle) where
   edge-fits : (e : ℕ) → e ≤ length (edgesOf triangles h) → wordsPerEdge * e + wordsPerEdge ≤ length edge
   edge-fits e k = omega (arith, few-edges triangles h, long .edges-fit)
 

@@ -15,7 +15,7 @@ use lib.Seq.{getD-set-same, getD-set-other}
 use Rattle.layout.specs.Layout.{wordsPerEdge, edgeScratch}
 use Rattle.topology.specs.Edges.{Edge}
 use Rattle.edge_table.specs.Words.{edgeRow, edgeWord}
-use Rattle.edge_table.specs.Sides.{Holds, linkedRow, linkedWord, withoutLinks}
+use Rattle.edge_table.specs.Sides.{HoldsWords, linkedRow, linkedWord, withoutLinks}
 
 -- a zero that was written, whether or not the list has the place
 zeroed-at : (l : List ℕ) (i : ℕ) → getD (set l i 0) i 0 ≡ 0
@@ -82,14 +82,14 @@ module _ (size : ℕ) (es : List Edge) (faces : ℕ → List ℕ) where
   unfolding linkedWord
   past-word e a l = rw (le-ltb e (length es) l) refl
 
-  module _ (w : List ℕ) (holds : Holds wordsPerEdge w (linkedWord size es faces)) where
+  module _ (w : List ℕ) (holds : HoldsWords wordsPerEdge w (linkedWord size es faces)) where
     link-held : (e : ℕ) → getD (withoutLinks (length es) w) (wordsPerEdge * e + edgeScratch) 0 ≡ 0
     link-held e = go (decLe (length es) e) where
       go : Dec (length es ≤ e) → getD (withoutLinks (length es) w) (wordsPerEdge * e + edgeScratch) 0 ≡ 0
       go (yes p) = other-kept w (length es) (wordsPerEdge * e + edgeScratch) (λ k l z. omega arith) ∙ (holds e edgeScratch (omega arith) ∙ past-word e edgeScratch p)
       go (no p) = link-zeroed w (length es) e (omega arith)
 
-    pub unlinked : Holds wordsPerEdge (withoutLinks (length es) w) (edgeWord es faces)
+    pub unlinked : HoldsWords wordsPerEdge (withoutLinks (length es) w) (edgeWord es faces)
     unlinked e a l = go (ℕ-discrete a edgeScratch) where
       go : Dec (a ≡ edgeScratch) → getD (withoutLinks (length es) w) (wordsPerEdge * e + a) 0 ≡ edgeWord es faces e a
       go (yes q) = rw q (link-held e ∙ sym (link-word e))

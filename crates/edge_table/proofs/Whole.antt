@@ -13,7 +13,7 @@ use Rattle.topology.proofs.Growth.{no-third-face}
 use Rattle.edge_table.specs.declared.Table.{Table}
 use Rattle.edge_table.specs.declared.Table.the-variants.{Edges, ThirdFace}
 use Rattle.edge_table.specs.Words.{lastIn, headWord, edgeWord, triangleWord}
-use Rattle.edge_table.specs.Table.{Mesh, LongEnough, Built, tableOf, headWords, edgeWords, triangleWords}
+use Rattle.edge_table.specs.Table.{Mesh, TableFits, Built, tableOf, headWords, edgeWords, triangleWords}
 use Rattle.edge_table.specs.Sides.{linkedWord, withoutLinks, Partial, Turned, Blank, facesSoFar, numberSoFar}
 use Rattle.buffers.proofs.Zeroing.{zero-at}
 use Rattle.edge_table.proofs.Holding.{words-are}
@@ -96,5 +96,5 @@ module _ (triangles : List ℕ) (size : ℕ) where
 pub same-zeros : {m n : ℕ} → m ≡ n → replicate {A = ℕ} m 0 ≡ replicate n 0
 same-zeros e = ap (λ (k : ℕ). replicate {A = ℕ} k 0) e
 
-pub still-long : (triangles : List ℕ) (a b c a′ b′ c′ : ℕ) → LongEnough triangles a b c → a′ ≡ a → b′ ≡ b → c′ ≡ c → LongEnough triangles a′ b′ c′
+pub still-long : (triangles : List ℕ) (a b c a′ b′ c′ : ℕ) → TableFits triangles a b c → a′ ≡ a → b′ ≡ b → c′ ≡ c → TableFits triangles a′ b′ c′
 still-long triangles a b c a′ b′ c′ l p q r = rw (p, q, r) l

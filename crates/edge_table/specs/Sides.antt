@@ -10,11 +10,11 @@ use Rattle.topology.specs.Edges.{Edge, noEdge, noFace, sideEdge, find, edgesOf,
 use Rattle.edge_table.specs.declared.Table.{Table}
 use Rattle.edge_table.specs.declared.Table.the-variants.{Edges, ThirdFace}
 use Rattle.edge_table.specs.Words.{bucketOf, lastIn, headWord, triangleWord}
-use Rattle.edge_table.specs.Table.{Mesh, LongEnough}
+use Rattle.edge_table.specs.Table.{Mesh, TableFits}
 
 -- Every field a of every slot i of a buffer, whether or not it has the slot.
-abbrev pub Holds : ℕ → List ℕ → (ℕ → ℕ → ℕ) → Type 0
-Holds s words word = (i a : ℕ) → a < s → getD words (s * i + a) 0 ≡ word i a
+abbrev pub HoldsWords : ℕ → List ℕ → (ℕ → ℕ → ℕ) → Type 0
+HoldsWords s words word = (i a : ℕ) → a < s → getD words (s * i + a) 0 ≡ word i a
 
 -- the fields of edge e while edges are entered: the last is the link to the next edge of its bucket
 unfoldable pub linkedRow : ℕ → List Edge → ℕ → List ℕ → List ℕ
@@ -45,15 +45,15 @@ module _ (triangles : List ℕ) (h : ℕ) where
   numberSoFar s = find (sideEdge triangles s) (edgesOf triangles h)
 
 pub record Partial (triangles : List ℕ) (size h : ℕ) (heads edge triangle : List ℕ) : Type 0 where
-  pub head-words : Holds wordsPerRound heads (headWord size (edgesOf triangles h))
-  pub edge-words : Holds wordsPerEdge edge (linkedWord size (edgesOf triangles h) (facesSoFar triangles h))
-  pub triangle-words : Holds wordsPerTriangle triangle (triangleWord h (numberSoFar triangles h))
+  pub head-words : HoldsWords wordsPerRound heads (headWord size (edgesOf triangles h))
+  pub edge-words : HoldsWords wordsPerEdge edge (linkedWord size (edgesOf triangles h) (facesSoFar triangles h))
+  pub triangle-words : HoldsWords wordsPerTriangle triangle (triangleWord h (numberSoFar triangles h))
   pub two-faces : (e : ℕ) → e < length (edgesOf triangles h) → length (facesSoFar triangles h e) ≤ 2
 
 -- What side h is entered into: the buffers after h sides, with so many edges.
-pub record Ready (triangles : List ℕ) (h count : ℕ) (heads edge triangle : List ℕ) : Type 0 where
+pub record ReadyForSide (triangles : List ℕ) (h count : ℕ) (heads edge triangle : List ℕ) : Type 0 where
   pub mesh : Mesh triangles 65535
-  pub long : LongEnough triangles (length heads) (length edge) (length triangle)
+  pub long : TableFits triangles (length heads) (length edge) (length triangle)
   pub side : h < length triangles
   pub counted : count ≡ length (edgesOf triangles h)
   pub words : Partial triangles (length triangles) h heads edge triangle
@@ -61,7 +61,7 @@ pub record Ready (triangles : List ℕ) (h count : ℕ) (heads edge triangle : L
 -- What all sides are entered into: the buffers before any.
 pub record Blank (triangles heads edge triangle : List ℕ) : Type 0 where
   pub mesh : Mesh triangles 65535
-  pub long : LongEnough triangles (length heads) (length edge) (length triangle)
+  pub long : TableFits triangles (length heads) (length edge) (length triangle)
   pub words : Partial triangles (length triangles) 0 heads edge triangle
 
 -- The answer after h sides.

@@ -8,7 +8,7 @@ use Rattle.layout.specs.Layout.{wordsPerRound, wordsPerEdge, wordsPerTriangle}
 use Rattle.topology.specs.Edges.{edges, triEdge, edgeFaces, sharedByThree}
 use Rattle.edge_table.specs.declared.Table.{Table}
 use Rattle.edge_table.specs.declared.Table.the-variants.{Edges, ThirdFace}
-use Rattle.edge_table.specs.Words.{wordsOf, headWord, edgeWord, triangleWord}
+use Rattle.edge_table.specs.Words.{slotWords, headWord, edgeWord, triangleWord}
 
 -- What is asked of a mesh: three vertex numbers for each triangle, each below v, and no more of both than document 01 allows.
 pub record Mesh (triangles : List ℕ) (v : ℕ) : Type 0 where
@@ -18,7 +18,7 @@ pub record Mesh (triangles : List ℕ) (v : ℕ) : Type 0 where
   pub there : (i : ℕ) → i < length triangles → getD triangles i 0 < v
 
 -- Buffers of so many words: a bucket for each side, a slot for each side, which is what the edges can come to, and one for each triangle.
-pub record LongEnough (triangles : List ℕ) (heads edge triangle : ℕ) : Type 0 where
+pub record TableFits (triangles : List ℕ) (heads edge triangle : ℕ) : Type 0 where
   pub heads-fit : length triangles ≤ heads
   pub edges-fit : wordsPerEdge * length triangles ≤ edge
   pub triangles-fit : wordsPerTriangle * (length triangles / 3) ≤ triangle
@@ -28,13 +28,13 @@ tableOf triangles = cond (sharedByThree triangles) ThirdFace (Edges (length (edg
 
 -- The three buffers, of n words each.
 unfoldable pub triangleWords : List ℕ → ℕ → List ℕ
-triangleWords triangles n = wordsOf n wordsPerTriangle (triangleWord (length triangles) (triEdge triangles))
+triangleWords triangles n = slotWords n wordsPerTriangle (triangleWord (length triangles) (triEdge triangles))
 
 unfoldable pub headWords : List ℕ → ℕ → List ℕ
-headWords triangles n = wordsOf n wordsPerRound (headWord (length triangles) (edges triangles))
+headWords triangles n = slotWords n wordsPerRound (headWord (length triangles) (edges triangles))
 
 unfoldable pub edgeWords : List ℕ → ℕ → List ℕ
-edgeWords triangles n = wordsOf n wordsPerEdge (edgeWord (edges triangles) (edgeFaces triangles))
+edgeWords triangles n = slotWords n wordsPerEdge (edgeWord (edges triangles) (edgeFaces triangles))
 
 -- zeros where an edge lies in more than two triangles
 abbrev pub unlessThird : List ℕ → ℕ → (List ℕ → ℕ → List ℕ) → List ℕ

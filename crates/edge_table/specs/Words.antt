@@ -9,8 +9,8 @@ use Rattle.nat_laws.specs.Lists.{listOf}
 use Rattle.topology.specs.Edges.{Edge, noEdge, noFace}
 
 -- a buffer of n words in slots of s: word p is field p % s of slot p / s
-unfoldable pub wordsOf : ℕ → ℕ → (ℕ → ℕ → ℕ) → List ℕ
-wordsOf n s word = listOf n (λ (p : ℕ). word (p / s) (p % s))
+unfoldable pub slotWords : ℕ → ℕ → (ℕ → ℕ → ℕ) → List ℕ
+slotWords n s word = listOf n (λ (p : ℕ). word (p / s) (p % s))
 
 -- The bucket of an edge among size of them. Edges are grouped by eights of high - low. A group's base is its number times 2654435761 modulo 2^32, scaled to
 -- size; from there the bucket is high - low modulo 8 plus four times the lower end. So edges of a grid or a strip lie side by side, and those at one lower

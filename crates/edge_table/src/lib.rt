@@ -26,8 +26,9 @@ ghost use lib.ListN.{length, getD, set};
 ghost use Rattle.layout.specs.Layout.{wordsPerRound, roundHead, wordsPerEdge};
 ghost use Rattle.buffers.specs.Slots.{fill};
 ghost use Rattle.edge_table.specs.Words.{bucketOf};
-ghost use Rattle.edge_table.specs.Table.{Mesh, LongEnough, Built};
-ghost use Rattle.edge_table.specs.Sides.{withoutLinks, Ready, Blank, Turned, Falling, seek};
+ghost use Rattle.edge_table.specs.Table.{Mesh, TableFits, Built};
+ghost use Rattle.edge_table.specs.Sides.{withoutLinks, ReadyForSide, Blank, Turned, Falling, seek};
+ghost use Rattle.buffers.specs.Lent.{given, left};
 
 // How many edges there are, or document 01's refusal 10: an edge lies in more than two triangles.
 pub enum Table {
@@ -55,7 +56,7 @@ fn bucket_of(low: u32, high: u32, size: u32) -> u32
 // The link to the edge with these ends on the chain from a link on, or 0. Links fall, so the chain ends.
 fn find_in_bucket(edge_words: &[u32], head: u32, low: u32, high: u32) -> u32
     requires { ⌜ Falling (now «edge_words») ⌝ }
-    ensures { λ r. ⌜ r ≡ seek (now («edge_words» .entry)) low high head head ⌝ }
+    ensures { λ r. ⌜ r ≡ seek (given «edge_words») low high head head ⌝ }
 {
     let mut at = head;
     while at != 0 {
@@ -81,8 +82,8 @@ fn add_edge(
     f: u32,
 )
     requires { ⌜ e < 4294967295 ⌝ }
-    ensures { λ r. ⌜ (now (heads .exit) ≡ set (now (heads .entry)) (wordsPerRound * bucket + roundHead) (e + 1))
-        × (now («edge_words» .exit) ≡ fill wordsPerEdge (now («edge_words» .entry)) e 0 (low ∷ high ∷ f ∷ 4294967295 ∷ 0 ∷ getD (now (heads .entry)) (wordsPerRound * bucket + roundHead) 0 ∷ [])) ⌝ }
+    ensures { λ r. ⌜ (left heads ≡ set (given heads) (wordsPerRound * bucket + roundHead) (e + 1))
+        × (left «edge_words» ≡ fill wordsPerEdge (given «edge_words») e 0 (low ∷ high ∷ f ∷ 4294967295 ∷ 0 ∷ getD (given heads) (wordsPerRound * bucket + roundHead) 0 ∷ [])) ⌝ }
 {
     let none = no_face();
     let next = read_u32(heads, WORDS_PER_ROUND, bucket, ROUND_HEAD);
@@ -104,8 +105,8 @@ fn enter_side(
     h: u32,
     count: u32,
 ) -> Table
-    requires { ⌜ Ready (now triangles) h count (now heads) (now «edge_words») (now «triangle_words») ⌝ }
-    ensures { λ r. ⌜ Turned (now (triangles .entry)) (length (now (triangles .entry))) (h + 1) (now (heads .exit)) (now («edge_words» .exit)) (now («triangle_words» .exit)) r ⌝ }
+    requires { ⌜ ReadyForSide (now triangles) h count (now heads) (now «edge_words») (now «triangle_words») ⌝ }
+    ensures { λ r. ⌜ Turned (given triangles) (length (given triangles)) (h + 1) (left heads) (left «edge_words») (left «triangle_words») r ⌝ }
 {
     let f = h / 3;
     let k = h % 3;
@@ -139,7 +140,7 @@ fn enter_sides(
     triangle_words: &mut [u32],
 ) -> Table
     requires { ⌜ Blank (now triangles) (now heads) (now «edge_words») (now «triangle_words») ⌝ }
-    ensures { λ r. ⌜ Turned (now (triangles .entry)) (length (now (triangles .entry))) (length (now (triangles .entry))) (now (heads .exit)) (now («edge_words» .exit)) (now («triangle_words» .exit)) r ⌝ }
+    ensures { λ r. ⌜ Turned (given triangles) (length (given triangles)) (length (given triangles)) (left heads) (left «edge_words») (left «triangle_words») r ⌝ }
 {
     let sides = triangles.len() as u32;
     let mut count: u32 = 0;
@@ -160,7 +161,7 @@ fn enter_sides(
 
 // The links of the first `count` edges, which are wanted no longer.
 fn clear_links(edge_words: &mut [u32], count: u32)
-    ensures { λ r. ⌜ now («edge_words» .exit) ≡ withoutLinks count (now («edge_words» .entry)) ⌝ }
+    ensures { λ r. ⌜ left «edge_words» ≡ withoutLinks count (given «edge_words») ⌝ }
 {
     let mut e: u32 = 0;
     while e < count {
@@ -177,10 +178,10 @@ pub fn build(
     triangle_words: &mut [u32],
 ) -> Table
     requires { ⌜ Mesh (now triangles) 65535
-        × LongEnough (now triangles) (length (now heads)) (length (now «edge_words»)) (length (now «triangle_words»)) ⌝ }
-    ensures { λ r. ⌜ Built (now (triangles .entry)) r
-        (now (heads .entry)) (now («edge_words» .entry)) (now («triangle_words» .entry))
-        (now (heads .exit)) (now («edge_words» .exit)) (now («triangle_words» .exit)) ⌝ }
+        × TableFits (now triangles) (length (now heads)) (length (now «edge_words»)) (length (now «triangle_words»)) ⌝ }
+    ensures { λ r. ⌜ Built (given triangles) r
+        (given heads) (given «edge_words») (given «triangle_words»)
+        (left heads) (left «edge_words») (left «triangle_words») ⌝ }
 {
     zero_u32(heads);
     zero_u32(edge_words);

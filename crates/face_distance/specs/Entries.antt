@@ -1,6 +1,6 @@
 -- The distances that the Rust's `at` and `edge_at` take the least of, on values. Definitions only.
 use lib.Ieee.{Float, binary64, ofBits, lt}
-use Rattle.float64.specs.Scalar.{zero, one, minOf, maxOf, clampOf}
+use Rattle.float64.specs.Scalar.{zero64, one, minOf, maxOf, clampOf}
 use Rattle.float64.specs.Notation.{_⊕_, _⊖_, _⊘_, if_then_else_}
 use Rattle.vec3.specs.Vec.{axpyOf, subOf, dotOf, normOf}
 use Rattle.vec3.specs.declared.Vec3.{Vec3}
@@ -18,7 +18,7 @@ toPoint p q = normOf (subOf p q)
 unfoldable pub toSegment : Vec3 → Vec3 → Vec3 → Float
 toSegment p a b =
     let ab = subOf b a in
-    let s = clampOf (dotOf (subOf p a) ab ⊘ maxOf (dotOf ab ab) leastSquare) zero one in
+    let s = clampOf (dotOf (subOf p a) ab ⊘ maxOf (dotOf ab ab) leastSquare) zero64 one in
     normOf (subOf p (axpyOf a s ab))
 
 -- through a vertex v at distance d

@@ -15,7 +15,7 @@ use lib.Ieee.Fits.{kept-lt}
 use lib.Ieee.Bits.{ofBits-toBits, toBits-lt, nanBits-above, nanBits-is}
 use lib.Ieee.Nearest.{div-mono}
 use borrow.Author.Tests.{lt-ltb, le-ltb, ltb-false}
-use Rattle.float64.specs.TotalOrder.{half}
+use Rattle.float64.specs.TotalOrder.{halfRange}
 use Rattle.root_spec.proofs.Units.{FitsIn, fits-in, fits-either, ulps, ulps-le, le-ulps}
 
 -- the pattern of a magnitude of n ulps: how many digits are dropped, above the 53 that are kept, whose leading one adds to it
@@ -45,11 +45,11 @@ pattern-mono a b h = go (decLe (size b - 53) (size a - 53)) where
       omega (arith, p, x, full b (omega (arith, x)))
 
 -- ---- the bits of a finite value
-pub toBits-fin : (s : Bool) (m : ℕ) (e : ℤ) → toBits binary64 (fin s m e) ≡ cond s half 0 + pattern (ulps binary64 m e)
+pub toBits-fin : (s : Bool) (m : ℕ) (e : ℤ) → toBits binary64 (fin s m e) ≡ cond s halfRange 0 + pattern (ulps binary64 m e)
 unfolding toBits pattern ulps
-toBits-fin s m e = add-assoc (cond s half 0) _ _
+toBits-fin s m e = add-assoc (cond s halfRange 0) _ _
 
-pub pattern-small : (s : Bool) (m : ℕ) (e : ℤ) → T (fits binary64 (fin s m e)) → pattern (ulps binary64 m e) < half
+pub pattern-small : (s : Bool) (m : ℕ) (e : ℤ) → T (fits binary64 (fin s m e)) → pattern (ulps binary64 m e) < halfRange
 pattern-small s m e h =
     let a : toBits binary64 (fin true m e) < 0x1_0000_0000_0000_0000 = toBits-lt binary64 (fin true m e) (fits-either binary64 s true m e h) in
     omega (arith, a, toBits-fin true m e)
@@ -64,7 +64,7 @@ pattern-same : (s : Bool) (m : ℕ) (e : ℤ) (n : ℕ) (d : ℤ) → T (fits bi
     → pattern (ulps binary64 m e) ≡ pattern (ulps binary64 n d) → ulps binary64 m e ≡ ulps binary64 n d
 unfolding ulps-of
 pattern-same s m e n d p q h =
-    let a : toBits binary64 (fin s m e) ≡ toBits binary64 (fin s n d) = toBits-fin s m e ∙ ap (λ t. cond s half 0 + t) h ∙ sym (toBits-fin s n d) in
+    let a : toBits binary64 (fin s m e) ≡ toBits binary64 (fin s n d) = toBits-fin s m e ∙ ap (λ t. cond s halfRange 0 + t) h ∙ sym (toBits-fin s n d) in
     ap ulps-of (sym (ofBits-toBits binary64 (fin s m e) p) ∙ ap (ofBits binary64) a ∙ ofBits-toBits binary64 (fin s n d) q)
 
 -- of two magnitudes that a double holds, the patterns compare as the cross products do
@@ -102,6 +102,6 @@ fin-below m e h =
     let n = toBits binary64 (fin false m e) in
     let a : n ≡ 0 + pattern (ulps binary64 m e) = toBits-fin false m e in
     let b : ofBits binary64 n ≡ fin false m e = ofBits-toBits binary64 (fin false m e) h in
-    let c : n % half ≤ 0x7ff0_0000_0000_0000 = ltb-false 0x7ff0_0000_0000_0000 (n % half) (sym (nanBits-above binary64 n) ∙ nanBits-is binary64 n ∙ ap isNan b) in
+    let c : n % halfRange ≤ 0x7ff0_0000_0000_0000 = ltb-false 0x7ff0_0000_0000_0000 (n % halfRange) (sym (nanBits-above binary64 n) ∙ nanBits-is binary64 n ∙ ap isNan b) in
     let d : n ≢ 0x7ff0_0000_0000_0000 = λ t. no-infinity false m e (sym b ∙ ap (ofBits binary64) t ∙ infinity-bits) in
     omega (arith, a, c, d, pattern-small false m e h)

@@ -2,9 +2,9 @@
 use mathlib.Core.Path.{_≡_, refl}
 use mathlib.Core.Bool.{false}
 use lib.Ieee.{binary64, round, ofBits}
-use Rattle.float64.specs.Scalar.{zero, one, two}
+use Rattle.float64.specs.Scalar.{zero64, one, two}
 
-pub zero-decimal : zero ≡ round binary64 false 0 1
+pub zero-decimal : zero64 ≡ round binary64 false 0 1
 unfolding round ofBits
 zero-decimal = refl
 

@@ -12,8 +12,8 @@ use lib.Ieee.Fits.{inf-fits}
 use lib.Ieee.Compare.{differs-from-itself}
 use Rattle.root_spec.proofs.Floats.{no-nan}
 use borrow.Author.Tests.{lt-ltb, le-ltb}
-use Rattle.float64.specs.Scalar.{zero, one, negative, absOf, isFinite}
-use Rattle.float64.specs.TotalOrder.{half}
+use Rattle.float64.specs.Scalar.{zero64, one, negative, absOf, isFinite}
+use Rattle.float64.specs.TotalOrder.{halfRange}
 use Rattle.root_spec.proofs.Units.{fits-either}
 use Rattle.float64.proofs.Bits.{toBits-fin, pattern-small, fin-below}
 
@@ -27,7 +27,7 @@ number-of x h = is-false (isNan x) (no-nan x h)
 
 -- ---- the finite values lie between the infinities
 abbrev infinity : Float
-infinity = div binary64 one zero
+infinity = div binary64 one zero64
 
 infinity-is : infinity ≡ inf false
 unfolding div ofBits
@@ -44,7 +44,7 @@ pub finite-tests : (x : Float) → isFinite x ≡ cond (lt x infinity) (lt (neg 
 finite-tests x = subst (λ (i : Float). isFinite x ≡ cond (lt x i) (lt (neg i) x) false) (sym infinity-is) (finite-test x)
 
 -- ---- the constants
-pub zero-is : zero ≡ fin false 0 (pos 0)
+pub zero-is : zero64 ≡ fin false 0 (pos 0)
 unfolding ofBits
 zero-is = refl
 
@@ -53,19 +53,19 @@ unfolding ofBits
 one-is = refl
 
 -- ---- the sign's bit
-pub sign-bit : (x : Float) → T (fits binary64 x) → isNan x ≡ false → ltb (toBits binary64 x) half ≡ not (negative x)
+pub sign-bit : (x : Float) → T (fits binary64 x) → isNan x ≡ false → ltb (toBits binary64 x) halfRange ≡ not (negative x)
 unfolding negative isNan
 sign-bit nan p h = absurd (true≢false h)
 sign-bit (inf true) p h = unfold toBits in refl
 sign-bit (inf false) p h = unfold toBits in refl
-sign-bit (fin true m e) p h = le-ltb (toBits binary64 (fin true m e)) half (omega (arith, toBits-fin true m e))
-sign-bit (fin false m e) p h = lt-ltb (toBits binary64 (fin false m e)) half (omega (arith, toBits-fin false m e, pattern-small false m e p))
+sign-bit (fin true m e) p h = le-ltb (toBits binary64 (fin true m e)) halfRange (omega (arith, toBits-fin true m e))
+sign-bit (fin false m e) p h = lt-ltb (toBits binary64 (fin false m e)) halfRange (omega (arith, toBits-fin false m e, pattern-small false m e p))
 
 -- without it the bits are those of the magnitude
-mod-half : (b p : ℕ) → p < half → b ≡ half + p → b % half ≡ p
+mod-half : (b p : ℕ) → p < halfRange → b ≡ halfRange + p → b % halfRange ≡ p
 mod-half b p h e = omega arith
 
-pub abs-bits : (x : Float) → T (fits binary64 x) → isNan x ≡ false → toBits binary64 x % half ≡ toBits binary64 (absOf x)
+pub abs-bits : (x : Float) → T (fits binary64 x) → isNan x ≡ false → toBits binary64 x % halfRange ≡ toBits binary64 (absOf x)
 unfolding absOf isNan
 abs-bits nan p h = absurd (true≢false h)
 abs-bits (inf true) p h = unfold toBits in refl

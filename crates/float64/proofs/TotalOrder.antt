@@ -10,31 +10,31 @@ use lib.Ieee.{Float, nan, inf, fin, binary64, up, down, toBits, ofBits, fits, is
 use lib.Ieee.Bits.{ofBits-toBits, toBits-lt}
 use borrow.Author.Tests.{lt-ltb, le-ltb}
 use Rattle.float64.specs.Scalar.{negative}
-use Rattle.float64.specs.TotalOrder.{half, turned, totalKey, totalLess}
+use Rattle.float64.specs.TotalOrder.{halfRange, turned, totalKey, totalLess}
 use Rattle.root_spec.proofs.Units.{ulps, fits-either}
 use Rattle.float64.proofs.Bits.{pattern, toBits-fin, pattern-small, fin-below, cross}
 
-pub turned-low : (b : ℕ) → b < half → b + half ≡ turned b
+pub turned-low : (b : ℕ) → b < halfRange → b + halfRange ≡ turned b
 unfolding turned
-turned-low b h = rw (lt-ltb b half h) refl
+turned-low b h = rw (lt-ltb b halfRange h) refl
 
-pub turned-high : (b : ℕ) → half ≤ b → 0xffff_ffff_ffff_ffff - b ≡ turned b
+pub turned-high : (b : ℕ) → halfRange ≤ b → 0xffff_ffff_ffff_ffff - b ≡ turned b
 unfolding turned
-turned-high b h = rw (le-ltb b half h) refl
+turned-high b h = rw (le-ltb b halfRange h) refl
 
 -- ---- keys of values
-key-plus : (m : ℕ) (e : ℤ) → T (fits binary64 (fin false m e)) → totalKey (fin false m e) ≡ half + pattern (ulps binary64 m e)
+key-plus : (m : ℕ) (e : ℤ) → T (fits binary64 (fin false m e)) → totalKey (fin false m e) ≡ halfRange + pattern (ulps binary64 m e)
 unfolding totalKey
 key-plus m e h =
     let a : toBits binary64 (fin false m e) ≡ 0 + pattern (ulps binary64 m e) = toBits-fin false m e in
-    let b : toBits binary64 (fin false m e) < half = omega (arith, a, pattern-small false m e h) in
+    let b : toBits binary64 (fin false m e) < halfRange = omega (arith, a, pattern-small false m e h) in
     omega (arith, a, turned-low (toBits binary64 (fin false m e)) b)
 
-key-minus : (m : ℕ) (e : ℤ) → T (fits binary64 (fin true m e)) → totalKey (fin true m e) + pattern (ulps binary64 m e) + 1 ≡ half
+key-minus : (m : ℕ) (e : ℤ) → T (fits binary64 (fin true m e)) → totalKey (fin true m e) + pattern (ulps binary64 m e) + 1 ≡ halfRange
 unfolding totalKey
 key-minus m e h =
-    let a : toBits binary64 (fin true m e) ≡ half + pattern (ulps binary64 m e) = toBits-fin true m e in
-    let b : half ≤ toBits binary64 (fin true m e) = omega (arith, a) in
+    let a : toBits binary64 (fin true m e) ≡ halfRange + pattern (ulps binary64 m e) = toBits-fin true m e in
+    let b : halfRange ≤ toBits binary64 (fin true m e) = omega (arith, a) in
     omega (arith, a, pattern-small true m e h, turned-high (toBits binary64 (fin true m e)) b)
 
 key-inf : totalKey (inf false) ≡ 0xfff0_0000_0000_0000
@@ -102,12 +102,12 @@ totalKey-less (fin false m e) (fin true n d) p q =
 
 -- ---- a key is a number of 64 bits, and tells the value
 turned-lt : (b : ℕ) → b < 0x1_0000_0000_0000_0000 → turned b < 0x1_0000_0000_0000_0000
-turned-lt b h = elim (decLe half b) [ yes x ↦ omega (arith, turned-high b x) | no x ↦ omega (arith, turned-low b (omega arith)) ]
+turned-lt b h = elim (decLe halfRange b) [ yes x ↦ omega (arith, turned-high b x) | no x ↦ omega (arith, turned-low b (omega arith)) ]
 
-turned-back : (b : ℕ) → b < 0x1_0000_0000_0000_0000 → cond (ltb (turned b) half) (0xffff_ffff_ffff_ffff - turned b) (turned b - half) ≡ b
-turned-back b h = elim (decLe half b) [
-  | yes x ↦ let e = turned-high b x in rw (lt-ltb (turned b) half (omega arith)) (omega arith)
-  | no x ↦ let e = turned-low b (omega arith) in rw (le-ltb (turned b) half (omega arith)) (omega arith)
+turned-back : (b : ℕ) → b < 0x1_0000_0000_0000_0000 → cond (ltb (turned b) halfRange) (0xffff_ffff_ffff_ffff - turned b) (turned b - halfRange) ≡ b
+turned-back b h = elim (decLe halfRange b) [
+  | yes x ↦ let e = turned-high b x in rw (lt-ltb (turned b) halfRange (omega arith)) (omega arith)
+  | no x ↦ let e = turned-low b (omega arith) in rw (le-ltb (turned b) halfRange (omega arith)) (omega arith)
 ]
 
 pub totalKey-lt : (x : Float) → T (fits binary64 x) → totalKey x < 0x1_0000_0000_0000_0000
@@ -118,5 +118,5 @@ pub totalKey-injective : (x y : Float) → T (fits binary64 x) → T (fits binar
 unfolding totalKey
 totalKey-injective x y p q h =
     let b : toBits binary64 x ≡ toBits binary64 y =
-    sym (turned-back (toBits binary64 x) (toBits-lt binary64 x p)) ∙ ap (λ (k : ℕ). cond (ltb k half) (0xffff_ffff_ffff_ffff - k) (k - half)) h ∙ turned-back (toBits binary64 y) (toBits-lt binary64 y q) in
+    sym (turned-back (toBits binary64 x) (toBits-lt binary64 x p)) ∙ ap (λ (k : ℕ). cond (ltb k halfRange) (0xffff_ffff_ffff_ffff - k) (k - halfRange)) h ∙ turned-back (toBits binary64 y) (toBits-lt binary64 y q) in
     sym (ofBits-toBits binary64 x p) ∙ ap (ofBits binary64) b ∙ ofBits-toBits binary64 y q

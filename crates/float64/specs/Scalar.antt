@@ -4,8 +4,8 @@ use lib.Ieee.{Float, nan, inf, fin, binary64, ofBits, lt, neg, isNan}
 use lib.Ieee.Scale.{finite}
 
 -- 0.0, 1.0 and 2.0, as code writes them
-abbrev pub zero : Float
-zero = ofBits binary64 0
+abbrev pub zero64 : Float
+zero64 = ofBits binary64 0
 
 abbrev pub one : Float
 one = ofBits binary64 0x3ff0_0000_0000_0000

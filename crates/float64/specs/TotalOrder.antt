@@ -7,12 +7,12 @@ use lib.Ieee.{Float, binary64, toBits, lt, eq, isNan}
 use Rattle.float64.specs.Scalar.{negative}
 
 -- the weight of the sign's bit
-abbrev pub half : ℕ
-half = 0x8000_0000_0000_0000
+abbrev pub halfRange : ℕ
+halfRange = 0x8000_0000_0000_0000
 
 -- patterns with a clear sign above all the others, whose order is turned round
 unfoldable pub turned : ℕ → ℕ
-turned b = cond (ltb b half) (b + half) (0xffff_ffff_ffff_ffff - b)
+turned b = cond (ltb b halfRange) (b + halfRange) (0xffff_ffff_ffff_ffff - b)
 
 unfoldable pub totalKey : Float → ℕ
 unfolding turned

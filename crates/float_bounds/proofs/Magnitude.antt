@@ -55,10 +55,10 @@ module _ (c x : Float) (h : Within c x) where
   within-neg = subst (λ (v : Float). T (le v c)) (sym (abs-neg x)) h
 
 -- ---- from zero to a bound
-pub within-from-zero : (c x : Float) → T (le scalar.zero x) → T (le x c) → Within c x
+pub within-from-zero : (c x : Float) → T (le scalar.zero64 x) → T (le x c) → Within c x
 within-from-zero c x h k =
     within-of c x
-    (le-trans (neg c) (neg scalar.zero) x (neg-le scalar.zero c (le-trans scalar.zero x c h k)) (le-trans (neg scalar.zero) scalar.zero x neg-zero-le h))
+    (le-trans (neg c) (neg scalar.zero64) x (neg-le scalar.zero64 c (le-trans scalar.zero64 x c h k)) (le-trans (neg scalar.zero64) scalar.zero64 x neg-zero-le h))
     k
 
 -- ---- sums
@@ -100,7 +100,7 @@ mul-either f (fin false m e) (fin true n d) F G = inr (round-not f false (m * up
 mul-either f (fin true m e) (fin false n d) F G = inr (round-not f false (m * up e * (n * up d)) (down e * down d))
 mul-either f (fin true m e) (fin true n d) F G = inl refl
 
-abs-product-from-zero : (f : Format) (x y : Float) → T (finite x) → T (finite y) → T (le scalar.zero (mul f (absOf x) (absOf y)))
+abs-product-from-zero : (f : Format) (x y : Float) → T (finite x) → T (finite y) → T (le scalar.zero64 (mul f (absOf x) (absOf y)))
 abs-product-from-zero f x y F G =
     mul-nonneg f (absOf x) (absOf y) (abs-finite x F) (abs-finite y G) (abs-nonneg x (finite-number x F)) (abs-nonneg y (finite-number y G))
 
@@ -126,15 +126,15 @@ module _ (f : Format) (a b x y : Float) (F : T (finite a)) (G : T (finite b)) (h
   ]
 
 -- ---- squares and sums of them
-pub square-from-zero : (f : Format) (x : Float) → T (finite x) → T (le scalar.zero (mul f x x))
+pub square-from-zero : (f : Format) (x : Float) → T (finite x) → T (le scalar.zero64 (mul f x x))
 unfolding mul
 square-from-zero f nan F = absurd F
 square-from-zero f (inf s) F = absurd F
 square-from-zero f (fin false m e) F = round-nonneg f (m * up e * (m * up e)) (down e * down e)
 square-from-zero f (fin true m e) F = round-nonneg f (m * up e * (m * up e)) (down e * down e)
 
-pub sum-from-zero : (f : Format) (x y : Float) → T (finite x) → T (fits f x) → T (le scalar.zero x) → T (le scalar.zero y) → T (le scalar.zero (add f x y))
-sum-from-zero f x y F p h k = le-trans scalar.zero x (add f x y) h (add-above f x y F p k)
+pub sum-from-zero : (f : Format) (x y : Float) → T (finite x) → T (fits f x) → T (le scalar.zero64 x) → T (le scalar.zero64 y) → T (le scalar.zero64 (add f x y))
+sum-from-zero f x y F p h k = le-trans scalar.zero64 x (add f x y) h (add-above f x y F p k)
 
 -- ---- roots
 pub sqrt-fits : (f : Format) (x : Float) → T (fits f x) → T (fits f (sqrtOf f x))
@@ -145,5 +145,5 @@ sqrt-fits f (fin false m e) p = sqrt-of-value f m e p .holds .0
 sqrt-fits f (fin true zero e) p = rw (sqrt-zero f true e) p
 sqrt-fits f (fin true (suc m) e) p = rw (sqrt-negative f (fin true (suc m) e) (suc m * up e) (down e) (mul-pos (zero-lt-suc m) (up-pos e)) (down-pos e) (refl, refl)) (nan-fits f)
 
-pub sqrt-upto : (f : Format) (c x : Float) → T (fits f c) → T (fits f x) → T (le scalar.zero x) → T (le x c) → T (le (sqrtOf f x) (sqrtOf f c))
+pub sqrt-upto : (f : Format) (c x : Float) → T (fits f c) → T (fits f x) → T (le scalar.zero64 x) → T (le x c) → T (le (sqrtOf f x) (sqrtOf f c))
 sqrt-upto f c x p q h k = sqrt-mono f x c q p h k

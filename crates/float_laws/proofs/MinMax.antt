@@ -14,7 +14,7 @@ use lib.Ieee.{Float, nan, inf, fin, Format, up, down, lt, le, neg, isNan, fits, 
 use lib.Ieee.Bits.{is-true, is-false}
 use lib.Ieee.Scale.{finite}
 use Rattle.nat_laws.proofs.Tests.{by-cases}
-use Rattle.float64.specs.Scalar.{zero, minOf, maxOf, clampOf, absOf}
+use Rattle.float64.specs.Scalar.{zero64, minOf, maxOf, clampOf, absOf}
 use Rattle.float_laws.proofs.Signed.{unsigned, signed-refl}
 use Rattle.float_laws.proofs.Order.{Number, le-refl, le-trans, lt-le, lt-le-trans, not-lt-le, lt-not-le, le-or-lt, le-number-l, le-number-r, neg-le, neg-neg, neg-number}
 use Rattle.float_laws.proofs.Rank.{Held, rank, le-rank, lt-rank}
@@ -211,7 +211,7 @@ abs-neg nan = refl
 abs-neg (inf s) = refl
 abs-neg (fin s m e) = refl
 
-pub abs-nonneg : (x : Float) → Number x → T (le zero (absOf x))
+pub abs-nonneg : (x : Float) → Number x → T (le zero64 (absOf x))
 unfolding absOf le isNan ofBits
 abs-nonneg nan a = absurd a
 abs-nonneg (inf s) a = tt

@@ -18,7 +18,7 @@ use lib.Ieee.Fits.{down-pos, and-i, eq→eqb}
 use lib.Ieee.Bits.{is-true, is-false}
 use lib.Ieee.Scale.{finite}
 use Rattle.nat_laws.proofs.Tests.{or-l, or-r, or-split}
-use Rattle.float64.specs.Scalar.{zero, negative}
+use Rattle.float64.specs.Scalar.{zero64, negative}
 use Rattle.float64.specs.TotalOrder.{totalKey, totalLess}
 use Rattle.float64.proofs.TotalOrder.{totalKey-less, totalKey-injective}
 use Rattle.float_laws.proofs.Signed.{signed, unsigned, signed-trans, signed-total, signed-flip, level-sym, level-zeros, below-no, below-yes, zero-of}
@@ -33,7 +33,7 @@ finite-number nan h = h
 finite-number (inf s) h = tt
 finite-number (fin s m e) h = tt
 
-pub zero-finite : T (finite zero)
+pub zero-finite : T (finite zero64)
 unfolding ofBits
 zero-finite = tt
 
@@ -248,14 +248,14 @@ eq-key x y p q h s = nltb→le (totalKey y) (totalKey x) (subst (λ (b : Bool). 
 pub eq-same-sign : (x y : Float) → T (fits binary64 x) → T (fits binary64 y) → T (eq x y) → negative x ≡ negative y → x ≡ y
 eq-same-sign x y p q h s = totalKey-injective x y p q (le-antisymm (eq-key x y p q h s) (eq-key y x q p (eq-sym x y h) (sym s)))
 
-zero-eq : (s : Bool) (m : ℕ) (e : ℤ) → m * up e ≡ 0 → T (eq (fin s m e) zero)
+zero-eq : (s : Bool) (m : ℕ) (e : ℤ) → m * up e ≡ 0 → T (eq (fin s m e) zero64)
 unfolding eq ofBits
 zero-eq s m e z = let a : m * up e * 1 ≡ 0 = omega arith in and-i (eqb (m * up e * 1) (0 * 1 * down e)) (Bool·beq s false || eqb (m * up e * 1) 0) (eq→eqb (a ∙ sym (zero-mul (down e)))) (or-r (Bool·beq s false) (eqb (m * up e * 1) 0) (eq→eqb a))
 
-zeros : (s : Bool) (m : ℕ) (e : ℤ) (t : Bool) (n : ℕ) (d : ℤ) → (m * up e * down d ≡ 0) × (n * up d * down e ≡ 0) → T (eq (fin s m e) zero) × T (eq (fin t n d) zero)
+zeros : (s : Bool) (m : ℕ) (e : ℤ) (t : Bool) (n : ℕ) (d : ℤ) → (m * up e * down d ≡ 0) × (n * up d * down e ≡ 0) → T (eq (fin s m e) zero64) × T (eq (fin t n d) zero64)
 zeros s m e t n d h = (zero-eq s m e (zero-of (m * up e) (down d) (down-pos d) (h .0)), zero-eq t n d (zero-of (n * up d) (down e) (down-pos e) (h .1)))
 
-pub eq-same : (x y : Float) → T (fits binary64 x) → T (fits binary64 y) → T (eq x y) → (x ≡ y) ⊎ (T (eq x zero) × T (eq y zero))
+pub eq-same : (x y : Float) → T (fits binary64 x) → T (fits binary64 y) → T (eq x y) → (x ≡ y) ⊎ (T (eq x zero64) × T (eq y zero64))
 unfolding eq negative
 eq-same nan y p q h = absurd h
 eq-same (inf s) nan p q h = absurd h
@@ -314,6 +314,6 @@ neg-lt x y h = elim (le-or-lt (neg x) (neg y) (neg-number x (lt-number-l x y h))
 pub neg-eq : (x y : Float) → T (eq x y) → T (eq (neg x) (neg y))
 neg-eq x y h = le-antisym (neg x) (neg y) (neg-le y x (eq-le y x (eq-sym x y h))) (neg-le x y (eq-le x y h))
 
-pub neg-zero-le : T (le (neg zero) zero)
+pub neg-zero-le : T (le (neg zero64) zero64)
 unfolding le neg ofBits
 neg-zero-le = tt

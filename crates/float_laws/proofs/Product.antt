@@ -21,7 +21,7 @@ use Rattle.float_laws.proofs.Round.{round-signed}
 unfoldable Plain : Bool → ℕ → Type 0
 Plain s a = T s → a ≡ 0
 
-plain-of : (s : Bool) (m : ℕ) (e : ℤ) → T (le scalar.zero (fin s m e)) → Plain s (m * up e)
+plain-of : (s : Bool) (m : ℕ) (e : ℤ) → T (le scalar.zero64 (fin s m e)) → Plain s (m * up e)
 unfolding le ofBits Plain
 plain-of false m e h t = absurd t
 plain-of true m e h t = let z = signed false (0 * 1 * down e) true (m * up e * 1) h in sym (mul-one (m * up e)) ∙ z .1
@@ -57,7 +57,7 @@ compared : (s : Bool) (m : ℕ) (e : ℤ) (t : Bool) (n : ℕ) (d : ℤ) → T (
 unfolding le
 compared s m e t n d h = signed s (m * up e * down d) t (n * up d * down e) h
 
-pub mul-mono : (f : Format) (x x' y y' : Float) → T (finite x) → T (finite x') → T (finite y) → T (finite y') → T (le scalar.zero x) → T (le scalar.zero y) → T (le x x') → T (le y y') → T (le (mul f x y) (mul f x' y'))
+pub mul-mono : (f : Format) (x x' y y' : Float) → T (finite x) → T (finite x') → T (finite y) → T (finite y') → T (le scalar.zero64 x) → T (le scalar.zero64 y) → T (le x x') → T (le y y') → T (le (mul f x y) (mul f x' y'))
 unfolding mul
 mul-mono f nan x' y y' F F' G G' i j h k = absurd F
 mul-mono f (inf s) x' y y' F F' G G' i j h k = absurd F
@@ -74,8 +74,8 @@ mul-mono f (fin s m e) (fin s' m' e') (fin t n d) (fin t' n' d') F F' G G' i j h
     let Y' = n' * up d' in
     let p = plain-of s m e i in
     let q = plain-of t n d j in
-    let p' = plain-of s' m' e' (order.le-trans scalar.zero (fin s m e) (fin s' m' e') i h) in
-    let q' = plain-of t' n' d' (order.le-trans scalar.zero (fin t n d) (fin t' n' d') j k) in
+    let p' = plain-of s' m' e' (order.le-trans scalar.zero64 (fin s m e) (fin s' m' e') i h) in
+    let q' = plain-of t' n' d' (order.le-trans scalar.zero64 (fin t n d) (fin t' n' d') j k) in
     let a = cross s m e s' m' e' p p' h in
     let b = cross t n d t' n' d' q q' k in
     let c = down e * down d in
@@ -87,12 +87,12 @@ mul-mono f (fin s m e) (fin s' m' e') (fin t n d) (fin t' n' d') F F' G G' i j h
     cross : (s : Bool) (m : ℕ) (e : ℤ) (t : Bool) (n : ℕ) (d : ℤ) → Plain s (m * up e) → Plain t (n * up d) → T (le (fin s m e) (fin t n d)) → m * up e * down d ≤ n * up d * down e
     cross s m e t n d p q h = le-plain s t (m * up e * down d) (n * up d * down e) (plain-times s (m * up e) (down d) p) (plain-times t (n * up d) (down e) q) (compared s m e t n d h)
 
-zero-squared : (f : Format) → T (le scalar.zero (mul f scalar.zero scalar.zero))
+zero-squared : (f : Format) → T (le scalar.zero64 (mul f scalar.zero64 scalar.zero64))
 unfolding le mul ofBits
 zero-squared binary32 = tt
 zero-squared binary64 = tt
 
-pub mul-nonneg : (f : Format) (x y : Float) → T (finite x) → T (finite y) → T (le scalar.zero x) → T (le scalar.zero y) → T (le scalar.zero (mul f x y))
+pub mul-nonneg : (f : Format) (x y : Float) → T (finite x) → T (finite y) → T (le scalar.zero64 x) → T (le scalar.zero64 y) → T (le scalar.zero64 (mul f x y))
 mul-nonneg f x y F G h k =
-    let z = order.le-refl scalar.zero (finite-number scalar.zero zero-finite) in
-    order.le-trans scalar.zero (mul f scalar.zero scalar.zero) (mul f x y) (zero-squared f) (mul-mono f scalar.zero x scalar.zero y zero-finite F zero-finite G z z h k)
+    let z = order.le-refl scalar.zero64 (finite-number scalar.zero64 zero-finite) in
+    order.le-trans scalar.zero64 (mul f scalar.zero64 scalar.zero64) (mul f x y) (zero-squared f) (mul-mono f scalar.zero64 x scalar.zero64 y zero-finite F zero-finite G z z h k)

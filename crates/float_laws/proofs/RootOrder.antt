@@ -76,7 +76,7 @@ at-most-infinity (inf true) a = tt
 at-most-infinity (inf false) a = tt
 at-most-infinity (fin s m e) a = tt
 
-minus-zero : (e : ℤ) → T (le (fin true 0 e) scalar.zero)
+minus-zero : (e : ℤ) → T (le (fin true 0 e) scalar.zero64)
 unfolding le ofBits
 minus-zero e = unsigned true (0 * up e * 1) false (0 * 1 * down e) tt
 
@@ -92,24 +92,24 @@ not-above m e n d h = zero-of m (up e) (up-pos e) (zero-of (m * up e) (down d) (
 between-zeros : (f : Format) (m : ℕ) (e : ℤ) (n : ℕ) (d : ℤ) → m ≡ 0 → n ≡ 0 → T (le (fin false m e) (fin true n d)) → T (le (sqrtOf f (fin false m e)) (sqrtOf f (fin true n d)))
 between-zeros f m e n d y z h = rw (y, z, sqrt-zero f false e, sqrt-zero f true d) (rw (y, z) at h)
 
-from-minus-zero : (f : Format) (m : ℕ) (e : ℤ) (r : Float) → m ≡ 0 → T (le scalar.zero r) → T (le (sqrtOf f (fin true m e)) r)
-from-minus-zero f m e r z h = rw (z, sqrt-zero f true e) (order.le-trans (fin true 0 e) scalar.zero r (minus-zero e) h)
+from-minus-zero : (f : Format) (m : ℕ) (e : ℤ) (r : Float) → m ≡ 0 → T (le scalar.zero64 r) → T (le (sqrtOf f (fin true m e)) r)
+from-minus-zero f m e r z h = rw (z, sqrt-zero f true e) (order.le-trans (fin true 0 e) scalar.zero64 r (minus-zero e) h)
 
-pub sqrt-mono : (f : Format) (x y : Float) → T (fits f x) → T (fits f y) → T (le scalar.zero x) → T (le x y) → T (le (sqrtOf f x) (sqrtOf f y))
+pub sqrt-mono : (f : Format) (x y : Float) → T (fits f x) → T (fits f y) → T (le scalar.zero64 x) → T (le x y) → T (le (sqrtOf f x) (sqrtOf f y))
 unfolding isNan
 sqrt-mono f x nan p q h k = absurd (le-number-r x nan k)
-sqrt-mono f x (inf true) p q h k = absurd (no-minus (order.le-trans scalar.zero x (inf true) h k))
-sqrt-mono f x (inf false) p q h k = rw (sqrt-special f .0) (at-most-infinity (sqrtOf f x) (le-number-r scalar.zero (sqrtOf f x) (sqrt-nonneg f x h)))
-sqrt-mono f nan (fin t n d) p q h k = absurd (le-number-r scalar.zero nan h)
+sqrt-mono f x (inf true) p q h k = absurd (no-minus (order.le-trans scalar.zero64 x (inf true) h k))
+sqrt-mono f x (inf false) p q h k = rw (sqrt-special f .0) (at-most-infinity (sqrtOf f x) (le-number-r scalar.zero64 (sqrtOf f x) (sqrt-nonneg f x h)))
+sqrt-mono f nan (fin t n d) p q h k = absurd (le-number-r scalar.zero64 nan h)
 sqrt-mono f (inf true) (fin t n d) p q h k = absurd (no-minus h)
 sqrt-mono f (inf false) (fin t n d) p q h k = absurd (past-infinity t n d k)
-sqrt-mono f (fin true m e) (fin t n d) p q h k = from-minus-zero f m e (sqrtOf f (fin t n d)) (no-sign m e h) (sqrt-nonneg f (fin t n d) (order.le-trans scalar.zero (fin true m e) (fin t n d) h k))
-sqrt-mono f (fin false m e) (fin true n d) p q h k = between-zeros f m e n d (not-above m e n d k) (no-sign n d (order.le-trans scalar.zero (fin false m e) (fin true n d) h k)) k
+sqrt-mono f (fin true m e) (fin t n d) p q h k = from-minus-zero f m e (sqrtOf f (fin t n d)) (no-sign m e h) (sqrt-nonneg f (fin t n d) (order.le-trans scalar.zero64 (fin true m e) (fin t n d) h k))
+sqrt-mono f (fin false m e) (fin true n d) p q h k = between-zeros f m e n d (not-above m e n d k) (no-sign n d (order.le-trans scalar.zero64 (fin false m e) (fin true n d) h k)) k
 sqrt-mono f (fin false m e) (fin false n d) p q h k = finite-mono f m e n d p q (le-fractions m e n d k)
 
 -- ---- a root beside a bound
 -- what has a root is not below zero
-rooted-from-zero : (f : Format) (x : Float) → Number (sqrtOf f x) → T (le scalar.zero x)
+rooted-from-zero : (f : Format) (x : Float) → Number (sqrtOf f x) → T (le scalar.zero64 x)
 unfolding sqrtOf le isNan ofBits
 rooted-from-zero f nan a = a
 rooted-from-zero f (inf true) a = a
@@ -126,7 +126,7 @@ pub record LeastRoot (c t u : Float) : Type 0 where
   pub falls-short : T (lt (sqrtOf binary64 u) c)
 
 module _ (c t u : Float) (l : LeastRoot c t u) (x : Float) (p : T (fits binary64 x)) where
-  from-zero : T (le scalar.zero t)
+  from-zero : T (le scalar.zero64 t)
   from-zero = rooted-from-zero binary64 t (le-number-r c (sqrtOf binary64 t) (l .reaches))
 
   reached : T (le t x) → T (le c (sqrtOf binary64 x))
@@ -139,11 +139,11 @@ module _ (c t u : Float) (l : LeastRoot c t u) (x : Float) (p : T (fits binary64
       let s = sqrtOf binary64 u in
       let z = rooted-from-zero binary64 x (le-number-r c r h) in
       let y = rooted-from-zero binary64 u (lt-number-l s c (l .falls-short)) in
-      elim (le-or-lt t x (le-number-r scalar.zero t from-zero) (le-number-r scalar.zero x z)) [
+      elim (le-or-lt t x (le-number-r scalar.zero64 t from-zero) (le-number-r scalar.zero64 x z)) [
         | inl k ↦ k
         | inr k ↦
             let i : totalKey x ≤ totalKey u = omega (arith, lt-key x t p (l .held) k, l .next) in
-            let j = key-le x u p (l .held-before) (le-number-r scalar.zero x z) (le-number-r scalar.zero u y) i in
+            let j = key-le x u p (l .held-before) (le-number-r scalar.zero64 x z) (le-number-r scalar.zero64 u y) i in
             absurd (lt-not-le s c (l .falls-short) (order.le-trans c r s h (sqrt-mono binary64 x u p (l .held-before) z j)))
       ]
 

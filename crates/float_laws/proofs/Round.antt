@@ -72,27 +72,27 @@ pub round-own : (f : Format) (s : Bool) (m : ℕ) (e : ℤ) → FitsIn f m e →
 round-own f s m e h = same-value s m e (round f s (m * up e) (down e)) (own-value f s m e h)
 
 -- ---- the order
-odd-nonneg : (d q k l : ℕ) → T (le scalar.zero (odd d false q k l))
+odd-nonneg : (d q k l : ℕ) → T (le scalar.zero64 (odd d false q k l))
 unfolding odd le ofBits
 odd-nonneg d zero k l = tt
 odd-nonneg d (suc q) k l = let t = trailingZeros d (suc q) in unsigned false (0 * 1 * down (minus (k + t) l)) false (suc q / 2 ^ t * up (minus (k + t) l) * 1) (le-trans (le-of-eq (zero-mul (down (minus (k + t) l)))) zero-le)
 
-pub units-nonneg : (f : Format) (q k : ℕ) → T (le scalar.zero (units f false q k))
+pub units-nonneg : (f : Format) (q k : ℕ) → T (le scalar.zero64 (units f false q k))
 unfolding units le ofBits
 units-nonneg f q k = go (ltb (q * 2 ^ k) (2 ^ (low f + suc (emax f))))
   where
-    go : (b : Bool) → T (le scalar.zero (cond b (odd (suc (prec f)) false q k (low f)) (inf false)))
+    go : (b : Bool) → T (le scalar.zero64 (cond b (odd (suc (prec f)) false q k (low f)) (inf false)))
     go true = odd-nonneg (suc (prec f)) q k (low f)
     go false = tt
 
-pub round-nonneg : (f : Format) (a c : ℕ) → T (le scalar.zero (round f false a c))
+pub round-nonneg : (f : Format) (a c : ℕ) → T (le scalar.zero64 (round f false a c))
 round-nonneg f a c =
     let n = a * 2 ^ low f in
     let k = size (n / c) - prec f in
-    subst (λ (v : Float). T (le scalar.zero v)) (sym (round-is f false a c)) (units-nonneg f (nearest (n / (c * 2 ^ k)) (compare (n % (c * 2 ^ k) * 2) (c * 2 ^ k))) k)
+    subst (λ (v : Float). T (le scalar.zero64 v)) (sym (round-is f false a c)) (units-nonneg f (nearest (n / (c * 2 ^ k)) (compare (n % (c * 2 ^ k) * 2) (c * 2 ^ k))) k)
 
-across : (x y : Float) → T (le scalar.zero x) → T (le scalar.zero y) → T (le (neg x) y)
-across x y h k = order.le-trans (neg x) (neg scalar.zero) y (neg-le scalar.zero x h) (order.le-trans (neg scalar.zero) scalar.zero y neg-zero-le k)
+across : (x y : Float) → T (le scalar.zero64 x) → T (le scalar.zero64 y) → T (le (neg x) y)
+across x y h k = order.le-trans (neg x) (neg scalar.zero64) y (neg-le scalar.zero64 x h) (order.le-trans (neg scalar.zero64) scalar.zero64 y neg-zero-le k)
 
 zeros : T (le (fin false 0 (pos 0)) (fin true 0 (pos 0)))
 unfolding le

@@ -20,7 +20,7 @@ use lib.Ieee.{Float, nan, inf, fin, Format, binary32, binary64, low, up, down, r
 use lib.Ieee.Fits.{down-pos}
 use lib.Ieee.Scale.{finite}
 use Rattle.nat_laws.proofs.Ring.{ring}
-use Rattle.float64.specs.Scalar.{zero}
+use Rattle.float64.specs.Scalar.{zero64}
 use Rattle.float64.proofs.Scalar.{zero-is}
 use Rattle.root_spec.proofs.Units.{fits-in, ulps, ulps-lt, ulps-left, ulps-right, overflow}
 use Rattle.float_laws.proofs.Signed.{SLe, signed, signed-up, plus, minus, spread, gather}
@@ -187,7 +187,7 @@ unfolding sum
 sum-self f false a c = rw (le-ltb a a (le-refl a)) (ap (λ (n : ℕ). round f false n c) (nat.sub-self a))
 sum-self f true a c = rw (le-ltb a a (le-refl a)) (ap (λ (n : ℕ). round f false n c) (nat.sub-self a))
 
-pub sub-self : (f : Format) (x : Float) → T (finite x) → sub f x x ≡ zero
+pub sub-self : (f : Format) (x : Float) → T (finite x) → sub f x x ≡ zero64
 unfolding sub add neg
 sub-self f nan h = absurd h
 sub-self f (inf s) h = absurd h
@@ -198,7 +198,7 @@ unfolding sum
 sum-zero f true a c = ap (λ (n : ℕ). round f true n c) (add-zero a)
 sum-zero f false a c = rw (le-ltb a 0 zero-le) (ap (λ (n : ℕ). round f false n c) (nat.sub-zero a))
 
-sub-zero-is : (f : Format) (s : Bool) (m : ℕ) (e : ℤ) → sub f (fin s m e) zero ≡ round f s (m * up e) (down e)
+sub-zero-is : (f : Format) (s : Bool) (m : ℕ) (e : ℤ) → sub f (fin s m e) zero64 ≡ round f s (m * up e) (down e)
 unfolding sub add neg
 sub-zero-is f s m e =
     ap (λ (z : Float). add f (fin s m e) (neg z)) zero-is
@@ -207,7 +207,7 @@ sub-zero-is f s m e =
     ∙ ap (λ (n : ℕ). round f s n (down e * 1)) (mul-one (m * up e))
     ∙ ap (λ (n : ℕ). round f s (m * up e) n) (mul-one (down e))
 
-pub sub-zero : (f : Format) (x : Float) → T (finite x) → T (fits f x) → T (eq (sub f x zero) x)
+pub sub-zero : (f : Format) (x : Float) → T (finite x) → T (fits f x) → T (eq (sub f x zero64) x)
 sub-zero f nan h k = absurd h
 sub-zero f (inf s) h k = absurd h
 sub-zero f (fin s m e) h k =
@@ -253,10 +253,10 @@ sub-turn f (fin s m e) (fin t n d) F G =
     (subst (λ (x : Float). T (eq (round f (v .sign) (v .mag) c) x)) (round-not f (u .sign) (u .mag) c) w)))
 
 -- ---- the sign of a difference is the order of the two
-pub sub-nonneg : (f : Format) (a b : Float) → T (finite a) → T (finite b) → T (le a b) → T (le zero (sub f b a))
+pub sub-nonneg : (f : Format) (a b : Float) → T (finite a) → T (finite b) → T (le a b) → T (le zero64 (sub f b a))
 sub-nonneg f a b F G h = subst (λ (v : Float). T (le v (sub f b a))) (sub-self f a F) (sub-mono f a b a a F G F F h (refl-finite a F))
 
-pub sub-nonpos : (f : Format) (a b : Float) → T (finite a) → T (finite b) → T (le b a) → T (le (sub f b a) zero)
+pub sub-nonpos : (f : Format) (a b : Float) → T (finite a) → T (finite b) → T (le b a) → T (le (sub f b a) zero64)
 sub-nonpos f a b F G h = subst (λ (v : Float). T (le (sub f b a) v)) (sub-self f a F) (sub-mono f b a a a G F F F h (refl-finite a F))
 
 -- a difference of two different numbers is at least the smallest value
@@ -278,7 +278,7 @@ strict M false A true B i j h = omega arith
 strict M true A false B i j h = omega arith
 strict M true A true B i j h = omega arith
 
-smallest : (f : Format) → T (lt zero (round f false 1 (2 ^ low f)))
+smallest : (f : Format) → T (lt zero64 (round f false 1 (2 ^ low f)))
 unfolding lt round ofBits
 smallest binary32 = tt
 smallest binary64 = tt
@@ -300,21 +300,21 @@ wider f (fin t n d) (fin s m e) F G g k h =
     (apart s t (u .sign) (m * up e * down d) (n * up d * down e) (u .mag) (ulps f m e) (ulps f n d) D (2 ^ low f) P (ulps-left f m e n d H K) (ulps-right f m e n d H K) (u .value)
     (strict (overflow f) s (ulps f m e) t (ulps f n d) (ulps-lt f m e H) (ulps-lt f n d K) h)))
 
-pub sub-pos : (f : Format) (a b : Float) → T (finite a) → T (finite b) → T (fits f a) → T (fits f b) → T (lt a b) → T (lt zero (sub f b a))
+pub sub-pos : (f : Format) (a b : Float) → T (finite a) → T (finite b) → T (fits f a) → T (fits f b) → T (lt a b) → T (lt zero64 (sub f b a))
 sub-pos f a b F G g k h =
-    lt-le-trans zero (round f false 1 (2 ^ low f)) (sub f b a) (smallest f)
+    lt-le-trans zero64 (round f false 1 (2 ^ low f)) (sub f b a) (smallest f)
     (wider f a b F G g k (lt-rank f a b (held-finite f a F g) (held-finite f b G k) h))
 
-pub sub-pos-lt : (f : Format) (a b : Float) → T (finite a) → T (finite b) → T (lt zero (sub f b a)) → T (lt a b)
-sub-pos-lt f a b F G h = elim (le-or-lt b a (finite-number b G) (finite-number a F)) [ inl k ↦ absurd (lt-not-le zero (sub f b a) h (sub-nonpos f a b F G k)) | inr k ↦ k ]
+pub sub-pos-lt : (f : Format) (a b : Float) → T (finite a) → T (finite b) → T (lt zero64 (sub f b a)) → T (lt a b)
+sub-pos-lt f a b F G h = elim (le-or-lt b a (finite-number b G) (finite-number a F)) [ inl k ↦ absurd (lt-not-le zero64 (sub f b a) h (sub-nonpos f a b F G k)) | inr k ↦ k ]
 
-pub sub-neg : (f : Format) (a b : Float) → T (finite a) → T (finite b) → T (fits f a) → T (fits f b) → T (lt b a) → T (lt (sub f b a) zero)
+pub sub-neg : (f : Format) (a b : Float) → T (finite a) → T (finite b) → T (fits f a) → T (fits f b) → T (lt b a) → T (lt (sub f b a) zero64)
 sub-neg f a b F G g k h =
-    le-lt-trans (sub f b a) (neg (sub f a b)) zero (eq-le (sub f b a) (neg (sub f a b)) (sub-turn f a b F G))
-    (lt-le-trans (neg (sub f a b)) (neg zero) zero (neg-lt zero (sub f a b) (sub-pos f b a G F k g h)) neg-zero-le)
+    le-lt-trans (sub f b a) (neg (sub f a b)) zero64 (eq-le (sub f b a) (neg (sub f a b)) (sub-turn f a b F G))
+    (lt-le-trans (neg (sub f a b)) (neg zero64) zero64 (neg-lt zero64 (sub f a b) (sub-pos f b a G F k g h)) neg-zero-le)
 
-pub sub-neg-lt : (f : Format) (a b : Float) → T (finite a) → T (finite b) → T (lt (sub f b a) zero) → T (lt b a)
-sub-neg-lt f a b F G h = elim (le-or-lt a b (finite-number a F) (finite-number b G)) [ inl k ↦ absurd (lt-not-le (sub f b a) zero h (sub-nonneg f a b F G k)) | inr k ↦ k ]
+pub sub-neg-lt : (f : Format) (a b : Float) → T (finite a) → T (finite b) → T (lt (sub f b a) zero64) → T (lt b a)
+sub-neg-lt f a b F G h = elim (le-or-lt a b (finite-number a F) (finite-number b G)) [ inl k ↦ absurd (lt-not-le (sub f b a) zero64 h (sub-nonneg f a b F G k)) | inr k ↦ k ]
 
 -- ---- x - t ≤ x ≤ x + t for a t that is not below zero, an infinite one among them
 sub-inf : (f : Format) (x : Float) → T (finite x) → T (le (sub f x (inf false)) x)
@@ -330,22 +330,22 @@ add-inf f (inf t) h = absurd h
 add-inf f (fin t m e) h = tt
 
 -- at or above zero: a finite value, or infinity
-above-zero : (P : Float → Type 0) (t : Float) → T (le zero t) → (T (finite t) → P t) → P (inf false) → P t
+above-zero : (P : Float → Type 0) (t : Float) → T (le zero64 t) → (T (finite t) → P t) → P (inf false) → P t
 unfolding le ofBits
 above-zero P nan h f i = absurd h
 above-zero P (inf true) h f i = absurd h
 above-zero P (inf false) h f i = i
 above-zero P (fin s m e) h f i = f tt
 
-pub sub-below : (f : Format) (x t : Float) → T (finite x) → T (fits f x) → T (le zero t) → T (le (sub f x t) x)
+pub sub-below : (f : Format) (x t : Float) → T (finite x) → T (fits f x) → T (le zero64 t) → T (le (sub f x t) x)
 sub-below f x t F p h = above-zero (λ (v : Float). T (le (sub f x v) x)) t h
-    (λ G. order.le-trans (sub f x t) (sub f x zero) x (sub-mono f x x t zero F F G zero-finite (refl-finite x F) h) (eq-le (sub f x zero) x (sub-zero f x F p)))
+    (λ G. order.le-trans (sub f x t) (sub f x zero64) x (sub-mono f x x t zero64 F F G zero-finite (refl-finite x F) h) (eq-le (sub f x zero64) x (sub-zero f x F p)))
     (sub-inf f x F)
 
-pub add-above : (f : Format) (x t : Float) → T (finite x) → T (fits f x) → T (le zero t) → T (le x (add f x t))
+pub add-above : (f : Format) (x t : Float) → T (finite x) → T (fits f x) → T (le zero64 t) → T (le x (add f x t))
 add-above f x t F p h = above-zero (λ (v : Float). T (le x (add f x v))) t h
     (λ G.
     subst (λ (v : Float). T (le x v)) (sub-of-neg f x t)
-    (order.le-trans x (sub f x zero) (sub f x (neg t)) (eq-le x (sub f x zero) (eq-sym (sub f x zero) x (sub-zero f x F p)))
-    (sub-mono f x x zero (neg t) F F zero-finite (neg-finite t G) (refl-finite x F) (order.le-trans (neg t) (neg zero) zero (neg-le zero t h) neg-zero-le))))
+    (order.le-trans x (sub f x zero64) (sub f x (neg t)) (eq-le x (sub f x zero64) (eq-sym (sub f x zero64) x (sub-zero f x F p)))
+    (sub-mono f x x zero64 (neg t) F F zero-finite (neg-finite t G) (refl-finite x F) (order.le-trans (neg t) (neg zero64) zero64 (neg-le zero64 t h) neg-zero-le))))
     (add-inf f x F)

@@ -6,14 +6,14 @@ use native.Mathlib.Omega.{arith}
 use lib.ListN.{length, getD, replicate}
 use lib.Ieee.{Float, nan, neg}
 use Rattle.layout.specs.Layout.{coordinatesPerVertex, realsPerEdge, wordsPerTriangle, realsPerNormal}
-use Rattle.float64.specs.Scalar.{one, zero as zero64}
+use Rattle.float64.specs.Scalar.{one, zero64}
 use Rattle.float64.specs.Notation.{_⊘_}
 use Rattle.vec3.specs.declared.Vec3.{Vec3}
 use Rattle.vec3.specs.Vec.{scaleOf, axpyOf, subOf, dotOf, normOf}
 use Rattle.job_checks.specs.Edge.{vertexAt, lower, lenOf, xhatOf, perpendicularFrom}
 use Rattle.buffers.specs.Zero.{zeroFrom}
-use Rattle.topology.specs.Edges.{between, corner, sideEdge}
-use Rattle.frames.specs.Stored.{vectorFrom, vectorAt, normalAt, unitAt, unitOf, withRows, row3, unitRow, originAt, endAt, lengthRow, withLengths, perpendicularAt, perpendicularRow, withNormals}
+use Rattle.topology.specs.Edges.{between, sideVertex, sideEdge}
+use Rattle.frames.specs.Stored.{vectorFrom, vectorAt, normalAt, unitAt, unitOf, withRows, row3, unitRow, originAt, endPoint, lengthRow, withLengths, perpendicularAt, perpendicularRow, withNormals}
 use Rattle.frames.proofs.Rows.{rows-same, length-rows, vectors-at, vectors-past, zero-past-rows}
 
 pub vector-of : (r : Vec3) (a b c x y z : Float) → r ≡ record { x = a; y = b; z = c } → a ≡ x → b ≡ y → c ≡ z → r ≡ record { x = x; y = y; z = z }
@@ -37,7 +37,7 @@ perpendicular-steps v reals e a b l t o xhat third w p k first from unit to up a
 
 module _ (v : List Float) (edgeWords : List ℕ) where
   -- an edge's row as it is computed
-  pub length-row : (e : ℕ) (d x : Vec3) (len : Float) → d ≡ subOf (endAt v edgeWords e) (originAt v edgeWords e) → len ≡ normOf d → x ≡ scaleOf d (one ⊘ len) → len ∷ x .x ∷ x .y ∷ x .z ∷ [] ≡ lengthRow v edgeWords e
+  pub length-row : (e : ℕ) (d x : Vec3) (len : Float) → d ≡ subOf (endPoint v edgeWords e) (originAt v edgeWords e) → len ≡ normOf d → x ≡ scaleOf d (one ⊘ len) → len ∷ x .x ∷ x .y ∷ x .z ∷ [] ≡ lengthRow v edgeWords e
   unfolding lengthRow lenOf xhatOf
   length-row e d x len from long unit = rw (← from, ← long, ← unit) refl
 
@@ -48,7 +48,7 @@ module _ (v : List Float) (edgeWords : List ℕ) where
 module _ (v : List Float) (triangles triangleWords : List ℕ) (edgeReals : List Float) where
   -- over side k of face f, from what is read
   pub perpendicular-row : (f k : ℕ) → k < 3 → (h e a b c : ℕ) (p : Vec3) → h ≡ 3 * f + k → e ≡ getD triangleWords (wordsPerTriangle * f + k) 0 → a ≡ getD triangles (3 * f + k) 0 → b ≡ getD triangles (3 * f + (k + 1) % 3) 0 → c ≡ getD triangles (3 * f + (k + 2) % 3) 0 → p ≡ perpendicularFrom (vertexAt v (lower a b)) (unitAt edgeReals e) (vertexAt v c) → row3 p ≡ perpendicularRow v triangles triangleWords edgeReals h
-  unfolding perpendicularAt sideEdge between corner
+  unfolding perpendicularAt sideEdge between sideVertex
   perpendicular-row f k l h e a b c p here ee ea eb ec ep =
       let d : (3 * f + k) / 3 ≡ f = omega arith in
       let m : (3 * f + k) % 3 ≡ k = omega arith in

@@ -11,7 +11,7 @@ use Rattle.vec3.specs.declared.Vec3.{Vec3}
 use Rattle.vec3.specs.Vec.{scaleOf, normOf}
 use Rattle.job_checks.specs.Edge.{vertexAt, lenOf, xhatOf, perpendicularFrom}
 use Rattle.buffers.specs.Slots.{fill}
-use Rattle.topology.specs.Edges.{corner, sideEdge}
+use Rattle.topology.specs.Edges.{sideVertex, sideEdge}
 
 -- the ends of edge e, and its first and second face
 abbrev pub lowAt : List ℕ → ℕ → ℕ
@@ -68,12 +68,12 @@ module _ (v : List Float) (edgeWords : List ℕ) where
   abbrev pub originAt : ℕ → Vec3
   originAt e = vertexAt v (lowAt edgeWords e)
 
-  abbrev pub endAt : ℕ → Vec3
-  endAt e = vertexAt v (highAt edgeWords e)
+  abbrev pub endPoint : ℕ → Vec3
+  endPoint e = vertexAt v (highAt edgeWords e)
 
   -- the length and the unit vector of edge e
   unfoldable pub lengthRow : ℕ → List Float
-  lengthRow e = lenOf (originAt e) (endAt e) ∷ row3 (xhatOf (originAt e) (endAt e))
+  lengthRow e = lenOf (originAt e) (endPoint e) ∷ row3 (xhatOf (originAt e) (endPoint e))
 
   abbrev pub withLengths : ℕ → List Float → List Float
   withLengths n reals = withRows realsPerEdge lengthRow n reals
@@ -81,7 +81,7 @@ module _ (v : List Float) (edgeWords : List ℕ) where
 module _ (v : List Float) (triangles triangleWords : List ℕ) (edgeReals : List Float) where
   -- over side h, from its edge's stored unit vector, to the third vertex, not yet scaled; the Rust's `edges[e][0]` is the lower of the side's two vertices
   unfoldable pub perpendicularAt : ℕ → Vec3
-  perpendicularAt h = perpendicularFrom (vertexAt v (sideEdge triangles h .low)) (unitAt edgeReals (sideAt triangleWords h)) (vertexAt v (corner triangles h 2))
+  perpendicularAt h = perpendicularFrom (vertexAt v (sideEdge triangles h .low)) (unitAt edgeReals (sideAt triangleWords h)) (vertexAt v (sideVertex triangles h 2))
 
   abbrev pub perpendicularRow : ℕ → List Float
   perpendicularRow h = row3 (perpendicularAt h)

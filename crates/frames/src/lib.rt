@@ -20,13 +20,14 @@ ghost use lib.ListN.{length, getD, replicate};
 ghost use lib.Ieee.{nan};
 ghost use Rattle.layout.specs.Layout.{realsPerEdge, realsPerTriangle, realsPerNormal};
 ghost use Rattle.buffers.specs.Slots.{fill};
-ghost use Rattle.float64.specs.Scalar.{zero};
+ghost use Rattle.float64.specs.Scalar.{zero64};
 ghost use Rattle.vec3.specs.Vec.{subOf};
 ghost use Rattle.job_checks.specs.Edge.{vertexAt, lower, perpendicularFrom};
-ghost use Rattle.frames.specs.Stored.{vectorFrom, vectorAt, unitAt, fillThree, withRows, unitRow, originAt, endAt, lengthRow, withLengths, perpendicularRow, withNormals};
+ghost use Rattle.frames.specs.Stored.{vectorFrom, vectorAt, unitAt, fillThree, withRows, unitRow, originAt, endPoint, lengthRow, withLengths, perpendicularRow, withNormals};
+ghost use Rattle.buffers.specs.Lent.{given, left};
 
 fn real(reals: &[f64], i: usize) -> f64
-    ensures { λ r. ⌜ r ≡ getD (now (reals .entry)) i nan ⌝ }
+    ensures { λ r. ⌜ r ≡ getD (given reals) i nan ⌝ }
 {
     if i < reals.len() { reals[i] } else { 0.0 / 0.0 }
 }
@@ -34,7 +35,7 @@ fn real(reals: &[f64], i: usize) -> f64
 // Three reals from one on; one test where all are inside.
 pub fn vector_from(reals: &[f64], i: usize) -> Vec3
     requires { ⌜ i + 2 < 18446744073709551616 ⌝ }
-    ensures { λ r. ⌜ r ≡ vectorFrom (now (reals .entry)) i ⌝ }
+    ensures { λ r. ⌜ r ≡ vectorFrom (given reals) i ⌝ }
 {
     if i + 2 < reals.len() {
         return Vec3 {
@@ -53,7 +54,7 @@ pub fn vector_from(reals: &[f64], i: usize) -> Vec3
 // Three reals of a slot from a field on.
 fn vector(reals: &[f64], stride: u32, slot: u32, field: u32) -> Vec3
     requires { ⌜ field + 2 < 4294967296 ⌝ }
-    ensures { λ r. ⌜ r ≡ vectorAt stride (now (reals .entry)) slot field ⌝ }
+    ensures { λ r. ⌜ r ≡ vectorAt stride (given reals) slot field ⌝ }
 {
     vector_from(
         reals,
@@ -62,14 +63,14 @@ fn vector(reals: &[f64], stride: u32, slot: u32, field: u32) -> Vec3
 }
 
 fn vertex(vertices: &[f64], k: u32) -> Vec3
-    ensures { λ r. ⌜ r ≡ vertexAt (now (vertices .entry)) k ⌝ }
+    ensures { λ r. ⌜ r ≡ vertexAt (given vertices) k ⌝ }
 {
     vector(vertices, COORDINATES_PER_VERTEX, k, 0)
 }
 
 fn store_four(reals: &mut [f64], slot: u32, len: f64, u: Vec3)
     requires { ⌜ realsPerEdge * slot + realsPerEdge ≤ length (now reals) ⌝ }
-    ensures { λ r. ⌜ now (reals .exit) ≡ fill realsPerEdge (now (reals .entry)) slot 0 (len ∷ u .x ∷ u .y ∷ u .z ∷ []) ⌝ }
+    ensures { λ r. ⌜ left reals ≡ fill realsPerEdge (given reals) slot 0 (len ∷ u .x ∷ u .y ∷ u .z ∷ []) ⌝ }
 {
     let i = (REALS_PER_EDGE as usize) * (slot as usize);
     reals[i] = len;
@@ -80,7 +81,7 @@ fn store_four(reals: &mut [f64], slot: u32, len: f64, u: Vec3)
 
 fn store_three(reals: &mut [f64], slot: u32, u: Vec3)
     requires { ⌜ realsPerNormal * slot + realsPerNormal ≤ length (now reals) ⌝ }
-    ensures { λ r. ⌜ now (reals .exit) ≡ fill realsPerNormal (now (reals .entry)) slot 0 (u .x ∷ u .y ∷ u .z ∷ []) ⌝ }
+    ensures { λ r. ⌜ left reals ≡ fill realsPerNormal (given reals) slot 0 (u .x ∷ u .y ∷ u .z ∷ []) ⌝ }
 {
     let i = (REALS_PER_NORMAL as usize) * (slot as usize);
     reals[i] = u.x;
@@ -89,20 +90,20 @@ fn store_three(reals: &mut [f64], slot: u32, u: Vec3)
 }
 
 fn origin(vertices: &[f64], edge_words: &[u32], e: u32) -> Vec3
-    ensures { λ r. ⌜ r ≡ originAt (now (vertices .entry)) (now («edge_words» .entry)) e ⌝ }
+    ensures { λ r. ⌜ r ≡ originAt (given vertices) (given «edge_words») e ⌝ }
 {
     vertex(vertices, read_u32(edge_words, WORDS_PER_EDGE, e, EDGE_LOW))
 }
 
 fn end(vertices: &[f64], edge_words: &[u32], e: u32) -> Vec3
-    ensures { λ r. ⌜ r ≡ endAt (now (vertices .entry)) (now («edge_words» .entry)) e ⌝ }
+    ensures { λ r. ⌜ r ≡ endPoint (given vertices) (given «edge_words») e ⌝ }
 {
     vertex(vertices, read_u32(edge_words, WORDS_PER_EDGE, e, EDGE_HIGH))
 }
 
 // From the start of edge e to its end.
 fn edge_vector(vertices: &[f64], edge_words: &[u32], e: u32) -> Vec3
-    ensures { λ r. ⌜ r ≡ subOf (endAt (now (vertices .entry)) (now («edge_words» .entry)) e) (originAt (now (vertices .entry)) (now («edge_words» .entry)) e) ⌝ }
+    ensures { λ r. ⌜ r ≡ subOf (endPoint (given vertices) (given «edge_words») e) (originAt (given vertices) (given «edge_words») e) ⌝ }
 {
     let o = origin(vertices, edge_words, e);
     let b = end(vertices, edge_words, e);
@@ -112,7 +113,7 @@ fn edge_vector(vertices: &[f64], edge_words: &[u32], e: u32) -> Vec3
 // The length and the unit vector of edge e.
 fn store_length(vertices: &[f64], edge_words: &[u32], e: u32, edge_reals: &mut [f64])
     requires { ⌜ realsPerEdge * e + realsPerEdge ≤ length (now «edge_reals») ⌝ }
-    ensures { λ r. ⌜ now («edge_reals» .exit) ≡ fill realsPerEdge (now («edge_reals» .entry)) e 0 (lengthRow (now (vertices .entry)) (now («edge_words» .entry)) e) ⌝ }
+    ensures { λ r. ⌜ left «edge_reals» ≡ fill realsPerEdge (given «edge_reals») e 0 (lengthRow (given vertices) (given «edge_words») e) ⌝ }
 {
     let d = edge_vector(vertices, edge_words, e);
     let len = vec3::norm(d);
@@ -122,7 +123,8 @@ fn store_length(vertices: &[f64], edge_words: &[u32], e: u32, edge_reals: &mut [
 // The same of the edges e, e + 1 and e + 2.
 fn store_three_lengths(vertices: &[f64], edge_words: &[u32], e: u32, edge_reals: &mut [f64])
     requires { ⌜ (realsPerEdge * e + 3 * realsPerEdge ≤ length (now «edge_reals»)) × (e + 2 < 4294967296) ⌝ }
-    ensures { λ r. ⌜ now («edge_reals» .exit) ≡ fillThree realsPerEdge (now («edge_reals» .entry)) e (lengthRow (now (vertices .entry)) (now («edge_words» .entry)) e) (lengthRow (now (vertices .entry)) (now («edge_words» .entry)) (e + 1)) (lengthRow (now (vertices .entry)) (now («edge_words» .entry)) (e + 2)) ⌝ }
+    ensures { λ r. ⌜ left «edge_reals» ≡ fillThree realsPerEdge (given «edge_reals») e (lengthRow (given vertices) (given «edge_words») e)
+        (lengthRow (given vertices) (given «edge_words») (e + 1)) (lengthRow (given vertices) (given «edge_words») (e + 2)) ⌝ }
 {
     let d = edge_vector(vertices, edge_words, e);
     let d1 = edge_vector(vertices, edge_words, e + 1);
@@ -136,7 +138,7 @@ fn store_three_lengths(vertices: &[f64], edge_words: &[u32], e: u32, edge_reals:
 // Of the first `count` edges; the other slots are zeroed.
 pub fn lengths(vertices: &[f64], edge_words: &[u32], count: u32, edge_reals: &mut [f64])
     requires { ⌜ realsPerEdge * count ≤ length (now «edge_reals») ⌝ }
-    ensures { λ r. ⌜ now («edge_reals» .exit) ≡ withLengths (now (vertices .entry)) (now («edge_words» .entry)) count (replicate (length (now («edge_reals» .entry))) zero) ⌝ }
+    ensures { λ r. ⌜ left «edge_reals» ≡ withLengths (given vertices) (given «edge_words») count (replicate (length (given «edge_reals»)) zero64) ⌝ }
 {
     let mut e: u32 = 0;
     while e < count {
@@ -153,7 +155,7 @@ pub fn lengths(vertices: &[f64], edge_words: &[u32], count: u32, edge_reals: &mu
 
 // From the edge e of the vertices a and b to the third vertex, at a right angle. The edge's unit vector is read, not computed again.
 fn perpendicular(vertices: &[f64], edge_reals: &[f64], e: u32, a: u32, b: u32, third: u32) -> Vec3
-    ensures { λ r. ⌜ r ≡ perpendicularFrom (vertexAt (now (vertices .entry)) (lower a b)) (unitAt (now («edge_reals» .entry)) e) (vertexAt (now (vertices .entry)) third) ⌝ }
+    ensures { λ r. ⌜ r ≡ perpendicularFrom (vertexAt (given vertices) (lower a b)) (unitAt (given «edge_reals») e) (vertexAt (given vertices) third) ⌝ }
 {
     let o = vertex(vertices, lower_of(a, b));
     let xhat = vector(edge_reals, REALS_PER_EDGE, e, EDGE_UNIT);
@@ -171,7 +173,10 @@ fn store_perpendiculars(
     triangle_reals: &mut [f64],
 )
     requires { ⌜ (realsPerTriangle * f + realsPerTriangle ≤ length (now «triangle_reals»)) × (3 * f + 2 < 4294967296) ⌝ }
-    ensures { λ r. ⌜ now («triangle_reals» .exit) ≡ fillThree realsPerNormal (now («triangle_reals» .entry)) (3 * f) (perpendicularRow (now (vertices .entry)) (now (triangles .entry)) (now («triangle_words» .entry)) (now («edge_reals» .entry)) (3 * f)) (perpendicularRow (now (vertices .entry)) (now (triangles .entry)) (now («triangle_words» .entry)) (now («edge_reals» .entry)) (3 * f + 1)) (perpendicularRow (now (vertices .entry)) (now (triangles .entry)) (now («triangle_words» .entry)) (now («edge_reals» .entry)) (3 * f + 2)) ⌝ }
+    ensures { λ r. ⌜ left «triangle_reals» ≡ fillThree realsPerNormal (given «triangle_reals») (3 * f)
+        (perpendicularRow (given vertices) (given triangles) (given «triangle_words») (given «edge_reals») (3 * f))
+        (perpendicularRow (given vertices) (given triangles) (given «triangle_words») (given «edge_reals») (3 * f + 1))
+        (perpendicularRow (given vertices) (given triangles) (given «triangle_words») (given «edge_reals») (3 * f + 2)) ⌝ }
 {
     let a = read_u32(triangles, VERTICES_PER_TRIANGLE, f, 0);
     let b = read_u32(triangles, VERTICES_PER_TRIANGLE, f, 1);
@@ -197,7 +202,8 @@ fn perpendiculars(
     triangle_reals: &mut [f64],
 )
     requires { ⌜ (realsPerTriangle * faces ≤ length (now «triangle_reals»)) × (3 * faces < 4294967296) ⌝ }
-    ensures { λ r. ⌜ now («triangle_reals» .exit) ≡ withRows realsPerNormal (perpendicularRow (now (vertices .entry)) (now (triangles .entry)) (now («triangle_words» .entry)) (now («edge_reals» .entry))) (3 * faces) (now («triangle_reals» .entry)) ⌝ }
+    ensures { λ r. ⌜ left «triangle_reals» ≡ withRows realsPerNormal (perpendicularRow (given vertices) (given triangles) (given «triangle_words») (given «edge_reals»)) (3 * faces)
+        (given «triangle_reals») ⌝ }
 {
     let mut f: u32 = 0;
     while f < faces {
@@ -216,21 +222,21 @@ fn perpendiculars(
 // The three vectors of face f, scaled to length one.
 fn store_units(reals: &mut [f64], f: u32)
     requires { ⌜ (realsPerTriangle * f + realsPerTriangle ≤ length (now reals)) × (3 * f + 2 < 4294967296) ⌝ }
-    ensures { λ r. ⌜ now (reals .exit) ≡ fillThree realsPerNormal (now (reals .entry)) (3 * f) (unitRow (now (reals .entry)) (3 * f)) (unitRow (now (reals .entry)) (3 * f + 1)) (unitRow (now (reals .entry)) (3 * f + 2)) ⌝ }
+    ensures { λ r. ⌜ left reals ≡ fillThree realsPerNormal (given reals) (3 * f) (unitRow (given reals) (3 * f)) (unitRow (given reals) (3 * f + 1)) (unitRow (given reals) (3 * f + 2)) ⌝ }
 {
     let p = vector(reals, REALS_PER_NORMAL, 3 * f, 0);
     let p1 = vector(reals, REALS_PER_NORMAL, 3 * f + 1, 0);
     let p2 = vector(reals, REALS_PER_NORMAL, 3 * f + 2, 0);
-    let height = vec3::norms(p, p1, p2);
-    store_three(reals, 3 * f, vec3::scale(p, 1.0 / height.x));
-    store_three(reals, 3 * f + 1, vec3::scale(p1, 1.0 / height.y));
-    store_three(reals, 3 * f + 2, vec3::scale(p2, 1.0 / height.z));
+    let altitude = vec3::norms(p, p1, p2);
+    store_three(reals, 3 * f, vec3::scale(p, 1.0 / altitude.x));
+    store_three(reals, 3 * f + 1, vec3::scale(p1, 1.0 / altitude.y));
+    store_three(reals, 3 * f + 2, vec3::scale(p2, 1.0 / altitude.z));
 }
 
 // Of all faces.
 fn units(reals: &mut [f64], faces: u32)
     requires { ⌜ (realsPerTriangle * faces ≤ length (now reals)) × (3 * faces < 4294967296) ⌝ }
-    ensures { λ r. ⌜ now (reals .exit) ≡ withRows realsPerNormal (unitRow (now (reals .entry))) (3 * faces) (now (reals .entry)) ⌝ }
+    ensures { λ r. ⌜ left reals ≡ withRows realsPerNormal (unitRow (given reals)) (3 * faces) (given reals) ⌝ }
 {
     let mut f: u32 = 0;
     while f < faces {
@@ -249,7 +255,8 @@ pub fn normals(
     triangle_reals: &mut [f64],
 )
     requires { ⌜ (length (now triangles) < 4294967296) × ((length (now triangles) % 3 ≡ 0) × (realsPerNormal * length (now triangles) ≤ length (now «triangle_reals»))) ⌝ }
-    ensures { λ r. ⌜ now («triangle_reals» .exit) ≡ withNormals (now (vertices .entry)) (now (triangles .entry)) (now («triangle_words» .entry)) (now («edge_reals» .entry)) (length (now (triangles .entry))) (replicate (length (now («triangle_reals» .entry))) zero) ⌝ }
+    ensures { λ r. ⌜ left «triangle_reals» ≡ withNormals (given vertices) (given triangles) (given «triangle_words») (given «edge_reals») (length (given triangles))
+        (replicate (length (given «triangle_reals»)) zero64) ⌝ }
 {
     let faces = (triangles.len() / 3) as u32;
     perpendiculars(

@@ -12,7 +12,7 @@ use Rattle.heap.specs.declared.Pushed.{Pushed}
 use Rattle.heap.specs.declared.Pushed.the-variants.{Full, Queued}
 use Rattle.heap.specs.declared.Popped.{Popped}
 use Rattle.heap.specs.declared.Popped.the-variants.{Empty, First}
-use Rattle.heap.specs.Queue.{Queue, at, put, popped, slots, pushing, popping}
+use Rattle.heap.specs.Queue.{Queue, at, storeAt, popped, slots, pushing, popping}
 use Rattle.heap_c.specs.Exports.{pushAnswer, popAnswer}
 
 -- the event that is pushed, made of its words
@@ -33,7 +33,7 @@ module _ (n : ℕ) {q : Queue} {a : Popped × Queue} {r : Popped} (e : (r, q) �
   unfolding popAnswer
   pop-empty h = (λ t. popAnswer n (sym h t, q)) ∙ ap (popAnswer n) e
 
-  pub pop-first : {x : Event} {m : ℕ} {p : Queue} → r ≡ First x m → p ≡ put q m x → (m, p) ≡ popAnswer n a
+  pub pop-first : {x : Event} {m : ℕ} {p : Queue} → r ≡ First x m → p ≡ storeAt q m x → (m, p) ≡ popAnswer n a
   unfolding popAnswer
   pop-first {x} {m} h k = (λ t. (m, k t)) ∙ (λ t. popAnswer n (sym h t, q)) ∙ ap (popAnswer n) e
 

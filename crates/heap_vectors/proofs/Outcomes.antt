@@ -14,27 +14,27 @@ use Rattle.heap.specs.declared.Pushed.{Pushed}
 use Rattle.heap.specs.declared.Pushed.the-variants.{Full, Queued}
 use Rattle.heap.specs.declared.Popped.{Popped}
 use Rattle.heap.specs.declared.Popped.the-variants.{Empty, First}
-use Rattle.heap.specs.Order.{numberOf, kindOf}
+use Rattle.heap.specs.Order.{itemNumber, kindOf}
 use Rattle.heap.specs.Queue.{Queue, pushing, popping}
-use Rattle.heap_vectors.specs.Replay.{eventAt, sameEvent, Outcome, afterPush, popDiffers, afterPop, afterRecord, afterRecords}
+use Rattle.heap_vectors.specs.Replay.{eventAt, sameEvent, Replayed, afterPush, popDiffers, afterPop, afterRecord, afterRecords}
 
 module _ (a b : Event) {p q : ℕ} (d : p ≡ toBits binary64 (a .key)) (e : q ≡ toBits binary64 (b .key)) where
   pub other-key : p ≢ q → false ≡ sameEvent a b
   other-key h = rw (ne-eqb (toBits binary64 (a .key)) (toBits binary64 (b .key)) (λ z. h (d ∙ z ∙ sym e))) refl
 
-  module _ (h : p ≡ q) {m n : ℕ} (x : m ≡ numberOf (a .item)) (y : n ≡ numberOf (b .item)) where
+  module _ (h : p ≡ q) {m n : ℕ} (x : m ≡ itemNumber (a .item)) (y : n ≡ itemNumber (b .item)) where
     pub other-number : m ≢ n → false ≡ sameEvent a b
-    other-number k = rw (eq-eqb (toBits binary64 (a .key)) (toBits binary64 (b .key)) (sym d ∙ h ∙ e), ne-eqb (numberOf (a .item)) (numberOf (b .item)) (λ z. k (x ∙ z ∙ sym y))) refl
+    other-number k = rw (eq-eqb (toBits binary64 (a .key)) (toBits binary64 (b .key)) (sym d ∙ h ∙ e), ne-eqb (itemNumber (a .item)) (itemNumber (b .item)) (λ z. k (x ∙ z ∙ sym y))) refl
 
     module _ (k : m ≡ n) {s t : ℕ} (f : s ≡ kindOf (a .item)) (g : t ≡ kindOf (b .item)) where
-      abbrev number : numberOf (a .item) ≡ numberOf (b .item)
+      abbrev number : itemNumber (a .item) ≡ itemNumber (b .item)
       number = sym x ∙ k ∙ y
 
       pub other-kind : s ≢ t → false ≡ sameEvent a b
-      other-kind l = rw (eq-eqb (toBits binary64 (a .key)) (toBits binary64 (b .key)) (sym d ∙ h ∙ e), eq-eqb (numberOf (a .item)) (numberOf (b .item)) number, ne-eqb (kindOf (a .item)) (kindOf (b .item)) (λ z. l (f ∙ z ∙ sym g))) refl
+      other-kind l = rw (eq-eqb (toBits binary64 (a .key)) (toBits binary64 (b .key)) (sym d ∙ h ∙ e), eq-eqb (itemNumber (a .item)) (itemNumber (b .item)) number, ne-eqb (kindOf (a .item)) (kindOf (b .item)) (λ z. l (f ∙ z ∙ sym g))) refl
 
       pub one-event : s ≡ t → true ≡ sameEvent a b
-      one-event l = rw (eq-eqb (toBits binary64 (a .key)) (toBits binary64 (b .key)) (sym d ∙ h ∙ e), eq-eqb (numberOf (a .item)) (numberOf (b .item)) number, eq-eqb (kindOf (a .item)) (kindOf (b .item)) (sym f ∙ l ∙ g)) refl
+      one-event l = rw (eq-eqb (toBits binary64 (a .key)) (toBits binary64 (b .key)) (sym d ∙ h ∙ e), eq-eqb (itemNumber (a .item)) (itemNumber (b .item)) number, eq-eqb (kindOf (a .item)) (kindOf (b .item)) (sym f ∙ l ∙ g)) refl
 
 module _ (found : Bool) (n : ℕ) {q : Queue} {a : Pushed × Queue} {r : Pushed} (e : (r, q) ≡ a) where
   pub push-full : {d : ℕ} → r ≡ Full → d ≡ cond found 1 0 → (n, (d, q)) ≡ afterPush found n a
@@ -77,18 +77,18 @@ module _ (s : List ℕ) (k n : ℕ) (q : Queue) where
   record-le : afterRecord s k n q .1 .0 ≤ 1
   unfolding afterRecord
   record-le = go (ltb (wordAt s (4 * k)) 2) where
-    go : (t : Bool) → cond {A = Outcome} t (afterPush (eqb (wordAt s (4 * k)) 0) n (pushing q n (eventAt s k))) (afterPop (eqb (wordAt s (4 * k)) 2) (eventAt s k) n (popping q n)) .1 .0 ≤ 1
+    go : (t : Bool) → cond {A = Replayed} t (afterPush (eqb (wordAt s (4 * k)) 0) n (pushing q n (eventAt s k))) (afterPop (eqb (wordAt s (4 * k)) 2) (eventAt s k) n (popping q n)) .1 .0 ≤ 1
     go true = push-le (eqb (wordAt s (4 * k)) 0) n (pushing q n (eventAt s k))
     go false = pop-le (eqb (wordAt s (4 * k)) 2) (eventAt s k) n (popping q n)
 
   pub answer-le : {n′ d′ : ℕ} {q′ : Queue} → (n′, (d′, q′)) ≡ afterRecord s k n q → d′ ≤ 1
   answer-le {n′} {d′} e = let z : d′ ≡ afterRecord s k n q .1 .0 = λ t. e t .1 .0 in rw z record-le
 
-  pub record-push : {w : ℕ} {e : Event} {o : Outcome} → w ≡ wordAt s (4 * k) → e ≡ eventAt s k → w < 2 → o ≡ afterPush (eqb w 0) n (pushing q n e) → o ≡ afterRecord s k n q
+  pub record-push : {w : ℕ} {e : Event} {o : Replayed} → w ≡ wordAt s (4 * k) → e ≡ eventAt s k → w < 2 → o ≡ afterPush (eqb w 0) n (pushing q n e) → o ≡ afterRecord s k n q
   unfolding afterRecord
   record-push x y h z = z ∙ rw (y, x, lt-ltb (wordAt s (4 * k)) 2 (rw (← x) h)) refl
 
-  pub record-pop : {w : ℕ} {e : Event} {o : Outcome} → w ≡ wordAt s (4 * k) → e ≡ eventAt s k → 2 ≤ w → o ≡ afterPop (eqb w 2) e n (popping q n) → o ≡ afterRecord s k n q
+  pub record-pop : {w : ℕ} {e : Event} {o : Replayed} → w ≡ wordAt s (4 * k) → e ≡ eventAt s k → 2 ≤ w → o ≡ afterPop (eqb w 2) e n (popping q n) → o ≡ afterRecord s k n q
   unfolding afterRecord
   record-pop x y h z = z ∙ rw (y, x, le-ltb (wordAt s (4 * k)) 2 (rw (← x) h)) refl
 

@@ -11,7 +11,7 @@ use Rattle.heap.specs.declared.Pushed.{Pushed}
 use Rattle.heap.specs.declared.Pushed.the-variants.{Full, Queued}
 use Rattle.heap.specs.declared.Popped.{Popped}
 use Rattle.heap.specs.declared.Popped.the-variants.{Empty, First}
-use Rattle.heap.specs.Order.{numberOf, kindOf, itemOf}
+use Rattle.heap.specs.Order.{itemNumber, kindOf, itemOf}
 use Rattle.heap.specs.Queue.{Queue, pushing, popping}
 
 unfoldable pub eventAt : List ℕ → ℕ → Event
@@ -20,32 +20,32 @@ eventAt s k = record { key = floatAt s (4 * k + 1); item = itemOf (wordAt s (4 *
 -- one event, a NaN equal to a NaN
 abbrev pub sameEvent : Event → Event → Bool
 sameEvent a b =
-    cond (eqb (toBits binary64 (a .key)) (toBits binary64 (b .key))) (cond (eqb (numberOf (a .item)) (numberOf (b .item))) (eqb (kindOf (a .item)) (kindOf (b .item))) false) false
+    cond (eqb (toBits binary64 (a .key)) (toBits binary64 (b .key))) (cond (eqb (itemNumber (a .item)) (itemNumber (b .item))) (eqb (kindOf (a .item)) (kindOf (b .item))) false) false
 
 -- how many events there are then, whether the answer differs (1) or not (0), and the buffers
-abbrev pub Outcome : Type 0
-Outcome = ℕ × (ℕ × Queue)
+abbrev pub Replayed : Type 0
+Replayed = ℕ × (ℕ × Queue)
 
 -- `found` is the stored answer: that the push found a slot, that the pop found an event
-unfoldable pub afterPush : Bool → ℕ → Pushed × Queue → Outcome
+unfoldable pub afterPush : Bool → ℕ → Pushed × Queue → Replayed
 afterPush found n (Full, q) = (n, (cond found 1 0, q))
 afterPush found n (Queued m, q) = (m, (cond (not found) 1 0, q))
 
 unfoldable pub popDiffers : Bool → Event → Event → ℕ
 popDiffers found x e = cond found (cond (not (sameEvent x e)) 1 0) 1
 
-unfoldable pub afterPop : Bool → Event → ℕ → Popped × Queue → Outcome
+unfoldable pub afterPop : Bool → Event → ℕ → Popped × Queue → Replayed
 unfolding popDiffers
 afterPop found e n (Empty, q) = (n, (cond found 1 0, q))
 afterPop found e n (First x m, q) = (m, (popDiffers found x e, q))
 
-unfoldable pub afterRecord : List ℕ → ℕ → ℕ → Queue → Outcome
+unfoldable pub afterRecord : List ℕ → ℕ → ℕ → Queue → Replayed
 afterRecord s k n q =
     cond (ltb (wordAt s (4 * k)) 2)
     (afterPush (eqb (wordAt s (4 * k)) 0) n (pushing q n (eventAt s k)))
     (afterPop (eqb (wordAt s (4 * k)) 2) (eventAt s k) n (popping q n))
 
 -- m records from record k on, where d differed before
-unfoldable pub afterRecords : ℕ → List ℕ → ℕ → ℕ → ℕ → Queue → Outcome
+unfoldable pub afterRecords : ℕ → List ℕ → ℕ → ℕ → ℕ → Queue → Replayed
 afterRecords zero s k n d q = (n, (d, q))
 afterRecords (suc m) s k n d q = let t = afterRecord s k n q in afterRecords m s (k + 1) (t .0) (d + t .1 .0) (t .1 .1)

@@ -14,6 +14,7 @@ ghost use Prim.Native.Nat.{_+_, _*_, _/_, _%_, _≤_, _<_};
 ghost use lib.ListN.{length};
 ghost use Rattle.heap.specs.Queue.{queue, pushing, popping};
 ghost use Rattle.heap_vectors.specs.Replay.{eventAt, sameEvent, afterPush, popDiffers, afterPop, afterRecord, afterRecords};
+ghost use Rattle.buffers.specs.Lent.{given, left};
 
 // How many events the queue has, how many operations were replayed and how many differed.
 struct State {
@@ -32,7 +33,7 @@ fn low(x: u64) -> u32
 // The event of record k of s.
 fn event(s: &[u8], k: usize) -> Event
     requires { ⌜ 32 * k + 32 ≤ length (now s) ⌝ }
-    ensures { λ r. ⌜ r ≡ eventAt (now (s .entry)) k ⌝ }
+    ensures { λ r. ⌜ r ≡ eventAt (given s) k ⌝ }
 {
     Event {
         key: vectors::float_at(s, 4 * k + 1),
@@ -76,7 +77,7 @@ struct Outcome {
 }
 
 fn replay_push(keys: &mut [f64], words: &mut [u32], n: u32, e: Event, found: bool) -> Outcome
-    ensures { λ r. ⌜ (r .n, (r .differs, queue (now (keys .exit)) (now (words .exit)))) ≡ afterPush found n (pushing (queue (now (keys .entry)) (now (words .entry))) n e) ⌝ }
+    ensures { λ r. ⌜ (r .n, (r .differs, queue (left keys) (left words))) ≡ afterPush found n (pushing (queue (given keys) (given words)) n e) ⌝ }
 {
     match push(keys, words, n, e) {
         Pushed::Full => Outcome {
@@ -101,7 +102,7 @@ fn pop_differs(found: bool, x: Event, e: Event) -> u64
 }
 
 fn replay_pop(keys: &mut [f64], words: &mut [u32], n: u32, e: Event, found: bool) -> Outcome
-    ensures { λ r. ⌜ (r .n, (r .differs, queue (now (keys .exit)) (now (words .exit)))) ≡ afterPop found e n (popping (queue (now (keys .entry)) (now (words .entry))) n) ⌝ }
+    ensures { λ r. ⌜ (r .n, (r .differs, queue (left keys) (left words))) ≡ afterPop found e n (popping (queue (given keys) (given words)) n) ⌝ }
 {
     match pop(keys, words, n) {
         Popped::Empty => Outcome {
@@ -118,7 +119,7 @@ fn replay_pop(keys: &mut [f64], words: &mut [u32], n: u32, e: Event, found: bool
 // Record k of s.
 fn replay_record(keys: &mut [f64], words: &mut [u32], n: u32, s: &[u8], k: usize) -> Outcome
     requires { ⌜ 32 * k + 32 ≤ length (now s) ⌝ }
-    ensures { λ r. ⌜ (r .n, (r .differs, queue (now (keys .exit)) (now (words .exit)))) ≡ afterRecord (now (s .entry)) k n (queue (now (keys .entry)) (now (words .entry))) ⌝ }
+    ensures { λ r. ⌜ (r .n, (r .differs, queue (left keys) (left words))) ≡ afterRecord (given s) k n (queue (given keys) (given words)) ⌝ }
 {
     let what = vectors::word(s, 4 * k);
     let e = event(s, k);
@@ -131,8 +132,8 @@ fn replay_record(keys: &mut [f64], words: &mut [u32], n: u32, s: &[u8], k: usize
 // The records of a chunk, from a queue of n events on.
 fn replay_records(keys: &mut [f64], words: &mut [u32], n: u32, s: &[u8]) -> State
     requires { ⌜ length (now s) ≤ 32768 ⌝ }
-    ensures { λ r. ⌜ (r .n, (r .differences, queue (now (keys .exit)) (now (words .exit)))) ≡ afterRecords (length (now (s .entry)) / 32) (now (s .entry)) 0 n 0 (queue (now (keys .entry)) (now (words .entry))) ⌝ }
-    ensures { λ r. ⌜ (r .cases ≡ length (now (s .entry)) / 32) × (r .differences ≤ r .cases) ⌝ }
+    ensures { λ r. ⌜ (r .n, (r .differences, queue (left keys) (left words))) ≡ afterRecords (length (given s) / 32) (given s) 0 n 0 (queue (given keys) (given words)) ⌝ }
+    ensures { λ r. ⌜ (r .cases ≡ length (given s) / 32) × (r .differences ≤ r .cases) ⌝ }
 {
     let mut n = n;
     let mut differences: u64 = 0;

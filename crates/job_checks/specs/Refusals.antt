@@ -7,7 +7,7 @@ use lib.Dec.{ltb, leb, eqb}
 use lib.ListN.{length, getD}
 use lib.Ieee.{Float, nan, binary64, ofBits, le, neg}
 use Rattle.layout.specs.Layout.{coordinatesPerVertex, coordinatesPerPiece}
-use Rattle.float64.specs.Scalar.{zero}
+use Rattle.float64.specs.Scalar.{zero64}
 use Rattle.vec3.specs.declared.Vec3.{Vec3}
 use Rattle.job_checks.specs.declared.BufferCounts.{BufferCounts}
 use Rattle.job_checks.specs.declared.Checked.{Checked}
@@ -139,7 +139,7 @@ pieceOutOfRange kinds coords = anyBelow (usedOutOfRange kinds coords) (length co
 
 -- 8: the limit is out of range or NaN
 unfoldable pub limitOutside : Float → Bool
-limitOutside x = not (le zero x && le x maxLimit)
+limitOutside x = not (le zero64 x && le x maxLimit)
 
 -- 9: a buffer of a fixed size is too short
 unfoldable pub tooShort : ℕ → ℕ → ℕ → BufferCounts → Bool

@@ -14,6 +14,7 @@ ghost use Rattle.job_checks.specs.Any.{anyBelow, firstOf};
 ghost use Rattle.job_checks.specs.Edge.{vertexAt, lower, higher};
 ghost use Rattle.job_checks.specs.Job.{job};
 ghost use Rattle.job_checks.specs.Refusals.{
+ghost use Rattle.buffers.specs.Lent.{given};
   refusalNumber,
   refusalOf,
   wrongCounts,
@@ -63,7 +64,7 @@ pub struct BufferCounts {
 }
 
 fn any_above_one(bytes: &[u8]) -> bool
-    ensures { λ r. ⌜ r ≡ anyBelow (aboveOne (now (bytes .entry))) (length (now (bytes .entry))) ⌝ }
+    ensures { λ r. ⌜ r ≡ anyBelow (aboveOne (given bytes)) (length (given bytes)) ⌝ }
 {
     let mut i = 0;
     while i < bytes.len() {
@@ -77,7 +78,7 @@ fn any_above_one(bytes: &[u8]) -> bool
 
 // Whether one of the numbers names none of count things.
 fn any_missing(numbers: &[u32], count: usize) -> bool
-    ensures { λ r. ⌜ r ≡ anyBelow (missing count (now (numbers .entry))) (length (now (numbers .entry))) ⌝ }
+    ensures { λ r. ⌜ r ≡ anyBelow (missing count (given numbers)) (length (given numbers)) ⌝ }
 {
     let mut i = 0;
     while i < numbers.len() {
@@ -97,7 +98,7 @@ fn wide(x: u32) -> usize
 
 // Whether a triangle names a vertex twice.
 fn any_repeated(triangles: &[u32]) -> bool
-    ensures { λ r. ⌜ r ≡ anyBelow (repeatedIn (now (triangles .entry))) (length (now (triangles .entry)) / 3) ⌝ }
+    ensures { λ r. ⌜ r ≡ anyBelow (repeatedIn (given triangles)) (length (given triangles) / 3) ⌝ }
 {
     let mut t = 0;
     while t < triangles.len() / 3 {
@@ -141,7 +142,7 @@ fn out_of_range(x: f64) -> bool
 }
 
 fn any_out_of_range(coords: &[f64]) -> bool
-    ensures { λ r. ⌜ r ≡ anyBelow (outOfRangeAt (now (coords .entry))) (length (now (coords .entry))) ⌝ }
+    ensures { λ r. ⌜ r ≡ anyBelow (outOfRangeAt (given coords)) (length (given coords)) ⌝ }
 {
     let mut i = 0;
     while i < coords.len() {
@@ -171,7 +172,7 @@ fn degenerate(o: Vec3, d: Vec3, len: f64, third: Vec3) -> bool
 }
 
 fn vertex(v: &[f64], k: u32) -> Vec3
-    ensures { λ r. ⌜ r ≡ vertexAt (now (v .entry)) k ⌝ }
+    ensures { λ r. ⌜ r ≡ vertexAt (given v) k ⌝ }
 {
     Vec3 {
         x: read_f64(v, COORDINATES_PER_VERTEX, k, 0),
@@ -200,7 +201,7 @@ pub fn higher_of(a: u32, b: u32) -> u32
 
 // The edge of a and b starts at its lower-numbered vertex.
 fn edge_vector(v: &[f64], a: u32, b: u32) -> Vec3
-    ensures { λ r. ⌜ r ≡ subOf (vertexAt (now (v .entry)) (higher a b)) (vertexAt (now (v .entry)) (lower a b)) ⌝ }
+    ensures { λ r. ⌜ r ≡ subOf (vertexAt (given v) (higher a b)) (vertexAt (given v) (lower a b)) ⌝ }
 {
     let start = lower_of(a, b);
     let end = higher_of(a, b);
@@ -210,7 +211,7 @@ fn edge_vector(v: &[f64], a: u32, b: u32) -> Vec3
 // `d` is the vector of the edge of a and b, `len` its length.
 fn degenerate_edge(v: &[f64], a: u32, b: u32, third: u32, d: Vec3, len: f64) -> bool
     requires { ⌜ (d ≡ subOf (vertexAt (now v) (higher a b)) (vertexAt (now v) (lower a b))) × (len ≡ normOf d) ⌝ }
-    ensures { λ r. ⌜ r ≡ degenerateEdge (now (v .entry)) a b third ⌝ }
+    ensures { λ r. ⌜ r ≡ degenerateEdge (given v) a b third ⌝ }
 {
     let o = lower_of(a, b);
     degenerate(vertex(v, o), d, len, vertex(v, third))
@@ -218,7 +219,7 @@ fn degenerate_edge(v: &[f64], a: u32, b: u32, third: u32, d: Vec3, len: f64) -> 
 
 // The three lengths come first, so that their roots are taken side by side.
 fn degenerate_triangle(v: &[f64], a: u32, b: u32, c: u32) -> bool
-    ensures { λ r. ⌜ r ≡ degenerateIn (now (v .entry)) a b c ⌝ }
+    ensures { λ r. ⌜ r ≡ degenerateIn (given v) a b c ⌝ }
 {
     let ab = edge_vector(v, a, b);
     let bc = edge_vector(v, b, c);
@@ -238,7 +239,7 @@ fn degenerate_triangle(v: &[f64], a: u32, b: u32, c: u32) -> bool
 
 // Refusal 5: whether a triangle has an edge too short or an altitude too small.
 pub fn any_degenerate(v: &[f64], triangles: &[u32]) -> bool
-    ensures { λ r. ⌜ r ≡ degenerateTriangle (now (v .entry)) (now (triangles .entry)) ⌝ }
+    ensures { λ r. ⌜ r ≡ degenerateTriangle (given v) (given triangles) ⌝ }
 {
     let mut t = 0;
     while t < triangles.len() / 3 {
@@ -254,7 +255,7 @@ pub fn any_degenerate(v: &[f64], triangles: &[u32]) -> bool
 }
 
 fn kind_at(kinds: &[u8], i: usize) -> u8
-    ensures { λ r. ⌜ r ≡ getD (now (kinds .entry)) i 0 ⌝ }
+    ensures { λ r. ⌜ r ≡ getD (given kinds) i 0 ⌝ }
 {
     if i < kinds.len() { kinds[i] } else { 0 }
 }
@@ -262,7 +263,7 @@ fn kind_at(kinds: &[u8], i: usize) -> u8
 // Whether coordinate i is out of range and its piece uses it: a point has only the first three of six.
 fn used_out_of_range(kinds: &[u8], coords: &[f64], i: usize) -> bool
     requires { ⌜ i < length (now coords) ⌝ }
-    ensures { λ r. ⌜ r ≡ usedOutOfRange (now (kinds .entry)) (now (coords .entry)) i ⌝ }
+    ensures { λ r. ⌜ r ≡ usedOutOfRange (given kinds) (given coords) i ⌝ }
 {
     if out_of_range(coords[i]) {
         if i % 6 < 3 {
@@ -277,7 +278,7 @@ fn used_out_of_range(kinds: &[u8], coords: &[f64], i: usize) -> bool
 }
 
 fn any_piece_out_of_range(kinds: &[u8], coords: &[f64]) -> bool
-    ensures { λ r. ⌜ r ≡ pieceOutOfRange (now (kinds .entry)) (now (coords .entry)) ⌝ }
+    ensures { λ r. ⌜ r ≡ pieceOutOfRange (given kinds) (given coords) ⌝ }
 {
     let mut i = 0;
     while i < coords.len() {
@@ -395,7 +396,7 @@ pub fn is_malformed(
     faces: usize,
     coords: usize,
 ) -> bool
-    ensures { λ r. ⌜ r ≡ malformed vertices triangles (now (flags .entry)) (now (kinds .entry)) faces coords ⌝ }
+    ensures { λ r. ⌜ r ≡ malformed vertices triangles (given flags) (given kinds) faces coords ⌝ }
 {
     if wrong_counts(vertices, triangles, flags.len(), kinds.len(), faces, coords) {
         return true;
@@ -411,7 +412,7 @@ pub fn is_malformed(
 
 // The first of the refusals 2 to 4 that holds, if any.
 pub fn check_mesh(vertices: &[f64], triangles: &[u32]) -> Checked
-    ensures { λ r. ⌜ refusalNumber r ≡ firstOf (meshTests (now (vertices .entry)) (now (triangles .entry))) ⌝ }
+    ensures { λ r. ⌜ refusalNumber r ≡ firstOf (meshTests (given vertices) (given triangles)) ⌝ }
 {
     if any_missing(triangles, vertices.len() / 3) {
         return Checked::MissingVertex;
@@ -427,7 +428,7 @@ pub fn check_mesh(vertices: &[f64], triangles: &[u32]) -> Checked
 
 // The first of the refusals 6 and 7 that holds, if any, of a job with so many triangles.
 pub fn check_pieces(triangles: usize, kinds: &[u8], faces: &[u32], coords: &[f64]) -> Checked
-    ensures { λ r. ⌜ refusalNumber r ≡ firstOf (pieceTests triangles (now (kinds .entry)) (now (faces .entry)) (now (coords .entry))) ⌝ }
+    ensures { λ r. ⌜ refusalNumber r ≡ firstOf (pieceTests triangles (given kinds) (given faces) (given coords)) ⌝ }
 {
     if any_missing(faces, triangles) {
         return Checked::MissingFace;
@@ -450,7 +451,7 @@ pub fn check(
     buffers: BufferCounts,
 ) -> Checked
     ensures { λ r. ⌜ refusalNumber r ≡ refusalOf
-        (job (now (vertices .entry)) (now (triangles .entry)) (now (flags .entry)) (now (kinds .entry)) (now (faces .entry)) (now (coords .entry)) limit)
+        (job (given vertices) (given triangles) (given flags) (given kinds) (given faces) (given coords) limit)
         buffers ⌝ }
 {
     let v = vertices.len();

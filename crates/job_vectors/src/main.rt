@@ -90,7 +90,8 @@ fn refusal_of(
     faces: &[u32],
     coords: &[f64],
 ) -> u32
-    requires { ⌜ (k < 500_000) × (length (now vertices) ≡ 192) × (length (now triangles) ≡ 96) × (length (now flags) ≡ 64) × (length (now kinds) ≡ 64) × (length (now faces) ≡ 96) × (length (now coords) ≡ 192) ⌝ }
+    requires { ⌜ (k < 500_000) × (length (now vertices) ≡ 192) × (length (now triangles) ≡ 96) × (length (now flags) ≡ 64) × (length (now kinds) ≡ 64) × (length (now faces) ≡ 96)
+        × (length (now coords) ≡ 192) ⌝ }
 {
     let limit = vectors::float(number(s, k + 15));
     let lent = buffers(s, k);

@@ -13,14 +13,14 @@ use lib.Seq.{drop-set-lt}
 use lib.Ieee.{Float}
 use Rattle.layout.specs.Layout.{wordsPerWindow, windowFlags, aliveFlag, realsPerWindow}
 use Rattle.windows.specs.declared.WindowRecord.{WindowRecord}
-use Rattle.windows.specs.Windows.{hasFlag, windowAt, rangeWith, flagsWith, trimmedWin, trimmed, reflagged, relinked, popped, adjust}
+use Rattle.windows.specs.Windows.{hasFlag, windowAt, rangeWith, flagsWith, trimmedWin, trimmed, reflagged, relinked, unqueuedRecord, adjust}
 use Rattle.windows.proofs.WindowList.{edge-is, trim-same, trim-other, flags-same, flags-other}
 use Rattle.chains.specs.Chains.{Links, links, Out, Belongs, OnEdge}
 use Rattle.chains.proofs.OnEdges.{flags-frame}
 use Rattle.better.specs.Claim.{All}
 use Rattle.trim_model.specs.Windows.{Window, unqueued}
 use Rattle.trim_state.specs.State.{put}
-use Rattle.live_windows.specs.Live.{liveOf, nums, Alive, Complete, Stands, Holds, bare, ranged, unqueuedIn, Loads, Trims}
+use Rattle.live_windows.specs.Live.{liveOf, nums, Alive, Complete, Stands, HoldsWindows, bare, ranged, unqueuedIn, Loads, Trims}
 use Rattle.live_windows.proofs.Places.{nums-cons}
 use Rattle.live_windows.proofs.Stored.{Same, same-alive, others, wins-adjust}
 use Rattle.live_windows.proofs.Standing.{at-edge, stands-put, stands-both, around, not-there, complete-at}
@@ -79,8 +79,8 @@ module _ (f : List Float) (i : ℕ) (b0 b1 low : Float) (there : realsPerWindow 
     reals = λ n l. fill-outside realsPerWindow n (b0 ∷ b1 ∷ low ∷ []) f i 0 l (omega arith);
     holds = λ n wins b e live xs u zs H d g. go n wins b e live xs u zs H g (at-edge n wins b f live e (xs ++ u ∷ zs) H d);
   }) where
-    go : (n : ℕ) (wins : List WindowRecord) (b : Links) (e : ℕ) (live : ℕ → List Window) (xs : List Window) (u : Window) (zs : List Window) → Holds n wins b f live → i ≡ u .num → Stands n b f e (xs ++ u ∷ zs)
-        → Holds n (adjust i (λ x. trimmed x b0 b1 low) wins) b f1 (put e (xs ++ ranged u b0 b1 low ∷ zs) live)
+    go : (n : ℕ) (wins : List WindowRecord) (b : Links) (e : ℕ) (live : ℕ → List Window) (xs : List Window) (u : Window) (zs : List Window) → HoldsWindows n wins b f live → i ≡ u .num → Stands n b f e (xs ++ u ∷ zs)
+        → HoldsWindows n (adjust i (λ x. trimmed x b0 b1 low) wins) b f1 (put e (xs ++ ranged u b0 b1 low ∷ zs) live)
     go n wins b e live xs u zs H g s =
         let w = b .words in
         let a = around n b f e xs u zs s in
@@ -107,8 +107,8 @@ nums-unqueued i (u ∷ us) = head (eqb (u .num) i) ∙ ap (λ l. u .num ∷ l) (
 -- window i, on whatever edge or on none, is no more queued
 pub record Unqueues (w w′ : List ℕ) (i : ℕ) : Type 0 where
   pub words : (n : ℕ) → i < n → drop (wordsPerWindow * n) w′ ≡ drop (wordsPerWindow * n) w
-  pub holds : (n : ℕ) (wins : List WindowRecord) (edges : List ℕ) (f : List Float) (live : ℕ → List Window) → Holds n wins (links edges w) f live
-      → Holds n (adjust i popped wins) (links edges w′) f (λ e. unqueuedIn i (live e))
+  pub holds : (n : ℕ) (wins : List WindowRecord) (edges : List ℕ) (f : List Float) (live : ℕ → List Window) → HoldsWindows n wins (links edges w) f live
+      → HoldsWindows n (adjust i unqueuedRecord wins) (links edges w′) f (λ e. unqueuedIn i (live e))
 
 module _ (w : List ℕ) (i : ℕ) (alive : Bool) (there : wordsPerWindow * i + wordsPerWindow ≤ length w) (is : alive ≡ hasFlag (getD w (wordsPerWindow * i + windowFlags) 0) aliveFlag) where
   abbrev w1 : List ℕ
@@ -121,17 +121,17 @@ module _ (w : List ℕ) (i : ℕ) (alive : Bool) (there : wordsPerWindow * i + w
   pop-others : (f : List Float) (j : ℕ) → i ≢ j → Same w f w1 f j
   pop-others f j ne = ap bare (flags-other w f i alive false j ne)
 
-  pop-is : (f : List Float) → windowAt w1 f i ≡ popped (windowAt w f i)
+  pop-is : (f : List Float) → windowAt w1 f i ≡ unqueuedRecord (windowAt w f i)
   pop-is f = flags-same w f i alive false there ∙ ap (λ a. reflagged (windowAt w f i) a false) (alive-is f)
 
-  pop-here : (f : List Float) → bare (windowAt w1 f i) ≡ popped (bare (windowAt w f i))
+  pop-here : (f : List Float) → bare (windowAt w1 f i) ≡ unqueuedRecord (bare (windowAt w f i))
   unfolding bare relinked reflagged
   pop-here f = ap bare (pop-is f)
 
   pop-alive : (f : List Float) (u : Window) → u .num ≡ i → Alive w f u → Alive w1 f (unqueued u)
   unfolding reflagged
   pop-alive f u g a =
-      let t : windowAt w1 f (u .num) ≡ popped (windowAt w f (u .num)) = subst (λ k. windowAt w1 f k ≡ popped (windowAt w f k)) (sym g) (pop-is f) in
+      let t : windowAt w1 f (u .num) ≡ unqueuedRecord (windowAt w f (u .num)) = subst (λ k. windowAt w1 f k ≡ unqueuedRecord (windowAt w f k)) (sym g) (pop-is f) in
       record { alive = ap (λ x. x .alive) t ∙ a .alive; same = ap (λ x. liveOf x (u .num)) t ∙ ap unqueued (a .same) }
 
   pop-all : (f : List Float) (us : List Window) → All (Alive w f) us → All (Alive w1 f) (unqueuedIn i us)
@@ -156,7 +156,7 @@ module _ (w : List ℕ) (i : ℕ) (alive : Bool) (there : wordsPerWindow * i + w
         windows = pop-all f (live e) (H .on-edge e .windows);
         complete = subst (Complete n w1 f e) (sym (nums-unqueued i (live e))) (pop-complete n f e (nums (live e)) (H .on-edge e .complete));
       };
-      all = wins-adjust n w f w1 f i popped (pop-others f) (pop-here f) ∙ ap (adjust i popped) (H .all);
+      all = wins-adjust n w f w1 f i unqueuedRecord (pop-others f) (pop-here f) ∙ ap (adjust i unqueuedRecord) (H .all);
       flags = few-flags n w i alive false there (H .flags);
     };
   })

@@ -18,7 +18,7 @@ use Rattle.better.specs.Claim.{All}
 use Rattle.trim_model.specs.Windows.{Window, takeWhile}
 use Rattle.trim_model.specs.Add.{passes}
 use Rattle.trim_model.proofs.Lists.{all-append}
-use Rattle.live_windows.specs.Live.{nums, endLink, lastLink, In, Stands, Holds, Walked, Leads, Lead, Begins, Fronted}
+use Rattle.live_windows.specs.Live.{nums, endLink, lastLink, Among, Stands, HoldsWindows, Walked, Leads, Lead, Begins, Fronted}
 use Rattle.live_windows.proofs.Walks.{passesAt, passes-is}
 use Rattle.live_windows.proofs.Lists.{last-snoc}
 use Rattle.live_windows.proofs.Standing.{at-edge, around}
@@ -32,11 +32,11 @@ record Found (us : List Window) (i : ℕ) : Type 0 where
   is : us ≡ front ++ it ∷ rest
   number : it .num ≡ i
 
-find : (us : List Window) (i : ℕ) → In i (nums us) → Found us i
+find : (us : List Window) (i : ℕ) → Among i (nums us) → Found us i
 unfolding nums
 find [] i h = absurd (h tt)
 find (u ∷ us) i h = go (ℕ-discrete (u .num) i) (find us i) where
-  go : Dec (u .num ≡ i) → (In i (nums us) → Found us i) → Found (u ∷ us) i
+  go : Dec (u .num ≡ i) → (Among i (nums us) → Found us i) → Found (u ∷ us) i
   go (yes d) ih = record { front = []; it = u; rest = us; is = refl; number = d }
   go (no d) ih =
       let f = ih (λ o. h ((λ z. d (sym z)), o)) in
@@ -66,7 +66,7 @@ module _ (tiny b0 : Float) (n : ℕ) (b : Links) (f : List Float) (e r : ℕ) (m
 
   pub from-hint : Begins (passes tiny b0) n b f e r
   from-hint = record { made = made; lead = λ wins live H g. go wins live H g (find (live e) (r - 1) (H .on-edge e .complete (r - 1) (omega (arith, made, some)) edge-at alive-at)) } where
-    go : (wins : List WindowRecord) (live : ℕ → List Window) → Holds n wins b f live → Leads (passes tiny b0) (live e) → Found (live e) (r - 1) → Lead (passes tiny b0) (live e) r
+    go : (wins : List WindowRecord) (live : ℕ → List Window) → HoldsWindows n wins b f live → Leads (passes tiny b0) (live e) → Found (live e) (r - 1) → Lead (passes tiny b0) (live e) r
     go wins live H g d =
         let u = d .it in
         let a = around n b f e (d .front) u (d .rest) (at-edge n wins b f live e (d .front ++ u ∷ d .rest) H (d .is)) .here in
@@ -89,7 +89,7 @@ hint-stands n b e v f x us s =
       complete = s .complete;
     }
 
-pub hint-holds : (n : ℕ) (b : Links) (e v : ℕ) (wins : List WindowRecord) (f : List Float) (live : ℕ → List Window) → Holds n wins b f live → Holds n wins (links (set (b .edges) (wordsPerEdge * e + edgeScratch) v) (b .words)) f live
+pub hint-holds : (n : ℕ) (b : Links) (e v : ℕ) (wins : List WindowRecord) (f : List Float) (live : ℕ → List Window) → HoldsWindows n wins b f live → HoldsWindows n wins (links (set (b .edges) (wordsPerEdge * e + edgeScratch) v) (b .words)) f live
 hint-holds n b e v wins f live H = record { on-edge = λ x. hint-stands n b e v f x (live x) (H .on-edge x); all = H .all; flags = H .flags }
 
 -- the walk from link k ended at link r
@@ -97,10 +97,10 @@ pub fronted : (p : Window → Bool) (n : ℕ) (b : Links) (f : List Float) (edge
 fronted p n b f edges′ e k r s w h = record {
   edges = h;
   made = w .made;
-  holds = λ wins g live H. subst (λ es. Holds n wins (links es (b .words)) g live) (sym h) (hint-holds n b e r wins g live H);
+  holds = λ wins g live H. subst (λ es. HoldsWindows n wins (links es (b .words)) g live) (sym h) (hint-holds n b e r wins g live H);
   last = λ wins live H g. last wins live H (s .lead wins live H g);
 } where
-  last : (wins : List WindowRecord) (live : ℕ → List Window) → Holds n wins b f live → Lead p (live e) k → r ≡ lastLink (takeWhile p (live e))
+  last : (wins : List WindowRecord) (live : ℕ → List Window) → HoldsWindows n wins b f live → Lead p (live e) k → r ≡ lastLink (takeWhile p (live e))
   last wins live H d =
       w .last wins live (d .xs) (d .zs) H (d .is) (d .link)
       ∙ ap lastLink (sym (take-all p (d .xs) (d .zs) (d .pass)) ∙ ap (takeWhile p) (sym (d .is)))

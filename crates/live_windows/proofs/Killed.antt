@@ -14,7 +14,7 @@ use Rattle.windows.specs.Windows.{hasFlag, windowAt, flagsWith, reflagged, reli
 use Rattle.windows.proofs.WindowList.{flags-same, flags-other, link-same, link-other}
 use Rattle.chains.proofs.Turns.{link-in}
 use Rattle.nat_laws.proofs.Lists.{all-append}
-use Rattle.chains.specs.Chains.{Links, linkIn, links, headOf, nextOf, withLink, Path, Out, Belongs, OnEdge}
+use Rattle.chains.specs.Chains.{Links, linkIn, links, headOf, nextLink, withLink, Path, Out, Belongs, OnEdge}
 use Rattle.chains.proofs.Paths.{path-first, path-set, path-drop}
 use Rattle.chains.proofs.OnEdges.{only-with, head-with, all-set, set-frame, with-frame, flags-frame}
 use Rattle.trim_model.specs.Windows.{Window}
@@ -26,7 +26,7 @@ use Rattle.live_windows.proofs.Standing.{Around, at-edge, stands-put, s
 
 -- ---- a window is taken out
 module _ (n : ℕ) (b : Links) (e k i v : ℕ) (q : Bool) (p : wordsPerWindow * i + wordsPerWindow ≤ length (b .words)) (r : wordsPerEdge * e + wordsPerEdge ≤ length (b .edges)) (kn : k ≤ n) (il : i < n)
-    (read : v ≡ linkIn n (nextOf (b .words) i)) (flag : q ≡ hasFlag (getD (b .words) (wordsPerWindow * i + windowFlags) 0) queuedFlag) where
+    (read : v ≡ linkIn n (nextLink (b .words) i)) (flag : q ≡ hasFlag (getD (b .words) (wordsPerWindow * i + windowFlags) 0) queuedFlag) where
   abbrev kb : Links
   kb = withLink b e k v
 
@@ -60,11 +60,11 @@ module _ (n : ℕ) (b : Links) (e k i v : ℕ) (q : Bool) (p : wordsPerWindow * 
     o : OnEdge n b e (nums xs ++ i ∷ nums zs)
     o = subst (λ j. OnEdge n b e (nums xs ++ j ∷ nums zs)) (sym g) (a .chain)
 
-    rest-path : Path (b .words) (nextOf (b .words) i) (nums zs)
+    rest-path : Path (b .words) (nextLink (b .words) i) (nums zs)
     rest-path = path-drop (b .words) (headOf (b .edges) e) (nums xs) i (nums zs) (o .path)
 
-    v-is : v ≡ nextOf (b .words) i
-    v-is = read ∙ link-in n (nextOf (b .words) i) (rw (path-first (b .words) (nextOf (b .words) i) (nums zs) rest-path) (first-in n (b .words) e (nums zs) (a .belong-rest)))
+    v-is : v ≡ nextLink (b .words) i
+    v-is = read ∙ link-in n (nextLink (b .words) i) (rw (path-first (b .words) (nextLink (b .words) i) (nums zs) rest-path) (first-in n (b .words) e (nums zs) (a .belong-rest)))
 
     kill-apart : (front : List ℕ) (j : ℕ) → nums xs ≡ front ++ (j ∷ []) → Out j (nums zs)
     kill-apart front j d = last-out n b e (nums xs) (i ∷ nums zs) front j o d .1 .1

@@ -16,12 +16,12 @@ use Rattle.windows.specs.Windows.{realsOf, windowAt, wordsWith, realsWith, reli
 use Rattle.windows.proofs.WindowList.{length-realsOf, link-is, load-same, load-other}
 use Rattle.nat_laws.specs.Lists.{listOf}
 use Rattle.nat_laws.proofs.Lists.{all-left, all-right}
-use Rattle.chains.specs.Chains.{Links, linkIn, links, headOf, nextOf, linkAt, withLink, Path, Out, Belongs, AllBelong, firstLink, OnEdge}
+use Rattle.chains.specs.Chains.{Links, linkIn, links, headOf, nextLink, linkAt, withLink, Path, Out, Belongs, AllBelong, firstLink, OnEdge}
 use Rattle.chains.proofs.Paths.{path-after}
 use Rattle.chains.proofs.OnEdges.{head-with, with-frame, store-frame, stored-belongs, new-out}
 use Rattle.better.specs.Claim.{All}
 use Rattle.trim_model.specs.Windows.{Window}
-use Rattle.live_windows.specs.Live.{liveOf, nums, lastLink, Alive, In, Complete, Stands, bare, winsOf, windowOf, Makes}
+use Rattle.live_windows.specs.Live.{liveOf, nums, lastLink, Alive, Among, Complete, Stands, bare, winsOf, windowOf, Makes}
 use Rattle.live_windows.proofs.Places.{nums-append, nums-cons, next-is, point, before-is}
 use Rattle.live_windows.proofs.Stored.{Same, others, Behind, with-bare, wins-same}
 use Rattle.live_windows.proofs.Standing.{at-edge, stands-put, chain-both, stands-both, behind-is, last-out, with-words, out-less, in-it, complete-but}
@@ -56,7 +56,7 @@ module _ (n : ℕ) (b : Links) (f : List Float) (e : EdgeId) (k v : ℕ) (carrie
   make-others : (j : ℕ) → n ≢ j → Same (b .words) f mw mf j
   make-others j ne = ap bare (load-other (b .words) f n x j ne)
 
-  next-new : nextOf mw n ≡ v
+  next-new : nextLink mw n ≡ v
   next-new = sym (link-is mw mf n) ∙ ap (λ z. z .link) (load-same (b .words) f n x p q)
 
   module _ (xs zs : List Window) (s : Stands n b f (e .0) (xs ++ zs)) (kq : k ≡ lastLink xs) where
@@ -110,10 +110,10 @@ module _ (n : ℕ) (b : Links) (f : List Float) (e : EdgeId) (k v : ℕ) (carrie
     made-edge = ap (λ z. z .edge .0) made-new
 
     -- the windows made before are on the lists as they were
-    made-complete : (z : ℕ) (is : List ℕ) → Complete n (b .words) f z is → (windowAt (mb2 .words) mf n .edge .0 ≡ z → In n is) → Complete (suc n) (mb2 .words) mf z is
+    made-complete : (z : ℕ) (is : List ℕ) → Complete n (b .words) f z is → (windowAt (mb2 .words) mf n .edge .0 ≡ z → Among n is) → Complete (suc n) (mb2 .words) mf z is
     made-complete z is c h i l g a = go (ℕ-discrete n i) where
-      go : Dec (n ≡ i) → In i is
-      go (yes d) = subst (λ j. windowAt (mb2 .words) mf j .edge .0 ≡ z → In j is) d h g
+      go : Dec (n ≡ i) → Among i is
+      go (yes d) = subst (λ j. windowAt (mb2 .words) mf j .edge .0 ≡ z → Among j is) d h g
       go (no d) = complete-but n (b .words) f (mb2 .words) mf n z is made-same c i d (omega (arith, d, l)) g a
 
     made-all : Complete (suc n) (mb2 .words) mf (e .0) (nums xs ++ n ∷ nums zs)

@@ -14,7 +14,7 @@ use Rattle.layout.specs.Layout.{wordsPerEdge, edgeHead}
 use Rattle.chains.proofs.Turns.{link-in}
 use Rattle.nat_laws.specs.Lists.{All, Pairs}
 use Rattle.nat_laws.proofs.Lists.{all-map2, all-append, all-left, all-right}
-use Rattle.chains.specs.Chains.{Links, linkIn, headOf, nextOf, linkAt, withLink, Path, Out, Belongs, AllBelong, Before, firstLink, OnEdge}
+use Rattle.chains.specs.Chains.{Links, linkIn, headOf, nextLink, linkAt, withLink, Path, Out, Belongs, AllBelong, Before, firstLink, OnEdge}
 use Rattle.chains.proofs.Paths.{path-once, path-first, front-out, front-of, splice}
 use Rattle.chains.proofs.OnEdges.{all-set, all-counted}
 use Rattle.trim_model.specs.Windows.{Window}
@@ -164,7 +164,7 @@ at-most (suc n) is h d = omega (arith, length-less n is, at-most n (less n is) (
 differ-path : (w : List ℕ) (l : ℕ) (is : List ℕ) → Path w l is → Differ is
 unfolding Path
 differ-path w l [] p = tt
-differ-path w l (i ∷ is) p = (path-once w l i is p, differ-path w (nextOf w i) is (p .1))
+differ-path w l (i ∷ is) p = (path-once w l i is p, differ-path w (nextLink w i) is (p .1))
 
 -- a chain has at most as many windows as were made
 pub short : (made : ℕ) (w : List ℕ) (e l : ℕ) (is : List ℕ) → Path w l is → AllBelong made w e is → length is ≤ made

@@ -22,12 +22,12 @@ use Rattle.chains.proofs.OnEdges.{all-set, elsewhere, no-windows}
 use Rattle.better.specs.Claim.{All}
 use Rattle.trim_model.specs.Windows.{Window}
 use Rattle.trim_state.specs.State.{put}
-use Rattle.live_windows.specs.Live.{nums, endLink, lastLink, Alive, In, Complete, Stands, Holds, bare, winsOf}
+use Rattle.live_windows.specs.Live.{nums, endLink, lastLink, Alive, Among, Complete, Stands, HoldsWindows, bare, winsOf}
 use Rattle.live_windows.proofs.Places.{nums-append, nums-cons}
 use Rattle.live_windows.proofs.Stored.{Same, Behind}
 
 -- ---- lists that stand
-pub at-edge : (n : ℕ) (wins : List WindowRecord) (b : Links) (f : List Float) (live : ℕ → List Window) (e : ℕ) (us : List Window) → Holds n wins b f live → live e ≡ us → Stands n b f e us
+pub at-edge : (n : ℕ) (wins : List WindowRecord) (b : Links) (f : List Float) (live : ℕ → List Window) (e : ℕ) (us : List Window) → HoldsWindows n wins b f live → live e ≡ us → Stands n b f e us
 at-edge n wins b f live e us H d = subst (Stands n b f e) d (H .on-edge e)
 
 pub stands-put : (n : ℕ) (b : Links) (f : List Float) (live : ℕ → List Window) (e : ℕ) (us : List Window) → Stands n b f e us → ((x : ℕ) → e ≢ x → Stands n b f x (live x)) → (x : ℕ) → Stands n b f x (put e us live x)
@@ -108,21 +108,21 @@ pub out-more : (i k : ℕ) (is js : List ℕ) → i ≢ k → Out i (is ++ js) �
 out-more i k [] js ne o = (ne, o)
 out-more i k (j ∷ is) js ne o = (o .0, out-more i k is js ne (o .1))
 
-pub in-it : (k : ℕ) (is js : List ℕ) → In k (is ++ k ∷ js)
+pub in-it : (k : ℕ) (is js : List ℕ) → Among k (is ++ k ∷ js)
 in-it k [] js o = o .0 refl
 in-it k (j ∷ is) js o = in-it k is js (o .1)
 
 -- where nothing but window k changed, the list has all but k
 module _ (n : ℕ) (w : List ℕ) (f : List Float) (w′ : List ℕ) (f′ : List Float) (k e : ℕ) (is : List ℕ) (same : (j : ℕ) → k ≢ j → Same w f w′ f′ j) (c : Complete n w f e is) where
-  pub complete-but : (i : ℕ) → k ≢ i → i < n → windowAt w′ f′ i .edge .0 ≡ e → windowAt w′ f′ i .alive ≡ true → In i is
+  pub complete-but : (i : ℕ) → k ≢ i → i < n → windowAt w′ f′ i .edge .0 ≡ e → windowAt w′ f′ i .alive ≡ true → Among i is
   unfolding bare relinked
   complete-but i ne l g a = c i l (sym (ap (λ x. x .edge .0) (same i ne)) ∙ g) (sym (ap (λ x. x .alive) (same i ne)) ∙ a)
 
   -- and k where it is no more alive, of another edge, or was in it
-  pub complete-at : (k < n → windowAt w′ f′ k .edge .0 ≡ e → windowAt w′ f′ k .alive ≡ true → In k is) → Complete n w′ f′ e is
+  pub complete-at : (k < n → windowAt w′ f′ k .edge .0 ≡ e → windowAt w′ f′ k .alive ≡ true → Among k is) → Complete n w′ f′ e is
   complete-at h i l g a = go (ℕ-discrete k i) where
-    go : Dec (k ≡ i) → In i is
-    go (yes d) = subst (λ j. j < n → windowAt w′ f′ j .edge .0 ≡ e → windowAt w′ f′ j .alive ≡ true → In j is) d h l g a
+    go : Dec (k ≡ i) → Among i is
+    go (yes d) = subst (λ j. j < n → windowAt w′ f′ j .edge .0 ≡ e → windowAt w′ f′ j .alive ≡ true → Among j is) d h l g a
     go (no d) = complete-but i d l g a
 
 -- ---- what a link that is pointed elsewhere leaves
@@ -137,7 +137,7 @@ with-belongs n b e zero v i h = h
 with-belongs n b e (suc k) v i h = all-set n (b .words) e (i ∷ []) k v (h, tt) .0
 
 -- ---- at first there is none
-pub no-live : (b : Links) (f : List Float) → ((e : ℕ) → headOf (b .edges) e ≡ 0) → Holds 0 [] b f (λ e. [])
+pub no-live : (b : Links) (f : List Float) → ((e : ℕ) → headOf (b .edges) e ≡ 0) → HoldsWindows 0 [] b f (λ e. [])
 unfolding nums winsOf listOf
 no-live b f h = record {
   on-edge = λ e. record { chain = no-windows 0 (suc e) b (λ x l. h x) e (omega arith); windows = tt; complete = λ i k. absurd (omega arith) };

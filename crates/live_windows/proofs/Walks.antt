@@ -17,7 +17,7 @@ use Rattle.chains.specs.Chains.{Links, linkIn, linkAt, Path, Belongs, AllBelong
 use Rattle.better.specs.Claim.{All}
 use Rattle.trim_model.specs.Windows.{Window, takeWhile}
 use Rattle.trim_model.specs.Add.{passes}
-use Rattle.live_windows.specs.Live.{nums, endLink, lastLink, Alive, Stands, sortsBefore, Follows, Walked}
+use Rattle.live_windows.specs.Live.{nums, endLink, lastLink, Alive, Stands, sortsBefore, LinkFollows, Walked}
 use Rattle.live_windows.proofs.Places.{nums-append, end-append, head-path, path-behind, next-is, short}
 
 -- a link k is followed by l: it is the last where l is none or its window does not pass
@@ -135,7 +135,7 @@ module _ (b0 lo : Float) (f : List Float) (i : ℕ) (x y : Float) (start : x ≡
   passes-both p q = sym (ap (λ c. c && not (lt lo y)) p ∙ ap not q) ∙ read-both
 
 -- the link that was read
-pub follows : (n : ℕ) (b : Links) (e k r : ℕ) → r ≡ linkIn n (linkAt b e k) → Follows n b e k r
+pub follows : (n : ℕ) (b : Links) (e k r : ℕ) → r ≡ linkIn n (linkAt b e k) → LinkFollows n b e k r
 follows n b e k r is =
     record {
       is = is;

@@ -45,12 +45,12 @@ pub record Alive (w : List ℕ) (f : List Float) (u : Window) : Type 0 where
   pub same : liveOf (windowAt w f (u .num)) (u .num) ≡ u
 
 -- i is one of the list
-abbrev pub In : ℕ → List ℕ → Type 0
-In i is = Out i is → ⊥
+abbrev pub Among : ℕ → List ℕ → Type 0
+Among i is = Out i is → ⊥
 
 -- of the first n windows, those alive on edge e are all in the list
 abbrev pub Complete : ℕ → List ℕ → List Float → ℕ → List ℕ → Type 0
-Complete n w f e is = (i : ℕ) → i < n → windowAt w f i .edge .0 ≡ e → windowAt w f i .alive ≡ true → In i is
+Complete n w f e is = (i : ℕ) → i < n → windowAt w f i .edge .0 ≡ e → windowAt w f i .alive ≡ true → Among i is
 
 -- us are the windows of edge e in order, of the first n, and all of them that are alive
 pub record Stands (n : ℕ) (b : Links) (f : List Float) (e : ℕ) (us : List Window) : Type 0 where
@@ -72,7 +72,7 @@ abbrev pub FewFlags : ℕ → List ℕ → Type 0
 FewFlags n w = (i : ℕ) → i < n → flagsAt w i < 8
 
 -- ---- the whole: the Rust's `on_edge` of every edge, and its `wins`, of which there are n
-pub record Holds (n : ℕ) (wins : List WindowRecord) (b : Links) (f : List Float) (live : ℕ → List Window) : Type 0 where
+pub record HoldsWindows (n : ℕ) (wins : List WindowRecord) (b : Links) (f : List Float) (live : ℕ → List Window) : Type 0 where
   pub on-edge : (e : ℕ) → Stands n b f e (live e)
   pub all : winsOf n (b .words) f ≡ wins
   pub flags : FewFlags n (b .words)
@@ -100,15 +100,15 @@ pub record Outside (n e : ℕ) (b b′ : Links) : Type 0 where
   pub words : drop (wordsPerWindow * n) (b′ .words) ≡ drop (wordsPerWindow * n) (b .words)
 
 -- r is the link that follows k on the chain of edge e
-pub record Follows (n : ℕ) (b : Links) (e k r : ℕ) : Type 0 where
+pub record LinkFollows (n : ℕ) (b : Links) (e k r : ℕ) : Type 0 where
   pub is : r ≡ linkIn n (linkAt b e k)
   pub made : r ≤ n
-  pub first : (wins : List WindowRecord) (f : List Float) (live : ℕ → List Window) (xs zs : List Window) → Holds n wins b f live → live e ≡ xs ++ zs → k ≡ lastLink xs → r ≡ firstLink (nums zs)
+  pub first : (wins : List WindowRecord) (f : List Float) (live : ℕ → List Window) (xs zs : List Window) → HoldsWindows n wins b f live → live e ≡ xs ++ zs → k ≡ lastLink xs → r ≡ firstLink (nums zs)
 
 -- r is the last link of those behind k whose windows pass p, as many as stand together, or k
 pub record Walked (p : Window → Bool) (n : ℕ) (b : Links) (f : List Float) (e k r : ℕ) : Type 0 where
   pub made : r ≤ n
-  pub last : (wins : List WindowRecord) (live : ℕ → List Window) (xs zs : List Window) → Holds n wins b f live → live e ≡ xs ++ zs → k ≡ lastLink xs → r ≡ lastLink (xs ++ takeWhile p zs)
+  pub last : (wins : List WindowRecord) (live : ℕ → List Window) (xs zs : List Window) → HoldsWindows n wins b f live → live e ≡ xs ++ zs → k ≡ lastLink xs → r ≡ lastLink (xs ++ takeWhile p zs)
 
 -- what stands before a window that passes p passes too
 abbrev pub Leads : (Window → Bool) → List Window → Type 0
@@ -125,36 +125,36 @@ pub record Lead (p : Window → Bool) (us : List Window) (r : ℕ) : Type 0 wher
 -- a walk along those of edge e that pass p may start behind link r
 pub record Begins (p : Window → Bool) (n : ℕ) (b : Links) (f : List Float) (e r : ℕ) : Type 0 where
   pub made : r ≤ n
-  pub lead : (wins : List WindowRecord) (live : ℕ → List Window) → Holds n wins b f live → Leads p (live e) → Lead p (live e) r
+  pub lead : (wins : List WindowRecord) (live : ℕ → List Window) → HoldsWindows n wins b f live → Leads p (live e) → Lead p (live e) r
 
 -- r is the link of the last of those first windows of edge e that pass p, or 0, and the edge remembers it
 pub record Fronted (p : Window → Bool) (n : ℕ) (b : Links) (f : List Float) (edges′ : List ℕ) (e r : ℕ) : Type 0 where
   pub edges : edges′ ≡ set (b .edges) (wordsPerEdge * e + edgeScratch) r
   pub made : r ≤ n
-  pub holds : (wins : List WindowRecord) (g : List Float) (live : ℕ → List Window) → Holds n wins b g live → Holds n wins (links edges′ (b .words)) g live
-  pub last : (wins : List WindowRecord) (live : ℕ → List Window) → Holds n wins b f live → Leads p (live e) → r ≡ lastLink (takeWhile p (live e))
+  pub holds : (wins : List WindowRecord) (g : List Float) (live : ℕ → List Window) → HoldsWindows n wins b g live → HoldsWindows n wins (links edges′ (b .words)) g live
+  pub last : (wins : List WindowRecord) (live : ℕ → List Window) → HoldsWindows n wins b f live → Leads p (live e) → r ≡ lastLink (takeWhile p (live e))
 
 -- x is the window of number i
 pub record Loads (w : List ℕ) (f : List Float) (i : ℕ) (x : WindowRecord) : Type 0 where
   pub is : x ≡ windowAt w f i
-  pub live : (n : ℕ) (wins : List WindowRecord) (edges : List ℕ) (e : ℕ) (live : ℕ → List Window) (xs : List Window) (u : Window) (zs : List Window) → Holds n wins (links edges w) f live → live e ≡ xs ++ u ∷ zs → i ≡ u .num
+  pub live : (n : ℕ) (wins : List WindowRecord) (edges : List ℕ) (e : ℕ) (live : ℕ → List Window) (xs : List Window) (u : Window) (zs : List Window) → HoldsWindows n wins (links edges w) f live → live e ≡ xs ++ u ∷ zs → i ≡ u .num
       → (liveOf x i ≡ u) × ((x .edge .0 ≡ e) × (x .alive ≡ true))
 
 -- x is made as window n, behind link k of edge e
 pub record Makes (n : ℕ) (b b′ : Links) (f f′ : List Float) (e k : ℕ) (x : WindowRecord) : Type 0 where
   pub outside : Outside (suc n) e b b′
   pub reals : drop (realsPerWindow * suc n) f′ ≡ drop (realsPerWindow * suc n) f
-  pub holds : (wins : List WindowRecord) (live : ℕ → List Window) (xs zs : List Window) → Holds n wins b f live → live e ≡ xs ++ zs → k ≡ lastLink xs
-      → Holds (suc n) (wins ++ (x ∷ [])) b′ f′ (put e (xs ++ liveOf x n ∷ zs) live)
+  pub holds : (wins : List WindowRecord) (live : ℕ → List Window) (xs zs : List Window) → HoldsWindows n wins b f live → live e ≡ xs ++ zs → k ≡ lastLink xs
+      → HoldsWindows (suc n) (wins ++ (x ∷ [])) b′ f′ (put e (xs ++ liveOf x n ∷ zs) live)
 
 -- window i has its ends and lowest value changed
 pub record Trims (f f′ : List Float) (i : ℕ) (b0 b1 low : Float) : Type 0 where
   pub reals : (n : ℕ) → i < n → drop (realsPerWindow * n) f′ ≡ drop (realsPerWindow * n) f
-  pub holds : (n : ℕ) (wins : List WindowRecord) (b : Links) (e : ℕ) (live : ℕ → List Window) (xs : List Window) (u : Window) (zs : List Window) → Holds n wins b f live → live e ≡ xs ++ u ∷ zs → i ≡ u .num
-      → Holds n (adjust i (λ x. trimmed x b0 b1 low) wins) b f′ (put e (xs ++ ranged u b0 b1 low ∷ zs) live)
+  pub holds : (n : ℕ) (wins : List WindowRecord) (b : Links) (e : ℕ) (live : ℕ → List Window) (xs : List Window) (u : Window) (zs : List Window) → HoldsWindows n wins b f live → live e ≡ xs ++ u ∷ zs → i ≡ u .num
+      → HoldsWindows n (adjust i (λ x. trimmed x b0 b1 low) wins) b f′ (put e (xs ++ ranged u b0 b1 low ∷ zs) live)
 
 -- window i, behind link k of edge e, is taken out
 pub record Kills (n : ℕ) (b b′ : Links) (e k i : ℕ) : Type 0 where
   pub outside : Outside n e b b′
-  pub holds : (wins : List WindowRecord) (f : List Float) (live : ℕ → List Window) (xs : List Window) (u : Window) (zs : List Window) → Holds n wins b f live → live e ≡ xs ++ u ∷ zs → k ≡ lastLink xs → i ≡ u .num
-      → Holds n (adjust i dead wins) b′ f (put e (xs ++ zs) live)
+  pub holds : (wins : List WindowRecord) (f : List Float) (live : ℕ → List Window) (xs : List Window) (u : Window) (zs : List Window) → HoldsWindows n wins b f live → live e ≡ xs ++ u ∷ zs → k ≡ lastLink xs → i ≡ u .num
+      → HoldsWindows n (adjust i dead wins) b′ f (put e (xs ++ zs) live)

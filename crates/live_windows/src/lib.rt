@@ -31,7 +31,8 @@ ghost use Rattle.buffers.specs.Slots.{slotsOf};
 ghost use Rattle.windows.specs.Windows.{capacityOf};
 ghost use Rattle.chains.specs.Chains.{links};
 ghost use Rattle.trim_model.specs.Add.{passes};
-ghost use Rattle.live_windows.specs.Live.{windowOf, sortsBefore, Follows, Walked, Begins, Fronted, Loads, Makes, Trims, Kills};
+ghost use Rattle.live_windows.specs.Live.{windowOf, sortsBefore, LinkFollows, Walked, Begins, Fronted, Loads, Makes, Trims, Kills};
+ghost use Rattle.buffers.specs.Lent.{given, left};
 
 // The link that follows `before` on the chain of an edge.
 pub fn next_link(
@@ -43,14 +44,14 @@ pub fn next_link(
     before: u32,
 ) -> u32
     requires { ⌜ (made ≤ capacityOf (length (now words)) (length (now reals))) × ((e .0 < slotsOf (length (now edges)) wordsPerEdge) × (before ≤ made)) ⌝ }
-    ensures { λ r. ⌜ Follows made (links (now (edges .entry)) (now (words .entry))) (e .0) before r ⌝ }
+    ensures { λ r. ⌜ LinkFollows made (links (given edges) (given words)) (e .0) before r ⌝ }
 {
     chains::link_at(edges, words, reals, made, e, before)
 }
 
 // Whether a window starts before b0 and ends at or before lo.
 fn passes_by(reals: &[f64], i: u32, b0: f64, lo: f64) -> bool
-    ensures { λ r. ⌜ r ≡ (lt (getD (now (reals .entry)) (realsPerWindow * i + windowB0) nan) b0 && not (lt lo (getD (now (reals .entry)) (realsPerWindow * i + windowB1) nan))) ⌝ }
+    ensures { λ r. ⌜ r ≡ (lt (getD (given reals) (realsPerWindow * i + windowB0) nan) b0 && not (lt lo (getD (given reals) (realsPerWindow * i + windowB1) nan))) ⌝ }
 {
     let start = read_f64(reals, REALS_PER_WINDOW, i, WINDOW_B0);
     let end = read_f64(reals, REALS_PER_WINDOW, i, WINDOW_B1);
@@ -65,7 +66,7 @@ fn passes_by(reals: &[f64], i: u32, b0: f64, lo: f64) -> bool
 
 // Whether a window starts before b0, as windows are sorted.
 fn starts_by(reals: &[f64], i: u32, b0: f64) -> bool
-    ensures { λ r. ⌜ r ≡ totalLess (getD (now (reals .entry)) (realsPerWindow * i + windowB0) nan) b0 ⌝ }
+    ensures { λ r. ⌜ r ≡ totalLess (getD (given reals) (realsPerWindow * i + windowB0) nan) b0 ⌝ }
 {
     let start = read_f64(reals, REALS_PER_WINDOW, i, WINDOW_B0);
     float64::total_less(start, b0)
@@ -81,7 +82,7 @@ fn remembered(
     b0: f64,
     tiny: f64,
 ) -> u32
-    ensures { λ r. ⌜ Begins (passes tiny b0) made (links (now (edges .entry)) (now (words .entry))) (now (reals .entry)) (e .0) r ⌝ }
+    ensures { λ r. ⌜ Begins (passes tiny b0) made (links (given edges) (given words)) (given reals) (e .0) r ⌝ }
 {
     let link = read_u32(edges, WORDS_PER_EDGE, e.0, EDGE_SCRATCH);
     let at = chains::within(link, made);
@@ -115,7 +116,7 @@ fn pass_from(
     tiny: f64,
 ) -> u32
     requires { ⌜ (made ≤ capacityOf (length (now words)) (length (now reals))) × ((e .0 < slotsOf (length (now edges)) wordsPerEdge) × (from ≤ made)) ⌝ }
-    ensures { λ r. ⌜ Walked (passes tiny b0) made (links (now (edges .entry)) (now (words .entry))) (now (reals .entry)) (e .0) from r ⌝ }
+    ensures { λ r. ⌜ Walked (passes tiny b0) made (links (given edges) (given words)) (given reals) (e .0) from r ⌝ }
 {
     let lo = b0 - tiny;
     let mut before = from;
@@ -147,7 +148,7 @@ pub fn pass_front(
     tiny: f64,
 ) -> u32
     requires { ⌜ (made ≤ capacityOf (length (now words)) (length (now reals))) × (e .0 < slotsOf (length (now edges)) wordsPerEdge) ⌝ }
-    ensures { λ r. ⌜ Fronted (passes tiny b0) made (links (now (edges .entry)) (now (words .entry))) (now (reals .entry)) (now (edges .exit)) (e .0) r ⌝ }
+    ensures { λ r. ⌜ Fronted (passes tiny b0) made (links (given edges) (given words)) (given reals) (left edges) (e .0) r ⌝ }
 {
     let from = remembered(edges, words, reals, made, e, b0, tiny);
     let last = pass_from(edges, words, reals, made, e, from, b0, tiny);
@@ -166,7 +167,7 @@ pub fn seat_from(
     b0: f64,
 ) -> u32
     requires { ⌜ (made ≤ capacityOf (length (now words)) (length (now reals))) × ((e .0 < slotsOf (length (now edges)) wordsPerEdge) × (from ≤ made)) ⌝ }
-    ensures { λ r. ⌜ Walked (sortsBefore b0) made (links (now (edges .entry)) (now (words .entry))) (now (reals .entry)) (e .0) from r ⌝ }
+    ensures { λ r. ⌜ Walked (sortsBefore b0) made (links (given edges) (given words)) (given reals) (e .0) from r ⌝ }
 {
     let mut before = from;
     let mut left = made;
@@ -188,7 +189,7 @@ pub fn seat_from(
 
 pub fn load(words: &[u32], reals: &[f64], id: WindowId) -> WindowRecord
     requires { ⌜ id .0 < capacityOf (length (now words)) (length (now reals)) ⌝ }
-    ensures { λ r. ⌜ Loads (now (words .entry)) (now (reals .entry)) (id .0) r ⌝ }
+    ensures { λ r. ⌜ Loads (given words) (given reals) (id .0) r ⌝ }
 {
     windows::load(words, reals, id)
 }
@@ -205,7 +206,7 @@ pub fn make_window(
     win: Win,
 )
     requires { ⌜ (made < capacityOf (length (now words)) (length (now reals))) × ((e .0 < slotsOf (length (now edges)) wordsPerEdge) × (before ≤ made)) ⌝ }
-    ensures { λ r. ⌜ Makes made (links (now (edges .entry)) (now (words .entry))) (links (now (edges .exit)) (now (words .exit))) (now (reals .entry)) (now (reals .exit)) (e .0) before (windowOf e carried 0 win) ⌝ }
+    ensures { λ r. ⌜ Makes made (links (given edges) (given words)) (links (left edges) (left words)) (given reals) (left reals) (e .0) before (windowOf e carried 0 win) ⌝ }
 {
     let next = next_link(edges, words, reals, made, e, before);
     let x = WindowRecord {
@@ -222,7 +223,7 @@ pub fn make_window(
 // A window is trimmed.
 pub fn trim_window(words: &[u32], reals: &mut [f64], id: WindowId, b0: f64, b1: f64, low: f64)
     requires { ⌜ id .0 < capacityOf (length (now words)) (length (now reals)) ⌝ }
-    ensures { λ r. ⌜ Trims (now (reals .entry)) (now (reals .exit)) (id .0) b0 b1 low ⌝ }
+    ensures { λ r. ⌜ Trims (given reals) (left reals) (id .0) b0 b1 low ⌝ }
 {
     windows::store_range(words, reals, id, b0, b1, low);
 }
@@ -238,7 +239,7 @@ pub fn kill_window(
     id: WindowId,
 )
     requires { ⌜ (made ≤ capacityOf (length (now words)) (length (now reals))) × ((e .0 < slotsOf (length (now edges)) wordsPerEdge) × ((before ≤ made) × (id .0 < made))) ⌝ }
-    ensures { λ r. ⌜ Kills made (links (now (edges .entry)) (now (words .entry))) (links (now (edges .exit)) (now (words .exit))) (e .0) before (id .0) ⌝ }
+    ensures { λ r. ⌜ Kills made (links (given edges) (given words)) (links (left edges) (left words)) (e .0) before (id .0) ⌝ }
 {
     let link = read_u32(words, WORDS_PER_WINDOW, id.0, WINDOW_LINK);
     let next = chains::within(link, made);

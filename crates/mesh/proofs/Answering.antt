@@ -21,7 +21,7 @@ use Rattle.edge_table.specs.declared.Table.the-variants.{Edges as Table·Edges,
 use Rattle.edge_table.proofs.Reading.{mesh-of}
 use Rattle.mesh.specs.declared.OtherCounts.{OtherCounts}
 use Rattle.mesh.specs.declared.Meshed.the-variants.{Edges, Refused, ThirdFace}
-use Rattle.mesh.specs.Topology.{MeshBuffers, Fits, topologyOf, Made}
+use Rattle.mesh.specs.Topology.{MeshBuffers, Fits, topologyOf, MadeTopology}
 use Rattle.mesh.specs.Answer.{countsIn, meshRefusals, meshRefusal, afterwards, Answered}
 use Rattle.mesh.proofs.Making.{is-third, has-edges}
 
@@ -74,7 +74,7 @@ module _ (j : Job) (others : OtherCounts) (before : MeshBuffers) where
     then-third : sharedByThree (j .triangles) ≡ true → meshRefusal j (countsIn before others) ≡ 10
     then-third e = then ∙ first-holds _ _ _ e
 
-    module _ (after : MeshBuffers) (t : Table) (made : Made (j .vertices) (j .triangles) (j .flags) t before after) where
+    module _ (after : MeshBuffers) (t : Table) (made : MadeTopology (j .vertices) (j .triangles) (j .flags) t before after) where
       same : after ≡ afterwards (refusalOf j (countsIn before others)) before (topologyOf (j .vertices) (j .triangles) (j .flags) before)
       same = made .buffers ∙ changes (refusalOf j (countsIn before others)) before (topologyOf (j .vertices) (j .triangles) (j .flags) before) passed
 

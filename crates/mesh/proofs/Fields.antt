@@ -7,7 +7,7 @@ use native.Mathlib.Omega.{arith}
 use lib.ListN.{length, getD, replicate, length-replicate, List·getD-append}
 use lib.Ieee.{Float}
 use Rattle.layout.specs.Layout.{wordsPerVertex, vertexStart, vertexEnd, vertexFlag, wordsPerEdge, wordsPerTriangle}
-use Rattle.float64.specs.Scalar.{zero as positiveZero}
+use Rattle.float64.specs.Scalar.{zero64 as positiveZero}
 use Rattle.job_checks.specs.Job.{Job}
 use Rattle.job_checks.specs.Refusals.{refusals, refusalOf}
 use Rattle.job_checks.proofs.Any.{passed-here, both-passed}
@@ -28,8 +28,8 @@ use Rattle.frames.proofs.Held.{lengths-held, normals-held}
 use Rattle.mesh.specs.declared.OtherCounts.{OtherCounts}
 use Rattle.mesh.specs.declared.Meshed.{Meshed}
 use Rattle.mesh.specs.declared.Meshed.the-variants.{Edges}
-use Rattle.mesh.specs.Topology.{MeshBuffers, Fits, vertexWords, filled, topologyOf, Made}
-use Rattle.mesh.specs.Answer.{numberOf, countsIn, meshRefusals, meshRefusal, afterwards, Answered}
+use Rattle.mesh.specs.Topology.{MeshBuffers, Fits, vertexWords, filled, topologyOf, MadeTopology}
+use Rattle.mesh.specs.Answer.{meshedNumber, countsIn, meshRefusals, meshRefusal, afterwards, Answered}
 use Rattle.mesh.specs.Held.{Held, Fresh}
 use Rattle.mesh.proofs.Making.{has-edges}
 use Rattle.mesh.proofs.Answering.{fits}
@@ -121,7 +121,7 @@ module _ (v : List Float) (triangles flags : List ℕ) (m : MeshBuffers) where
       }
 
 -- What an answer of `topology` with n edges says, by its contract.
-module _ (v : List Float) (triangles flags : List ℕ) (t : Table) (before after : MeshBuffers) (made : Made v triangles flags t before after) (n : ℕ) (e : t ≡ Table·Edges n) where
+module _ (v : List Float) (triangles flags : List ℕ) (t : Table) (before after : MeshBuffers) (made : MadeTopology v triangles flags t before after) (n : ℕ) (e : t ≡ Table·Edges n) where
   made-filled : after ≡ filled v triangles flags before
   unfolding topologyOf
   made-filled = made .buffers ∙ rw (has-edges triangles t (made .answer) n e .0) refl
@@ -142,7 +142,7 @@ same-number e f = cc
 -- What an answer with n edges says, by the contract of `build`.
 module _ (j : Job) (others : OtherCounts) (r : Meshed) (before after : MeshBuffers) (answered : Answered j others r before after) (n : ℕ) (e : r ≡ Edges n) where
   unrefused : 0 ≡ meshRefusal j (countsIn before others)
-  unrefused = ap numberOf (sym e) ∙ answered .number
+  unrefused = ap meshedNumber (sym e) ∙ answered .number
 
   both : (refusalOf j (countsIn before others) ≡ 0) × (sharedByThree (j .triangles) ≡ false)
   unfolding meshRefusals

@@ -6,7 +6,7 @@ use mathlib.Core.List.{List}
 use native.Mathlib.Omega.{arith}
 use lib.ListN.{length, replicate}
 use lib.Ieee.{Float}
-use Rattle.float64.specs.Scalar.{zero}
+use Rattle.float64.specs.Scalar.{zero64}
 use Rattle.topology.specs.Edges.{edges, sharedByThree}
 use Rattle.topology.proofs.Edges.{edge-count}
 use Rattle.edge_table.specs.declared.Table.{Table}
@@ -14,7 +14,7 @@ use Rattle.edge_table.specs.declared.Table.the-variants.{Edges, ThirdFace}
 use Rattle.edge_table.specs.Table.{Mesh, tableOf, edgeWords, triangleWords, Built}
 use Rattle.vertex_faces.specs.Ranges.{withRanges, withFlags, startOf, endOf, roundOf, InRange}
 use Rattle.frames.specs.Stored.{withLengths, withNormals}
-use Rattle.mesh.specs.Topology.{meshBuffers, zeroed, vertexWords, Completed, filled, topologyOf, Made}
+use Rattle.mesh.specs.Topology.{meshBuffers, zeroed, vertexWords, Completed, filled, topologyOf, MadeTopology}
 
 pub in-range : (triangles : List ℕ) (n : ℕ) → Mesh triangles n → InRange triangles n
 in-range triangles n m = record { there = m .there; few = omega (arith, m .whole, m .few-triangles) }
@@ -25,7 +25,7 @@ same-buffers p q r s t u = λ i. record { vertex-words = p i; edge-words = q i; 
 
 -- what is added to the table, one callee after the other
 pub completed : (v : List Float) (triangles flags : List ℕ) (n : ℕ) (ew tw vw : List ℕ) (er : List Float) (r : List ℕ) (tr : List Float) (vw₁ vw₂ vw′ : List ℕ) (er′ : List Float) (r′ : List ℕ) (tr′ : List Float)
-    → vw₁ ≡ replicate (length vw) 0 → vw₂ ≡ withFlags flags (length v / 3) vw₁ → vw′ ≡ withRanges (startOf triangles) (endOf triangles) (length v / 3) vw₂ → r′ ≡ roundOf triangles (length v / 3) (length r) → er′ ≡ withLengths v ew n (replicate (length er) zero) → tr′ ≡ withNormals v triangles tw er′ (length triangles) (replicate (length tr) zero) → Completed v triangles flags n ew tw vw er r tr vw′ er′ r′ tr′
+    → vw₁ ≡ replicate (length vw) 0 → vw₂ ≡ withFlags flags (length v / 3) vw₁ → vw′ ≡ withRanges (startOf triangles) (endOf triangles) (length v / 3) vw₂ → r′ ≡ roundOf triangles (length v / 3) (length r) → er′ ≡ withLengths v ew n (replicate (length er) zero64) → tr′ ≡ withNormals v triangles tw er′ (length triangles) (replicate (length tr) zero64) → Completed v triangles flags n ew tw vw er r tr vw′ er′ r′ tr′
 unfolding vertexWords
 completed v triangles flags n ew tw vw er r tr vw₁ vw₂ vw′ er′ r′ tr′ z g a b d f =
     record {
@@ -60,7 +60,7 @@ module _ (triangles : List ℕ) (r : Table) (is : r ≡ tableOf triangles) where
 module _ (v : List Float) (triangles flags vw ew : List ℕ) (er : List Float) (r tw : List ℕ) (tr : List Float) where
   -- an edge in a third triangle
   module _ (vw′ ew′ : List ℕ) (er′ : List Float) (r′ tw′ : List ℕ) (tr′ : List Float) (t : Table) where
-    pub made-third : Built triangles t r ew tw r′ ew′ tw′ → t ≡ ThirdFace → vw′ ≡ replicate (length vw) 0 → er′ ≡ replicate (length er) zero → tr′ ≡ replicate (length tr) zero → Made v triangles flags ThirdFace (meshBuffers vw ew er r tw tr) (meshBuffers vw′ ew′ er′ r′ tw′ tr′)
+    pub made-third : Built triangles t r ew tw r′ ew′ tw′ → t ≡ ThirdFace → vw′ ≡ replicate (length vw) 0 → er′ ≡ replicate (length er) zero64 → tr′ ≡ replicate (length tr) zero64 → MadeTopology v triangles flags ThirdFace (meshBuffers vw ew er r tw tr) (meshBuffers vw′ ew′ er′ r′ tw′ tr′)
     unfolding zeroed topologyOf
     made-third b third a d f =
         let k = is-third triangles t (b .answer) third in
@@ -71,13 +71,13 @@ module _ (v : List Float) (triangles flags vw ew : List ℕ) (er : List Float) (
 
   -- none
   module _ (r₁ ew₁ tw₁ vw₂ r₂ : List ℕ) (er₂ tr₂ : List Float) (t : Table) (n : ℕ) where
-    pub made-filled : Built triangles t r ew tw r₁ ew₁ tw₁ → t ≡ Edges n → length r₁ ≡ length r → Completed v triangles flags n ew₁ tw₁ vw er r₁ tr vw₂ er₂ r₂ tr₂ → Made v triangles flags (Edges n) (meshBuffers vw ew er r tw tr) (meshBuffers vw₂ ew₁ er₂ r₂ tw₁ tr₂)
+    pub made-filled : Built triangles t r ew tw r₁ ew₁ tw₁ → t ≡ Edges n → length r₁ ≡ length r → Completed v triangles flags n ew₁ tw₁ vw er r₁ tr vw₂ er₂ r₂ tr₂ → MadeTopology v triangles flags (Edges n) (meshBuffers vw ew er r tw tr) (meshBuffers vw₂ ew₁ er₂ r₂ tw₁ tr₂)
     unfolding topologyOf filled
     made-filled b e same c =
         let k = has-edges triangles t (b .answer) n e in
         let ends : ew₁ ≡ edgeWords triangles (length ew) = b .edge-words ∙ rw (k .0) refl in
         let sides : tw₁ ≡ triangleWords triangles (length tw) = b .triangle-words ∙ rw (k .0) refl in
-        let l : er₂ ≡ withLengths v (edgeWords triangles (length ew)) (length (edges triangles)) (replicate (length er) zero) = c .lengths ∙ rw (ends, k .1) in
+        let l : er₂ ≡ withLengths v (edgeWords triangles (length ew)) (length (edges triangles)) (replicate (length er) zero64) = c .lengths ∙ rw (ends, k .1) in
         record {
           answer = sym e ∙ b .answer;
           buffers =

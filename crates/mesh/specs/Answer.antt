@@ -17,10 +17,10 @@ use Rattle.mesh.specs.declared.Meshed.the-variants.{Edges, Refused, Thir
 use Rattle.mesh.specs.Topology.{MeshBuffers, topologyOf}
 
 -- each answer's number in document 01; 0 is no refusal
-abbrev pub numberOf : Meshed → ℕ
-numberOf (Edges n) = 0
-numberOf (Refused c) = refusalNumber c
-numberOf ThirdFace = 10
+abbrev pub meshedNumber : Meshed → ℕ
+meshedNumber (Edges n) = 0
+meshedNumber (Refused c) = refusalNumber c
+meshedNumber ThirdFace = 10
 
 -- the slots of buffers whose slices have these lengths, and of the others as they are told
 abbrev pub countsOf : ℕ → ℕ → ℕ → ℕ → ℕ → ℕ → OtherCounts → BufferCounts
@@ -54,6 +54,6 @@ afterwards zero m t = t
 afterwards (suc k) m t = m
 
 pub record Answered (j : Job) (others : OtherCounts) (r : Meshed) (before after : MeshBuffers) : Type 0 where
-  pub number : numberOf r ≡ meshRefusal j (countsIn before others)
+  pub number : meshedNumber r ≡ meshRefusal j (countsIn before others)
   pub edge-count : meshRefusal j (countsIn before others) ≡ 0 → r ≡ Edges (length (edges (j .triangles)))
   pub buffers : after ≡ afterwards (refusalOf j (countsIn before others)) before (topologyOf (j .vertices) (j .triangles) (j .flags) before)

@@ -6,7 +6,7 @@ use mathlib.Core.List.{List}
 use lib.ListN.{length, replicate}
 use lib.Ieee.{Float}
 use Rattle.layout.specs.Layout.{wordsPerVertex, wordsPerEdge, realsPerEdge, wordsPerTriangle, realsPerNormal}
-use Rattle.float64.specs.Scalar.{zero}
+use Rattle.float64.specs.Scalar.{zero64}
 use Rattle.buffers.specs.Lent.{Lent, given, left}
 use Rattle.topology.specs.Edges.{edges, sharedByThree}
 use Rattle.edge_table.specs.declared.Table.{Table}
@@ -17,10 +17,10 @@ use Rattle.frames.specs.Stored.{withLengths, withNormals}
 -- document 01's rooms of the mesh, laid out as crate layout says
 pub record MeshBuffers : Type 0 where
   pub vertex-words : List ℕ  -- of each vertex: where its faces start and end in `round`; its flag
-  pub edge-words : List ℕ  -- of each edge: its two vertices, its two faces, and its chain head and a scratch word, zero at first
+  pub edge-words : List ℕ  -- of each edge: its two vertices, its two faces, and its chain head and a scratch word, zero64 at first
   pub edge-reals : List Float  -- of each edge: its length and its unit vector
   pub round : List ℕ  -- the faces round each vertex, one vertex after the other
-  pub triangle-words : List ℕ  -- of each triangle: its three edges, its first and its last entry and a spare word, zero at first
+  pub triangle-words : List ℕ  -- of each triangle: its three edges, its first and its last entry and a spare word, zero64 at first
   pub triangle-reals : List Float  -- of each triangle: the inward normals of its sides
 
 abbrev pub meshBuffers : List ℕ → List ℕ → List Float → List ℕ → List ℕ → List Float → MeshBuffers
@@ -40,10 +40,10 @@ zeroed m =
     meshBuffers
     (replicate (length (m .vertex-words)) 0)
     (replicate (length (m .edge-words)) 0)
-    (replicate (length (m .edge-reals)) zero)
+    (replicate (length (m .edge-reals)) zero64)
     (replicate (length (m .round)) 0)
     (replicate (length (m .triangle-words)) 0)
-    (replicate (length (m .triangle-reals)) zero)
+    (replicate (length (m .triangle-reals)) zero64)
 
 module _ (v : List Float) (triangles : List ℕ) where
   -- What is asked of a mesh and of buffers of so many elements: a job that passed the checks has it.
@@ -65,8 +65,8 @@ module _ (v : List Float) (triangles flags : List ℕ) where
   pub record Completed (n : ℕ) (ew tw vertex₀ : List ℕ) (edge₀ : List Float) (round₀ : List ℕ) (triangle₀ : List Float) (vertex : List ℕ) (edge : List Float) (round : List ℕ) (triangle : List Float) : Type 0 where
     pub vertices : vertex ≡ vertexWords (length vertex₀)
     pub faces-round : round ≡ roundOf triangles (length v / 3) (length round₀)
-    pub lengths : edge ≡ withLengths v ew n (replicate (length edge₀) zero)
-    pub normals : triangle ≡ withNormals v triangles tw edge (length triangles) (replicate (length triangle₀) zero)
+    pub lengths : edge ≡ withLengths v ew n (replicate (length edge₀) zero64)
+    pub normals : triangle ≡ withNormals v triangles tw edge (length triangles) (replicate (length triangle₀) zero64)
 
   -- The topology in buffers, which count by their lengths alone.
   unfoldable pub filled : MeshBuffers → MeshBuffers
@@ -74,19 +74,19 @@ module _ (v : List Float) (triangles flags : List ℕ) where
   filled m =
       let ew : List ℕ = edgeWords triangles (length (m .edge-words)) in
       let tw : List ℕ = triangleWords triangles (length (m .triangle-words)) in
-      let er : List Float = withLengths v ew (length (edges triangles)) (replicate (length (m .edge-reals)) zero) in
+      let er : List Float = withLengths v ew (length (edges triangles)) (replicate (length (m .edge-reals)) zero64) in
       meshBuffers
       (vertexWords (length (m .vertex-words)))
       ew
       er
       (roundOf triangles (length v / 3) (length (m .round)))
       tw
-      (withNormals v triangles tw er (length triangles) (replicate (length (m .triangle-reals)) zero))
+      (withNormals v triangles tw er (length triangles) (replicate (length (m .triangle-reals)) zero64))
 
   -- The answer and the buffers: refused where an edge lies in more than two triangles.
   unfoldable pub topologyOf : MeshBuffers → MeshBuffers
   topologyOf m = cond (sharedByThree triangles) (zeroed m) (filled m)
 
-  pub record Made (r : Table) (before after : MeshBuffers) : Type 0 where
+  pub record MadeTopology (r : Table) (before after : MeshBuffers) : Type 0 where
     pub answer : r ≡ tableOf triangles
     pub buffers : after ≡ topologyOf before

@@ -13,10 +13,10 @@ use layout::WORDS_PER_VERTEX;
 ghost use mathlib.Core.Path.{_≡_};
 ghost use Prim.Native.Nat.{_≤_, min};
 ghost use lib.ListN.{length};
-ghost use Rattle.buffers.specs.Lent.{given};
+ghost use Rattle.buffers.specs.Lent.{given, left};
 ghost use Rattle.job_checks.specs.Job.{job};
-ghost use Rattle.mesh.specs.Topology.{before, after, Fits, Completed, Made};
-ghost use Rattle.mesh.specs.Answer.{numberOf, countsOf, Answered};
+ghost use Rattle.mesh.specs.Topology.{before, after, Fits, Completed, MadeTopology};
+ghost use Rattle.mesh.specs.Answer.{meshedNumber, countsOf, Answered};
 
 // How many slots the slices have that a job needs beside those of the mesh: the distances of vertices, two f64 each, count with the words of vertices. And how
 // many windows there is a slot for.
@@ -28,7 +28,7 @@ pub struct OtherCounts {
     pub other_scratch: u32,
 }
 
-// How many edges the mesh has, or what it is refused for: `numberOf` of specs/ gives each case its number.
+// How many edges the mesh has, or what it is refused for: `meshedNumber` of specs/ gives each case its number.
 pub enum Meshed {
     Edges(u32),
     Refused(Checked),
@@ -36,7 +36,7 @@ pub enum Meshed {
 }
 
 pub fn refusal_number(meshed: Meshed) -> u32
-    ensures { λ r. ⌜ r ≡ numberOf meshed ⌝ }
+    ensures { λ r. ⌜ r ≡ meshedNumber meshed ⌝ }
 {
     match meshed {
         Meshed::Edges(_) => 0,
@@ -60,9 +60,9 @@ fn complete(
 )
     requires { ⌜ Fits (now vertices) (now triangles) (length (now «vertex_words»)) (length (now «edge_words»))
         (length (now «edge_reals»)) (length (now round)) (length (now «triangle_words»)) (length (now «triangle_reals»)) × (edges ≤ length (now triangles)) ⌝ }
-    ensures { λ r. ⌜ Completed (now (vertices .entry)) (now (triangles .entry)) (now (flags .entry)) edges (now («edge_words» .entry)) (now («triangle_words» .entry))
-        (now («vertex_words» .entry)) (now («edge_reals» .entry)) (now (round .entry)) (now («triangle_reals» .entry))
-        (now («vertex_words» .exit)) (now («edge_reals» .exit)) (now (round .exit)) (now («triangle_reals» .exit)) ⌝ }
+    ensures { λ r. ⌜ Completed (given vertices) (given triangles) (given flags) edges (given «edge_words») (given «triangle_words»)
+        (given «vertex_words») (given «edge_reals») (given round) (given «triangle_reals»)
+        (left «vertex_words») (left «edge_reals») (left round) (left «triangle_reals») ⌝ }
 {
     let vertex_count = (vertices.len() / 3) as u32;
     zero_u32(vertex_words);
@@ -92,7 +92,7 @@ pub fn topology(
 ) -> Table
     requires { ⌜ Fits (now vertices) (now triangles) (length (now «vertex_words»)) (length (now «edge_words»))
         (length (now «edge_reals»)) (length (now round)) (length (now «triangle_words»)) (length (now «triangle_reals»)) ⌝ }
-    ensures { λ r. ⌜ Made (given vertices) (given triangles) (given flags) r
+    ensures { λ r. ⌜ MadeTopology (given vertices) (given triangles) (given flags) r
         (before «vertex_words» «edge_words» «edge_reals» round «triangle_words» «triangle_reals»)
         (after «vertex_words» «edge_words» «edge_reals» round «triangle_words» «triangle_reals») ⌝ }
 {

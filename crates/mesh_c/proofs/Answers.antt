@@ -11,8 +11,8 @@ use Rattle.mesh.specs.declared.Meshed.{Meshed}
 use Rattle.mesh.specs.declared.Meshed.the-variants.{Edges, Refused, ThirdFace}
 use Rattle.mesh.specs.Topology.{MeshBuffers}
 use Rattle.mesh.proofs.Fields.{same-number}
-use Rattle.mesh.specs.Answer.{numberOf, countsIn, meshRefusal, Answered}
-use Rattle.mesh_c.specs.Exports.{noOthers, packed, Packed}
+use Rattle.mesh.specs.Answer.{meshedNumber, countsIn, meshRefusal, Answered}
+use Rattle.mesh_c.specs.Exports.{noOthers, packed, PackedAnswer}
 
 not-refused : {m : Meshed} {n : ℕ} {c : Checked} → m ≡ Edges n → m ≡ Refused c → ⊥
 not-refused e f = let z : _≡_ {A = ℕ} 0 1 = cc in omega arith
@@ -29,10 +29,10 @@ refused (suc r) n k e f = ap (λ (x : ℕ). 4_294_967_296 * x) f
 
 module _ (j : Job) (m : Meshed) (before after : MeshBuffers) (a : Answered j noOthers m before after) where
   -- the refusal of the answer
-  told : (x : Meshed) → m ≡ x → numberOf x ≡ meshRefusal j (countsIn before noOthers)
-  told x e = ap numberOf (sym e) ∙ a .number
+  told : (x : Meshed) → m ≡ x → meshedNumber x ≡ meshRefusal j (countsIn before noOthers)
+  told x e = ap meshedNumber (sym e) ∙ a .number
 
-  pub packed-edges : (n : ℕ) → m ≡ Edges n → Packed j n before after
+  pub packed-edges : (n : ℕ) → m ≡ Edges n → PackedAnswer j n before after
   packed-edges n e =
       let z : meshRefusal j (countsIn before noOthers) ≡ 0 = sym (told (Edges n) e) in
       record {
@@ -40,14 +40,14 @@ module _ (j : Job) (m : Meshed) (before after : MeshBuffers) (a : Answered j noO
         buffers = a .buffers;
       }
 
-  pub packed-refused : (c : Checked) (k : ℕ) → m ≡ Refused c → k ≡ refusalNumber c → Packed j (4_294_967_296 * k) before after
+  pub packed-refused : (c : Checked) (k : ℕ) → m ≡ Refused c → k ≡ refusalNumber c → PackedAnswer j (4_294_967_296 * k) before after
   packed-refused c k e f =
       record {
         number = refused (meshRefusal j (countsIn before noOthers)) (length (edges (j .triangles))) k (λ z. not-refused (a .edge-count z) e) (f ∙ told (Refused c) e);
         buffers = a .buffers;
       }
 
-  pub packed-third : m ≡ ThirdFace → Packed j 42_949_672_960 before after
+  pub packed-third : m ≡ ThirdFace → PackedAnswer j 42_949_672_960 before after
   packed-third e =
       let t : 10 ≡ meshRefusal j (countsIn before noOthers) = told ThirdFace e in
       record {

@@ -4,7 +4,7 @@ use mathlib.Core.Path.{_≡_}
 use mathlib.Core.List.{List, []}
 use lib.ListN.{length}
 use lib.Ieee.{Float}
-use Rattle.float64.specs.Scalar.{zero as positiveZero}
+use Rattle.float64.specs.Scalar.{zero64 as positiveZero}
 use Rattle.job_checks.specs.declared.BufferCounts.{BufferCounts}
 use Rattle.job_checks.specs.Job.{Job, job}
 use Rattle.job_checks.specs.Refusals.{refusalOf, maxVertices, maxTriangles}
@@ -40,6 +40,6 @@ unfoldable pub packed : ℕ → ℕ → ℕ
 packed zero n = n
 packed (suc k) n = 4_294_967_296 * suc k
 
-pub record Packed (j : Job) (r : ℕ) (before after : MeshBuffers) : Type 0 where
+pub record PackedAnswer (j : Job) (r : ℕ) (before after : MeshBuffers) : Type 0 where
   pub number : r ≡ packed (meshRefusal j (countsIn before noOthers)) (length (edges (j .triangles)))
   pub buffers : after ≡ afterwards (refusalOf j (countsIn before noOthers)) before (topologyOf (j .vertices) (j .triangles) (j .flags) before)

@@ -5,7 +5,7 @@ use mesh::OtherCounts;
 ghost use mathlib.Core.Path.{_≡_};
 ghost use Rattle.job_checks.specs.Refusals.{refusalOf};
 ghost use Rattle.mesh.specs.Topology.{before, after};
-ghost use Rattle.mesh_c.specs.Exports.{meshAlone, plenty, Packed};
+ghost use Rattle.mesh_c.specs.Exports.{meshAlone, plenty, PackedAnswer};
 
 // The first of the refusals 1 to 5 that holds, or 0: the other four are about pieces, a limit and buffers.
 #[no_mangle]
@@ -47,7 +47,7 @@ pub extern "C" fn sirmolaat_mesh_build(
     triangle_words: &mut [u32],
     triangle_reals: &mut [f64],
 ) -> u64
-    ensures { λ r. ⌜ Packed (meshAlone (now (vertices .entry)) (now (triangles .entry)) (now (flags .entry))) r
+    ensures { λ r. ⌜ PackedAnswer (meshAlone (now (vertices .entry)) (now (triangles .entry)) (now (flags .entry))) r
         (before «vertex_words» «edge_words» «edge_reals» round «triangle_words» «triangle_reals»)
         (after «vertex_words» «edge_words» «edge_reals» round «triangle_words» «triangle_reals») ⌝ }
 {

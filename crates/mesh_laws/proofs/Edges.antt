@@ -14,7 +14,7 @@ use lib.Ieee.Scale.{finite}
 use Rattle.nat_laws.proofs.Tests.{holds}
 use Rattle.layout.specs.Layout.{coordinatesPerVertex}
 use Rattle.root_spec.specs.Root.{sqrtOf}
-use Rattle.float64.specs.Scalar.{zero, one}
+use Rattle.float64.specs.Scalar.{zero64, one}
 use Rattle.float64.specs.Notation.{_⊕_, _⊗_, _⊘_}
 use Rattle.float_laws.proofs.Order.{le-trans, lt-le-trans, finite-between, zero-finite}
 use Rattle.float_bounds.specs.Within.{Within}
@@ -72,7 +72,7 @@ square-is : T (finite (difference ⊗ difference)) × T (finite (difference ⊗ 
 unfolding ofBits add mul le
 square-is = (tt, tt, tt)
 
-length-is : T (le (sqrtOf binary64 square) maxLength) × T (finite maxLength) × T (lt zero minLength) × T (finite minLength)
+length-is : T (le (sqrtOf binary64 square) maxLength) × T (finite maxLength) × T (lt zero64 minLength) × T (finite minLength)
 unfolding sqrtOf ofBits le lt
 length-is = (tt, tt, tt, tt)
 
@@ -88,7 +88,7 @@ across-is : T (finite (product ⊗ unit)) × T (le (difference ⊕ product ⊗ u
 unfolding ofBits add mul le
 across-is = (tt, tt, tt)
 
-altitude-is : T (finite (across ⊗ across)) × T (finite (across ⊗ across ⊕ across ⊗ across)) × T (le (across ⊗ across ⊕ across ⊗ across ⊕ across ⊗ across) acrossSquare) × T (le (sqrtOf binary64 acrossSquare) altitude) × T (finite altitude) × T (lt zero minAltitude) × T (finite minAltitude)
+altitude-is : T (finite (across ⊗ across)) × T (finite (across ⊗ across ⊕ across ⊗ across)) × T (le (across ⊗ across ⊕ across ⊗ across ⊕ across ⊗ across) acrossSquare) × T (le (sqrtOf binary64 acrossSquare) altitude) × T (finite altitude) × T (lt zero64 minAltitude) × T (finite minAltitude)
 unfolding sqrtOf ofBits add mul le lt
 altitude-is = (tt, tt, tt, tt, tt, tt, tt)
 
@@ -119,9 +119,9 @@ difference-of : (p q : Vec3) → PointInRange p → PointInRange q → VecWithin
 difference-of p q h k = vec-wider (maxCoordinate ⊕ maxCoordinate) difference (subOf p q) (difference-is .2) (sub-within maxCoordinate maxCoordinate p q (difference-is .0) (difference-is .0) h k)
 
 -- one over a number that is at least a bound above zero
-per : (a c x : Float) → T (finite a) → T (lt zero a) → T (le (one ⊘ a) c) → T (finite x) → T (le a x) → Within c (one ⊘ x)
+per : (a c x : Float) → T (finite a) → T (lt zero64 a) → T (le (one ⊘ a) c) → T (finite x) → T (le a x) → Within c (one ⊘ x)
 per a c x F h k G l =
-    within-from-zero c (one ⊘ x) (reciprocal-from-zero binary64 x G (lt-le-trans zero a x h l))
+    within-from-zero c (one ⊘ x) (reciprocal-from-zero binary64 x G (lt-le-trans zero64 a x h l))
     (le-trans (one ⊘ x) (one ⊘ a) c (reciprocal-upto binary64 a x F G h l) k)
 
 -- ---- the edge from o to b
@@ -132,7 +132,7 @@ module _ (o b : Vec3) (h : PointInRange o) (k : PointInRange b) where
   d-within : VecWithin difference d
   d-within = difference-of b o k h
 
-  length-from : T (le zero (lenOf o b))
+  length-from : T (le zero64 (lenOf o b))
   unfolding lenOf
   length-from = norm-from difference d (difference-is .1) (square-is .0) (square-is .1) d-within
 
@@ -143,7 +143,7 @@ module _ (o b : Vec3) (h : PointInRange o) (k : PointInRange b) where
       (norm-upto difference d (difference-is .1) (square-is .0) (square-is .1) d-within square (ofBits-fits binary64 0x42a5_d3ef_7980_0000) (square-is .2)) (length-is .0)
 
   pub length-finite : T (finite (lenOf o b))
-  length-finite = finite-between zero (lenOf o b) maxLength zero-finite (length-is .1) length-from length-upto
+  length-finite = finite-between zero64 (lenOf o b) maxLength zero-finite (length-is .1) length-from length-upto
 
   length-fits : T (fits binary64 (lenOf o b))
   unfolding lenOf normOf
@@ -155,7 +155,7 @@ module _ (o b : Vec3) (h : PointInRange o) (k : PointInRange b) where
         record {
           number = length-finite;
           double = length-fits;
-          positive = lt-le-trans zero minLength (lenOf o b) (length-is .2) long;
+          positive = lt-le-trans zero64 minLength (lenOf o b) (length-is .2) long;
           at-least = long;
           at-most = length-upto;
         }
@@ -187,7 +187,7 @@ module _ (o b : Vec3) (h : PointInRange o) (k : PointInRange b) where
       unfolding altitudeOf
       altitude-finite =
           let p = perpendicularOf o b t in
-          finite-between zero (normOf p) altitude zero-finite (altitude-is .4)
+          finite-between zero64 (normOf p) altitude zero-finite (altitude-is .4)
           (norm-from across p (across-is .2) (altitude-is .0) (altitude-is .1) perpendicular-within)
           (le-trans (normOf p) (sqrtOf binary64 acrossSquare) altitude
           (norm-upto across p (across-is .2) (altitude-is .0) (altitude-is .1) perpendicular-within acrossSquare (ofBits-fits binary64 0x4af0_b46c_6cdd_6e3e) (altitude-is .2)) (altitude-is .3))

@@ -6,7 +6,7 @@ use lib.Ieee.{Float, binary64, le, fits}
 use lib.Ieee.Fits.{mul-fits, add-fits}
 use lib.Ieee.Scale.{finite}
 use Rattle.root_spec.specs.Root.{sqrtOf}
-use Rattle.float64.specs.Scalar.{zero}
+use Rattle.float64.specs.Scalar.{zero64}
 use Rattle.float64.specs.Notation.{_⊕_, _⊖_, _⊗_}
 use Rattle.float_laws.proofs.Order.{le-trans}
 use Rattle.float_laws.proofs.Roots.{sqrt-nonneg}
@@ -58,7 +58,7 @@ dot-within a b u v F G J K h i =
 
 -- ---- the square of a vector and its norm
 module _ (a : Float) (u : Vec3) (F : T (finite a)) (J : T (finite (a ⊗ a))) (K : T (finite (a ⊗ a ⊕ a ⊗ a))) (h : VecWithin a u) where
-  pub square-from : T (le zero (dotOf u u))
+  pub square-from : T (le zero64 (dotOf u u))
   unfolding dotOf
   square-from =
       let X = u .x ⊗ u .x in
@@ -75,7 +75,7 @@ module _ (a : Float) (u : Vec3) (F : T (finite a)) (J : T (finite (a ⊗ a))) (K
   unfolding dotOf
   square-fits = add-fits binary64 (u .x ⊗ u .x ⊕ u .y ⊗ u .y) (u .z ⊗ u .z)
 
-  pub norm-from : T (le zero (normOf u))
+  pub norm-from : T (le zero64 (normOf u))
   unfolding normOf
   norm-from = sqrt-nonneg binary64 (dotOf u u) square-from
 

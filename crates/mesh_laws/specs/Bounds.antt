@@ -2,7 +2,7 @@
 use lib.Dec.{T}
 use lib.Ieee.{Float, binary64, ofBits, lt, le, fits}
 use lib.Ieee.Scale.{finite}
-use Rattle.float64.specs.Scalar.{zero}
+use Rattle.float64.specs.Scalar.{zero64}
 use Rattle.float_bounds.specs.Within.{Within}
 use Rattle.vec3.specs.declared.Vec3.{Vec3}
 use Rattle.job_checks.specs.Refusals.{minLength, maxCoordinate}
@@ -30,6 +30,6 @@ maxLength = ofBits binary64 0x414a_6dd3_0000_0000
 pub record EdgeLength (l : Float) : Type 0 where
   pub number : T (finite l)
   pub double : T (fits binary64 l)
-  pub positive : T (lt zero l)
+  pub positive : T (lt zero64 l)
   pub at-least : T (le minLength l)
   pub at-most : T (le l maxLength)

@@ -32,6 +32,7 @@ ghost use Rattle.job_checks.specs.Edge.{vertexAt};
 ghost use Rattle.topology.specs.Edges.{offEnds, joins};
 ghost use Rattle.frames.specs.Stored.{lengthAt, unitAt};
 ghost use Rattle.mesh_readers.specs.Readers.{edgeAt, endsAt, trimEdgeAt, facesAt, otherAt, sideIn, localAt, thirdAt, normalIn, coordsAt, rangeAt, roundAt, sharedAt, edgeBetweenAt, faceOf, sideToAt};
+ghost use Rattle.buffers.specs.Lent.{given};
 
 // The two vertices of an edge, the lower-numbered one first.
 pub struct EdgeEnds {
@@ -58,7 +59,7 @@ pub struct RoundRange {
 }
 
 pub fn ends(edge_words: &[u32], e: EdgeId) -> EdgeEnds
-    ensures { λ r. ⌜ r ≡ endsAt (now («edge_words» .entry)) (e .0) ⌝ }
+    ensures { λ r. ⌜ r ≡ endsAt (given «edge_words») (e .0) ⌝ }
 {
     EdgeEnds {
         a: VertexId(read_u32(edge_words, WORDS_PER_EDGE, e.0, EDGE_LOW)),
@@ -68,7 +69,7 @@ pub fn ends(edge_words: &[u32], e: EdgeId) -> EdgeEnds
 
 // An edge as it goes to trimming: its number, length and ends.
 pub fn edge(edge_words: &[u32], edge_reals: &[f64], e: EdgeId) -> windows::Edge
-    ensures { λ r. ⌜ r ≡ trimEdgeAt (now («edge_words» .entry)) (now («edge_reals» .entry)) (e .0) ⌝ }
+    ensures { λ r. ⌜ r ≡ trimEdgeAt (given «edge_words») (given «edge_reals») (e .0) ⌝ }
 {
     let len = read_f64(edge_reals, REALS_PER_EDGE, e.0, EDGE_LEN);
     let low = read_u32(edge_words, WORDS_PER_EDGE, e.0, EDGE_LOW);
@@ -82,7 +83,7 @@ pub fn edge(edge_words: &[u32], edge_reals: &[f64], e: EdgeId) -> windows::Edge
 }
 
 pub fn faces(edge_words: &[u32], e: EdgeId) -> FacePair
-    ensures { λ r. ⌜ r ≡ facesAt (now («edge_words» .entry)) (e .0) ⌝ }
+    ensures { λ r. ⌜ r ≡ facesAt (given «edge_words») (e .0) ⌝ }
 {
     FacePair {
         first: FaceId(read_u32(edge_words, WORDS_PER_EDGE, e.0, EDGE_FIRST_FACE)),
@@ -92,7 +93,7 @@ pub fn faces(edge_words: &[u32], e: EdgeId) -> FacePair
 
 // The face of an edge that is not f, `no_face` where there is none.
 pub fn other(edge_words: &[u32], e: EdgeId, f: FaceId) -> FaceId
-    ensures { λ r. ⌜ r ≡ record { 0 = otherAt (now («edge_words» .entry)) (e .0) (f .0) } ⌝ }
+    ensures { λ r. ⌜ r ≡ record { 0 = otherAt (given «edge_words») (e .0) (f .0) } ⌝ }
 {
     let first = read_u32(edge_words, WORDS_PER_EDGE, e.0, EDGE_FIRST_FACE);
     let second = read_u32(edge_words, WORDS_PER_EDGE, e.0, EDGE_SECOND_FACE);
@@ -103,14 +104,14 @@ pub fn other(edge_words: &[u32], e: EdgeId, f: FaceId) -> FaceId
 }
 
 pub fn length(edge_reals: &[f64], e: EdgeId) -> f64
-    ensures { λ r. ⌜ r ≡ lengthAt (now («edge_reals» .entry)) (e .0) ⌝ }
+    ensures { λ r. ⌜ r ≡ lengthAt (given «edge_reals») (e .0) ⌝ }
 {
     read_f64(edge_reals, REALS_PER_EDGE, e.0, EDGE_LEN)
 }
 
 // The unit vector along an edge, from its first vertex to its second.
 pub fn unit(edge_reals: &[f64], e: EdgeId) -> Vec3
-    ensures { λ r. ⌜ r ≡ unitAt (now («edge_reals» .entry)) (e .0) ⌝ }
+    ensures { λ r. ⌜ r ≡ unitAt (given «edge_reals») (e .0) ⌝ }
 {
     frames::vector_from(
         edge_reals,
@@ -120,14 +121,14 @@ pub fn unit(edge_reals: &[f64], e: EdgeId) -> Vec3
 
 // Side k of face f.
 pub fn side(triangle_words: &[u32], f: FaceId, k: u32) -> EdgeId
-    ensures { λ r. ⌜ r ≡ record { 0 = sideIn (now («triangle_words» .entry)) (f .0) k } ⌝ }
+    ensures { λ r. ⌜ r ≡ record { 0 = sideIn (given «triangle_words») (f .0) k } ⌝ }
 {
     EdgeId(read_u32(triangle_words, WORDS_PER_TRIANGLE, f.0, k))
 }
 
 // Which side of face f edge e is.
 pub fn local(triangle_words: &[u32], f: FaceId, e: EdgeId) -> u32
-    ensures { λ r. ⌜ r ≡ localAt (now («triangle_words» .entry)) (f .0) (e .0) ⌝ }
+    ensures { λ r. ⌜ r ≡ localAt (given «triangle_words») (f .0) (e .0) ⌝ }
 {
     let first = read_u32(triangle_words, WORDS_PER_TRIANGLE, f.0, 0);
     let second = read_u32(triangle_words, WORDS_PER_TRIANGLE, f.0, 1);
@@ -142,7 +143,7 @@ pub fn local(triangle_words: &[u32], f: FaceId, e: EdgeId) -> u32
 
 // The unit vector into face f at a right angle to its side k.
 pub fn normal(triangle_reals: &[f64], f: FaceId, k: u32) -> Vec3
-    ensures { λ r. ⌜ r ≡ normalIn (now («triangle_reals» .entry)) (f .0) k ⌝ }
+    ensures { λ r. ⌜ r ≡ normalIn (given «triangle_reals») (f .0) k ⌝ }
 {
     frames::vector_from(
         triangle_reals,
@@ -151,7 +152,7 @@ pub fn normal(triangle_reals: &[f64], f: FaceId, k: u32) -> Vec3
 }
 
 pub fn vertex(vertices: &[f64], k: VertexId) -> Vec3
-    ensures { λ r. ⌜ r ≡ vertexAt (now (vertices .entry)) (k .0) ⌝ }
+    ensures { λ r. ⌜ r ≡ vertexAt (given vertices) (k .0) ⌝ }
 {
     frames::vector_from(vertices, (COORDINATES_PER_VERTEX as usize) * (k.0 as usize))
 }
@@ -170,14 +171,14 @@ fn off_ends(k: u32, low: u32, high: u32) -> bool
 
 // Vertex k of face f.
 pub fn face_vertex(triangles: &[u32], f: FaceId, k: u32) -> VertexId
-    ensures { λ r. ⌜ r ≡ record { 0 = getD (now (triangles .entry)) (verticesPerTriangle * f .0 + k) 0 } ⌝ }
+    ensures { λ r. ⌜ r ≡ record { 0 = getD (given triangles) (verticesPerTriangle * f .0 + k) 0 } ⌝ }
 {
     VertexId(read_u32(triangles, VERTICES_PER_TRIANGLE, f.0, k))
 }
 
 // The vertex of face f that is not on edge e.
 pub fn third(triangles: &[u32], edge_words: &[u32], e: EdgeId, f: FaceId) -> VertexId
-    ensures { λ r. ⌜ r ≡ record { 0 = thirdAt (now (triangles .entry)) (now («edge_words» .entry)) (e .0) (f .0) } ⌝ }
+    ensures { λ r. ⌜ r ≡ record { 0 = thirdAt (given triangles) (given «edge_words») (e .0) (f .0) } ⌝ }
 {
     let low = read_u32(edge_words, WORDS_PER_EDGE, e.0, EDGE_LOW);
     let high = read_u32(edge_words, WORDS_PER_EDGE, e.0, EDGE_HIGH);
@@ -203,7 +204,7 @@ pub fn coords(
     f: FaceId,
     p: Vec3,
 ) -> FrameCoords
-    ensures { λ r. ⌜ r ≡ coordsAt (now (vertices .entry)) (now («edge_words» .entry)) (now («edge_reals» .entry)) (now («triangle_words» .entry)) (now («triangle_reals» .entry)) (e .0) (f .0) p ⌝ }
+    ensures { λ r. ⌜ r ≡ coordsAt (given vertices) (given «edge_words») (given «edge_reals») (given «triangle_words») (given «triangle_reals») (e .0) (f .0) p ⌝ }
 {
     let o = vertex(
         vertices,
@@ -219,7 +220,7 @@ pub fn coords(
 }
 
 pub fn faces_round(vertex_words: &[u32], k: VertexId) -> RoundRange
-    ensures { λ r. ⌜ r ≡ rangeAt (now («vertex_words» .entry)) (k .0) ⌝ }
+    ensures { λ r. ⌜ r ≡ rangeAt (given «vertex_words») (k .0) ⌝ }
 {
     RoundRange {
         start: read_u32(vertex_words, WORDS_PER_VERTEX, k.0, VERTEX_START),
@@ -229,14 +230,14 @@ pub fn faces_round(vertex_words: &[u32], k: VertexId) -> RoundRange
 
 // Entry i of the list of the faces round the vertices.
 pub fn face_round(round: &[u32], i: u32) -> FaceId
-    ensures { λ r. ⌜ r ≡ record { 0 = roundAt (now (round .entry)) i } ⌝ }
+    ensures { λ r. ⌜ r ≡ record { 0 = roundAt (given round) i } ⌝ }
 {
     FaceId(read_u32(round, WORDS_PER_ROUND, i, ROUND_FACE))
 }
 
 // The vertex that two edges of one face share: the first end of e if o has it, or else the second.
 pub fn shared_vertex(edge_words: &[u32], e: EdgeId, o: EdgeId) -> VertexId
-    ensures { λ r. ⌜ r ≡ record { 0 = sharedAt (now («edge_words» .entry)) (e .0) (o .0) } ⌝ }
+    ensures { λ r. ⌜ r ≡ record { 0 = sharedAt (given «edge_words») (e .0) (o .0) } ⌝ }
 {
     let a = read_u32(edge_words, WORDS_PER_EDGE, e.0, EDGE_LOW);
     let low = read_u32(edge_words, WORDS_PER_EDGE, o.0, EDGE_LOW);
@@ -249,7 +250,7 @@ pub fn shared_vertex(edge_words: &[u32], e: EdgeId, o: EdgeId) -> VertexId
 
 // Both vertices are ends of an edge.
 fn joined(edge_words: &[u32], e: u32, a: u32, b: u32) -> bool
-    ensures { λ r. ⌜ r ≡ joins a b (edgeAt (now («edge_words» .entry)) e) ⌝ }
+    ensures { λ r. ⌜ r ≡ joins a b (edgeAt (given «edge_words») e) ⌝ }
 {
     let low = read_u32(edge_words, WORDS_PER_EDGE, e, EDGE_LOW);
     let high = read_u32(edge_words, WORDS_PER_EDGE, e, EDGE_HIGH);
@@ -270,7 +271,7 @@ pub fn edge_between(
     a: VertexId,
     b: VertexId,
 ) -> EdgeId
-    ensures { λ r. ⌜ r ≡ record { 0 = edgeBetweenAt (now («edge_words» .entry)) (now («triangle_words» .entry)) (f .0) (a .0) (b .0) } ⌝ }
+    ensures { λ r. ⌜ r ≡ record { 0 = edgeBetweenAt (given «edge_words») (given «triangle_words») (f .0) (a .0) (b .0) } ⌝ }
 {
     let first = read_u32(triangle_words, WORDS_PER_TRIANGLE, f.0, 0);
     if joined(edge_words, first, a.0, b.0) {
@@ -284,7 +285,7 @@ pub fn edge_between(
 }
 
 fn has_face(edge_words: &[u32], e: u32, h: u32) -> bool
-    ensures { λ r. ⌜ r ≡ faceOf (now («edge_words» .entry)) e h ⌝ }
+    ensures { λ r. ⌜ r ≡ faceOf (given «edge_words») e h ⌝ }
 {
     if read_u32(edge_words, WORDS_PER_EDGE, e, EDGE_FIRST_FACE) == h {
         return true;
@@ -297,7 +298,7 @@ fn has_face(edge_words: &[u32], e: u32, h: u32) -> bool
 
 // The first side of face f whose edge has face h too, 3 where none has.
 pub fn side_to(edge_words: &[u32], triangle_words: &[u32], f: FaceId, h: FaceId) -> u32
-    ensures { λ r. ⌜ r ≡ sideToAt (now («edge_words» .entry)) (now («triangle_words» .entry)) (f .0) (h .0) ⌝ }
+    ensures { λ r. ⌜ r ≡ sideToAt (given «edge_words») (given «triangle_words») (f .0) (h .0) ⌝ }
 {
     if has_face(
         edge_words,

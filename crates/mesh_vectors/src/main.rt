@@ -531,7 +531,9 @@ fn holds_in(
     triangle_words: &mut [u32],
     triangle_reals: &mut [f64],
 ) -> bool
-    requires { ⌜ (k < 400_000) × ((length (now «vertex_words») ≡ 12288) × ((length (now «edge_words») ≡ 144000) × ((length (now «edge_reals») ≡ 96000) × ((length (now round) ≡ 24000) × ((length (now «triangle_words») ≡ 48000) × (length (now «triangle_reals») ≡ 72000)))))) ⌝ }
+    requires { ⌜ (k < 400_000) × ((length (now «vertex_words») ≡ 12288)
+        × ((length (now «edge_words») ≡ 144000) × ((length (now «edge_reals») ≡ 96000)
+        × ((length (now round) ≡ 24000) × ((length (now «triangle_words») ≡ 48000) × (length (now «triangle_reals») ≡ 72000)))))) ⌝ }
 {
     let nv = 3 * count(s, k + 9, 4096);
     let edges = count(s, k + 10, 24000);

@@ -16,7 +16,7 @@ use Rattle.cut_lists.specs.Buffers.{Cuts}
 use Rattle.trim_split.specs.declared.Counts.{Counts}
 use Rattle.trim_split.specs.Running.{Ready}
 use Rattle.trim.specs.Buffers.{Slices}
-use Rattle.trim.specs.Adding.{placeAt, endAt, AddsTo}
+use Rattle.trim.specs.Adding.{snapshotAt, addedEndIn, AddsTo}
 use Rattle.trim.specs.declared.Added.{Added}
 use Rattle.trim.specs.declared.Added.the-variants.{Went}
 use Rattle.offers.specs.declared.Offered.{Offered}
@@ -39,7 +39,7 @@ module _ (limit : Float) (vw : List ℕ) (er : List Float) (counts : Counts) (b 
   pub offer-nothing : o ≡ Nothing → counts .made ≤ windows → OffersTo limit vw er o counts b c (Went counts) b
   offer-nothing h fits =
       subst (λ (x : Offered). OffersTo limit vw er x counts b c (Went counts) b) (sym h)
-      (record { bounded = fits; offers = λ mesh there. offers-none (length (c .pts)) windows limit vw mesh (placeAt counts b) })
+      (record { bounded = fits; offers = λ mesh there. offers-none (length (c .pts)) windows limit vw mesh (snapshotAt counts b) })
 
   module _ (e : EdgeId) (w : NewWindow) (h : o ≡ Window e w) where
     pub offer-missing : slotsOf (length (b .edges)) wordsPerEdge ≤ e .0 → counts .made ≤ windows → OffersTo limit vw er o counts b c (Went counts) b
@@ -52,5 +52,5 @@ module _ (limit : Float) (vw : List ℕ) (er : List Float) (counts : Counts) (b 
         subst (λ (x : Offered). OffersTo limit vw er x counts b c r b′) (sym h)
         (record {
           bounded = a .bounded;
-          offers = λ mesh there. offers-one (length (c .pts)) windows limit vw mesh (trimEdgeAt (b .edges) er (e .0)) w (there .1) (placeAt counts b) (endAt r b′) (a .adds);
+          offers = λ mesh there. offers-one (length (c .pts)) windows limit vw mesh (trimEdgeAt (b .edges) er (e .0)) w (there .1) (snapshotAt counts b) (addedEndIn r b′) (a .adds);
         })

@@ -10,13 +10,13 @@ use Rattle.windows.specs.declared.NewWindow.{NewWindow}
 use Rattle.trim_model.specs.Model.{Candidate}
 use Rattle.trim_model.specs.Claim.{AdmittedProper}
 use Rattle.trim_model.proofs.Lists.{all-left, all-right}
-use Rattle.trim_state.specs.State.{State, Result, stopped, went, Mesh, edgeIn, addOf}
+use Rattle.trim_state.specs.State.{State, Result, stopped, went, EdgeData, edgeIn, addOf}
 use Rattle.trim_state.specs.Follows.{Follows}
 use Rattle.trim_state.proofs.Made.{follows-step}
 use Rattle.trim_split.specs.Running as running
-use Rattle.trim_split.specs.Running.{Place, stockOf, End, Untouched}
+use Rattle.trim_split.specs.Running.{Snapshot, stockOf, End, Untouched}
 use Rattle.trim_split.proofs.Untouched.{untouched-same, untouched-then, untouched-wider}
-use Rattle.trim.specs.Adding.{candidateOf, Given, Adds, Says}
+use Rattle.trim.specs.Adding.{candidateOf, Given, AddsFrom, SaysResult}
 use Rattle.offers.specs.Offers.{andNext, addAll, StandsFor, ComesTo, OfferEnds, Offers}
 
 -- a result that is one more step, or the last
@@ -43,7 +43,7 @@ unfolding andNext
 next-same (stopped n) f g h = refl
 next-same (went s) f g h = h s
 
-module _ (cuts windows : ℕ) (limit : Float) (flags : List ℕ) (mesh : Mesh) where
+module _ (cuts windows : ℕ) (limit : Float) (flags : List ℕ) (mesh : EdgeData) where
   abbrev all : List Candidate → State → Result
   all = addAll cuts windows limit flags mesh
 
@@ -59,11 +59,11 @@ module _ (cuts windows : ℕ) (limit : Float) (flags : List ℕ) (mesh : Mesh) w
   unfolding addAll
   add-one c s = next-went (addOf cuts windows limit flags mesh c s)
 
-  abbrev Does : List Candidate → Place → End → Type 0
+  abbrev Does : List Candidate → Snapshot → End → Type 0
   Does = Offers cuts windows limit flags mesh
 
   -- nothing is offered
-  pub offers-none : (p : Place) → Does [] p (running.at p)
+  pub offers-none : (p : Snapshot) → Does [] p (running.at p)
   unfolding addAll
   offers-none p past s S a = record {
     state = s;
@@ -77,10 +77,10 @@ module _ (cuts windows : ℕ) (limit : Float) (flags : List ℕ) (mesh : Mesh) w
     abbrev c : Candidate
     c = candidateOf e w
 
-    given : (past : List Candidate) (s : State) (p : Place) → StandsFor cuts windows limit flags mesh past s p → AdmittedProper limit (mesh .len) c → Given cuts windows limit flags e w mesh s p
+    given : (past : List Candidate) (s : State) (p : Snapshot) → StandsFor cuts windows limit flags mesh past s p → AdmittedProper limit (mesh .len) c → Given cuts windows limit flags e w mesh s p
     given past s p S a = record { edge = there; holds = S .holds; same = S .stock; candidates = past; follows = S .follows; proper = a }
 
-    pub offers-one : (p : Place) (end : End) → Adds cuts windows limit flags e w p end → Does (c ∷ []) p end
+    pub offers-one : (p : Snapshot) (end : End) → AddsFrom cuts windows limit flags e w p end → Does (c ∷ []) p end
     offers-one p (running.stopped n) h past s S a = add-one c s ∙ h mesh s (given past s p S (a .0))
     offers-one p (running.at p′) h past s S a =
         let r = h mesh s (given past s p S (a .0)) in
@@ -93,11 +93,11 @@ module _ (cuts windows : ℕ) (limit : Float) (flags : List ℕ) (mesh : Mesh) w
         }
 
   -- a list that stops, and a list behind one that went
-  module _ (cs ds : List Candidate) (p : Place) where
+  module _ (cs ds : List Candidate) (p : Snapshot) where
     pub offers-stop : (n : ℕ) → Does cs p (running.stopped n) → Does (cs ++ ds) p (running.stopped n)
     offers-stop n h past s S a = add-append cs ds s ∙ next-stopped (all cs s) n (all ds) (h past s S (all-left (AdmittedProper limit (mesh .len)) cs ds a))
 
-    module _ (p′ : Place) (h : Does cs p (running.at p′)) where
+    module _ (p′ : Snapshot) (h : Does cs p (running.at p′)) where
       pub offers-then : (end : End) → Does ds p′ end → Does (cs ++ ds) p end
       offers-then (running.stopped n) g past s S a =
           let r = h past s S (all-left (AdmittedProper limit (mesh .len)) cs ds a) in

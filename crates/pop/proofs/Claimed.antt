@@ -15,7 +15,7 @@ use Rattle.layout.specs.Layout.{wordsPerWindow, windowFlags, aliveFlag, queuedF
 use Rattle.nat_laws.specs.Lists.{listOf}
 use Rattle.nat_laws.proofs.Lists.{length-listOf}
 use Rattle.windows.specs.declared.WindowRecord.{WindowRecord}
-use Rattle.windows.specs.Windows.{hasFlag, flagsAt, windowAt, flagsWith, reflagged, relinked, popped, adjust, capacityOf}
+use Rattle.windows.specs.Windows.{hasFlag, flagsAt, windowAt, flagsWith, reflagged, relinked, unqueuedRecord, adjust, capacityOf}
 use Rattle.windows.proofs.WindowList.{counted}
 use Rattle.chains.specs.Chains.{links, AllBelong}
 use Rattle.better.specs.Claim.{All}
@@ -23,7 +23,7 @@ use Rattle.heap.specs.declared.Item.{Item}
 use Rattle.heap.specs.declared.Item.the-variants.{Window as Item·Window, Vertex}
 use Rattle.trim_model.proofs.Lists.{all-map}
 use Rattle.trim_model.specs.Windows.{Window, unqueued, unqueuedCarried}
-use Rattle.live_windows.specs.Live.{nums, Alive, Stands, Holds, bare, winsOf, unqueuedIn}
+use Rattle.live_windows.specs.Live.{nums, Alive, Stands, HoldsWindows, bare, winsOf, unqueuedIn}
 use Rattle.live_windows.proofs.Stored.{adjust-out, adjust-same, adjust-as, wins-at, length-wins}
 use Rattle.live_windows.proofs.Changed.{unqueue-done}
 use Rattle.pop.specs.Words.{isPending, claimed, itemClaimed}
@@ -64,17 +64,17 @@ idle-kept w f i h u a d =
 
 -- ---- and the list of all windows
 claim-dead : (x : WindowRecord) → x .alive ≡ false → claimedWin x ≡ x
-claim-dead x h = ap (λ (b : Bool). cond b (popped x) x) h
+claim-dead x h = ap (λ (b : Bool). cond b (unqueuedRecord x) x) h
 
 claim-idle : (x : WindowRecord) → x .carried .queued ≡ false → claimedWin x ≡ x
 unfolding reflagged
 claim-idle x h = go (x .alive) refl where
-  go : (b : Bool) → x .alive ≡ b → cond b (popped x) x ≡ x
+  go : (b : Bool) → x .alive ≡ b → cond b (unqueuedRecord x) x ≡ x
   go true a = ap (λ (q : Bool). record { edge = x .edge; carried = record { into = x .carried .into; queued = q }; alive = x .alive; link = x .link; win = x .win }) (sym h)
   go false a = refl
 
-claim-live : (x : WindowRecord) → x .alive ≡ true → claimedWin x ≡ popped x
-claim-live x h = ap (λ (b : Bool). cond b (popped x) x) h
+claim-live : (x : WindowRecord) → x .alive ≡ true → claimedWin x ≡ unqueuedRecord x
+claim-live x h = ap (λ (b : Bool). cond b (unqueuedRecord x) x) h
 
 bare-alive : (w : List ℕ) (f : List Float) (i : ℕ) → bare (windowAt w f i) .alive ≡ hasFlag (flagsAt w i) aliveFlag
 unfolding bare relinked windowAt
@@ -84,9 +84,9 @@ bare-queued : (w : List ℕ) (f : List Float) (i : ℕ) → bare (windowAt w f i
 unfolding bare relinked windowAt
 bare-queued w f i = refl
 
-module _ (made : ℕ) (w : List ℕ) (f : List Float) (edges : List ℕ) (wins : List WindowRecord) (live : ℕ → List Window) (H : Holds made wins (links edges w) f live) where
+module _ (made : ℕ) (w : List ℕ) (f : List Float) (edges : List ℕ) (wins : List WindowRecord) (live : ℕ → List Window) (H : HoldsWindows made wins (links edges w) f live) where
   -- no window is changed
-  same : (i : ℕ) → ((e : ℕ) → All (Kept i) (live e)) → adjust i claimedWin wins ≡ wins → Holds made (adjust i claimedWin wins) (links edges w) f (λ e. unqueuedIn i (live e))
+  same : (i : ℕ) → ((e : ℕ) → All (Kept i) (live e)) → adjust i claimedWin wins ≡ wins → HoldsWindows made (adjust i claimedWin wins) (links edges w) f (λ e. unqueuedIn i (live e))
   same i k h = record {
     on-edge = λ e. subst (λ (us : List Window). Stands made (links edges w) f e us) (sym (kept i (live e) (k e))) (H .on-edge e);
     all = H .all ∙ sym h;
@@ -94,7 +94,7 @@ module _ (made : ℕ) (w : List ℕ) (f : List Float) (edges : List ℕ) (wins :
   }
 
   -- window i is not one of them
-  claim-far : (i : ℕ) → made ≤ i → Holds made (adjust i claimedWin wins) (links edges w) f (λ e. unqueuedIn i (live e))
+  claim-far : (i : ℕ) → made ≤ i → HoldsWindows made (adjust i claimedWin wins) (links edges w) f (λ e. unqueuedIn i (live e))
   claim-far i h = same i (λ e. far-kept i made w e (live e) h (H .on-edge e .chain .belong))
       (adjust-out claimedWin i wins (subst (λ (l : List WindowRecord). length l ≤ i) (H .all) (subst (λ (n : ℕ). n ≤ i) (sym (length-wins made w f)) h)))
 
@@ -102,25 +102,25 @@ module _ (made : ℕ) (w : List ℕ) (f : List Float) (edges : List ℕ) (wins :
   unchanged : (i : ℕ) → i < made → claimedWin (bare (windowAt w f i)) ≡ bare (windowAt w f i) → adjust i claimedWin wins ≡ wins
   unchanged i l h = subst (λ (ws : List WindowRecord). adjust i claimedWin ws ≡ ws) (H .all) (adjust-same claimedWin i (winsOf made w f) (bare (windowAt w f i)) (wins-at made w f i (bare (windowAt w f i)) l) h)
 
-  claim-not-alive : (i : ℕ) → i < made → hasFlag (flagsAt w i) aliveFlag ≡ false → Holds made (adjust i claimedWin wins) (links edges w) f (λ e. unqueuedIn i (live e))
+  claim-not-alive : (i : ℕ) → i < made → hasFlag (flagsAt w i) aliveFlag ≡ false → HoldsWindows made (adjust i claimedWin wins) (links edges w) f (λ e. unqueuedIn i (live e))
   claim-not-alive i l h = same i (λ e. all-map {P = Alive w f} {Q = Kept i} (dead-kept w f i h) (live e) (H .on-edge e .windows)) (unchanged i l (claim-dead (bare (windowAt w f i)) (bare-alive w f i ∙ h)))
 
-  claim-not-queued : (i : ℕ) → i < made → hasFlag (flagsAt w i) queuedFlag ≡ false → Holds made (adjust i claimedWin wins) (links edges w) f (λ e. unqueuedIn i (live e))
+  claim-not-queued : (i : ℕ) → i < made → hasFlag (flagsAt w i) queuedFlag ≡ false → HoldsWindows made (adjust i claimedWin wins) (links edges w) f (λ e. unqueuedIn i (live e))
   claim-not-queued i l h = same i (λ e. all-map {P = Alive w f} {Q = Kept i} (idle-kept w f i h) (live e) (H .on-edge e .windows)) (unchanged i l (claim-idle (bare (windowAt w f i)) (bare-queued w f i ∙ h)))
 
   -- it is alive and queued
-  claim-done : (i : ℕ) → i < made → wordsPerWindow * i + wordsPerWindow ≤ length w → hasFlag (flagsAt w i) aliveFlag ≡ true → Holds made (adjust i claimedWin wins) (links edges (flagsWith w i true false)) f (λ e. unqueuedIn i (live e))
+  claim-done : (i : ℕ) → i < made → wordsPerWindow * i + wordsPerWindow ≤ length w → hasFlag (flagsAt w i) aliveFlag ≡ true → HoldsWindows made (adjust i claimedWin wins) (links edges (flagsWith w i true false)) f (λ e. unqueuedIn i (live e))
   claim-done i l there h =
       let u = unqueue-done w i true there (sym h) (flagsWith w i true false) refl in
-      subst (λ (ws : List WindowRecord). Holds made ws (links edges (flagsWith w i true false)) f (λ e. unqueuedIn i (live e)))
-      (subst (λ (ws : List WindowRecord). adjust i popped ws ≡ adjust i claimedWin ws) (H .all)
-      (adjust-as popped claimedWin i (winsOf made w f) (bare (windowAt w f i)) (wins-at made w f i (bare (windowAt w f i)) l) (sym (claim-live (bare (windowAt w f i)) (bare-alive w f i ∙ h)))))
+      subst (λ (ws : List WindowRecord). HoldsWindows made ws (links edges (flagsWith w i true false)) f (λ e. unqueuedIn i (live e)))
+      (subst (λ (ws : List WindowRecord). adjust i unqueuedRecord ws ≡ adjust i claimedWin ws) (H .all)
+      (adjust-as unqueuedRecord claimedWin i (winsOf made w f) (bare (windowAt w f i)) (wins-at made w f i (bare (windowAt w f i)) l) (sym (claim-live (bare (windowAt w f i)) (bare-alive w f i ∙ h)))))
       (u .holds made wins edges f live H)
 
-  claim-holds : (i : ℕ) → made ≤ capacityOf (length w) (length f) → Holds made (adjust i claimedWin wins) (links edges (claimed made w i)) f (λ e. unqueuedIn i (live e))
+  claim-holds : (i : ℕ) → made ≤ capacityOf (length w) (length f) → HoldsWindows made (adjust i claimedWin wins) (links edges (claimed made w i)) f (λ e. unqueuedIn i (live e))
   claim-holds i fits = go (decLe made i) (hasFlag (flagsAt w i) aliveFlag) refl (hasFlag (flagsAt w i) queuedFlag) refl where
     Goal : List ℕ → Type 0
-    Goal v = Holds made (adjust i claimedWin wins) (links edges v) f (λ e. unqueuedIn i (live e))
+    Goal v = HoldsWindows made (adjust i claimedWin wins) (links edges v) f (λ e. unqueuedIn i (live e))
 
     go : Dec (made ≤ i) → (a : Bool) → hasFlag (flagsAt w i) aliveFlag ≡ a → (q : Bool) → hasFlag (flagsAt w i) queuedFlag ≡ q → Goal (claimed made w i)
     go (yes d) a ha q hq = rw (le-ltb i made d) (claim-far i d)
@@ -132,7 +132,7 @@ module _ (made : ℕ) (w : List ℕ) (f : List Float) (edges : List ℕ) (wins :
         rw (lt-ltb i made l, ha, hq) (claim-done i l there ha)
 
   -- an event's item
-  pub item-holds : (x : Item) → made ≤ capacityOf (length w) (length f) → Holds made (winsClaimed x wins) (links edges (itemClaimed made w x)) f (λ e. liveClaimed x (live e))
+  pub item-holds : (x : Item) → made ≤ capacityOf (length w) (length f) → HoldsWindows made (winsClaimed x wins) (links edges (itemClaimed made w x)) f (λ e. liveClaimed x (live e))
   unfolding winsClaimed itemClaimed liveClaimed
   item-holds (Item·Window id) fits = claim-holds (id .0) fits
   item-holds (Vertex v) fits = H

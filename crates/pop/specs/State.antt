@@ -3,7 +3,7 @@ use Prim.Native.Nat.{ℕ}
 use mathlib.Core.Bool.{cond}
 use mathlib.Core.List.{List}
 use Rattle.windows.specs.declared.WindowRecord.{WindowRecord}
-use Rattle.windows.specs.Windows.{adjust, popped}
+use Rattle.windows.specs.Windows.{adjust, unqueuedRecord}
 use Rattle.heap.specs.declared.Item.{Item}
 use Rattle.heap.specs.declared.Item.the-variants.{Window as Item·Window, Vertex}
 use Rattle.heap.specs.declared.Popped.{Popped}
@@ -16,7 +16,7 @@ use Rattle.live_windows.specs.Live.{unqueuedIn}
 
 -- a live window is no more queued; a dead one stays as it is
 abbrev pub claimedWin : WindowRecord → WindowRecord
-claimedWin x = cond (x .alive) (popped x) x
+claimedWin x = cond (x .alive) (unqueuedRecord x) x
 
 -- of all windows made, and of the live windows of an edge
 unfoldable pub winsClaimed : Item → List WindowRecord → List WindowRecord

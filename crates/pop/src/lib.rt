@@ -11,6 +11,7 @@ use layout::WORDS_PER_WINDOW;
 ghost use mathlib.Core.Path.{_≡_};
 ghost use Rattle.heap.specs.Queue.{queue, popping};
 ghost use Rattle.pop.specs.Words.{isPending, claimed, itemPending, itemClaimed, takenOf, wordsAfter};
+ghost use Rattle.buffers.specs.Lent.{given, left};
 
 // The answer of a pop: the event, how many are left, and whether it names a window that was alive and queued.
 pub enum Taken {
@@ -20,7 +21,7 @@ pub enum Taken {
 
 // Whether window id is one of the first `made`, alive and queued. Such a one is queued no more.
 pub fn claim(words: &mut [u32], made: u32, id: WindowId) -> bool
-    ensures { λ r. ⌜ (r ≡ isPending made (now (words .entry)) (id .0)) × (now (words .exit) ≡ claimed made (now (words .entry)) (id .0)) ⌝ }
+    ensures { λ r. ⌜ (r ≡ isPending made (given words) (id .0)) × (left words ≡ claimed made (given words) (id .0)) ⌝ }
 {
     if id.0 < made {
         let flags = read_u32(words, WORDS_PER_WINDOW, id.0, WINDOW_FLAGS);
@@ -38,7 +39,7 @@ pub fn claim(words: &mut [u32], made: u32, id: WindowId) -> bool
 
 // The same of an event's item: a vertex is none.
 fn claim_item(words: &mut [u32], made: u32, item: Item) -> bool
-    ensures { λ r. ⌜ (r ≡ itemPending made (now (words .entry)) item) × (now (words .exit) ≡ itemClaimed made (now (words .entry)) item) ⌝ }
+    ensures { λ r. ⌜ (r ≡ itemPending made (given words) item) × (left words ≡ itemClaimed made (given words) item) ⌝ }
 {
     match item {
         Item::Window(id) => claim(words, made, id),
@@ -48,9 +49,9 @@ fn claim_item(words: &mut [u32], made: u32, item: Item) -> bool
 
 // The least of `queued` events is taken out, where `made` windows are made.
 pub fn pop(words: &mut [u32], keys: &mut [f64], events: &mut [u32], made: u32, queued: u32) -> Taken
-    ensures { λ r. ⌜ (r ≡ takenOf made (now (words .entry)) (popping (queue (now (keys .entry)) (now (events .entry))) queued .0))
-        × ((now (words .exit) ≡ wordsAfter made (now (words .entry)) (popping (queue (now (keys .entry)) (now (events .entry))) queued .0))
-        × (queue (now (keys .exit)) (now (events .exit)) ≡ popping (queue (now (keys .entry)) (now (events .entry))) queued .1)) ⌝ }
+    ensures { λ r. ⌜ (r ≡ takenOf made (given words) (popping (queue (given keys) (given events)) queued .0))
+        × ((left words ≡ wordsAfter made (given words) (popping (queue (given keys) (given events)) queued .0))
+        × (queue (left keys) (left events) ≡ popping (queue (given keys) (given events)) queued .1)) ⌝ }
 {
     let popped = heap::pop(keys, events, queued);
     match popped {

@@ -4,7 +4,7 @@ use lib.Dec.{T}
 use lib.Ieee.{Float, binary64, fits, inf, neg, le}
 use lib.Ieee.Fits.{cond-fits, inf-fits, add-fits}
 use lib.Ieee.Scale.{finite}
-use Rattle.float64.specs.Scalar.{zero, minOf, maxOf}
+use Rattle.float64.specs.Scalar.{zero64, minOf, maxOf}
 use Rattle.float64.specs.Notation.{_⊖_, _⊗_, _⊘_}
 use Rattle.float_laws.proofs.MinMax.{min-fits, max-fits}
 use Rattle.float_bounds.proofs.Ends.{start-zero, max-start, end-length, min-end}
@@ -33,15 +33,15 @@ past b c x h = cond-fits binary64 b _ x (cond-fits binary64 c (inf false) (inf t
 point-fits : (f : Frame) (sn : Vec2) (x : Float) → T (fits binary64 (imageOfPoint f sn x))
 unfolding imageOfPoint
 point-fits f sn x =
-    let xn = mapTo f (record { x = x; y = zero }) in
+    let xn = mapTo f (record { x = x; y = zero64 }) in
     let k = xn .y ⊖ sn .y in
-    past (le k zero) (le (sn .x) (xn .x)) _ (add-fits binary64 (sn .x) ((xn .x ⊖ sn .x) ⊗ neg (sn .y) ⊘ k))
+    past (le k zero64) (le (sn .x) (xn .x)) _ (add-fits binary64 (sn .x) ((xn .x ⊖ sn .x) ⊗ neg (sn .y) ⊘ k))
 
 line-fits : (f : Frame) (un : Vec2) (x : Float) → T (fits binary64 (imageOfLine f un x))
 unfolding imageOfLine
 line-fits f un x =
-    let xn = mapTo f (record { x = x; y = zero }) in
-    past (le (un .y) zero) (le zero (un .x)) _ (add-fits binary64 (xn .x) (un .x ⊗ neg (xn .y) ⊘ un .y))
+    let xn = mapTo f (record { x = x; y = zero64 }) in
+    past (le (un .y) zero64) (le zero64 (un .x)) _ (add-fits binary64 (xn .x) (un .x ⊗ neg (xn .y) ⊘ un .y))
 
 -- ---- cut off at the edge's ends
 clipped-is : (i0 i1 ln : Float) (src : Src) → T (fits binary64 i0) → T (fits binary64 i1) → ClippedTo ln (clippedOf i0 i1 ln src)
@@ -73,7 +73,7 @@ propagate-clipped src w g side ne = go (xcOf src g)
 module _ (l : Float) (F : T (finite l)) (d : T (fits binary64 l)) where
   pub clipped-on : {x : CandidateRange} → ClippedTo l x → EndsOn l x
   clipped-on none-passed = no-window
-  clipped-on (passed lo hi src p q) = window (max-start zero lo start-zero p) (min-end l l hi (end-length l F d) q)
+  clipped-on (passed lo hi src p q) = window (max-start zero64 lo start-zero p) (min-end l l hi (end-length l F d) q)
 
   pub emit-on : (x y s : Float) → EndsOn l (emitOf x y l s)
   unfolding emitOf

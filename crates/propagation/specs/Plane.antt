@@ -3,7 +3,7 @@ use mathlib.Core.Bool.{cond}
 use lib.Dec.{eqb}
 use lib.Ieee.{Float, neg, lt}
 use Rattle.buffers.specs.declared.VertexId.{VertexId}
-use Rattle.float64.specs.Scalar.{zero}
+use Rattle.float64.specs.Scalar.{zero64}
 use Rattle.float64.specs.Notation.{_⊕_, _⊖_, _⊗_, _⊘_, if_then_else_}
 use Rattle.propagation.specs.declared.Vec2.{Vec2}
 use Rattle.propagation.specs.declared.FaceAhead.{FaceAhead}
@@ -20,8 +20,8 @@ vertexOf k a b = cond (eqb (k .0) (a .0)) A (cond (eqb (k .0) (b .0)) B C)
 
 -- where the face's vertices stand: its edge goes from (0, 0) to (l, 0), and the opposite vertex is at (cx, cy)
 unfoldable pub posOf : FaceAhead → FaceVertex → Vec2
-posOf g A = record { x = zero; y = zero }
-posOf g B = record { x = g .l; y = zero }
+posOf g A = record { x = zero64; y = zero64 }
+posOf g B = record { x = g .l; y = zero64 }
 posOf g C = record { x = g .cx; y = g .cy }
 
 -- the vertex that the next edge of a side does not have
@@ -33,7 +33,7 @@ restOf Second = A
 unfoldable pub yhOf : Vec2 → Vec2 → Vec2 → Vec2
 yhOf o xh rest =
     let yh : Vec2 = record { x = neg (xh .y); y = xh .x } in
-    if lt zero ((rest .x ⊖ o .x) ⊗ yh .x ⊕ (rest .y ⊖ o .y) ⊗ yh .y) then record { x = neg (yh .x); y = neg (yh .y) } else
+    if lt zero64 ((rest .x ⊖ o .x) ⊗ yh .x ⊕ (rest .y ⊖ o .y) ⊗ yh .y) then record { x = neg (yh .x); y = neg (yh .y) } else
     yh
 
 -- the frame of the edge of length ln from o to qq

@@ -17,7 +17,7 @@ use lib.Ieee.Fits.{two, reach, down-pos}
 use Rattle.nat_laws.proofs.Ring.{ring}
 use Rattle.nat_laws.proofs.Power.{four, four-pos, quad}
 use Rattle.root_spec.specs.Root.{rootOf, sqrtOf, hypotOf}
-use Rattle.root_spec.specs.Nearest.{Holds, twiceRootSquared, sumSquared, NearestRoot, largest, pastLargest}
+use Rattle.root_spec.specs.Nearest.{HoldsValue, twiceRootSquared, sumSquared, NearestRoot, largest, pastLargest}
 use Rattle.root_spec.proofs.Halfway.{doubled}
 use Rattle.root_spec.proofs.Patterns.{Keeps, pattern, units-hold}
 use Rattle.root_spec.proofs.Units.{fits-in}
@@ -83,13 +83,13 @@ two-nearest f num den r s D a b l =
 pub nearest-unique : (f : Format) (num den : ℕ) (r s : Float) → 0 < den → NearestRoot f num den r → NearestRoot f num den s → r ≡ s
 nearest-unique f num den r s D a b =
     same-value f r s (a .value) (a .holds)
-    (subst (λ (x : ℕ). Holds f s x) (le-antisymm (least b a) (least a b)) (b .holds))
+    (subst (λ (x : ℕ). HoldsValue f s x) (le-antisymm (least b a) (least a b)) (b .holds))
   where
     least : {x y : Float} (i : NearestRoot f num den x) (j : NearestRoot f num den y) → i .value ≤ j .value
     least {x} {y} i j = elim (decLe (i .value) (j .value)) [ yes h ↦ h | no h ↦ absurd (two-nearest f num den y x D j i (lt-of-not-le h)) ]
 
 -- ---- a root that is itself a value, a subnormal one too, is the result
-exact-nearest : (f : Format) (num den : ℕ) (y : Float) (Y : ℕ) → 0 < den → Holds f y Y → num * 4 ^ low f ≡ Y * Y * den → NearestRoot f num den y
+exact-nearest : (f : Format) (num den : ℕ) (y : Float) (Y : ℕ) → 0 < den → HoldsValue f y Y → num * 4 ^ low f ≡ Y * Y * den → NearestRoot f num den y
 exact-nearest f num den y Y D h e =
     let t : twiceRootSquared f num ≡ sumSquared den Y Y = ap (λ (x : ℕ). 4 * x) e ∙ sym (doubled Y den) in
     record {
@@ -103,7 +103,7 @@ exact-nearest f num den y Y D h e =
           absurd (ne (omega arith));
     }
 
-pub rootOf-exact : (f : Format) (num den : ℕ) (y : Float) (Y : ℕ) → 0 < den → Holds f y Y → num * 4 ^ low f ≡ Y * Y * den → rootOf f num den ≡ y
+pub rootOf-exact : (f : Format) (num den : ℕ) (y : Float) (Y : ℕ) → 0 < den → HoldsValue f y Y → num * 4 ^ low f ≡ Y * Y * den → rootOf f num den ≡ y
 rootOf-exact f num den y Y D h e =
     let l = at-most-largest f y Y h in
     let g = largest-lt f in

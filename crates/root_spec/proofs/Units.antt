@@ -10,7 +10,7 @@ use lib.Pow.{pow-pos, pow-add, pow-lt}
 use lib.Ieee.{fin, Format, prec, low, emax, up, down, fits}
 use lib.Ieee.Fits.{down-pos, up-pos, and-l, and-r}
 use Rattle.nat_laws.proofs.Power.{pow-back}
-use Rattle.root_spec.specs.Nearest.{Holds}
+use Rattle.root_spec.specs.Nearest.{HoldsValue}
 
 pub record FitsIn (f : Format) (m : ℕ) (e : ℤ) : Type 0 where
   pub few : m < 2 ^ prec f
@@ -99,5 +99,5 @@ module _ (f : Format) (m : ℕ) (e : ℤ) (n : ℕ) (d : ℤ) (H : FitsIn f m e)
   le-ulps h = le-of-mul-le-mul-right (le-trans (le-of-eq (sym ulps-left)) (le-trans (mul-le-mul-right (2 ^ low f) h) (le-of-eq ulps-right))) (mul-pos (down-pos e) (down-pos d))
 
 -- each finite value that is not negative is a whole number of units
-pub in-units : (f : Format) (m : ℕ) (e : ℤ) → T (fits f (fin false m e)) → (Y : ℕ) × Holds f (fin false m e) Y
+pub in-units : (f : Format) (m : ℕ) (e : ℤ) → T (fits f (fin false m e)) → (Y : ℕ) × HoldsValue f (fin false m e) Y
 in-units f m e t = let g = grid f m e (fits-in f false m e t .deep) in (m * 2 ^ (g .j), (t, (refl, g .is)))

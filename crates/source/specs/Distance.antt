@@ -3,7 +3,7 @@
 use mathlib.Core.Bool.{_&&_}
 use lib.Ieee.{Float, binary64, neg, lt, le, eq, ne}
 use Rattle.root_spec.specs.Root.{hypotOf}
-use Rattle.float64.specs.Scalar.{zero, one, two, minOf, absOf, clampOf}
+use Rattle.float64.specs.Scalar.{zero64, one, two, minOf, absOf, clampOf}
 use Rattle.float64.specs.Notation.{_⊕_, _⊖_, _⊗_, _⊘_, if_then_else_}
 use Rattle.source.specs.Quadratic.{four, eight, rootsOf}
 use Rattle.source.specs.declared.RealRoots.{RealRoots}
@@ -26,8 +26,8 @@ freeOf (Line ux uy c) x y = c ⊕ ux ⊗ x ⊕ uy ⊗ y
 unfoldable pub footOf : Src → Float → Float → Float
 footOf (Point sx sy s) x y =
     let k = y ⊖ sy in
-    if lt zero k then x ⊕ (sx ⊖ x) ⊗ y ⊘ k else x
-footOf (Line ux uy c) x y = if lt zero uy then x ⊖ ux ⊗ y ⊘ uy else x
+    if lt zero64 k then x ⊕ (sx ⊖ x) ⊗ y ⊘ k else x
+footOf (Line ux uy c) x y = if lt zero64 uy then x ⊖ ux ⊗ y ⊘ uy else x
 
 -- the least distance from b0 to b1 on the edge
 unfoldable pub lowestOf : Src → Float → Float → Float
@@ -40,7 +40,7 @@ tiesOfPoints a0 h0 s0 a1 h1 s1 =
     let b = s1 ⊖ s0 in
     let k1 = two ⊗ (a1 ⊖ a0) in
     let k0 = a0 ⊗ a0 ⊕ h0 ⊗ h0 ⊖ a1 ⊗ a1 ⊖ h1 ⊗ h1 ⊖ b ⊗ b in
-    if eq b zero then (if ne k1 zero then One (neg k0 ⊘ k1) else None) else
+    if eq b zero64 then (if ne k1 zero64 then One (neg k0 ⊘ k1) else None) else
     rootsOf
     (k1 ⊗ k1 ⊖ four ⊗ b ⊗ b)
     (two ⊗ k1 ⊗ k0 ⊕ eight ⊗ b ⊗ b ⊗ a1)

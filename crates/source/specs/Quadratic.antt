@@ -2,7 +2,7 @@
 use mathlib.Core.Bool.{_||_, not}
 use lib.Ieee.{Float, binary64, ofBits, neg, lt, le, eq, ne}
 use Rattle.root_spec.specs.Root.{sqrtOf}
-use Rattle.float64.specs.Scalar.{zero, maxOf, absOf, signumOf, isFinite}
+use Rattle.float64.specs.Scalar.{zero64, maxOf, absOf, signumOf, isFinite}
 use Rattle.float64.specs.Notation.{_⊕_, _⊖_, _⊗_, _⊘_, if_then_else_}
 use Rattle.source.specs.declared.RealRoots.{RealRoots}
 use Rattle.source.specs.declared.RealRoots.the-variants.{None, One, Two}
@@ -25,9 +25,9 @@ negligible = ofBits binary64 0x3d3c_25c2_6849_7682
 unfoldable pub rootsOf : Float → Float → Float → RealRoots
 rootsOf a b c =
     let s = maxOf (maxOf (absOf a) (absOf b)) (absOf c) in
-    if eq s zero || not (isFinite s) then None else
-    if le (absOf a) (negligible ⊗ s) then (if ne b zero then One (neg c ⊘ b) else None) else
+    if eq s zero64 || not (isFinite s) then None else
+    if le (absOf a) (negligible ⊗ s) then (if ne b zero64 then One (neg c ⊘ b) else None) else
     let disc = b ⊗ b ⊖ four ⊗ a ⊗ c in
-    if lt disc zero then None else
+    if lt disc zero64 then None else
     let q = neg half ⊗ (b ⊕ signumOf b ⊗ sqrtOf binary64 disc) in
-    if ne q zero then Two (q ⊘ a) (c ⊘ q) else One (q ⊘ a)
+    if ne q zero64 then Two (q ⊘ a) (c ⊘ q) else One (q ⊘ a)

@@ -7,11 +7,11 @@ use lib.Ieee.{Float, binary64, fits, ofBits, neg, lt, le}
 use lib.Ieee.Bits.{ofBits-fits}
 use lib.Ieee.Fits.{neg-fits, add-fits, div-fits}
 use lib.Ieee.Scale.{finite}
-use Rattle.float64.specs.Scalar.{zero, one, minOf, maxOf, absOf}
+use Rattle.float64.specs.Scalar.{zero64, one, minOf, maxOf, absOf}
 use Rattle.float64.specs.Notation.{_⊕_, _⊖_, _⊗_, _⊘_}
 use Rattle.float_laws.proofs.Order.{le-trans}
 use Rattle.float_laws.proofs.MinMax.{min-fits, max-fits}
-use Rattle.float_bounds.specs.Within.{Start, End}
+use Rattle.float_bounds.specs.Within.{Start, ClippedEnd}
 use Rattle.float_bounds.proofs.Ends.{start-zero, start-max, end-length, end-min}
 use Rattle.vec3.specs.declared.Vec3.{Vec3}
 use Rattle.source.specs.declared.Src.{Src}
@@ -30,26 +30,26 @@ use Rattle.source_windows.specs.declared.InFrame.the-variants.{TooShort,
 use Rattle.source_windows.specs.declared.Normal.{Normal}
 
 -- the ends of a window that there is
-pub ends-of : {l b0 b1 : Float} {src : Src} {c : CandidateRange} → EndsOn l c → c ≡ Window b0 b1 src → Start b0 × End l b1
+pub ends-of : {l b0 b1 : Float} {src : Src} {c : CandidateRange} → EndsOn l c → c ≡ Window b0 b1 src → Start b0 × ClippedEnd l b1
 ends-of {l} h e = go (subst (EndsOn l) e h)
   where
-    go : {b0 b1 : Float} {src : Src} → EndsOn l (Window b0 b1 src) → Start b0 × End l b1
+    go : {b0 b1 : Float} {src : Src} → EndsOn l (Window b0 b1 src) → Start b0 × ClippedEnd l b1
     go (window s t) = (s, t)
 
 if-either : {A : Type 0} (P : A → Type 0) (b : Bool) {x y : A} → P x → P y → P (cond b x y)
 if-either P true h k = h
 if-either P false h k = k
 
-module _ (l : Float) (F : T (finite l)) (d : T (fits binary64 l)) (z : T (le zero l)) where
+module _ (l : Float) (F : T (finite l)) (d : T (fits binary64 l)) (z : T (le zero64 l)) where
   abbrev pub On : Bounds → Type 0
-  On w = Start (w .b0) × End l (w .b1)
+  On w = Start (w .b0) × ClippedEnd l (w .b1)
 
   pub whole-on : On (wholeOf l)
   whole-on = (start-zero, end-length l F d)
 
-  minus-one : End l (neg one)
+  minus-one : ClippedEnd l (neg one)
   unfolding le neg ofBits
-  minus-one = record { upto = le-trans (neg one) zero l tt z; double = neg-fits binary64 one (ofBits-fits binary64 0x3ff0_0000_0000_0000) }
+  minus-one = record { upto = le-trans (neg one) zero64 l tt z; double = neg-fits binary64 one (ofBits-fits binary64 0x3ff0_0000_0000_0000) }
 
   -- ---- points
   pub narrow-on : (w : Bounds) (k0 k1 : Float) → On w → On (narrowOf w k0 k1)
@@ -57,9 +57,9 @@ module _ (l : Float) (F : T (finite l)) (d : T (fits binary64 l)) (z : T (le zer
   narrow-on w k0 k1 h =
       let x = neg k0 ⊘ k1 in
       let e = div-fits binary64 (neg k0) k1 in
-      if-either On (lt zero k1) (h .0, end-min l (w .b1) x (h .1) e)
-      (if-either On (lt k1 zero) (start-max (w .b0) x (h .0) e, h .1)
-      (if-either On (lt zero k0) (h .0, minus-one) h))
+      if-either On (lt zero64 k1) (h .0, end-min l (w .b1) x (h .1) e)
+      (if-either On (lt k1 zero64) (start-max (w .b0) x (h .0) e, h .1)
+      (if-either On (lt zero64 k0) (h .0, minus-one) h))
 
   pub wedge-on : (o p xhat : Vec3) (w : Bounds) (ds : List Vec3) → On w → On (wedgeOf o p xhat w ds)
   unfolding wedgeOf behindOf
@@ -83,17 +83,17 @@ module _ (l : Float) (F : T (finite l)) (d : T (fits binary64 l)) (z : T (le zer
       let x1 = (g .ll ⊖ base) ⊘ g .dx in
       let p = div-fits binary64 (neg base) (g .dx) in
       let q = div-fits binary64 (g .ll ⊖ base) (g .dx) in
-      let w : On (record { b0 = maxOf zero (minOf x0 x1); b1 = minOf l (maxOf x0 x1) }) = (start-max zero (minOf x0 x1) start-zero (min-fits binary64 x0 x1 p q), end-min l l (maxOf x0 x1) (end-length l F d) (max-fits binary64 x0 x1 p q)) in
+      let w : On (record { b0 = maxOf zero64 (minOf x0 x1); b1 = minOf l (maxOf x0 x1) }) = (start-max zero64 (minOf x0 x1) start-zero (min-fits binary64 x0 x1 p q), end-min l l (maxOf x0 x1) (end-length l F d) (max-fits binary64 x0 x1 p q)) in
       if-either FeetOn (lt (upright ⊗ g .sl) (absOf (g .dx))) (feet-on w)
-      (if-either FeetOn (not (le zero base && le base (g .ll))) no-feet (feet-on whole-on))
+      (if-either FeetOn (not (le zero64 base && le base (g .ll))) no-feet (feet-on whole-on))
 
   ahead-on : (w : Bounds) (g : EdgeSegment) (nx ny : Float) → On w → On (aheadOf w g nx ny)
   unfolding aheadOf
   ahead-on w g nx ny h =
       let x = g .ax ⊕ g .ay ⊗ ny ⊘ nx in
       let e = add-fits binary64 (g .ax) (g .ay ⊗ ny ⊘ nx) in
-      if-either On (lt zero nx) (start-max (w .b0) x (h .0) e, h .1)
-      (if-either On (lt nx zero) (h .0, end-min l (w .b1) x (h .1) e) h)
+      if-either On (lt zero64 nx) (start-max (w .b0) x (h .0) e, h .1)
+      (if-either On (lt nx zero64) (h .0, end-min l (w .b1) x (h .1) e) h)
 
   wave-on : {feet : FootRange} (g : EdgeSegment) (nx ny : Float) → FeetOn feet → EndsOn l (waveOf feet g nx ny l)
   unfolding waveOf

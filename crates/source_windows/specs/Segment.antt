@@ -2,7 +2,7 @@
 use mathlib.Core.Bool.{_&&_, not}
 use lib.Ieee.{Float, binary64, neg, lt, le}
 use Rattle.root_spec.specs.Root.{sqrtOf}
-use Rattle.float64.specs.Scalar.{zero, minOf, maxOf, absOf}
+use Rattle.float64.specs.Scalar.{zero64, minOf, maxOf, absOf}
 use Rattle.float64.specs.Notation.{_⊕_, _⊖_, _⊗_, _⊘_, if_then_else_}
 use Rattle.source.specs.declared.Src.the-variants.{Line}
 use Rattle.source_windows.specs.Tolerance.{narrowest, upright, tooNarrow}
@@ -21,8 +21,8 @@ use Rattle.source_windows.specs.declared.FootRange.the-variants.{Outside
 -- a segment by the `coords` of its ends, in the window's frame: y positive away from the face
 unfoldable pub inFrameOf : Float → Float → Float → Float → Float → InFrame
 inFrameOf ax ay bx by l =
-    let ay = neg (maxOf ay zero) in
-    let by = neg (maxOf by zero) in
+    let ay = neg (maxOf ay zero64) in
+    let by = neg (maxOf by zero64) in
     let dx = bx ⊖ ax in
     let dy = by ⊖ ay in
     let ll = dx ⊗ dx ⊕ dy ⊗ dy in
@@ -45,15 +45,15 @@ feetOf g l =
     if lt (upright ⊗ g .sl) (absOf (g .dx)) then
     (let x0 = neg base ⊘ g .dx in
     let x1 = (g .ll ⊖ base) ⊘ g .dx in
-    Within (record { b0 = maxOf zero (minOf x0 x1); b1 = minOf l (maxOf x0 x1) })) else
-    if not (le zero base && le base (g .ll)) then Outside else
+    Within (record { b0 = maxOf zero64 (minOf x0 x1); b1 = minOf l (maxOf x0 x1) })) else
+    if not (le zero64 base && le base (g .ll)) then Outside else
     Within (wholeOf l)
 
 -- of them those on the side of the segment's line that the normal points to
 unfoldable pub aheadOf : Bounds → EdgeSegment → Float → Float → Bounds
 aheadOf w g nx ny =
-    if lt zero nx then record { b0 = maxOf (w .b0) (g .ax ⊕ g .ay ⊗ ny ⊘ nx); b1 = w .b1 } else
-    if lt nx zero then record { b0 = w .b0; b1 = minOf (w .b1) (g .ax ⊕ g .ay ⊗ ny ⊘ nx) } else
+    if lt zero64 nx then record { b0 = maxOf (w .b0) (g .ax ⊕ g .ay ⊗ ny ⊘ nx); b1 = w .b1 } else
+    if lt nx zero64 then record { b0 = w .b0; b1 = minOf (w .b1) (g .ax ⊕ g .ay ⊗ ny ⊘ nx) } else
     w
 
 -- the window of one side: none where its wave does not leave over the edge, no foot lies on the segment or the range is too narrow

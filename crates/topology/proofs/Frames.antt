@@ -13,7 +13,7 @@ use Rattle.job_checks.specs.Edge.{vertexAt, lower, higher, lenOf, altitudeOf}
 use Rattle.job_checks.specs.Refusals.{minLength, minAltitude, degenerate, degenerateEdge, degenerateIn}
 use Rattle.job_checks.proofs.Any.{head-none, tail-none}
 use Rattle.topology.specs.Checked.{ValidTriangles, RegularTriangles}
-use Rattle.topology.specs.Edges.{Edge, noEdge, between, corner, sideEdge, edges, triEdge}
+use Rattle.topology.specs.Edges.{Edge, noEdge, between, sideVertex, sideEdge, edges, triEdge}
 use Rattle.topology.specs.Frames.{origin, end, len}
 use Rattle.topology.proofs.Edges.{FromSide, edge-is-side, tri-edge-is}
 use Rattle.topology.proofs.Checked.{three-ways, corner-at, side-inside}
@@ -29,7 +29,7 @@ module _ (o b third : Vec3) (e : degenerate o b third ≡ false) where
   tall = and-eq-true-iff (le minLength (lenOf o b)) (le minAltitude (altitudeOf o b third)) .0 (not-false _ e) .1
 
 -- a triangle's three sides, as corners of side h
-regular-side : (v : List Float) (triangles : List ℕ) (h : ℕ) → degenerateIn v (getD triangles (3 * (h / 3)) 0) (getD triangles (3 * (h / 3) + 1) 0) (getD triangles (3 * (h / 3) + 2) 0) ≡ false → degenerateEdge v (corner triangles h 0) (corner triangles h 1) (corner triangles h 2) ≡ false
+regular-side : (v : List Float) (triangles : List ℕ) (h : ℕ) → degenerateIn v (getD triangles (3 * (h / 3)) 0) (getD triangles (3 * (h / 3) + 1) 0) (getD triangles (3 * (h / 3) + 2) 0) ≡ false → degenerateEdge v (sideVertex triangles h 0) (sideVertex triangles h 1) (sideVertex triangles h 2) ≡ false
 unfolding degenerateIn
 regular-side v triangles h e =
     ⊎-elim (λ z. rw (corner-at triangles h 0 (3 * (h / 3)) (omega arith), corner-at triangles h 1 (3 * (h / 3) + 1) (omega arith), corner-at triangles h 2 (3 * (h / 3) + 2) (omega arith)) (head-none _ _ e))
@@ -39,25 +39,25 @@ regular-side v triangles h e =
 
 -- the frame of a side's edge starts at its lower-numbered vertex
 module _ (v : List Float) (triangles : List ℕ) (e h : ℕ) (q : getD (edges triangles) e noEdge ≡ sideEdge triangles h) where
-  origin-is : origin v triangles e ≡ vertexAt v (lower (corner triangles h 0) (corner triangles h 1))
+  origin-is : origin v triangles e ≡ vertexAt v (lower (sideVertex triangles h 0) (sideVertex triangles h 1))
   unfolding origin sideEdge between
   origin-is = ap (λ (x : Edge). vertexAt v (x .low)) q
 
-  end-is : end v triangles e ≡ vertexAt v (higher (corner triangles h 0) (corner triangles h 1))
+  end-is : end v triangles e ≡ vertexAt v (higher (sideVertex triangles h 0) (sideVertex triangles h 1))
   unfolding end sideEdge between
   end-is = ap (λ (x : Edge). vertexAt v (x .high)) q
 
-  module _ (d : degenerateEdge v (corner triangles h 0) (corner triangles h 1) (corner triangles h 2) ≡ false) where
+  module _ (d : degenerateEdge v (sideVertex triangles h 0) (sideVertex triangles h 1) (sideVertex triangles h 2) ≡ false) where
     side-long : le minLength (len v triangles e) ≡ true
     unfolding len degenerateEdge
-    side-long = rw (origin-is, end-is) (long _ _ (vertexAt v (corner triangles h 2)) d)
+    side-long = rw (origin-is, end-is) (long _ _ (vertexAt v (sideVertex triangles h 2)) d)
 
-    side-tall : le minAltitude (altitudeOf (origin v triangles e) (end v triangles e) (vertexAt v (corner triangles h 2))) ≡ true
+    side-tall : le minAltitude (altitudeOf (origin v triangles e) (end v triangles e) (vertexAt v (sideVertex triangles h 2))) ≡ true
     unfolding degenerateEdge
-    side-tall = rw (origin-is, end-is) (tall _ _ (vertexAt v (corner triangles h 2)) d)
+    side-tall = rw (origin-is, end-is) (tall _ _ (vertexAt v (sideVertex triangles h 2)) d)
 
 module _ (v : List Float) (triangles : List ℕ) (n : ℕ) (s : ValidTriangles triangles n) (r : RegularTriangles v triangles) where
-  regular-at : (h : ℕ) → h < length triangles → degenerateEdge v (corner triangles h 0) (corner triangles h 1) (corner triangles h 2) ≡ false
+  regular-at : (h : ℕ) → h < length triangles → degenerateEdge v (sideVertex triangles h 0) (sideVertex triangles h 1) (sideVertex triangles h 2) ≡ false
   regular-at h l = regular-side v triangles h (r .regular (h / 3) (side-inside triangles n s h l))
 
   -- every edge is long enough
@@ -67,5 +67,5 @@ module _ (v : List Float) (triangles : List ℕ) (n : ℕ) (s : ValidTriangles t
       side-long v triangles e (q .0) (q .1 .1) (regular-at (q .0) (q .1 .0))
 
   -- and what the normal of every side is divided by
-  pub altitude-tall : (h : ℕ) → h < length triangles → le minAltitude (altitudeOf (origin v triangles (triEdge triangles h)) (end v triangles (triEdge triangles h)) (vertexAt v (corner triangles h 2))) ≡ true
+  pub altitude-tall : (h : ℕ) → h < length triangles → le minAltitude (altitudeOf (origin v triangles (triEdge triangles h)) (end v triangles (triEdge triangles h)) (vertexAt v (sideVertex triangles h 2))) ≡ true
   altitude-tall h l = side-tall v triangles (triEdge triangles h) h (tri-edge-is triangles h l) (regular-at h l)

@@ -14,7 +14,7 @@ use lib.Dec.{eqb}
 use lib.ListN.{length, getD}
 use Rattle.job_checks.specs.Sound.{Distinct}
 use Rattle.topology.specs.Checked.{ValidTriangles}
-use Rattle.topology.specs.Edges.{Edge, noEdge, noFace, between, sameEdge, offEnds, joins, find, corner, sideEdge, edges, triEdge, facesAmong, edgeFaces, local, third, sharedVertex, edgeBetween, vertexFaces}
+use Rattle.topology.specs.Edges.{Edge, noEdge, noFace, between, sameEdge, offEnds, joins, find, sideVertex, sideEdge, edges, triEdge, facesAmong, edgeFaces, local, third, sharedVertex, edgeBetween, vertexFaces}
 use Rattle.topology.proofs.Find.{either, same-edge}
 use Rattle.topology.proofs.Chosen.{Listed}
 use Rattle.topology.proofs.Edges.{edges-numbered, tri-edge-is, tri-edge-there}
@@ -96,23 +96,23 @@ same-index f x y j k l m q = index-of f x j l ∙ ((λ i. 3 * f + q i) ∙ sym (
 
 module _ (triangles : List ℕ) (h : ℕ) where
   -- the three corners as they stand from where the side starts
-  pub corners-distinct : Distinct (getD triangles (3 * (h / 3)) 0) (getD triangles (3 * (h / 3) + 1) 0) (getD triangles (3 * (h / 3) + 2) 0) → Distinct (corner triangles h 0) (corner triangles h 1) (corner triangles h 2)
+  pub corners-distinct : Distinct (getD triangles (3 * (h / 3)) 0) (getD triangles (3 * (h / 3) + 1) 0) (getD triangles (3 * (h / 3) + 2) 0) → Distinct (sideVertex triangles h 0) (sideVertex triangles h 1) (sideVertex triangles h 2)
   corners-distinct d =
       ⊎-elim (λ z. rw (corner-at triangles h 0 (3 * (h / 3)) (omega arith), corner-at triangles h 1 (3 * (h / 3) + 1) (omega arith), corner-at triangles h 2 (3 * (h / 3) + 2) (omega arith)) d)
       (⊎-elim (λ z. rw (corner-at triangles h 0 (3 * (h / 3) + 1) (omega arith), corner-at triangles h 1 (3 * (h / 3) + 2) (omega arith), corner-at triangles h 2 (3 * (h / 3)) (omega arith)) (turn d))
       (λ z. rw (corner-at triangles h 0 (3 * (h / 3) + 2) (omega arith), corner-at triangles h 1 (3 * (h / 3)) (omega arith), corner-at triangles h 2 (3 * (h / 3) + 1) (omega arith)) (turn (turn d))))
       (three-ways (h % 3) (omega arith))
 
-  side-is : sideEdge triangles h ≡ between (corner triangles h 0) (corner triangles h 1)
+  side-is : sideEdge triangles h ≡ between (sideVertex triangles h 0) (sideVertex triangles h 1)
   unfolding sideEdge
   side-is = refl
 
-  same-corner : (g j k : ℕ) → 3 * (g / 3) + (g % 3 + j) % 3 ≡ 3 * (h / 3) + (h % 3 + k) % 3 → corner triangles g j ≡ corner triangles h k
-  unfolding corner
+  same-corner : (g j k : ℕ) → 3 * (g / 3) + (g % 3 + j) % 3 ≡ 3 * (h / 3) + (h % 3 + k) % 3 → sideVertex triangles g j ≡ sideVertex triangles h k
+  unfolding sideVertex
   same-corner g j k q = ap (λ (x : ℕ). getD triangles x 0) q
 
   -- the next side or the one before
-  next-or-before : (g : ℕ) → g / 3 ≡ h / 3 → (h ≡ g → ⊥) → ((corner triangles g 0 ≡ corner triangles h 1) × (corner triangles g 1 ≡ corner triangles h 2)) ⊎ ((corner triangles g 0 ≡ corner triangles h 2) × (corner triangles g 1 ≡ corner triangles h 0))
+  next-or-before : (g : ℕ) → g / 3 ≡ h / 3 → (h ≡ g → ⊥) → ((sideVertex triangles g 0 ≡ sideVertex triangles h 1) × (sideVertex triangles g 1 ≡ sideVertex triangles h 2)) ⊎ ((sideVertex triangles g 0 ≡ sideVertex triangles h 2) × (sideVertex triangles g 1 ≡ sideVertex triangles h 0))
   next-or-before g p ne =
       ⊎-elim (λ z. absurd (ne (omega arith)))
       (⊎-elim (λ z. inl (same-corner g 0 1 (omega arith), same-corner g 1 2 (omega arith)))
@@ -149,10 +149,10 @@ pub record Beyond (triangles : List ℕ) (f e v c x : ℕ) : Type 0 where
 -- Face f of a mesh of valid triangles.
 module _ (triangles : List ℕ) (n : ℕ) (s : ValidTriangles triangles n) where
   module _ (h : ℕ) (l : h < length triangles) where
-    distinct-at : Distinct (corner triangles h 0) (corner triangles h 1) (corner triangles h 2)
+    distinct-at : Distinct (sideVertex triangles h 0) (sideVertex triangles h 1) (sideVertex triangles h 2)
     distinct-at = corners-distinct triangles h (s .distinct (h / 3) (side-inside triangles n s h l))
 
-    edge-at : getD (edges triangles) (triEdge triangles h) noEdge ≡ between (corner triangles h 0) (corner triangles h 1)
+    edge-at : getD (edges triangles) (triEdge triangles h) noEdge ≡ between (sideVertex triangles h 0) (sideVertex triangles h 1)
     edge-at = tri-edge-is triangles h l ∙ side-is triangles h
 
   -- ---- a face of an edge has it as a side
@@ -176,7 +176,7 @@ module _ (triangles : List ℕ) (n : ℕ) (s : ValidTriangles triangles n) where
         ⊎-elim (λ q. let z : 3 * f + k ≡ 3 * f = omega arith in rw z (local-0 triangles f i d ∙ sym q)) (⊎-elim (λ q. rw q (local-1 triangles f i d)) (λ q. rw q (local-2 triangles f i d))) (three-ways k m)
 
     -- the vertex opposite to each side
-    third-of-side : (k : ℕ) → k < 3 → third triangles (triEdge triangles (3 * f + k)) f ≡ corner triangles (3 * f + k) 2
+    third-of-side : (k : ℕ) → k < 3 → third triangles (triEdge triangles (3 * f + k)) f ≡ sideVertex triangles (3 * f + k) 2
     third-of-side k m =
         let i : 3 * f + 2 < length triangles = inside triangles n s f l in
         let d = s .distinct f l in
@@ -203,11 +203,11 @@ module _ (triangles : List ℕ) (n : ℕ) (s : ValidTriangles triangles n) where
     side-there = let r = place in subst (λ (h : ℕ). h < length triangles) (r .1 .1 .1) (r .1 .0)
 
     -- its ends are those of the edge
-    pub edge-is : getD (edges triangles) e noEdge ≡ between (corner triangles (3 * f + local triangles f e) 0) (corner triangles (3 * f + local triangles f e) 1)
+    pub edge-is : getD (edges triangles) e noEdge ≡ between (sideVertex triangles (3 * f + local triangles f e) 0) (sideVertex triangles (3 * f + local triangles f e) 1)
     edge-is = ap (λ (x : ℕ). getD (edges triangles) x noEdge) (sym face-has-side) ∙ edge-at (3 * f + local triangles f e) side-there
 
     -- ---- the third vertex
-    pub third-is : third triangles e f ≡ corner triangles (3 * f + local triangles f e) 2
+    pub third-is : third triangles e f ≡ sideVertex triangles (3 * f + local triangles f e) 2
     third-is = ap (λ (x : ℕ). third triangles x f) (sym face-has-side) ∙ third-of-side f (face-there e f l of) (local triangles f e) (local-below triangles f e)
 
     pub third-there : third triangles e f < n
@@ -219,8 +219,8 @@ module _ (triangles : List ℕ) (n : ℕ) (s : ValidTriangles triangles n) where
         rw (third-is, edge-is) (off _ _ _ (d .third-first) (λ q. d .second-third (sym q)))
 
   -- ---- a face is listed round its vertices
-  pub corner-listed : (h k : ℕ) → h < length triangles → Listed (h / 3) (vertexFaces triangles (corner triangles h k))
-  unfolding corner
+  pub corner-listed : (h k : ℕ) → h < length triangles → Listed (h / 3) (vertexFaces triangles (sideVertex triangles h k))
+  unfolding sideVertex
   corner-listed h k l =
       let z : (3 * (h / 3) + (h % 3 + k) % 3) / 3 ≡ h / 3 = omega arith in
       subst (λ (x : ℕ). Listed x (vertexFaces triangles (getD triangles (3 * (h / 3) + (h % 3 + k) % 3) 0))) z (vertex-complete triangles (3 * (h / 3) + (h % 3 + k) % 3) (omega (arith, s .whole)))
@@ -239,7 +239,7 @@ module _ (triangles : List ℕ) (n : ℕ) (s : ValidTriangles triangles n) where
     g-in : 3 * f + j < length triangles
     g-in = omega (arith, inside triangles n s f l)
 
-    shared-is : sharedVertex triangles e o ≡ picked (between (corner triangles (3 * f + i) 0) (corner triangles (3 * f + i) 1)) (between (corner triangles (3 * f + j) 0) (corner triangles (3 * f + j) 1))
+    shared-is : sharedVertex triangles e o ≡ picked (between (sideVertex triangles (3 * f + i) 0) (sideVertex triangles (3 * f + i) 1)) (between (sideVertex triangles (3 * f + j) 0) (sideVertex triangles (3 * f + j) 1))
     unfolding sharedVertex
     shared-is = λ t. picked (edge-at (3 * f + i) h-in t) (edge-at (3 * f + j) g-in t)
 
@@ -258,9 +258,9 @@ module _ (triangles : List ℕ) (n : ℕ) (s : ValidTriangles triangles n) where
 
     pub two-sides-share : Shared triangles n f e o (sharedVertex triangles e o)
     two-sides-share =
-        let A = corner triangles (3 * f + i) 0 in
-        let B = corner triangles (3 * f + i) 1 in
-        let C = corner triangles (3 * f + i) 2 in
+        let A = sideVertex triangles (3 * f + i) 0 in
+        let B = sideVertex triangles (3 * f + i) 1 in
+        let C = sideVertex triangles (3 * f + i) 2 in
         let d = distinct-at (3 * f + i) h-in in
         let z : (3 * f + i) / 3 ≡ f = omega arith in
         ⊎-elim
@@ -318,7 +318,7 @@ module _ (triangles : List ℕ) (n : ℕ) (s : ValidTriangles triangles n) where
           joins-not-second (getD triangles (3 * f + 2) 0) (getD triangles (3 * f) 0) (between (getD triangles (3 * f + 1) 0) (getD triangles (3 * f + 2) 0)) (off _ _ _ (d-of .first-second) (λ q. d-of .third-first (sym q))),
         )
 
-    pub between-of-side : (k : ℕ) → k < 3 → edgeBetween triangles f (corner triangles (3 * f + k) 0) (corner triangles (3 * f + k) 1) ≡ triEdge triangles (3 * f + k)
+    pub between-of-side : (k : ℕ) → k < 3 → edgeBetween triangles f (sideVertex triangles (3 * f + k) 0) (sideVertex triangles (3 * f + k) 1) ≡ triEdge triangles (3 * f + k)
     between-of-side k m =
         ⊎-elim (λ q. let z : 3 * f + k ≡ 3 * f = omega arith in rw (z, corner-at triangles (3 * f) 0 (3 * f) (omega arith), corner-at triangles (3 * f) 1 (3 * f + 1) (omega arith)) between-0)
         (⊎-elim (λ q. rw (q, corner-at triangles (3 * f + 1) 0 (3 * f + 1) (omega arith), corner-at triangles (3 * f + 1) 1 (3 * f + 2) (omega arith)) between-1)
@@ -335,7 +335,7 @@ module _ (triangles : List ℕ) (n : ℕ) (s : ValidTriangles triangles n) where
   -- ---- from an end v of an edge to the third vertex of a face of it
   module _ (e f v : ℕ) (l : e < length (edges triangles)) (of : Listed f (edgeFaces triangles e)) (on : offEnds v (getD (edges triangles) e noEdge) ≡ false) where
     -- side k of the face, which joins v and c, is another side than e
-    beyond : (k c : ℕ) → k < 3 → (k ≡ local triangles f e → ⊥) → c ≡ third triangles e f → edgeBetween triangles f v c ≡ triEdge triangles (3 * f + k) → between (corner triangles (3 * f + k) 0) (corner triangles (3 * f + k) 1) ≡ between v c
+    beyond : (k c : ℕ) → k < 3 → (k ≡ local triangles f e → ⊥) → c ≡ third triangles e f → edgeBetween triangles f v c ≡ triEdge triangles (3 * f + k) → between (sideVertex triangles (3 * f + k) 0) (sideVertex triangles (3 * f + k) 1) ≡ between v c
         → Beyond triangles f e v (third triangles e f) (edgeBetween triangles f v (third triangles e f))
     beyond k c m ne z is pair =
         let h-in : 3 * f + k < length triangles = omega (arith, inside triangles n s f (face-there e f l of)) in
@@ -356,15 +356,15 @@ module _ (triangles : List ℕ) (n : ℕ) (s : ValidTriangles triangles n) where
         let k = local triangles f e in
         let m : k < 3 = local-below triangles f e in
         let fl = face-there e f l of in
-        let A = corner triangles (3 * f + k) 0 in
-        let B = corner triangles (3 * f + k) 1 in
-        let C = corner triangles (3 * f + k) 2 in
+        let A = sideVertex triangles (3 * f + k) 0 in
+        let B = sideVertex triangles (3 * f + k) 1 in
+        let C = sideVertex triangles (3 * f + k) 2 in
         let up = (k + 1) % 3 in
         let back = (k + 2) % 3 in
-        let u0 : corner triangles (3 * f + up) 0 ≡ B = same-corner triangles (3 * f + k) (3 * f + up) 0 1 (same-index f up k 0 1 (omega arith) m (omega arith)) in
-        let u1 : corner triangles (3 * f + up) 1 ≡ C = same-corner triangles (3 * f + k) (3 * f + up) 1 2 (same-index f up k 1 2 (omega arith) m (omega arith)) in
-        let b0 : corner triangles (3 * f + back) 0 ≡ C = same-corner triangles (3 * f + k) (3 * f + back) 0 2 (same-index f back k 0 2 (omega arith) m (omega arith)) in
-        let b1 : corner triangles (3 * f + back) 1 ≡ A = same-corner triangles (3 * f + k) (3 * f + back) 1 0 (same-index f back k 1 0 (omega arith) m (omega arith)) in
+        let u0 : sideVertex triangles (3 * f + up) 0 ≡ B = same-corner triangles (3 * f + k) (3 * f + up) 0 1 (same-index f up k 0 1 (omega arith) m (omega arith)) in
+        let u1 : sideVertex triangles (3 * f + up) 1 ≡ C = same-corner triangles (3 * f + k) (3 * f + up) 1 2 (same-index f up k 1 2 (omega arith) m (omega arith)) in
+        let b0 : sideVertex triangles (3 * f + back) 0 ≡ C = same-corner triangles (3 * f + k) (3 * f + back) 0 2 (same-index f back k 0 2 (omega arith) m (omega arith)) in
+        let b1 : sideVertex triangles (3 * f + back) 1 ≡ A = same-corner triangles (3 * f + k) (3 * f + back) 1 0 (same-index f back k 1 0 (omega arith) m (omega arith)) in
         ⊎-elim
         (λ q. beyond back C (omega arith) (λ x. omega arith) (sym (third-is e f l of))
         (between-either-way f fl v C ∙ ((λ t. edgeBetween triangles f (sym b0 t) ((q ∙ sym b1) t)) ∙ between-of-side f fl back (omega arith)))

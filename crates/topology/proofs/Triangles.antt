@@ -11,7 +11,7 @@ use borrow.Author.Tests.{eq-eqb, ne-eqb, ltb-true, ltb-false}
 use lib.Dec.{ltb, eqb}
 use lib.ListN.{length, getD}
 use Rattle.job_checks.specs.Sound.{Distinct}
-use Rattle.topology.specs.Edges.{Edge, noEdge, between, corner, sideEdge, edges, triEdge, local, offEnds, third}
+use Rattle.topology.specs.Edges.{Edge, noEdge, between, sideVertex, sideEdge, edges, triEdge, local, offEnds, third}
 use Rattle.topology.proofs.Find.{either}
 use Rattle.topology.proofs.Edges.{tri-edge-is}
 
@@ -91,15 +91,15 @@ module _ (triangles : List ℕ) (f : ℕ) (l : 3 * f + 2 < length triangles)
   where
     -- its sides
     pub side-0 : sideEdge triangles (3 * f) ≡ between (getD triangles (3 * f) 0) (getD triangles (3 * f + 1) 0)
-    unfolding sideEdge corner
+    unfolding sideEdge sideVertex
     side-0 = rw (at triangles (3 * f) 0 (3 * f) (omega arith), at triangles (3 * f) 1 (3 * f + 1) (omega arith))
 
     pub side-1 : sideEdge triangles (3 * f + 1) ≡ between (getD triangles (3 * f + 1) 0) (getD triangles (3 * f + 2) 0)
-    unfolding sideEdge corner
+    unfolding sideEdge sideVertex
     side-1 = rw (at triangles (3 * f + 1) 0 (3 * f + 1) (omega arith), at triangles (3 * f + 1) 1 (3 * f + 2) (omega arith))
 
     pub side-2 : sideEdge triangles (3 * f + 2) ≡ between (getD triangles (3 * f + 2) 0) (getD triangles (3 * f) 0)
-    unfolding sideEdge corner
+    unfolding sideEdge sideVertex
     side-2 = rw (at triangles (3 * f + 2) 0 (3 * f + 2) (omega arith), at triangles (3 * f + 2) 1 (3 * f) (omega arith))
 
     -- its edges in the list

@@ -46,11 +46,11 @@ enter es e = cond (ltb (find e es) (length es)) es (es ++ (e ∷ []))
 
 module _ (triangles : List ℕ) where
   -- the vertex of side h's triangle that is k places on from where the side starts
-  unfoldable pub corner : ℕ → ℕ → ℕ
-  corner h k = getD triangles (3 * (h / 3) + (h % 3 + k) % 3) 0
+  unfoldable pub sideVertex : ℕ → ℕ → ℕ
+  sideVertex h k = getD triangles (3 * (h / 3) + (h % 3 + k) % 3) 0
 
   unfoldable pub sideEdge : ℕ → Edge
-  sideEdge h = between (corner h 0) (corner h 1)
+  sideEdge h = between (sideVertex h 0) (sideVertex h 1)
 
   -- the edges of the first n sides, numbered by first appearance
   unfoldable pub edgesOf : ℕ → List Edge

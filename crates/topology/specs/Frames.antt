@@ -8,7 +8,7 @@ use Rattle.float64.specs.Notation.{_⊘_}
 use Rattle.vec3.specs.declared.Vec3.{Vec3}
 use Rattle.vec3.specs.Vec.{scaleOf, subOf, dotOf}
 use Rattle.job_checks.specs.Edge.{vertexAt, lenOf, xhatOf, perpendicularOf, altitudeOf}
-use Rattle.topology.specs.Edges.{noEdge, edges, corner, triEdge, local}
+use Rattle.topology.specs.Edges.{noEdge, edges, sideVertex, triEdge, local}
 
 module _ (v : List Float) (triangles : List ℕ) where
   -- where edge e starts and ends
@@ -28,7 +28,7 @@ module _ (v : List Float) (triangles : List ℕ) where
   unfoldable pub yhat : ℕ → Vec3
   yhat h =
       let e : ℕ = triEdge triangles h in
-      let apex : Vec3 = vertexAt v (corner triangles h 2) in
+      let apex : Vec3 = vertexAt v (sideVertex triangles h 2) in
       scaleOf (perpendicularOf (origin e) (end e) apex) (one ⊘ altitudeOf (origin e) (end e) apex)
 
   -- p in the frame of edge e, of which face f is on the side of positive y

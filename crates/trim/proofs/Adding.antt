@@ -32,16 +32,16 @@ use Rattle.trim_state.specs.State.{State, Result, put, finish}
 use Rattle.trim_state.specs.Trace.{visitings, keeping, adding}
 use Rattle.trim_state.proofs.Turns.{adding-is}
 use Rattle.trim_state.proofs.Seated.{passed, reached, beyond, walked, walk-seated}
-use Rattle.live_windows.specs.Live.{Holds, nums, lastLink}
+use Rattle.live_windows.specs.Live.{HoldsWindows, nums, lastLink}
 use Rattle.live_windows.proofs.Places.{short}
-use Rattle.trim_split.specs.Running.{Place, place, stockOf, End, stopped, at, Ran, Untouched}
+use Rattle.trim_split.specs.Running.{Snapshot, snapshot, stockOf, End, stopped, at, Performed, Untouched}
 use Rattle.trim_split.specs.declared.Counts.{Counts}
 use Rattle.trim_split.proofs.Edges.{holds-put, holds-equal}
 use Rattle.trim_split.proofs.Untouched.{untouched-then}
 use Rattle.trim_visit.specs.declared.Visited.the-variants.{Stopped, Went}
 use Rattle.trim_visit.specs.Visiting.{VisitsAll, Kept}
 use Rattle.trim_keep.specs.Keeping.{Seats, SeatsAmong}
-use Rattle.trim.specs.Adding.{Leaves, Says}
+use Rattle.trim.specs.Adding.{LeavesState, SaysResult}
 
 -- ---- lists
 nums-length : (us : List Window) → length (nums us) ≡ length us
@@ -77,7 +77,7 @@ module _ (cuts windows : ℕ) (limit : Float) (flags : List ℕ) (e : Edge) (w :
       stop : act cuts windows limit flags (list 1) stock₀ ≡ actions.stopped 14
       stop = unfold act in rw (lt-leb 1 cuts (omega (arith, h)))
 
-  module _ (wins : List WindowRecord) (live : ℕ → List Window) (hold : Holds made wins lk f live) (t0 : Nonneg t) (W : Wide t w) (tidy : Tidy t (live id)) where
+  module _ (wins : List WindowRecord) (live : ℕ → List Window) (hold : HoldsWindows made wins lk f live) (t0 : Nonneg t) (W : Wide t w) (tidy : Tidy t (live id)) where
     abbrev front : List Window
     front = passed t w (live id) made
 
@@ -109,7 +109,7 @@ module _ (cuts windows : ℕ) (limit : Float) (flags : List ℕ) (e : Edge) (w :
     unfolding finish
     stop n h = ap (finish (winsAfter (adding e w (live id) made) wins) after) h
 
-    leave : (p : Place) → played (adding e w (live id) made) stock₀ ≡ actions.went (stockOf p) → Holds (p .made) (winsAfter (adding e w (live id) made) wins) (p .links) (p .reals) after → (last : ℕ) → Untouched (λ k. k ≡ id) (place made queued last lk f q vertex) p → Leaves id (place made queued last lk f q vertex) p result
+    leave : (p : Snapshot) → played (adding e w (live id) made) stock₀ ≡ actions.went (stockOf p) → HoldsWindows (p .made) (winsAfter (adding e w (live id) made) wins) (p .links) (p .reals) after → (last : ℕ) → Untouched (λ k. k ≡ id) (snapshot made queued last lk f q vertex) p → LeavesState id (snapshot made queued last lk f q vertex) p result
     unfolding finish
     leave p h k last u = record { wins = winsAfter (adding e w (live id) made) wins; live = after; is = ap (finish (winsAfter (adding e w (live id) made) wins) after) h; holds = k; untouched = u }
 
@@ -124,7 +124,7 @@ module _ (cuts windows : ℕ) (limit : Float) (flags : List ℕ) (e : Edge) (w :
         let s = hold .on-edge id in
         part-few front rest (live id) made parts (subst (λ (n : ℕ). n ≤ made) (nums-length (live id)) (short made (lk .words) id (headOf (lk .edges) id) (nums (live id)) (s .chain .path) (s .chain .belong)))
 
-    stand : Holds made wins lk f (put id (front ++ rest) live)
+    stand : HoldsWindows made wins lk f (put id (front ++ rest) live)
     stand = holds-put made wins lk f id (front ++ rest) live (sym parts) hold
 
     module _ (some : 0 < cuts) (before : ℕ) (link : before ≡ lastLink front) where
@@ -137,24 +137,24 @@ module _ (cuts windows : ℕ) (limit : Float) (flags : List ℕ) (e : Edge) (w :
       abbrev first : List Interval
       first = interval (w .b0) (w .b1) ∷ []
 
-      abbrev start₀ : Place
-      start₀ = place made queued before lk f q vertex
+      abbrev start₀ : Snapshot
+      start₀ = snapshot made queued before lk f q vertex
 
       pub visit-stopped : (n : Lack) (keep′ : List Float) → VisitsAll cuts windows limit flags id t w Few first start₀ (Stopped n) (stopped (lackNumber n)) keep′ → result ≡ state.stopped (lackNumber n)
       visit-stopped n keep′ d = stop (lackNumber n) (played-one ∙ play-stop-append cuts windows limit flags visiting (kept (walk .made) (walk .keep)) stock₀ (lackNumber n) (d wins live front rest few link stand .0))
 
       module _ (c : Counts) (last k : ℕ) (lk′ : Links) (f′ : List Float) (q′ : Queue) (keep′ : List Float)
-          (d : VisitsAll cuts windows limit flags id t w Few first start₀ (Went c last k) (at (place (c .made) (c .queued) last lk′ f′ q′ vertex)) keep′) where
-        abbrev there₁ : Place
-        there₁ = place (c .made) (c .queued) before lk′ f′ q′ vertex
+          (d : VisitsAll cuts windows limit flags id t w Few first start₀ (Went c last k) (at (snapshot (c .made) (c .queued) last lk′ f′ q′ vertex)) keep′) where
+        abbrev there₁ : Snapshot
+        there₁ = snapshot (c .made) (c .queued) before lk′ f′ q′ vertex
 
-        ran : Ran cuts windows limit flags id visiting (takeWhile (startsBefore (w .b1 ⊕ t)) rest) (walk .survivors) start₀ (place (c .made) (c .queued) last lk′ f′ q′ vertex)
+        ran : Performed cuts windows limit flags id visiting (takeWhile (startsBefore (w .b1 ⊕ t)) rest) (walk .survivors) start₀ (snapshot (c .made) (c .queued) last lk′ f′ q′ vertex)
         ran = d wins live front rest few link stand .0
 
         keeps : Kept cuts (c .made) k keep′ walk
         keeps = d wins live front rest few link stand .1
 
-        held : Holds (c .made) (winsAfter visiting wins) lk′ f′ (put id (front ++ (walk .survivors ++ tail)) live)
+        held : HoldsWindows (c .made) (winsAfter visiting wins) lk′ f′ (put id (front ++ (walk .survivors ++ tail)) live)
         held = ran .holds wins live front tail link
             (holds-equal made wins lk f id (front ++ rest) (front ++ (takeWhile (startsBefore (w .b1 ⊕ t)) rest ++ tail)) live (ap (λ (l : List Window). front ++ l) (sym (take-drop (startsBefore (w .b1 ⊕ t)) rest))) stand)
 
@@ -183,15 +183,15 @@ module _ (cuts windows : ℕ) (limit : Float) (flags : List ℕ) (e : Edge) (w :
             ∙ sym (wins-append visiting (kept (walk .made) (walk .keep)) wins)
             ∙ sym (ap (λ (l : List Action). winsAfter l wins) todo-is)
 
-        seated : (end : End) → SeatsAmong cuts windows limit flags e w (winsAfter visiting wins) live front (walk .survivors ++ tail) (wideOf t (pairs k keep′)) there₁ end → Says id start₀ end result
+        seated : (end : End) → SeatsAmong cuts windows limit flags e w (winsAfter visiting wins) live front (walk .survivors ++ tail) (wideOf t (pairs k keep′)) there₁ end → SaysResult id start₀ end result
         seated (stopped n) h = stop n (played-all (actions.stopped n) h)
         seated (at p) h = leave p (played-all (actions.went (stockOf p)) (h .plays))
-            (subst (λ (ws : List WindowRecord). Holds (p .made) ws (p .links) (p .reals) after) wins-all
+            (subst (λ (ws : List WindowRecord). HoldsWindows (p .made) ws (p .links) (p .reals) after) wins-all
             (holds-equal (p .made) (winsAfter (kept (c .made) (pairs k keep′)) (winsAfter visiting wins)) (p .links) (p .reals) id (seatAll (fresh w (c .made) (wideOf t (pairs k keep′))) front (walk .survivors ++ tail)) (addTo betterOf t w (live id) made .live) live
             (ap (λ (us : List Window). seatAll us front (walk .survivors ++ tail)) news-is ∙ sym (walk-seated t w (live id) made t0 W tidy))
             (h .holds)))
             before
             (untouched-then (λ k. k ≡ id) start₀ there₁ p around (h .untouched))
 
-        pub all-seated : (end : End) → Seats cuts windows limit flags e w (wideOf t (pairs k keep′)) there₁ end → Says id start₀ end result
+        pub all-seated : (end : End) → Seats cuts windows limit flags e w (wideOf t (pairs k keep′)) there₁ end → SaysResult id start₀ end result
         all-seated end s = seated end (s (winsAfter visiting wins) live front (walk .survivors ++ tail) link held)

@@ -16,8 +16,8 @@ ghost use Rattle.better.specs.Stretches.{interval};
 ghost use Rattle.better.specs.Buffers.{pairs};
 ghost use Rattle.trim_model.specs.Intervals.{tinyOf};
 ghost use Rattle.cut_lists.specs.Cut.{Sizes};
-ghost use Rattle.trim_split.specs.Running.{Ready, roomFor, placeBefore, endAfter, endOf};
-ghost use Rattle.trim_keep.specs.Keeping.{Bounded};
+ghost use Rattle.trim_split.specs.Running.{Ready, roomFor, snapshotBefore, endAfter, madeEnd};
+ghost use Rattle.trim_keep.specs.Keeping.{MadeWithin};
 ghost use Rattle.trim.specs.Adding.{newOf, Admits, AddsTo};
 ghost use Rattle.trim.specs.Buffers.{before, after};
 ghost use Rattle.cut_lists.specs.Buffers.{cutsBefore, cutsAfter};
@@ -58,10 +58,10 @@ fn admit(
     limit: f64,
 ) -> Made
     requires { ⌜ Ready (e .id .0) (counts .made) 0 (now edges) (now words) (now reals) × Sizes (length (now pts)) (now out) (now keep) (now next) ⌝ }
-    ensures { λ r. ⌜ Bounded (roomFor words reals) r × (w .win .low ≡ lowestOf (w .win .src) (w .win .b0) (w .win .b1) → tiny ≡ tinyOf (e .len) →
+    ensures { λ r. ⌜ MadeWithin (roomFor words reals) r × (w .win .low ≡ lowestOf (w .win .src) (w .win .b0) (w .win .b1) → tiny ≡ tinyOf (e .len) →
         Admits (length (given pts)) (roomFor words reals) limit (given «vertex_words») e (newOf w)
-        (placeBefore edges words reals keys events (counts .made) (counts .queued) 0 (given vertex))
-        (endAfter edges words reals keys events (endOf r) (left vertex))) ⌝ }
+        (snapshotBefore edges words reals keys events (counts .made) (counts .queued) 0 (given vertex))
+        (endAfter edges words reals keys events (madeEnd r) (left vertex))) ⌝ }
 {
     if pts.len() == 0 {
         return Made::Stopped(Lack::Cuts);

@@ -3,8 +3,8 @@ use Prim.Native.Nat.{ℕ}
 use mathlib.Core.List.{List}
 use mathlib.Core.Path.{_≡_, sym, _∙_}
 use lib.ListN.{set}
-use Rattle.trim_list.specs.declared.Ran.{Ran}
-use Rattle.trim_list.specs.declared.Ran.the-variants.{Done, Ended}
+use Rattle.run_operations.specs.declared.Ran.{Ran}
+use Rattle.run_operations.specs.declared.Ran.the-variants.{Done, Ended}
 use Rattle.trim_c.specs.Exports.{toldOf}
 
 module _ (t t₁ t₂ : List ℕ) {x : Ran} where

@@ -1,16 +1,16 @@
 // The function that runs a list, for programs in C and Rust, in buffers that they lend.
 use buffers::write_u32;
-use trim_list::Ran;
-ghost use Rattle.buffers.specs.Lent.{given};
+use run_operations::Ran;
+ghost use Rattle.buffers.specs.Lent.{given, left};
 ghost use Rattle.trim.specs.Buffers.{before, after};
 ghost use Rattle.cut_lists.specs.Buffers.{cutsBefore, cutsAfter};
 ghost use mathlib.Core.Path.{_≡_};
-ghost use Rattle.trim_c.specs.Exports.{toldOf, Answered};
+ghost use Rattle.trim_c.specs.Exports.{toldOf, AnsweredList};
 
 // The answer is 0 where all operations went, else the number that refuses one. The first two numbers of `told` are then the windows made and the
 // events queued, or the operation that is refused and 0.
 fn tell(ran: Ran, told: &mut [u32]) -> u32
-    ensures { λ r. ⌜ (r, now (told .exit)) ≡ toldOf ran (given told) ⌝ }
+    ensures { λ r. ⌜ (r, left told) ≡ toldOf ran (given told) ⌝ }
 {
     match ran {
         Ran::Done { made, queued } => {
@@ -46,11 +46,11 @@ pub extern "C" fn sirmolaat_trim_run(
     next: &mut [f64],
     told: &mut [u32],
 ) -> u32
-    ensures { λ r. ⌜ Answered limit (given «vertex_words») (given ends) (given lens) (given ops) (given args)
+    ensures { λ r. ⌜ AnsweredList limit (given «vertex_words») (given ends) (given lens) (given ops) (given args)
         (before edges words reals keys events vertex) (cutsBefore pts out keep next)
-        (after edges words reals keys events vertex) (cutsAfter pts out keep next) (given told) r (now (told .exit)) ⌝ }
+        (after edges words reals keys events vertex) (cutsAfter pts out keep next) (given told) r (left told) ⌝ }
 {
-    let ran = trim_list::run(
+    let ran = run_operations::run(
         limit,
         ops,
         args,

@@ -4,7 +4,7 @@ use mathlib.Core.Bool.{Bool, true, false}
 use mathlib.Core.List.{List, [], _∷_, _++_}
 use mathlib.Core.Path.{_≡_, refl, sym, ap, _∙_}
 use lib.Ieee.{Float, le}
-use Rattle.float64.specs.Scalar.{zero}
+use Rattle.float64.specs.Scalar.{zero64}
 use Rattle.float64.specs.Notation.{_⊖_, _⊗_}
 use Rattle.source.specs.declared.Win.{Win}
 use Rattle.source.specs.Distance.{evalOf}
@@ -63,10 +63,10 @@ module _ (cuts windows : ℕ) (limit : Float) (flags : List ℕ) (e : Edge) (x :
   win = record { b0 = b0; b1 = b1; low = x .win .low; src = x .win .src }
 
   abbrev firstEnd : List Action
-  firstEnd = pushIf (le b0 (near ⊗ e .len)) (touch (e .a .0) (evalOf win zero zero))
+  firstEnd = pushIf (le b0 (near ⊗ e .len)) (touch (e .a .0) (evalOf win zero64 zero64))
 
   abbrev otherEnd : List Action
-  otherEnd = pushIf (le (e .len ⊖ near ⊗ e .len) b1) (touch (e .b .0) (evalOf win (e .len) zero))
+  otherEnd = pushIf (le (e .len ⊖ near ⊗ e .len) b1) (touch (e .b .0) (evalOf win (e .len) zero64))
 
   touching-is : touching e (part (liveOf x k) b0 b1 j) ≡ firstEnd ++ otherEnd
   unfolding touching evalOf

@@ -12,7 +12,7 @@ ghost use mathlib.Core.Path.{_≡_};
 ghost use mathlib.Core.List.{List, [], _∷_};
 ghost use Prim.Native.Nat.{ℕ, _+_, _≤_, _<_};
 ghost use lib.ListN.{length};
-ghost use Rattle.float64.specs.Scalar.{zero as zero64};
+ghost use Rattle.float64.specs.Scalar.{zero64};
 ghost use Rattle.source.specs.Distance.{evalOf};
 ghost use Rattle.better.specs.Stretches.{interval};
 ghost use Rattle.better.specs.Buffers.{pairs};
@@ -22,8 +22,8 @@ ghost use Rattle.trim_model.specs.Intervals.{pushIf, wideOf};
 ghost use Rattle.trim_model.specs.Windows.{part};
 ghost use Rattle.trim_state.specs.Trace.{touching};
 ghost use Rattle.live_windows.specs.Live.{liveOf};
-ghost use Rattle.trim_split.specs.Running.{Ready, roomFor, placeBefore, endAfter, endOf};
-ghost use Rattle.trim_keep.specs.Keeping.{Bounded, Seats, KeptOne};
+ghost use Rattle.trim_split.specs.Running.{Ready, roomFor, snapshotBefore, endAfter, madeEnd};
+ghost use Rattle.trim_keep.specs.Keeping.{MadeWithin, Seats, KeptOne};
 
 // The end v of an edge, which is at x along it, is touched by a window that reaches it.
 fn touch_reached(
@@ -118,10 +118,10 @@ fn keep_part(
     limit: f64,
 ) -> Made
     requires { ⌜ Ready (e .id .0) (counts .made) before (now edges) (now words) (now reals) ⌝ }
-    ensures { λ r. ⌜ Bounded (roomFor words reals) r × ((cuts k : ℕ) →
+    ensures { λ r. ⌜ MadeWithin (roomFor words reals) r × ((cuts k : ℕ) →
         KeptOne cuts (roomFor words reals) limit (given «vertex_words») e (liveOf x k) (interval b0 b1)
-        (placeBefore edges words reals keys events (counts .made) (counts .queued) before (given vertex))
-        (endAfter edges words reals keys events (endOf r) (left vertex))) ⌝ }
+        (snapshotBefore edges words reals keys events (counts .made) (counts .queued) before (given vertex))
+        (endAfter edges words reals keys events (madeEnd r) (left vertex))) ⌝ }
 {
     let seat = live_windows::seat_from(edges, words, reals, counts.made, e.id, before, b0);
     let part = trim_split::make_part(
@@ -185,10 +185,10 @@ pub fn keep_parts(
     limit: f64,
 ) -> Made
     requires { ⌜ Ready (e .id .0) (counts .made) before (now edges) (now words) (now reals) × (k + k ≤ length (now keep)) ⌝ }
-    ensures { λ r. ⌜ Bounded (roomFor words reals) r × ((cuts j : ℕ) →
+    ensures { λ r. ⌜ MadeWithin (roomFor words reals) r × ((cuts j : ℕ) →
         Seats cuts (roomFor words reals) limit (given «vertex_words») e (liveOf x j) (wideOf tiny (pairs k (given keep)))
-        (placeBefore edges words reals keys events (counts .made) (counts .queued) before (given vertex))
-        (endAfter edges words reals keys events (endOf r) (left vertex))) ⌝ }
+        (snapshotBefore edges words reals keys events (counts .made) (counts .queued) before (given vertex))
+        (endAfter edges words reals keys events (madeEnd r) (left vertex))) ⌝ }
 {
     let mut now = counts;
     let mut last = before;

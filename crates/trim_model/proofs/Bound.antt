@@ -13,7 +13,7 @@ use lib.ListN.{length, length-append}
 use lib.Ieee.{Float, lt, le}
 use Rattle.float64.specs.Scalar.{minOf, maxOf}
 use Rattle.better.specs.Stretches.{Interval, interval}
-use Rattle.trim_model.specs.Intervals.{width, pushIf, isSliver, sliver, cuts, nextOf, next, pieceSlivers, keepSlivers}
+use Rattle.trim_model.specs.Intervals.{width, pushIf, isSliver, sliver, cutsWithin, nextOf, next, pieceSlivers, keepSlivers}
 use Rattle.trim_model.specs.Windows.{Window}
 use Rattle.trim_model.specs.Add.{Better, Walk, before, run, behind, start, untouched, meet, visit, visits, addTo, metBound, metBounds, addBound, sharedLo, sharedHi}
 use Rattle.better.specs.Claim.{All, Point}
@@ -63,8 +63,8 @@ ahead-all p [] = omega arith
 ahead-all p (g ∷ gs) = omega (arith, more-one p (rank (g .to)), ahead-all p gs)
 
 -- stretches behind o1 give no cut
-cuts-behind : (o0 o1 : Float) → Point o0 → Point o1 → rank o0 < rank o1 → (p : ℕ) (gs : List Interval) (q : ℕ) → Rise p gs q → rank o1 ≤ p → length (cuts o0 o1 gs) + ahead (rank o1) gs ≤ ahead (rank o0) gs
-unfolding cuts ahead
+cuts-behind : (o0 o1 : Float) → Point o0 → Point o1 → rank o0 < rank o1 → (p : ℕ) (gs : List Interval) (q : ℕ) → Rise p gs q → rank o1 ≤ p → length (cutsWithin o0 o1 gs) + ahead (rank o1) gs ≤ ahead (rank o0) gs
+unfolding cutsWithin ahead
 cuts-behind o0 o1 g0 g1 z p [] q h i = omega arith
 cuts-behind o0 o1 g0 g1 z p (g ∷ gs) q h i =
     let s = h .0 in
@@ -74,12 +74,12 @@ cuts-behind o0 o1 g0 g1 z p (g ∷ gs) q h i =
     let e1 = min-rank (s .point1) g1 in
     let j : rank o0 < rank (g .to) = omega arith in
     let r = cuts-behind o0 o1 g0 g1 z (rank (g .to)) gs q (h .1) (omega arith) in
-    by-cases (λ (c : Bool). length (pushIf c (interval c0 c1) ++ cuts o0 o1 gs) + (more (rank o1) (rank (g .to)) + ahead (rank o1) gs) ≤ more (rank o0) (rank (g .to)) + ahead (rank o0) gs) (lt c0 c1)
+    by-cases (λ (c : Bool). length (pushIf c (interval c0 c1) ++ cutsWithin o0 o1 gs) + (more (rank o1) (rank (g .to)) + ahead (rank o1) gs) ≤ more (rank o0) (rank (g .to)) + ahead (rank o0) gs) (lt c0 c1)
     (λ y. let k = lt-yes (max-point (s .point0) g0) (min-point (s .point1) g1) y in omega arith)
     (λ n. omega (arith, more-yes (rank o0) (rank (g .to)) j, more-one (rank o1) (rank (g .to))))
 
-cuts-bound : (o0 o1 : Float) → Point o0 → Point o1 → rank o0 < rank o1 → (p : ℕ) (gs : List Interval) (q : ℕ) → Rise p gs q → length (cuts o0 o1 gs) + ahead (rank o1) gs ≤ ahead (rank o0) gs + 1
-unfolding cuts ahead
+cuts-bound : (o0 o1 : Float) → Point o0 → Point o1 → rank o0 < rank o1 → (p : ℕ) (gs : List Interval) (q : ℕ) → Rise p gs q → length (cutsWithin o0 o1 gs) + ahead (rank o1) gs ≤ ahead (rank o0) gs + 1
+unfolding cutsWithin ahead
 cuts-bound o0 o1 g0 g1 z p [] q h = omega arith
 cuts-bound o0 o1 g0 g1 z p (g ∷ gs) q h =
     let s = h .0 in
@@ -87,7 +87,7 @@ cuts-bound o0 o1 g0 g1 z p (g ∷ gs) q h =
     let c1 = minOf (g .to) o1 in
     let e0 = max-rank (s .point0) g0 in
     let e1 = min-rank (s .point1) g1 in
-    by-cases (λ (c : Bool). length (pushIf c (interval c0 c1) ++ cuts o0 o1 gs) + (more (rank o1) (rank (g .to)) + ahead (rank o1) gs) ≤ more (rank o0) (rank (g .to)) + ahead (rank o0) gs + 1) (lt c0 c1)
+    by-cases (λ (c : Bool). length (pushIf c (interval c0 c1) ++ cutsWithin o0 o1 gs) + (more (rank o1) (rank (g .to)) + ahead (rank o1) gs) ≤ more (rank o0) (rank (g .to)) + ahead (rank o0) gs + 1) (lt c0 c1)
     (λ y.
     let k = lt-yes (max-point (s .point0) g0) (min-point (s .point1) g1) y in
     let j : rank o0 < rank (g .to) = omega arith in
@@ -133,7 +133,7 @@ module _ (lo hi : Float) (gl : Point lo) (gh : Point hi) (p q : ℕ) (gs : List 
       let G0 = max-point g0 gl in
       let G1 = min-point g1 gh in
       let l' : rank (k .from) ≤ rank (k .to) = omega arith in
-      by-cases (λ (c : Bool). length (cond c (k ∷ []) (pushIf (lt (k .from) o0) (interval (k .from) o0) ++ (cuts o0 o1 gs ++ pushIf (lt o1 (k .to)) (interval o1 (k .to))))) + potential (rank (k .to)) ≤ potential (rank (k .from)) + 1) (le o1 o0)
+      by-cases (λ (c : Bool). length (cond c (k ∷ []) (pushIf (lt (k .from) o0) (interval (k .from) o0) ++ (cutsWithin o0 o1 gs ++ pushIf (lt o1 (k .to)) (interval o1 (k .to))))) + potential (rank (k .to)) ≤ potential (rank (k .from)) + 1) (le o1 o0)
       (λ y. omega (arith, potential-anti (rank (k .from)) (rank (k .to)) l'))
       (λ n.
       let z = le-no G1 G0 n in
@@ -144,7 +144,7 @@ module _ (lo hi : Float) (gl : Point lo) (gh : Point hi) (p q : ℕ) (gs : List 
       let c = cuts-bound o0 o1 G0 G1 z p gs q R in
       let u = ahead-anti (rank (k .from)) (rank o0) gs i in
       let v = ahead-anti (rank o1) (rank (k .to)) gs j in
-      omega (arith, length-append (pushIf (lt (k .from) o0) (interval (k .from) o0)) (cuts o0 o1 gs ++ pushIf (lt o1 (k .to)) (interval o1 (k .to))), length-append (cuts o0 o1 gs) (pushIf (lt o1 (k .to)) (interval o1 (k .to)))))
+      omega (arith, length-append (pushIf (lt (k .from) o0) (interval (k .from) o0)) (cutsWithin o0 o1 gs ++ pushIf (lt o1 (k .to)) (interval o1 (k .to))), length-append (cutsWithin o0 o1 gs) (pushIf (lt o1 (k .to)) (interval o1 (k .to)))))
 
   next-bound : (a : ℕ) (ks : List Interval) (b : ℕ) → Rise a ks b → length (next lo hi gs ks) + potential b ≤ potential a + length ks
   unfolding next

@@ -19,7 +19,7 @@ use Rattle.float64.specs.Scalar.{minOf, maxOf}
 use Rattle.float64.specs.TotalOrder.{totalLess}
 use Rattle.float64.specs.Scalar as scalar
 use Rattle.better.specs.Stretches.{Interval, interval}
-use Rattle.trim_model.specs.Intervals.{width, pushIf, isSliver, sliver, cuts, nextOf, next, pieces, pieceSlivers, wideOf, keepSlivers}
+use Rattle.trim_model.specs.Intervals.{width, pushIf, isSliver, sliver, cutsWithin, nextOf, next, pieces, pieceSlivers, wideOf, keepSlivers}
 use Rattle.trim_model.specs.Windows.{Window, fresh, split, insert, sorted}
 use Rattle.trim_model.specs.Add.{Better, Walk, before, run, behind, start, untouched, meet, visit, visits, addTo, sharedLo, sharedHi}
 use Rattle.better.specs.Claim.{All, Point}
@@ -70,7 +70,7 @@ module _ {t : Float} (t0 : Nonneg t) (X : ℕ) where
   -- an interval no wider than t is a sliver
   dropped : (a b : Float) → Point a → Point b → rank a < rank b → T (le (width a b) t) → rank a ≤ X → X ≤ rank b → Any (Holds X) (sliver t a b)
   unfolding sliver
-  dropped a b ga gb z l i j = any-if (Holds X) (isSliver t a b) (interval a b) (and-i (lt scalar.zero (width a b)) (le (width a b) t) (width-pos ga gb z) l) (i, j)
+  dropped a b ga gb z l i j = any-if (Holds X) (isSliver t a b) (interval a b) (and-i (lt scalar.zero64 (width a b)) (le (width a b) t) (width-pos ga gb z) l) (i, j)
 
   -- ground between a and b is a piece or a sliver
   ground : (a b : Float) → Point a → Point b → rank a < rank b → rank a ≤ X → X ≤ rank b → Any (Holds X) (pushIf (lt t (width a b)) (interval a b)) ⊎ Any (Holds X) (sliver t a b)
@@ -172,17 +172,17 @@ module _ {t : Float} (t0 : Nonneg t) (X : ℕ) where
 
   -- ---- what is cut of the new window
   data Cut (o0 o1 : Float) (gs : List Interval) : Type 0 where
-    in-cut : Any (Holds X) (cuts o0 o1 gs) → Cut o0 o1 gs
+    in-cut : Any (Holds X) (cutsWithin o0 o1 gs) → Cut o0 o1 gs
     at-end : Any (λ (g : Interval). rank (g .to) ≡ X) gs → X ≡ rank o0 → Cut o0 o1 gs
     at-start : Any (λ (g : Interval). rank (g .from) ≡ X) gs → X ≡ rank o1 → Cut o0 o1 gs
 
   cuts-cover : (o0 o1 : Float) → Point o0 → Point o1 → rank o0 < rank o1 → rank o0 ≤ X → X ≤ rank o1 → (p : ℕ) (gs : List Interval) (q : ℕ) → Rise p gs q → Any (Holds X) gs → Cut o0 o1 gs
-  unfolding cuts
+  unfolding cutsWithin
   cuts-cover o0 o1 g0 g1 z i j p [] q h a = absurd a
   cuts-cover o0 o1 g0 g1 z i j p (g ∷ gs) q h (inr a) = more (cuts-cover o0 o1 g0 g1 z i j (rank (g .to)) gs q (h .1) a)
     where
       more : Cut o0 o1 gs → Cut o0 o1 (g ∷ gs)
-      more (in-cut r) = in-cut (any-right (Holds X) (pushIf (lt (maxOf (g .from) o0) (minOf (g .to) o1)) (interval (maxOf (g .from) o0) (minOf (g .to) o1))) (cuts o0 o1 gs) r)
+      more (in-cut r) = in-cut (any-right (Holds X) (pushIf (lt (maxOf (g .from) o0) (minOf (g .to) o1)) (interval (maxOf (g .from) o0) (minOf (g .to) o1))) (cutsWithin o0 o1 gs) r)
       more (at-end r e) = at-end (inr r) e
       more (at-start r e) = at-start (inr r) e
   cuts-cover o0 o1 g0 g1 z i j p (g ∷ gs) q h (inl a) =
@@ -196,7 +196,7 @@ module _ {t : Float} (t0 : Nonneg t) (X : ℕ) where
           | yes f ↦ at-end (inl (omega arith)) (omega arith)
           | no f ↦ at-start (inl (omega arith)) (omega arith)
         ]
-        | no f ↦ in-cut (any-left (Holds X) (pushIf (lt (maxOf (g .from) o0) (minOf (g .to) o1)) (interval (maxOf (g .from) o0) (minOf (g .to) o1))) (cuts o0 o1 gs)
+        | no f ↦ in-cut (any-left (Holds X) (pushIf (lt (maxOf (g .from) o0) (minOf (g .to) o1)) (interval (maxOf (g .from) o0) (minOf (g .to) o1))) (cutsWithin o0 o1 gs)
             (by-cases (λ (c : Bool). Any (Holds X) (pushIf c (interval (maxOf (g .from) o0) (minOf (g .to) o1)))) (lt (maxOf (g .from) o0) (minOf (g .to) o1)) (λ y. inl (omega arith, omega arith)) (λ n. let k = lt-no (max-point (s .point0) g0) (min-point (s .point1) g1) n in let y : ⊥ = omega arith in absurd y)))
       ]
 
@@ -216,15 +216,15 @@ module _ {t : Float} (t0 : Nonneg t) (X : ℕ) where
         let e1 = min-rank g1 gh in
         let i = a .0 in
         let j = a .1 in
-        by-cases (λ (c : Bool). Any (Holds X) (cond c (k ∷ []) (pushIf (lt (k .from) o0) (interval (k .from) o0) ++ (cuts o0 o1 gs ++ pushIf (lt o1 (k .to)) (interval o1 (k .to))))) ⊎ ((rank lo ≤ X) × (X ≤ rank hi))) (le o1 o0)
+        by-cases (λ (c : Bool). Any (Holds X) (cond c (k ∷ []) (pushIf (lt (k .from) o0) (interval (k .from) o0) ++ (cutsWithin o0 o1 gs ++ pushIf (lt o1 (k .to)) (interval o1 (k .to))))) ⊎ ((rank lo ≤ X) × (X ≤ rank hi))) (le o1 o0)
         (λ y. inl (inl a))
         (λ n. elim (decLe (rank lo) X) [
-          | no f ↦ inl (any-left (Holds X) (pushIf (lt (k .from) o0) (interval (k .from) o0)) (cuts o0 o1 gs ++ pushIf (lt o1 (k .to)) (interval o1 (k .to)))
+          | no f ↦ inl (any-left (Holds X) (pushIf (lt (k .from) o0) (interval (k .from) o0)) (cutsWithin o0 o1 gs ++ pushIf (lt o1 (k .to)) (interval o1 (k .to)))
               (by-cases (λ (c : Bool). Any (Holds X) (pushIf c (interval (k .from) o0))) (lt (k .from) o0) (λ y. inl (i, omega arith)) (λ m. let l = lt-no g0 (max-point g0 gl) m in let y : ⊥ = omega arith in absurd y)))
           | yes l ↦ elim (decLe X (rank hi)) [
             | yes r ↦ inr (l, r)
-            | no f ↦ inl (any-right (Holds X) (pushIf (lt (k .from) o0) (interval (k .from) o0)) (cuts o0 o1 gs ++ pushIf (lt o1 (k .to)) (interval o1 (k .to)))
-                (any-right (Holds X) (cuts o0 o1 gs) (pushIf (lt o1 (k .to)) (interval o1 (k .to)))
+            | no f ↦ inl (any-right (Holds X) (pushIf (lt (k .from) o0) (interval (k .from) o0)) (cutsWithin o0 o1 gs ++ pushIf (lt o1 (k .to)) (interval o1 (k .to)))
+                (any-right (Holds X) (cutsWithin o0 o1 gs) (pushIf (lt o1 (k .to)) (interval o1 (k .to)))
                 (by-cases (λ (c : Bool). Any (Holds X) (pushIf c (interval o1 (k .to)))) (lt o1 (k .to)) (λ y. inl (omega arith, j)) (λ m. let l = lt-no (min-point g1 gh) g1 m in let y : ⊥ = omega arith in absurd y))))
           ]
         ])
@@ -251,12 +251,12 @@ module _ {t : Float} (t0 : Nonneg t) (X : ℕ) where
           let b = any-in (rank lo) gs (rank hi) R G in
           let bi = b .0 in
           let bj = b .1 in
-          by-cases (λ (c : Bool). Any (Holds X) (cond c (k ∷ []) (pushIf (lt (k .from) o0) (interval (k .from) o0) ++ (cuts o0 o1 gs ++ pushIf (lt o1 (k .to)) (interval o1 (k .to))))) ⊎ Left u0 u1 gs) (le o1 o0)
+          by-cases (λ (c : Bool). Any (Holds X) (cond c (k ∷ []) (pushIf (lt (k .from) o0) (interval (k .from) o0) ++ (cutsWithin o0 o1 gs ++ pushIf (lt o1 (k .to)) (interval o1 (k .to))))) ⊎ Left u0 u1 gs) (le o1 o0)
           (λ y. inl (inl a))
           (λ n. let z = le-no G1 G0 n in done z (cuts-cover o0 o1 G0 G1 z (omega arith) (omega arith) (rank lo) gs (rank hi) R G))
         where
-          done : rank (maxOf (k .from) lo) < rank (minOf (k .to) hi) → Cut (maxOf (k .from) lo) (minOf (k .to) hi) gs → Any (Holds X) (pushIf (lt (k .from) (maxOf (k .from) lo)) (interval (k .from) (maxOf (k .from) lo)) ++ (cuts (maxOf (k .from) lo) (minOf (k .to) hi) gs ++ pushIf (lt (minOf (k .to) hi) (k .to)) (interval (minOf (k .to) hi) (k .to)))) ⊎ Left u0 u1 gs
-          done z (in-cut r) = inl (any-right (Holds X) (pushIf (lt (k .from) (maxOf (k .from) lo)) (interval (k .from) (maxOf (k .from) lo))) (cuts (maxOf (k .from) lo) (minOf (k .to) hi) gs ++ pushIf (lt (minOf (k .to) hi) (k .to)) (interval (minOf (k .to) hi) (k .to))) (any-left (Holds X) (cuts (maxOf (k .from) lo) (minOf (k .to) hi) gs) (pushIf (lt (minOf (k .to) hi) (k .to)) (interval (minOf (k .to) hi) (k .to))) r))
+          done : rank (maxOf (k .from) lo) < rank (minOf (k .to) hi) → Cut (maxOf (k .from) lo) (minOf (k .to) hi) gs → Any (Holds X) (pushIf (lt (k .from) (maxOf (k .from) lo)) (interval (k .from) (maxOf (k .from) lo)) ++ (cutsWithin (maxOf (k .from) lo) (minOf (k .to) hi) gs ++ pushIf (lt (minOf (k .to) hi) (k .to)) (interval (minOf (k .to) hi) (k .to)))) ⊎ Left u0 u1 gs
+          done z (in-cut r) = inl (any-right (Holds X) (pushIf (lt (k .from) (maxOf (k .from) lo)) (interval (k .from) (maxOf (k .from) lo))) (cutsWithin (maxOf (k .from) lo) (minOf (k .to) hi) gs ++ pushIf (lt (minOf (k .to) hi) (k .to)) (interval (minOf (k .to) hi) (k .to))) (any-left (Holds X) (cutsWithin (maxOf (k .from) lo) (minOf (k .to) hi) gs) (pushIf (lt (minOf (k .to) hi) (k .to)) (interval (minOf (k .to) hi) (k .to))) r))
           done z (at-end r e) = inr (let e1 = min-rank g1 gh in edge-right u0 u1 gu0 gu1 gs U S r (omega arith))
           done z (at-start r e) = inr (let e0 = max-rank g0 gl in edge-left u0 u1 gu0 gu1 gs U S r (omega arith))
 

@@ -14,7 +14,7 @@ use Rattle.trim_model.specs.Windows.{Window}
 use Rattle.trim_model.specs.Add.{Better}
 use Rattle.trim_model.specs.Model.{EdgeState, empty, steps, stepsBound}
 use Rattle.better.specs.Claim.{All, Pairs, Point, Stretch, Separates}
-use Rattle.trim_model.specs.Claim.{Trimmed, Demand3}
+use Rattle.trim_model.specs.Claim.{Trimmed, ModelDemand3}
 use Rattle.trim_model.proofs.Ranks.{rank, le-yes, rank-le, lt-yes, rank-lt, max-point, max-rank, min-point, min-rank, width-number}
 use Rattle.trim_model.proofs.Count.{has, has-yes}
 use Rattle.trim_model.proofs.Lists.{all-map, all-map2, any-of}
@@ -101,9 +101,9 @@ trimmed t n s k =
     }
 
 -- whatever the limit and the lengths
-pub demand3 : (better : Better) → Separates better → (limit : Float) (len : ℕ → Float) → Demand3 better limit len
+pub demand3 : (better : Better) → Separates better → (limit : Float) (len : ℕ → Float) → ModelDemand3 better limit len
 demand3 better N limit len cs p e = trimmed (tinyOf (len e)) (stepsBound better limit len e cs empty) (steps better limit len cs empty .edge e) (model-ok (stretches N) limit len cs p e)
 
 -- of the model with the `better` that the port has
-pub demand3-of-better : (limit : Float) (len : ℕ → Float) → Demand3 betterOf limit len
+pub demand3-of-better : (limit : Float) (len : ℕ → Float) → ModelDemand3 betterOf limit len
 demand3-of-better limit len = demand3 betterOf better-separates limit len

@@ -8,7 +8,7 @@ use native.Mathlib.Omega.{arith}
 use lib.Ieee.{Float, lt, le}
 use Rattle.float64.specs.Scalar.{minOf, maxOf}
 use Rattle.better.specs.Stretches.{Interval, interval}
-use Rattle.trim_model.specs.Intervals.{width, pushIf, cuts, nextOf, next, pieces}
+use Rattle.trim_model.specs.Intervals.{width, pushIf, cutsWithin, nextOf, next, pieces}
 use Rattle.better.specs.Claim.{Point}
 use Rattle.trim_model.proofs.Ranks.{rank, le-yes, lt-yes, max-point, max-rank, min-point, min-rank, le-no, by-cases}
 use Rattle.trim_model.proofs.Count.{has, has-in, has-two, view, holding, missing}
@@ -70,8 +70,8 @@ rise-count X Y z p (k ∷ ks) q h =
 if-rise : (a b : Float) → Point a → Point b → rank a ≤ rank b → Rise (rank a) (pushIf (lt a b) (interval a b)) (rank b)
 if-rise a b ga gb h = by-cases (λ (c : Bool). Rise (rank a) (pushIf c (interval a b)) (rank b)) (lt a b) (λ y. (record { point0 = ga; point1 = gb; above = le-refl (rank a); rises = lt-yes ga gb y }, le-refl (rank b))) (λ n. h)
 
-cuts-rise : (o0 o1 : Float) → Point o0 → Point o1 → (P p : ℕ) (gs : List Interval) (q : ℕ) → P ≤ rank o1 → P ≤ max p (rank o0) → Rise p gs q → Rise P (cuts o0 o1 gs) (rank o1)
-unfolding cuts
+cuts-rise : (o0 o1 : Float) → Point o0 → Point o1 → (P p : ℕ) (gs : List Interval) (q : ℕ) → P ≤ rank o1 → P ≤ max p (rank o0) → Rise p gs q → Rise P (cutsWithin o0 o1 gs) (rank o1)
+unfolding cutsWithin
 cuts-rise o0 o1 g0 g1 P p [] q i j h = i
 cuts-rise o0 o1 g0 g1 P p (g ∷ gs) q i j h =
     let s = h .0 in
@@ -81,7 +81,7 @@ cuts-rise o0 o1 g0 g1 P p (g ∷ gs) q i j h =
     let e1 = min-rank (s .point1) g1 in
     let G0 = max-point (s .point0) g0 in
     let G1 = min-point (s .point1) g1 in
-    by-cases (λ (c : Bool). Rise P (pushIf c (interval c0 c1) ++ cuts o0 o1 gs) (rank o1)) (lt c0 c1)
+    by-cases (λ (c : Bool). Rise P (pushIf c (interval c0 c1) ++ cutsWithin o0 o1 gs) (rank o1)) (lt c0 c1)
     (λ y. (record { point0 = G0; point1 = G1; above = omega arith; rises = lt-yes G0 G1 y }, cuts-rise o0 o1 g0 g1 (rank c1) (rank (g .to)) gs q (omega arith) (omega arith) (h .1)))
     (λ n. cuts-rise o0 o1 g0 g1 P (rank (g .to)) gs q i (omega arith) (h .1))
 
@@ -95,12 +95,12 @@ next-of-rise lo hi gl gh p q gs R k g0 g1 l =
     let e1 = min-rank g1 gh in
     let G0 = max-point g0 gl in
     let G1 = min-point g1 gh in
-    by-cases (λ (c : Bool). Rise (rank (k .from)) (cond c (k ∷ []) (pushIf (lt (k .from) o0) (interval (k .from) o0) ++ (cuts o0 o1 gs ++ pushIf (lt o1 (k .to)) (interval o1 (k .to))))) (rank (k .to))) (le o1 o0)
+    by-cases (λ (c : Bool). Rise (rank (k .from)) (cond c (k ∷ []) (pushIf (lt (k .from) o0) (interval (k .from) o0) ++ (cutsWithin o0 o1 gs ++ pushIf (lt o1 (k .to)) (interval o1 (k .to))))) (rank (k .to))) (le o1 o0)
     (λ y. (record { point0 = g0; point1 = g1; above = le-refl (rank (k .from)); rises = l }, le-refl (rank (k .to))))
     (λ n. let z = le-no G1 G0 n in
-    rise-append (rank (k .from)) (pushIf (lt (k .from) o0) (interval (k .from) o0)) (rank o0) (cuts o0 o1 gs ++ pushIf (lt o1 (k .to)) (interval o1 (k .to))) (rank (k .to))
+    rise-append (rank (k .from)) (pushIf (lt (k .from) o0) (interval (k .from) o0)) (rank o0) (cutsWithin o0 o1 gs ++ pushIf (lt o1 (k .to)) (interval o1 (k .to))) (rank (k .to))
     (if-rise (k .from) o0 g0 G0 (omega arith))
-    (rise-append (rank o0) (cuts o0 o1 gs) (rank o1) (pushIf (lt o1 (k .to)) (interval o1 (k .to))) (rank (k .to))
+    (rise-append (rank o0) (cutsWithin o0 o1 gs) (rank o1) (pushIf (lt o1 (k .to)) (interval o1 (k .to))) (rank (k .to))
     (cuts-rise o0 o1 G0 G1 (rank o0) p gs q (omega arith) (omega arith) R)
     (if-rise o1 (k .to) G1 g1 (omega arith))))
 
@@ -126,8 +126,8 @@ module _ (X Y : ℕ) (XY : X < Y) where
         next-count lo hi gl gh p q gs R (rank (k .to)) ks b (h .1),
       )
 
-  cuts-count : (o0 o1 : Float) → Point o0 → Point o1 → (p : ℕ) (gs : List Interval) (q : ℕ) → Rise p gs q → count X Y (cuts o0 o1 gs) ≤ count X Y gs
-  unfolding cuts count
+  cuts-count : (o0 o1 : Float) → Point o0 → Point o1 → (p : ℕ) (gs : List Interval) (q : ℕ) → Rise p gs q → count X Y (cutsWithin o0 o1 gs) ≤ count X Y gs
+  unfolding cutsWithin count
   cuts-count o0 o1 g0 g1 p [] q h = omega arith
   cuts-count o0 o1 g0 g1 p (g ∷ gs) q h =
       let s = h .0 in
@@ -139,7 +139,7 @@ module _ (X Y : ℕ) (XY : X < Y) where
       let i1 : rank c1 ≤ rank (g .to) = omega arith in
       omega (
         arith,
-        count-append X Y (pushIf (lt c0 c1) (interval c0 c1)) (cuts o0 o1 gs),
+        count-append X Y (pushIf (lt c0 c1) (interval c0 c1)) (cutsWithin o0 o1 gs),
         count-if X Y (lt c0 c1) (interval c0 c1),
         has-in X Y (rank (g .from)) (rank (g .to)) (rank c0) (rank c1) i0 i1,
         cuts-count o0 o1 g0 g1 (rank (g .to)) gs q (h .1),
@@ -155,12 +155,12 @@ module _ (X Y : ℕ) (XY : X < Y) where
       let e1 = min-rank g1 gh in
       let G0 = max-point g0 gl in
       let G1 = min-point g1 gh in
-      by-cases (λ (c : Bool). count X Y (cond c (k ∷ []) (pushIf (lt (k .from) o0) (interval (k .from) o0) ++ (cuts o0 o1 gs ++ pushIf (lt o1 (k .to)) (interval o1 (k .to))))) ≤ count X Y gs) (le o1 o0)
+      by-cases (λ (c : Bool). count X Y (cond c (k ∷ []) (pushIf (lt (k .from) o0) (interval (k .from) o0) ++ (cutsWithin o0 o1 gs ++ pushIf (lt o1 (k .to)) (interval o1 (k .to))))) ≤ count X Y gs) (le o1 o0)
       (λ y. whole (le-yes G1 G0 y))
       (λ n. omega (
         arith,
-        count-append X Y (pushIf (lt (k .from) o0) (interval (k .from) o0)) (cuts o0 o1 gs ++ pushIf (lt o1 (k .to)) (interval o1 (k .to))),
-        count-append X Y (cuts o0 o1 gs) (pushIf (lt o1 (k .to)) (interval o1 (k .to))),
+        count-append X Y (pushIf (lt (k .from) o0) (interval (k .from) o0)) (cutsWithin o0 o1 gs ++ pushIf (lt o1 (k .to)) (interval o1 (k .to))),
+        count-append X Y (cutsWithin o0 o1 gs) (pushIf (lt o1 (k .to)) (interval o1 (k .to))),
         cuts-count o0 o1 G0 G1 p gs q R,
         count-if X Y (lt (k .from) o0) (interval (k .from) o0),
         count-if X Y (lt o1 (k .to)) (interval o1 (k .to)),

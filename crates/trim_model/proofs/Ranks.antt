@@ -10,7 +10,7 @@ use native.Mathlib.Omega.{arith}
 use lib.Dec.{T, T-not}
 use lib.Ieee.{Float, binary64, add, sub, lt, le, ofBits}
 use lib.Ieee.Scale.{finite}
-use Rattle.float64.specs.Scalar.{zero, minOf, maxOf}
+use Rattle.float64.specs.Scalar.{zero64, minOf, maxOf}
 use Rattle.float64.specs.TotalOrder.{totalLess}
 use Rattle.float_laws.proofs.Order.{Number, lt-le, not-lt-le, not-le-lt, lt-not-le, le-number-r, le-trans, lt-le-trans, le-lt-trans}
 use Rattle.float_laws.proofs.Total.{total-le, not-total-le}
@@ -64,7 +64,7 @@ module _ {x y : Float} (g : Point x) (k : Point y) where
   pub width-number : Number (width x y)
   width-number = sub-number binary64 y x (k .number) (g .number)
 
-  pub width-pos : rank x < rank y → T (lt zero (width x y))
+  pub width-pos : rank x < rank y → T (lt zero64 (width x y))
   width-pos h = sub-pos binary64 x y (g .number) (k .number) (g .double) (k .double) (rank-lt h)
 
 module _ {x y : Float} (g : Point x) (k : Point y) where
@@ -82,17 +82,17 @@ module _ {x y : Float} (g : Point x) (k : Point y) where
 
 -- not below zero
 pub record Nonneg (t : Float) : Type 0 where
-  pub nonneg : T (le zero t)
+  pub nonneg : T (le zero64 t)
 
 module _ {t : Float} (t0 : Nonneg t) where
   t-number : Number t
-  t-number = le-number-r zero t (t0 .nonneg)
+  t-number = le-number-r zero64 t (t0 .nonneg)
 
   module _ {x y : Float} (g : Point x) (k : Point y) where
     pub wide-pos : T (lt t (width x y)) → rank x < rank y
     wide-pos w = elim (decLe (rank y) (rank x)) [
       | no f ↦ omega arith
-      | yes i ↦ absurd (lt-not-le t (width x y) w (le-trans (width x y) zero t (sub-nonpos binary64 x y (g .number) (k .number) (rank-le k g i)) (t0 .nonneg)))
+      | yes i ↦ absurd (lt-not-le t (width x y) w (le-trans (width x y) zero64 t (sub-nonpos binary64 x y (g .number) (k .number) (rank-le k g i)) (t0 .nonneg)))
     ]
 
     pub wide-no : T (not (le (width x y) t)) → T (lt t (width x y))
@@ -114,9 +114,9 @@ module _ {t : Float} (t0 : Nonneg t) where
   slim {x} {y} g k i w = lt-not-le t (width x y) w i
 
 -- ---- tiny
-eleventh : T (finite (ofBits binary64 0x3da5_fd7f_e179_6495)) × T (le zero (ofBits binary64 0x3da5_fd7f_e179_6495))
+eleventh : T (finite (ofBits binary64 0x3da5_fd7f_e179_6495)) × T (le zero64 (ofBits binary64 0x3da5_fd7f_e179_6495))
 unfolding ofBits le
 eleventh = (tt, tt)
 
-pub tiny-nonneg : (len : Float) → Point len → T (lt zero len) → Nonneg (tinyOf len)
-tiny-nonneg len g h = record { nonneg = mul-nonneg binary64 (ofBits binary64 0x3da5_fd7f_e179_6495) len (eleventh .0) (g .number) (eleventh .1) (lt-le zero len h) }
+pub tiny-nonneg : (len : Float) → Point len → T (lt zero64 len) → Nonneg (tinyOf len)
+tiny-nonneg len g h = record { nonneg = mul-nonneg binary64 (ofBits binary64 0x3da5_fd7f_e179_6495) len (eleventh .0) (g .number) (eleventh .1) (lt-le zero64 len h) }

@@ -22,14 +22,14 @@ use Rattle.trim_model.proofs.Order.{Tidy, top, walked-ok, run-fine}
 pub record Sliver (t : Float) (k : Interval) : Type 0 where
   pub point0 : Point (k .from)
   pub point1 : Point (k .to)
-  pub positive : T (lt scalar.zero (width (k .from) (k .to)))
+  pub positive : T (lt scalar.zero64 (width (k .from) (k .to)))
   pub narrow : T (le (width (k .from) (k .to)) t)
 
 module _ (t : Float) where
   sliver-is : (a b : Float) → Point a → Point b → All (Sliver t) (sliver t a b)
   unfolding sliver
   sliver-is a b ga gb =
-      let p = lt scalar.zero (width a b) in
+      let p = lt scalar.zero64 (width a b) in
       let q = le (width a b) t in
       by-cases (λ (c : Bool). (T c → T (isSliver t a b)) → All (Sliver t) (pushIf c (interval a b))) (isSliver t a b) (λ y k. (record { point0 = ga; point1 = gb; positive = and-l p q (k tt); narrow = and-r p q (k tt) }, tt)) (λ n k. tt) (λ k. k)
 

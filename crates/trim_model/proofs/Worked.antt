@@ -14,7 +14,7 @@ use Rattle.source.specs.declared.Src.{Src}
 use Rattle.source.specs.declared.Src.the-variants.{Point, Line}
 use Rattle.source.specs.Distance.{lowestOf, edgeOf}
 use Rattle.better.specs.Stretches.{Interval, interval}
-use Rattle.trim_model.specs.Intervals.{tinyOf, pushIf, sliver, cuts, nextOf, next, pieces, pieceSlivers, wideOf, keepSlivers}
+use Rattle.trim_model.specs.Intervals.{tinyOf, pushIf, sliver, cutsWithin, nextOf, next, pieces, pieceSlivers, wideOf, keepSlivers}
 use Rattle.trim_model.specs.Windows.{Window, fresh, split, takeWhile, dropWhile, all, takeWhileEnd, dropWhileEnd}
 use Rattle.trim_model.specs.Add.{Better, meet, visit, visits, addTo, metBound, metBounds}
 use Rattle.trim_model.specs.Model.{Candidate, Model, empty, admit, step, steps, stepBound, stepsBound}
@@ -70,20 +70,20 @@ bound cs = stepsBound lower (n 10) (λ (e : ℕ). n 4) 0 cs empty
 
 -- a lower source in the middle: the window there loses it, its first piece keeps the number, and the new window comes last
 splits : after (candidate (n 0) (n 4) (n 2) ∷ candidate (n 1) (n 3) (n 1) ∷ []) .edge 0 .live ≡ window (n 0) (n 1) (n 2) 0 ∷ window (n 1) (n 3) (n 1) 2 ∷ window (n 3) (n 4) (n 2) 1 ∷ []
-unfolding after bound candidate n small level constant lower minOf maxOf totalLess negative sliver cuts nextOf next pieces pieceSlivers wideOf keepSlivers takeWhile dropWhile all dropWhileEnd takeWhileEnd fresh split insertBy sortBy meet visit visits addTo metBound metBounds admit step steps stepBound stepsBound lowestOf edgeOf lt le eq isNan ofBits add sub mul round
+unfolding after bound candidate n small level constant lower minOf maxOf totalLess negative sliver cutsWithin nextOf next pieces pieceSlivers wideOf keepSlivers takeWhile dropWhile all dropWhileEnd takeWhileEnd fresh split insertBy sortBy meet visit visits addTo metBound metBounds admit step steps stepBound stepsBound lowestOf edgeOf lt le eq isNan ofBits add sub mul round
 splits = refl
 
 -- what is left of a window is at most tiny: it dies, and a sliver is noted
 drops : (after (candidate (n 0) (n 4) (n 2) ∷ candidate small (n 4) (n 1) ∷ []) .edge 0 ≡ record { live = window small (n 4) (n 1) 1 ∷ []; admitted = interval (n 0) (n 4) ∷ interval small (n 4) ∷ []; slivers = interval (n 0) small ∷ [] }) × (bound (candidate (n 0) (n 4) (n 2) ∷ candidate small (n 4) (n 1) ∷ []) ≡ 8)
-unfolding after bound candidate n small level constant lower minOf maxOf totalLess negative sliver cuts nextOf next pieces pieceSlivers wideOf keepSlivers takeWhile dropWhile all dropWhileEnd takeWhileEnd fresh split insertBy sortBy meet visit visits addTo metBound metBounds admit step steps stepBound stepsBound lowestOf edgeOf lt le eq isNan ofBits add sub mul round
+unfolding after bound candidate n small level constant lower minOf maxOf totalLess negative sliver cutsWithin nextOf next pieces pieceSlivers wideOf keepSlivers takeWhile dropWhile all dropWhileEnd takeWhileEnd fresh split insertBy sortBy meet visit visits addTo metBound metBounds admit step steps stepBound stepsBound lowestOf edgeOf lt le eq isNan ofBits add sub mul round
 drops = (refl, refl)
 
 -- a source that is lower nowhere is admitted, and makes no window
 loses : (after (candidate (n 0) (n 4) (n 1) ∷ candidate (n 0) (n 4) (n 1) ∷ []) .edge 0 .live ≡ window (n 0) (n 4) (n 1) 0 ∷ []) × (after (candidate (n 0) (n 4) (n 1) ∷ candidate (n 0) (n 4) (n 1) ∷ []) .made ≡ 1)
-unfolding after bound candidate n small level constant lower minOf maxOf totalLess negative sliver cuts nextOf next pieces pieceSlivers wideOf keepSlivers takeWhile dropWhile all dropWhileEnd takeWhileEnd fresh split insertBy sortBy meet visit visits addTo metBound metBounds admit step steps stepBound stepsBound lowestOf edgeOf lt le eq isNan ofBits add sub mul round
+unfolding after bound candidate n small level constant lower minOf maxOf totalLess negative sliver cutsWithin nextOf next pieces pieceSlivers wideOf keepSlivers takeWhile dropWhile all dropWhileEnd takeWhileEnd fresh split insertBy sortBy meet visit visits addTo metBound metBounds admit step steps stepBound stepsBound lowestOf edgeOf lt le eq isNan ofBits add sub mul round
 loses = (refl, refl)
 
 -- at the limit it is admitted, above it or at width tiny not
 admitted : (after (candidate (n 0) (n 4) (n 10) ∷ []) .made ≡ 1) × (after (candidate (n 0) (n 4) (n 11) ∷ candidate (n 0) (tinyOf (n 4)) (n 1) ∷ []) .made ≡ 0)
-unfolding after bound candidate n small level constant lower minOf maxOf totalLess negative sliver cuts nextOf next pieces pieceSlivers wideOf keepSlivers takeWhile dropWhile all dropWhileEnd takeWhileEnd fresh split insertBy sortBy meet visit visits addTo metBound metBounds admit step steps stepBound stepsBound lowestOf edgeOf lt le eq isNan ofBits add sub mul round
+unfolding after bound candidate n small level constant lower minOf maxOf totalLess negative sliver cutsWithin nextOf next pieces pieceSlivers wideOf keepSlivers takeWhile dropWhile all dropWhileEnd takeWhileEnd fresh split insertBy sortBy meet visit visits addTo metBound metBounds admit step steps stepBound stepsBound lowestOf edgeOf lt le eq isNan ofBits add sub mul round
 admitted = (refl, refl)

@@ -6,7 +6,7 @@ use mathlib.Core.Path.{_≡_}
 use lib.Dec.{T}
 use lib.ListN.{length}
 use lib.Ieee.{Float, lt, le}
-use Rattle.float64.specs.Scalar.{zero, minOf, maxOf}
+use Rattle.float64.specs.Scalar.{zero64, minOf, maxOf}
 use Rattle.better.specs.Stretches.{Interval}
 use Rattle.trim_model.specs.Intervals.{width, tinyOf}
 use Rattle.trim_model.specs.Windows.{Window}
@@ -37,7 +37,7 @@ pub record Trimmed (tiny : Float) (bound : ℕ) (s : EdgeState) : Type 0 where
   -- "every point of every window admitted to that edge lies in a live one there, or in a sliver .., which an offer to that edge dropped"
   pub cover : (x : Float) → Point x → Any (In x) (s .admitted) → Any (InWindow x) (s .live) ⊎ Any (In x) (s .slivers)
   -- ".. no wider than that": each sliver is wider than zero, and at most tiny
-  pub narrow : All (λ (k : Interval). T (lt zero (width (k .from) (k .to))) × T (le (width (k .from) (k .to)) tiny)) (s .slivers)
+  pub narrow : All (λ (k : Interval). T (lt zero64 (width (k .from) (k .to))) × T (le (width (k .from) (k .to)) tiny)) (s .slivers)
   -- "The book names the slivers, on each edge at most as many as 01's bound"
   pub count : length (s .slivers) ≤ bound
 
@@ -47,7 +47,7 @@ pub record Proper (len : ℕ → Float) (c : Candidate) : Type 0 where
   pub start : Point (c .b0)
   pub end : Point (c .b1)
   pub length : Point (len (c .edge))
-  pub positive : T (lt zero (len (c .edge)))
+  pub positive : T (lt zero64 (len (c .edge)))
 
 -- asked of those that are admitted only: one that is not changes nothing, whatever its ends
 abbrev pub AdmittedProper : Float → (ℕ → Float) → Candidate → Type 0
@@ -55,8 +55,8 @@ AdmittedProper limit len c = T (admits limit len c) → Proper len c
 
 -- "For every list of offers .., in any order and number, those not admitted among them, all edges empty and no window made at first ..: after the list, on every edge".
 -- "the live windows are exactly those of 01's book" is said of the program, by the contract that names `steps`.
-abbrev pub Demand3 : Better → Float → (ℕ → Float) → Type 0
-Demand3 better limit len =
+abbrev pub ModelDemand3 : Better → Float → (ℕ → Float) → Type 0
+ModelDemand3 better limit len =
     (cs : List Candidate) → All (AdmittedProper limit len) cs → (e : ℕ)
     → Trimmed (tinyOf (len e)) (stepsBound better limit len e cs empty) (steps better limit len cs empty .edge e)
 

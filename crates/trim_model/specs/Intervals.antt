@@ -2,7 +2,7 @@
 use mathlib.Core.Bool.{Bool, not, _&&_}
 use mathlib.Core.List.{List, [], _∷_, _++_}
 use lib.Ieee.{Float, binary64, lt, le, ofBits}
-use Rattle.float64.specs.Scalar.{zero, minOf, maxOf}
+use Rattle.float64.specs.Scalar.{zero64, minOf, maxOf}
 use Rattle.float64.specs.Notation.{_⊖_, _⊗_, if_then_else_}
 use Rattle.better.specs.Stretches.{Interval, interval}
 
@@ -20,7 +20,7 @@ pushIf b x = if b then x ∷ [] else []
 
 -- 01's sliver: wider than zero, and at most tiny
 abbrev pub isSliver : Float → Float → Float → Bool
-isSliver tiny a b = lt zero (width a b) && le (width a b) tiny
+isSliver tiny a b = lt zero64 (width a b) && le (width a b) tiny
 
 -- noted where [a, b] is cut off and dropped
 unfoldable pub sliver : Float → Float → Float → List Interval
@@ -28,12 +28,12 @@ sliver tiny a b = pushIf (isSliver tiny a b) (interval a b)
 
 -- ---- `next`: the new window keeps only `better` within [lo, hi]
 -- `better` within [o0, o1]
-unfoldable pub cuts : Float → Float → List Interval → List Interval
-cuts o0 o1 [] = []
-cuts o0 o1 (g ∷ better) =
+unfoldable pub cutsWithin : Float → Float → List Interval → List Interval
+cutsWithin o0 o1 [] = []
+cutsWithin o0 o1 (g ∷ better) =
     let c0 = maxOf (g .from) o0 in
     let c1 = minOf (g .to) o1 in
-    pushIf (lt c0 c1) (interval c0 c1) ++ cuts o0 o1 better
+    pushIf (lt c0 c1) (interval c0 c1) ++ cutsWithin o0 o1 better
 
 -- what one entry of `keep` leaves
 unfoldable pub nextOf : Float → Float → List Interval → Interval → List Interval
@@ -41,7 +41,7 @@ nextOf lo hi better k =
     let o0 = maxOf (k .from) lo in
     let o1 = minOf (k .to) hi in
     if le o1 o0 then k ∷ [] else
-    pushIf (lt (k .from) o0) (interval (k .from) o0) ++ (cuts o0 o1 better ++ pushIf (lt o1 (k .to)) (interval o1 (k .to)))
+    pushIf (lt (k .from) o0) (interval (k .from) o0) ++ (cutsWithin o0 o1 better ++ pushIf (lt o1 (k .to)) (interval o1 (k .to)))
 
 unfoldable pub next : Float → Float → List Interval → List Interval → List Interval
 next lo hi better [] = []

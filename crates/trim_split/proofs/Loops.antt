@@ -19,7 +19,7 @@ use Rattle.trim_model.specs.Windows.{part, fresh, split}
 use Rattle.trim_state.specs.Trace.{making, makings, splitting}
 use Rattle.live_windows.specs.Live.{liveOf, Kills, Trims}
 use Rattle.trim_split.specs.declared.Made.{Made}
-use Rattle.trim_split.specs.Running.{Place, place, End, stopped, at, Counted, Ready, Does}
+use Rattle.trim_split.specs.Running.{Snapshot, snapshot, End, stopped, at, Counted, Ready, Does}
 use Rattle.trim_split.proofs.Parts.{parts-turn, parts-stop, parts-end, split-none, split-some}
 
 -- what the slices hold
@@ -36,8 +36,8 @@ slices edges words reals keys events = record { edges = edges; words = words; re
 abbrev pub windowsOf : Slices → ℕ
 windowsOf s = capacityOf (length (s .words)) (length (s .reals))
 
-abbrev pub placeOf : Slices → ℕ → ℕ → ℕ → List Float → Place
-placeOf s made queued last vertex = place made queued last (links (s .edges) (s .words)) (s .reals) (queue (s .keys) (s .events)) vertex
+abbrev pub snapshotOf : Slices → ℕ → ℕ → ℕ → List Float → Snapshot
+snapshotOf s made queued last vertex = snapshot made queued last (links (s .edges) (s .words)) (s .reals) (queue (s .keys) (s .events)) vertex
 
 pub record SameLengths (s s′ : Slices) : Type 0 where
   pub edges : length (s′ .edges) ≡ length (s .edges)
@@ -64,7 +64,7 @@ ready-same e made last s s′ h i j k = record { fits = subst (λ (n : ℕ). mad
 -- ---- the loop over the pieces: ps are all of them
 module _ (e : ℕ) (x : WindowRecord) (ps : List Interval) (s₀ : Slices) (made₀ queued₀ last₀ : ℕ) where
   abbrev pub PartsFrom : ℕ → ℕ → ℕ → ℕ → Slices → (cuts : ℕ) (limit : Float) (flags : List ℕ) (vertex : List Float) (k : ℕ) → End → Type 0
-  PartsFrom i made queued last s cuts limit flags vertex k end = Does cuts (windowsOf s₀) limit flags e (makings e (liveOf x k) made (drop i ps)) [] (fresh (liveOf x k) made (drop i ps)) (placeOf s made queued last vertex) end
+  PartsFrom i made queued last s cuts limit flags vertex k end = Does cuts (windowsOf s₀) limit flags e (makings e (liveOf x k) made (drop i ps)) [] (fresh (liveOf x k) made (drop i ps)) (snapshotOf s made queued last vertex) end
 
   pub record PartsInv (s : Slices) (made queued last i : ℕ) : Type 0 where
     pub same : SameLengths s₀ s
@@ -85,19 +85,19 @@ module _ (e : ℕ) (x : WindowRecord) (ps : List Interval) (s₀ : Slices) (made
     module _ (b0 b1 : Float) (here : drop i ps ≡ record { from = b0; to = b1 } ∷ drop (suc i) ps) (s′ : Slices) where
       -- what `make_part` ensures
       abbrev PartDoes : End → (cuts : ℕ) (limit : Float) (flags : List ℕ) (vertex : List Float) (k : ℕ) → Type 0
-      PartDoes end cuts limit flags vertex k = Does cuts (windowsOf s) limit flags e (making e (liveOf x k) made (record { from = b0; to = b1 })) [] (part (liveOf x k) b0 b1 made ∷ []) (placeOf s made queued last vertex) end
+      PartDoes end cuts limit flags vertex k = Does cuts (windowsOf s) limit flags e (making e (liveOf x k) made (record { from = b0; to = b1 })) [] (part (liveOf x k) b0 b1 made ∷ []) (snapshotOf s made queued last vertex) end
 
-      in-first : (end : End) (cuts : ℕ) (limit : Float) (flags : List ℕ) (vertex : List Float) (k : ℕ) → PartDoes end cuts limit flags vertex k → Does cuts (windowsOf s₀) limit flags e (making e (liveOf x k) made (record { from = b0; to = b1 })) [] (part (liveOf x k) b0 b1 made ∷ []) (placeOf s made queued last vertex) end
-      in-first end cuts limit flags vertex k = subst (λ (n : ℕ). Does cuts n limit flags e (making e (liveOf x k) made (record { from = b0; to = b1 })) [] (part (liveOf x k) b0 b1 made ∷ []) (placeOf s made queued last vertex) end) (same-windows s₀ s (inv .same))
+      in-first : (end : End) (cuts : ℕ) (limit : Float) (flags : List ℕ) (vertex : List Float) (k : ℕ) → PartDoes end cuts limit flags vertex k → Does cuts (windowsOf s₀) limit flags e (making e (liveOf x k) made (record { from = b0; to = b1 })) [] (part (liveOf x k) b0 b1 made ∷ []) (snapshotOf s made queued last vertex) end
+      in-first end cuts limit flags vertex k = subst (λ (n : ℕ). Does cuts n limit flags e (making e (liveOf x k) made (record { from = b0; to = b1 })) [] (part (liveOf x k) b0 b1 made ∷ []) (snapshotOf s made queued last vertex) end) (same-windows s₀ s (inv .same))
 
       pub parts-stopped : (n : ℕ) → ((cuts : ℕ) (limit : Float) (flags : List ℕ) (vertex : List Float) (k : ℕ) → PartDoes (stopped n) cuts limit flags vertex k) → (cuts : ℕ) (limit : Float) (flags : List ℕ) (vertex : List Float) (k : ℕ) → PartsFrom 1 made₀ queued₀ last₀ s₀ cuts limit flags vertex k (stopped n)
       parts-stopped n d cuts limit flags vertex k = inv .goal cuts limit flags vertex k (stopped n)
-          (subst (λ (l : List Interval). Does cuts (windowsOf s₀) limit flags e (makings e (liveOf x k) made l) [] (fresh (liveOf x k) made l) (placeOf s made queued last vertex) (stopped n)) (sym here)
-          (parts-stop cuts (windowsOf s₀) limit flags e (liveOf x k) made (record { from = b0; to = b1 }) (drop (suc i) ps) (placeOf s made queued last vertex) n (in-first (stopped n) cuts limit flags vertex k (d cuts limit flags vertex k))))
+          (subst (λ (l : List Interval). Does cuts (windowsOf s₀) limit flags e (makings e (liveOf x k) made l) [] (fresh (liveOf x k) made l) (snapshotOf s made queued last vertex) (stopped n)) (sym here)
+          (parts-stop cuts (windowsOf s₀) limit flags e (liveOf x k) made (record { from = b0; to = b1 }) (drop (suc i) ps) (snapshotOf s made queued last vertex) n (in-first (stopped n) cuts limit flags vertex k (d cuts limit flags vertex k))))
 
-      pub parts-next : SameLengths s s′ → (made′ queued′ last′ i′ : ℕ) → made′ ≡ suc made → i′ ≡ i + 1 → ((cuts : ℕ) (limit : Float) (flags : List ℕ) (vertex : List Float) (k : ℕ) → PartDoes (at (placeOf s′ made′ queued′ last′ vertex)) cuts limit flags vertex k) → (nan : Float) → PartsInv s′ made′ queued′ last′ i′
+      pub parts-next : SameLengths s s′ → (made′ queued′ last′ i′ : ℕ) → made′ ≡ suc made → i′ ≡ i + 1 → ((cuts : ℕ) (limit : Float) (flags : List ℕ) (vertex : List Float) (k : ℕ) → PartDoes (at (snapshotOf s′ made′ queued′ last′ vertex)) cuts limit flags vertex k) → (nan : Float) → PartsInv s′ made′ queued′ last′ i′
       parts-next h made′ queued′ last′ i′ c is d nan =
-          let one = in-first (at (placeOf s′ made′ queued′ last′ [])) 0 nan [] [] 0 (d 0 nan [] [] 0) in
+          let one = in-first (at (snapshotOf s′ made′ queued′ last′ [])) 0 nan [] [] 0 (d 0 nan [] [] 0) in
           let j = inv .from-one in
           let step : i′ ≡ suc i = is ∙ add-one i in
           record {
@@ -108,10 +108,10 @@ module _ (e : ℕ) (x : WindowRecord) (ps : List Interval) (s₀ : Slices) (made
             from-one = omega arith;
             count = rw step (counted (inv .count) (ap length here));
             goal = λ cuts limit flags vertex k end g. inv .goal cuts limit flags vertex k end
-                (subst (λ (l : List Interval). Does cuts (windowsOf s₀) limit flags e (makings e (liveOf x k) made l) [] (fresh (liveOf x k) made l) (placeOf s made queued last vertex) end) (sym here)
-                (parts-turn cuts (windowsOf s₀) limit flags e (liveOf x k) made (record { from = b0; to = b1 }) (drop (suc i) ps) (placeOf s made queued last vertex) made′ c (placeOf s′ made′ queued′ last′ vertex)
-                (in-first (at (placeOf s′ made′ queued′ last′ vertex)) cuts limit flags vertex k (d cuts limit flags vertex k)) end
-                (subst (λ (n : ℕ). Does cuts (windowsOf s₀) limit flags e (makings e (liveOf x k) made′ (drop n ps)) [] (fresh (liveOf x k) made′ (drop n ps)) (placeOf s′ made′ queued′ last′ vertex) end) step g)));
+                (subst (λ (l : List Interval). Does cuts (windowsOf s₀) limit flags e (makings e (liveOf x k) made l) [] (fresh (liveOf x k) made l) (snapshotOf s made queued last vertex) end) (sym here)
+                (parts-turn cuts (windowsOf s₀) limit flags e (liveOf x k) made (record { from = b0; to = b1 }) (drop (suc i) ps) (snapshotOf s made queued last vertex) made′ c (snapshotOf s′ made′ queued′ last′ vertex)
+                (in-first (at (snapshotOf s′ made′ queued′ last′ vertex)) cuts limit flags vertex k (d cuts limit flags vertex k)) end
+                (subst (λ (n : ℕ). Does cuts (windowsOf s₀) limit flags e (makings e (liveOf x k) made′ (drop n ps)) [] (fresh (liveOf x k) made′ (drop n ps)) (snapshotOf s′ made′ queued′ last′ vertex) end) step g)));
           }
         where
           counted : made + length (drop i ps) ≡ made₀ + length (drop 1 ps) → length (drop i ps) ≡ suc (length (drop (suc i) ps)) → made′ + length (drop (suc i) ps) ≡ made₀ + length (drop 1 ps)
@@ -119,10 +119,10 @@ module _ (e : ℕ) (x : WindowRecord) (ps : List Interval) (s₀ : Slices) (made
 
     -- all are made
     module _ (none : drop i ps ≡ []) where
-      pub parts-over : (cuts : ℕ) (limit : Float) (flags : List ℕ) (vertex : List Float) (k : ℕ) → PartsFrom 1 made₀ queued₀ last₀ s₀ cuts limit flags vertex k (at (placeOf s made queued last vertex))
-      parts-over cuts limit flags vertex k = inv .goal cuts limit flags vertex k (at (placeOf s made queued last vertex))
-          (subst (λ (l : List Interval). Does cuts (windowsOf s₀) limit flags e (makings e (liveOf x k) made l) [] (fresh (liveOf x k) made l) (placeOf s made queued last vertex) (at (placeOf s made queued last vertex))) (sym none)
-          (parts-end cuts (windowsOf s₀) limit flags e (liveOf x k) made (placeOf s made queued last vertex) (inv .fits) (inv .linked)))
+      pub parts-over : (cuts : ℕ) (limit : Float) (flags : List ℕ) (vertex : List Float) (k : ℕ) → PartsFrom 1 made₀ queued₀ last₀ s₀ cuts limit flags vertex k (at (snapshotOf s made queued last vertex))
+      parts-over cuts limit flags vertex k = inv .goal cuts limit flags vertex k (at (snapshotOf s made queued last vertex))
+          (subst (λ (l : List Interval). Does cuts (windowsOf s₀) limit flags e (makings e (liveOf x k) made l) [] (fresh (liveOf x k) made l) (snapshotOf s made queued last vertex) (at (snapshotOf s made queued last vertex))) (sym none)
+          (parts-end cuts (windowsOf s₀) limit flags e (liveOf x k) made (snapshotOf s made queued last vertex) (inv .fits) (inv .linked)))
 
       pub parts-count : made ≡ made₀ + length (drop 1 ps)
       parts-count = whole (inv .count) (ap length none)
@@ -147,11 +147,11 @@ none-of n l h = rw h
 -- ---- what is done to a window of which pieces are left
 module _ (e : ℕ) (x : WindowRecord) (id made queued last : ℕ) (s : Slices) (fits : made ≤ windowsOf s) (ps : List Interval) where
   abbrev pub SplitDoes : (List Float → End) → Type 0
-  SplitDoes end = (cuts : ℕ) (limit : Float) (flags : List ℕ) (vertex : List Float) → Does cuts (windowsOf s) limit flags e (splitting e (liveOf x id) made ps) (liveOf x id ∷ []) (split (liveOf x id) made ps) (placeOf s made queued last vertex) (end vertex)
+  SplitDoes end = (cuts : ℕ) (limit : Float) (flags : List ℕ) (vertex : List Float) → Does cuts (windowsOf s) limit flags e (splitting e (liveOf x id) made ps) (liveOf x id ∷ []) (split (liveOf x id) made ps) (snapshotOf s made queued last vertex) (end vertex)
 
-  pub split-killed : last ≤ made → ps ≡ [] → (edges words : List ℕ) → Kills made (links (s .edges) (s .words)) (links edges words) e last id → SplitDoes (λ vertex. at (placeOf (slices edges words (s .reals) (s .keys) (s .events)) made queued last vertex))
+  pub split-killed : last ≤ made → ps ≡ [] → (edges words : List ℕ) → Kills made (links (s .edges) (s .words)) (links edges words) e last id → SplitDoes (λ vertex. at (snapshotOf (slices edges words (s .reals) (s .keys) (s .events)) made queued last vertex))
   split-killed l h edges words kills cuts limit flags vertex =
-      subst (λ (l : List Interval). Does cuts (windowsOf s) limit flags e (splitting e (liveOf x id) made l) (liveOf x id ∷ []) (split (liveOf x id) made l) (placeOf s made queued last vertex) (at (placeOf (slices edges words (s .reals) (s .keys) (s .events)) made queued last vertex))) (sym h)
+      subst (λ (l : List Interval). Does cuts (windowsOf s) limit flags e (splitting e (liveOf x id) made l) (liveOf x id ∷ []) (split (liveOf x id) made l) (snapshotOf s made queued last vertex) (at (snapshotOf (slices edges words (s .reals) (s .keys) (s .events)) made queued last vertex))) (sym h)
       (split-none cuts (windowsOf s) limit flags e x id made queued last (links (s .edges) (s .words)) (s .reals) (queue (s .keys) (s .events)) vertex fits l (links edges words) kills)
 
   module _ (inside : id < made) (b0 b1 low : Float) (isLow : low ≡ lowestOf (x .win .src) b0 b1) (reals : List Float) (trims : Trims (s .reals) reals id b0 b1 low) (same : length reals ≡ length (s .reals)) (here : ps ≡ record { from = b0; to = b1 } ∷ drop 1 ps) where
@@ -162,9 +162,9 @@ module _ (e : ℕ) (x : WindowRecord) (id made queued last : ℕ) (s : Slices) (
     trimmed-ready i at1 h = ready-same e made at1 s trimmed (record { edges = refl; words = refl; reals = same; keys = refl; events = refl }) i fits (subst (λ (j : ℕ). j ≤ made) (sym h) inside)
 
     pub split-made : (at1 : ℕ) → at1 ≡ suc id → (end : List Float → End)
-        → ((cuts : ℕ) (limit : Float) (flags : List ℕ) (vertex : List Float) (k : ℕ) → Does cuts (windowsOf trimmed) limit flags e (makings e (liveOf x k) made (drop 1 ps)) [] (fresh (liveOf x k) made (drop 1 ps)) (placeOf trimmed made queued at1 vertex) (end vertex))
+        → ((cuts : ℕ) (limit : Float) (flags : List ℕ) (vertex : List Float) (k : ℕ) → Does cuts (windowsOf trimmed) limit flags e (makings e (liveOf x k) made (drop 1 ps)) [] (fresh (liveOf x k) made (drop 1 ps)) (snapshotOf trimmed made queued at1 vertex) (end vertex))
         → SplitDoes end
     split-made at1 h end d cuts limit flags vertex =
-        let one = subst (λ (n : ℕ). Does cuts n limit flags e (makings e (liveOf x id) made (drop 1 ps)) [] (fresh (liveOf x id) made (drop 1 ps)) (placeOf trimmed made queued at1 vertex) (end vertex)) (ap (capacityOf (length (s .words))) same) (d cuts limit flags vertex id) in
-        subst (λ (l : List Interval). Does cuts (windowsOf s) limit flags e (splitting e (liveOf x id) made l) (liveOf x id ∷ []) (split (liveOf x id) made l) (placeOf s made queued last vertex) (end vertex)) (sym here)
+        let one = subst (λ (n : ℕ). Does cuts n limit flags e (makings e (liveOf x id) made (drop 1 ps)) [] (fresh (liveOf x id) made (drop 1 ps)) (snapshotOf trimmed made queued at1 vertex) (end vertex)) (ap (capacityOf (length (s .words))) same) (d cuts limit flags vertex id) in
+        subst (λ (l : List Interval). Does cuts (windowsOf s) limit flags e (splitting e (liveOf x id) made l) (liveOf x id ∷ []) (split (liveOf x id) made l) (snapshotOf s made queued last vertex) (end vertex)) (sym here)
         (split-some cuts (windowsOf s) limit flags e x id made queued last (links (s .edges) (s .words)) (s .reals) (queue (s .keys) (s .events)) vertex fits inside (record { from = b0; to = b1 }) low isLow reals trims (drop 1 ps) (end vertex) at1 h one)

@@ -23,8 +23,8 @@ use Rattle.trim_model.specs.Intervals.{pushIf}
 use Rattle.trim_model.specs.Windows.{Window, part, fresh, split}
 use Rattle.trim_state.specs.State.{put}
 use Rattle.trim_state.specs.Trace.{windowEvent, recordOf, making, makings, splitting}
-use Rattle.live_windows.specs.Live.{Holds, lastLink, liveOf, windowOf, ranged, Makes, Trims, Kills}
-use Rattle.trim_split.specs.Running.{Place, place, stockOf, End, stopped, at, Ran, Does}
+use Rattle.live_windows.specs.Live.{HoldsWindows, lastLink, liveOf, windowOf, ranged, Makes, Trims, Kills}
+use Rattle.trim_split.specs.Running.{Snapshot, snapshot, stockOf, End, stopped, at, Performed, Does}
 use Rattle.live_windows.proofs.Lists.{put-here, last-snoc}
 use Rattle.trim_split.proofs.Edges.{holds-again}
 use Rattle.trim_split.proofs.Untouched.{untouched-made, untouched-killed, untouched-trimmed}
@@ -85,14 +85,14 @@ module _ (cuts windows : ℕ) (limit : Float) (flags : List ℕ) (e : EdgeId) (x
   new = recordOf (e .0) (part (liveOf x k) b0 b1 made)
 
   abbrev DoesPart : End → Type 0
-  DoesPart = Does cuts windows limit flags (e .0) todo [] (part (liveOf x k) b0 b1 made ∷ []) (place made queued last b f q vertex)
+  DoesPart = Does cuts windows limit flags (e .0) todo [] (part (liveOf x k) b0 b1 made ∷ []) (snapshot made queued last b f q vertex)
 
   pub part-none : windows ≤ made → DoesPart (stopped 12)
   part-none h = make-none cuts windows limit flags made queued q vertex new h (pushIf (x .carried .queued) (push (windowEvent (lowestOf (x .win .src) b0 b1) made)))
 
   module _ (room : made < windows) (low : Float) (isLow : low ≡ lowestOf (x .win .src) b0 b1) (b′ : Links) (f′ : List Float)
       (makes : Makes made b b′ f f′ (e .0) last (windowOf e (x .carried) 0 (record { b0 = b0; b1 = b1; low = low; src = x .win .src }))) where
-    ran : (n : ℕ) (q′ : Queue) → play cuts windows limit flags todo (stock made queued q vertex) ≡ actions.went (stock (suc made) n q′ vertex) → DoesPart (at (place (suc made) n (suc made) b′ f′ q′ vertex))
+    ran : (n : ℕ) (q′ : Queue) → play cuts windows limit flags todo (stock made queued q vertex) ≡ actions.went (stock (suc made) n q′ vertex) → DoesPart (at (snapshot (suc made) n (suc made) b′ f′ q′ vertex))
     ran n q′ h = record {
       fits = room;
       linked = omega arith;
@@ -101,17 +101,17 @@ module _ (cuts windows : ℕ) (limit : Float) (flags : List ℕ) (e : EdgeId) (x
           let y = windowOf e (x .carried) 0 (record { b0 = b0; b1 = b1; low = low; src = x .win .src }) in
           let g = makes .holds wins (put (e .0) (xs ++ zs) live) xs zs hs (put-here (e .0) (xs ++ zs) live) l in
           let h1 = holds-again (suc made) (wins ++ (y ∷ [])) b′ f′ (e .0) (xs ++ (liveOf y made ∷ zs)) (xs ++ zs) live g in
-          subst (λ (ws : List WindowRecord). Holds (suc made) ws b′ f′ (put (e .0) (xs ++ (part (liveOf x k) b0 b1 made ∷ zs)) live)) (sym (making-wins (e .0) (liveOf x k) made (interval b0 b1) wins))
-          (subst (λ (v : WindowRecord). Holds (suc made) (wins ++ (v ∷ [])) b′ f′ (put (e .0) (xs ++ (liveOf v made ∷ zs)) live)) (made-is e x k made b0 b1 low isLow) h1);
+          subst (λ (ws : List WindowRecord). HoldsWindows (suc made) ws b′ f′ (put (e .0) (xs ++ (part (liveOf x k) b0 b1 made ∷ zs)) live)) (sym (making-wins (e .0) (liveOf x k) made (interval b0 b1) wins))
+          (subst (λ (v : WindowRecord). HoldsWindows (suc made) (wins ++ (v ∷ [])) b′ f′ (put (e .0) (xs ++ (liveOf v made ∷ zs)) live)) (made-is e x k made b0 b1 low isLow) h1);
       untouched = untouched-made (e .0) made queued last b f q vertex b′ f′ (windowOf e (x .carried) 0 (record { b0 = b0; b1 = b1; low = low; src = x .win .src })) makes n (suc made) q′;
       after = λ xs l. sym (last-snoc xs (part (liveOf x k) b0 b1 made));
     }
 
     module _ (n1 : ℕ) (next : n1 ≡ suc made) where
-      as-next : (n : ℕ) (q′ : Queue) → DoesPart (at (place (suc made) n (suc made) b′ f′ q′ vertex)) → DoesPart (at (place n1 n n1 b′ f′ q′ vertex))
-      as-next n q′ = subst (λ (j : ℕ). DoesPart (at (place j n j b′ f′ q′ vertex))) (sym next)
+      as-next : (n : ℕ) (q′ : Queue) → DoesPart (at (snapshot (suc made) n (suc made) b′ f′ q′ vertex)) → DoesPart (at (snapshot n1 n n1 b′ f′ q′ vertex))
+      as-next n q′ = subst (λ (j : ℕ). DoesPart (at (snapshot j n j b′ f′ q′ vertex))) (sym next)
 
-    pub part-quiet : (n1 : ℕ) → n1 ≡ suc made → x .carried .queued ≡ false → DoesPart (at (place n1 queued n1 b′ f′ q vertex))
+    pub part-quiet : (n1 : ℕ) → n1 ≡ suc made → x .carried .queued ≡ false → DoesPart (at (snapshot n1 queued n1 b′ f′ q vertex))
     part-quiet n1 next h = as-next n1 next queued q (ran queued q (make-one cuts windows limit flags made queued q vertex new room (pushIf (x .carried .queued) (push (windowEvent (lowestOf (x .win .src) b0 b1) made))) ∙ rw h (play-nil cuts windows limit flags (stock (suc made) queued q vertex))))
 
     module _ (h : x .carried .queued ≡ true) (ev : Event) (isEvent : ev ≡ windowEvent low made) (q′ : Queue) where
@@ -121,16 +121,16 @@ module _ (cuts windows : ℕ) (limit : Float) (flags : List ℕ) (e : EdgeId) (x
       pub part-full : (Full, q′) ≡ pushing q queued ev → DoesPart (stopped 13)
       part-full p = start ∙ push-full cuts windows limit flags (suc made) queued q vertex ev q′ p
 
-      pub part-queued : (n1 : ℕ) → n1 ≡ suc made → (n : ℕ) → (Queued n, q′) ≡ pushing q queued ev → DoesPart (at (place n1 n n1 b′ f′ q′ vertex))
+      pub part-queued : (n1 : ℕ) → n1 ≡ suc made → (n : ℕ) → (Queued n, q′) ≡ pushing q queued ev → DoesPart (at (snapshot n1 n n1 b′ f′ q′ vertex))
       part-queued n1 next n p = as-next n1 next n q′ (ran n q′ (start ∙ push-one cuts windows limit flags (suc made) queued q vertex ev n q′ p))
 
 -- ---- parts one behind the other
 module _ (cuts windows : ℕ) (limit : Float) (flags : List ℕ) (e : ℕ) (u : Window) where
-  abbrev DoesParts : ℕ → List Interval → Place → End → Type 0
+  abbrev DoesParts : ℕ → List Interval → Snapshot → End → Type 0
   DoesParts n l = Does cuts windows limit flags e (makings e u n l) [] (fresh u n l)
 
-  module _ (n : ℕ) (i : Interval) (rest : List Interval) (p : Place) where
-    pub parts-turn : (n1 : ℕ) → n1 ≡ suc n → (p1 : Place) → Ran cuts windows limit flags e (making e u n i) [] (part u (i .from) (i .to) n ∷ []) p p1 → (end : End) → DoesParts n1 rest p1 end → DoesParts n (i ∷ rest) p end
+  module _ (n : ℕ) (i : Interval) (rest : List Interval) (p : Snapshot) where
+    pub parts-turn : (n1 : ℕ) → n1 ≡ suc n → (p1 : Snapshot) → Performed cuts windows limit flags e (making e u n i) [] (part u (i .from) (i .to) n ∷ []) p p1 → (end : End) → DoesParts n1 rest p1 end → DoesParts n (i ∷ rest) p end
     unfolding makings fresh
     parts-turn n1 c p1 h end r =
         does-then cuts windows limit flags e (making e u n i) (makings e u (suc n) rest) [] [] (part u (i .from) (i .to) n ∷ []) (fresh u (suc n) rest) p p1 h end
@@ -140,21 +140,21 @@ module _ (cuts windows : ℕ) (limit : Float) (flags : List ℕ) (e : ℕ) (u : 
     unfolding makings
     parts-stop k h = play-stop-append cuts windows limit flags (making e u n i) (makings e u (suc n) rest) (stockOf p) k h
 
-  pub parts-end : (n : ℕ) (p : Place) → p .made ≤ windows → p .last ≤ p .made → DoesParts n [] p (at p)
+  pub parts-end : (n : ℕ) (p : Snapshot) → p .made ≤ windows → p .last ≤ p .made → DoesParts n [] p (at p)
   unfolding makings fresh
   parts-end n p i l = ran-none cuts windows limit flags e p i l
 
 -- ---- the pieces of a window
 module _ (cuts windows : ℕ) (limit : Float) (flags : List ℕ) (e : ℕ) (x : WindowRecord) (id made queued last : ℕ) (b : Links) (f : List Float) (q : Queue) (vertex : List Float) where
   abbrev DoesSplit : List Interval → End → Type 0
-  DoesSplit ps = Does cuts windows limit flags e (splitting e (liveOf x id) made ps) (liveOf x id ∷ []) (split (liveOf x id) made ps) (place made queued last b f q vertex)
+  DoesSplit ps = Does cuts windows limit flags e (splitting e (liveOf x id) made ps) (liveOf x id ∷ []) (split (liveOf x id) made ps) (snapshot made queued last b f q vertex)
 
   -- an action that takes no slot
   still : (a : Action) → act cuts windows limit flags a (stock made queued q vertex) ≡ actions.went (stock made queued q vertex) → play cuts windows limit flags (a ∷ []) (stock made queued q vertex) ≡ actions.went (stock made queued q vertex)
   still a h = play-go cuts windows limit flags a [] (stock made queued q vertex) (stock made queued q vertex) h ∙ play-nil cuts windows limit flags (stock made queued q vertex)
 
   -- there is none: it is taken out
-  pub split-none : made ≤ windows → last ≤ made → (b′ : Links) → Kills made b b′ e last id → DoesSplit [] (at (place made queued last b′ f q vertex))
+  pub split-none : made ≤ windows → last ≤ made → (b′ : Links) → Kills made b b′ e last id → DoesSplit [] (at (snapshot made queued last b′ f q vertex))
   unfolding splitting split winsAfter act
   split-none i l b′ kills = record {
     fits = i;
@@ -169,8 +169,8 @@ module _ (cuts windows : ℕ) (limit : Float) (flags : List ℕ) (e : ℕ) (x : 
 
   -- it is trimmed to the first piece
   module _ (i : made ≤ windows) (in-made : id < made) (p0 : Interval) (low : Float) (isLow : low ≡ lowestOf (x .win .src) (p0 .from) (p0 .to)) (f′ : List Float) (trims : Trims f f′ id (p0 .from) (p0 .to) low) where
-    abbrev trimmedPlace : Place
-    trimmedPlace = place made queued (suc id) b f′ q vertex
+    abbrev trimmedPlace : Snapshot
+    trimmedPlace = snapshot made queued (suc id) b f′ q vertex
 
     abbrev first : Window
     first = part (liveOf x id) (p0 .from) (p0 .to) id
@@ -178,7 +178,7 @@ module _ (cuts windows : ℕ) (limit : Float) (flags : List ℕ) (e : ℕ) (x : 
     abbrev trimming : List Action
     trimming = trim id (p0 .from) (p0 .to) (lowestOf (x .win .src) (p0 .from) (p0 .to)) ∷ []
 
-    trim-ran : Ran cuts windows limit flags e trimming (liveOf x id ∷ []) (first ∷ []) (place made queued last b f q vertex) trimmedPlace
+    trim-ran : Performed cuts windows limit flags e trimming (liveOf x id ∷ []) (first ∷ []) (snapshot made queued last b f q vertex) trimmedPlace
     unfolding winsAfter act
     trim-ran = record {
       fits = i;
@@ -186,14 +186,14 @@ module _ (cuts windows : ℕ) (limit : Float) (flags : List ℕ) (e : ℕ) (x : 
       plays = still (trim id (p0 .from) (p0 .to) (lowestOf (x .win .src) (p0 .from) (p0 .to))) refl;
       holds = λ wins live xs zs k h.
           let g = trims .holds made wins b e (put e (xs ++ (liveOf x id ∷ zs)) live) xs (liveOf x id) zs h (put-here e (xs ++ (liveOf x id ∷ zs)) live) refl in
-          subst (λ (y : Float). Holds made (adjust id (λ v. trimmed v (p0 .from) (p0 .to) y) wins) b f′ (put e (xs ++ (ranged (liveOf x id) (p0 .from) (p0 .to) y ∷ zs)) live)) isLow
+          subst (λ (y : Float). HoldsWindows made (adjust id (λ v. trimmed v (p0 .from) (p0 .to) y) wins) b f′ (put e (xs ++ (ranged (liveOf x id) (p0 .from) (p0 .to) y ∷ zs)) live)) isLow
           (holds-again made (adjust id (λ v. trimmed v (p0 .from) (p0 .to) low) wins) b f′ e (xs ++ (ranged (liveOf x id) (p0 .from) (p0 .to) low ∷ zs)) (xs ++ (liveOf x id ∷ zs)) live g);
       untouched = untouched-trimmed e made queued last b f q vertex f′ id (p0 .from) (p0 .to) low in-made trims (suc id);
       after = λ xs k. sym (last-snoc xs first);
     }
 
-    pub split-some : (rest : List Interval) (end : End) (at1 : ℕ) → at1 ≡ suc id → Does cuts windows limit flags e (makings e (liveOf x id) made rest) [] (fresh (liveOf x id) made rest) (place made queued at1 b f′ q vertex) end → DoesSplit (p0 ∷ rest) end
+    pub split-some : (rest : List Interval) (end : End) (at1 : ℕ) → at1 ≡ suc id → Does cuts windows limit flags e (makings e (liveOf x id) made rest) [] (fresh (liveOf x id) made rest) (snapshot made queued at1 b f′ q vertex) end → DoesSplit (p0 ∷ rest) end
     unfolding splitting split
     split-some rest end at1 is h′ =
-        let h = subst (λ (j : ℕ). Does cuts windows limit flags e (makings e (liveOf x id) made rest) [] (fresh (liveOf x id) made rest) (place made queued j b f′ q vertex) end) is h′ in
-        does-then cuts windows limit flags e trimming (makings e (liveOf x id) made rest) (liveOf x id ∷ []) [] (first ∷ []) (fresh (liveOf x id) made rest) (place made queued last b f q vertex) trimmedPlace trim-ran end h
+        let h = subst (λ (j : ℕ). Does cuts windows limit flags e (makings e (liveOf x id) made rest) [] (fresh (liveOf x id) made rest) (snapshot made queued j b f′ q vertex) end) is h′ in
+        does-then cuts windows limit flags e trimming (makings e (liveOf x id) made rest) (liveOf x id ∷ []) [] (first ∷ []) (fresh (liveOf x id) made rest) (snapshot made queued last b f q vertex) trimmedPlace trim-ran end h

@@ -18,7 +18,7 @@ ghost use Rattle.trim_model.specs.Windows.{part, fresh, split};
 ghost use Rattle.trim_state.specs.Trace.{making, makings, splitting};
 ghost use Rattle.live_windows.specs.Live.{liveOf};
 ghost use Rattle.trim_split.specs.Trimmed.{trimmedTo};
-ghost use Rattle.trim_split.specs.Running.{Ready, Counted, roomFor, placeBefore, endAfter, endOf, Does};
+ghost use Rattle.trim_split.specs.Running.{Ready, Counted, roomFor, snapshotBefore, endAfter, madeEnd, Does};
 
 // How many windows are made, and how many events are queued.
 pub struct Counts {
@@ -58,8 +58,8 @@ pub fn make_part(
     requires { ⌜ Ready (e .0) (counts .made) before (now edges) (now words) (now reals) ⌝ }
     ensures { λ r. ⌜ Counted r (suc (counts .made)) × ((cuts : ℕ) (limit : Float) (flags : List ℕ) (vertex : List Float) (k : ℕ) →
         Does cuts (roomFor words reals) limit flags (e .0) (making (e .0) (liveOf x k) (counts .made) (interval b0 b1)) [] (part (liveOf x k) b0 b1 (counts .made) ∷ [])
-        (placeBefore edges words reals keys events (counts .made) (counts .queued) before vertex)
-        (endAfter edges words reals keys events (endOf r) vertex)) ⌝ }
+        (snapshotBefore edges words reals keys events (counts .made) (counts .queued) before vertex)
+        (endAfter edges words reals keys events (madeEnd r) vertex)) ⌝ }
 {
     let made = counts.made;
     let queued = counts.queued;
@@ -111,8 +111,8 @@ fn make_parts(
     ensures { λ r. ⌜ Counted r (counts .made + length (drop 1 (pairs n (given pieces)))) × ((cuts : ℕ) (limit : Float) (flags : List ℕ) (vertex : List Float) (k : ℕ) →
         Does cuts (roomFor words reals) limit flags (e .0) (makings (e .0) (liveOf x k) (counts .made) (drop 1 (pairs n (given pieces))))
         [] (fresh (liveOf x k) (counts .made) (drop 1 (pairs n (given pieces))))
-        (placeBefore edges words reals keys events (counts .made) (counts .queued) before vertex)
-        (endAfter edges words reals keys events (endOf r) vertex)) ⌝ }
+        (snapshotBefore edges words reals keys events (counts .made) (counts .queued) before vertex)
+        (endAfter edges words reals keys events (madeEnd r) vertex)) ⌝ }
 {
     let mut now = counts;
     let mut last = before;
@@ -152,8 +152,8 @@ pub fn split_window(
     ensures { λ r. ⌜ Counted r (counts .made + pred (length (pairs n (given pieces)))) × ((cuts : ℕ) (limit : Float) (flags : List ℕ) (vertex : List Float) →
         Does cuts (roomFor words reals) limit flags (e .0) (splitting (e .0) (liveOf x (id .0)) (counts .made) (pairs n (given pieces)))
         (liveOf x (id .0) ∷ []) (split (liveOf x (id .0)) (counts .made) (pairs n (given pieces)))
-        (placeBefore edges words reals keys events (counts .made) (counts .queued) before vertex)
-        (endAfter edges words reals keys events (endOf r) vertex)) ⌝ }
+        (snapshotBefore edges words reals keys events (counts .made) (counts .queued) before vertex)
+        (endAfter edges words reals keys events (madeEnd r) vertex)) ⌝ }
 {
     let made = counts.made;
     let old = x.win;

@@ -7,7 +7,7 @@ use native.Mathlib.Omega.{arith}
 use lib.Dec.{T, ltb, leb, eqb}
 use lib.ListN.{length, getD}
 use lib.Ieee.{Float, lt, le}
-use Rattle.float64.specs.Scalar.{zero}
+use Rattle.float64.specs.Scalar.{zero64}
 use Rattle.float64.specs.Notation.{_⊖_, _⊗_}
 use Rattle.source.specs.Distance.{evalOf, lowestOf}
 use Rattle.better.specs.Points.{ptsOf, walkOf}
@@ -27,7 +27,7 @@ use Rattle.trim_model.specs.Claim.{AdmittedProper}
 use Rattle.trim_model.proofs.Ranks.{by-cases}
 use Rattle.trim_state.specs.Trace.{windowEvent, making, makings, splitting, losing, visiting, visitings, near, winOf, touching, keeping, adding}
 use Rattle.trim_state.specs.State as state
-use Rattle.trim_state.specs.State.{State, Mesh, Result, edgeIn, put, finish, admitOf, addOf}
+use Rattle.trim_state.specs.State.{State, EdgeData, Result, edgeIn, put, finish, admitOf, addOf}
 use Rattle.trim_state.specs.Follows.{Follows}
 use Rattle.trim_state.proofs.Follows.{follows-add, follows-skip}
 
@@ -133,9 +133,9 @@ touching-makes : (e : Edge) (nw : Window) → makes (touching e nw) ≡ 0
 unfolding touching
 touching-makes e nw =
     let l = e .len in
-    let x = pushIf (le (nw .b0) (near ⊗ l)) (touch (e .a .0) (evalOf (winOf nw) zero zero)) in
-    let y = pushIf (le (l ⊖ near ⊗ l) (nw .b1)) (touch (e .b .0) (evalOf (winOf nw) l zero)) in
-    omega (arith, makes-append x y, touch-makes (le (nw .b0) (near ⊗ l)) (e .a .0) (evalOf (winOf nw) zero zero), touch-makes (le (l ⊖ near ⊗ l) (nw .b1)) (e .b .0) (evalOf (winOf nw) l zero))
+    let x = pushIf (le (nw .b0) (near ⊗ l)) (touch (e .a .0) (evalOf (winOf nw) zero64 zero64)) in
+    let y = pushIf (le (l ⊖ near ⊗ l) (nw .b1)) (touch (e .b .0) (evalOf (winOf nw) l zero64)) in
+    omega (arith, makes-append x y, touch-makes (le (nw .b0) (near ⊗ l)) (e .a .0) (evalOf (winOf nw) zero64 zero64), touch-makes (le (l ⊖ near ⊗ l) (nw .b1)) (e .b .0) (evalOf (winOf nw) l zero64))
 
 keeping-makes : (e : Edge) (w : Window) (n : ℕ) (ks : List Interval) → makes (keeping e w n ks) ≡ length ks
 unfolding makes keeping
@@ -169,7 +169,7 @@ module _ (cuts windows : ℕ) (limit : Float) (flags : List ℕ) where
   finish-after P wins live m (stopped n) h f = tt
   finish-after P wins live m (went k) h f = f k h
 
-  module _ (mesh : Mesh) {cs : List Candidate} (c : Candidate) (s : State) (p : AdmittedProper limit (mesh .len) c) (F : Follows limit (mesh .len) cs (s .stock .made) (s .live)) where
+  module _ (mesh : EdgeData) {cs : List Candidate} (c : Candidate) (s : State) (p : AdmittedProper limit (mesh .len) c) (F : Follows limit (mesh .len) cs (s .stock .made) (s .live)) where
     abbrev Next : State → Type 0
     Next s' = Follows limit (mesh .len) (cs ++ (c ∷ [])) (s' .stock .made) (s' .live)
 

@@ -22,7 +22,7 @@ pub record State : Type 0 where
   pub live : ℕ → List Window
   pub stock : Stock
 
--- a refusal by its number (12 to 14 are 01's; a list's own are in trim_run), or what there is afterwards
+-- a refusal by its number (12 to 14 are 01's; a list's own are in trim_operations), or what there is afterwards
 pub data Result : Type 0 where
   stopped : ℕ → Result
   went : State → Result
@@ -36,16 +36,16 @@ finish wins live (actions.stopped n) = stopped n
 finish wins live (actions.went s) = went (record { wins = wins; live = live; stock = s })
 
 -- of each edge its length and its two ends
-pub record Mesh : Type 0 where
+pub record EdgeData : Type 0 where
   pub len : ℕ → Float
   pub low : ℕ → ℕ
   pub high : ℕ → ℕ
 
-abbrev pub edgeIn : Mesh → ℕ → Edge
+abbrev pub edgeIn : EdgeData → ℕ → Edge
 edgeIn mesh e = record { id = record { 0 = e }; len = mesh .len e; a = record { 0 = mesh .low e }; b = record { 0 = mesh .high e } }
 
 -- the cut buffer's count and the window buffer's, the limit, and the flags of the vertices
-module _ (cuts windows : ℕ) (limit : Float) (flags : List ℕ) (mesh : Mesh) where
+module _ (cuts windows : ℕ) (limit : Float) (flags : List ℕ) (mesh : EdgeData) where
   unfoldable pub admitOf : Candidate → State → Result
   unfolding finish
   admitOf c s =

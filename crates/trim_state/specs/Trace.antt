@@ -4,7 +4,7 @@ use mathlib.Core.Bool.{Bool, true}
 use mathlib.Core.List.{List, [], _∷_, _++_}
 use lib.ListN.{length}
 use lib.Ieee.{Float, binary64, ofBits, le}
-use Rattle.float64.specs.Scalar.{zero}
+use Rattle.float64.specs.Scalar.{zero64}
 use Rattle.float64.specs.Notation.{_⊖_, _⊗_, if_then_else_}
 use Rattle.source.specs.declared.Win.{Win}
 use Rattle.source.specs.Distance.{lowestOf, evalOf}
@@ -79,8 +79,8 @@ near = ofBits binary64 0x3e11_2e0b_e826_d695
 -- the ends of an edge: those that the new window nw reaches are touched
 unfoldable pub touching : Edge → Window → List Action
 touching e nw =
-    pushIf (le (nw .b0) (near ⊗ e .len)) (touch (e .a .0) (evalOf (winOf nw) zero zero))
-    ++ pushIf (le (e .len ⊖ near ⊗ e .len) (nw .b1)) (touch (e .b .0) (evalOf (winOf nw) (e .len) zero))
+    pushIf (le (nw .b0) (near ⊗ e .len)) (touch (e .a .0) (evalOf (winOf nw) zero64 zero64))
+    ++ pushIf (le (e .len ⊖ near ⊗ e .len) (nw .b1)) (touch (e .b .0) (evalOf (winOf nw) (e .len) zero64))
 
 -- the wide entries of `keep` become windows
 unfoldable pub keeping : Edge → Window → ℕ → List Interval → List Action

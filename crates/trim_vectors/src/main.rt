@@ -12,6 +12,7 @@ use layout::WINDOW_INTO;
 use layout::WINDOW_LINK;
 use layout::WORDS_PER_EDGE;
 use layout::WORDS_PER_WINDOW;
+use run_operations::Ran;
 use stored_numbers::all_f64;
 use stored_numbers::all_u32;
 use stored_numbers::at_most;
@@ -21,7 +22,6 @@ use stored_numbers::number;
 use stored_numbers::read_bytes;
 use stored_numbers::read_doubles;
 use stored_numbers::read_numbers;
-use trim_list::Ran;
 ghost use Prim.Native.Nat.{_≤_, _<_};
 
 // Where in the file the next expected number is, and whether all that was compared agrees.
@@ -363,7 +363,7 @@ fn holds(
     keep: &mut [f64],
     next: &mut [f64],
 ) -> bool {
-    let answer = trim_list::run(
+    let answer = run_operations::run(
         limit,
         ops,
         args,

@@ -26,9 +26,9 @@ use Rattle.trim_model.proofs.Turns.{visit-untouched, visit-meet, meet-none, mee
 use Rattle.trim_state.specs.State.{put}
 use Rattle.trim_state.specs.Trace.{splitting, losing, visiting}
 use Rattle.trim_state.proofs.Turns.{visiting-untouched, visiting-met, losing-none, losing-some}
-use Rattle.live_windows.specs.Live.{Holds, lastLink}
+use Rattle.live_windows.specs.Live.{HoldsWindows, lastLink}
 use Rattle.cut_lists.specs.Cut.{lossLengths, lengths}
-use Rattle.trim_split.specs.Running.{Place, stockOf, End, stopped, at, Ran, Does}
+use Rattle.trim_split.specs.Running.{Snapshot, stockOf, End, stopped, at, Performed, Does}
 use Rattle.live_windows.proofs.Lists.{last-snoc}
 use Rattle.trim_split.proofs.Untouched.{untouched-same}
 use Rattle.trim_visit.specs.Visiting.{from, Kept}
@@ -118,21 +118,21 @@ visit-grows t w u keep made = cases (le (width (sharedLo w u) (sharedHi w u)) t)
         subst (λ (n : ℕ). made ≤ n) (sym (ap (λ (s : Walk). s .made) (visit-meet betterOf t w u (from keep made) h) ∙ meet-made t u (sharedLo w u) (sharedHi w u) gs keep made)) (grows u made t gs)
 
 -- a window that stays as it is
-module _ (cuts windows : ℕ) (limit : Float) (flags : List ℕ) (e : ℕ) (p : Place) (u : Window) (inside : u .num < p .made) (fits : p .made ≤ windows) where
-  abbrev passed : Place
+module _ (cuts windows : ℕ) (limit : Float) (flags : List ℕ) (e : ℕ) (p : Snapshot) (u : Window) (inside : u .num < p .made) (fits : p .made ≤ windows) where
+  abbrev passed : Snapshot
   passed = record { made = p .made; queued = p .queued; last = suc (u .num); links = p .links; reals = p .reals; queue = p .queue; vertex = p .vertex }
 
-  pub pass-ran : (todo : List Action) → play cuts windows limit flags todo (stockOf p) ≡ actions.went (stockOf p) → ((wins : List WindowRecord) → winsAfter todo wins ≡ wins) → Ran cuts windows limit flags e todo (u ∷ []) (u ∷ []) p passed
+  pub pass-ran : (todo : List Action) → play cuts windows limit flags todo (stockOf p) ≡ actions.went (stockOf p) → ((wins : List WindowRecord) → winsAfter todo wins ≡ wins) → Performed cuts windows limit flags e todo (u ∷ []) (u ∷ []) p passed
   pass-ran todo h same = record {
     fits = fits;
     linked = inside;
     plays = h;
-    holds = λ wins live xs zs l k. subst (λ (ws : List WindowRecord). Holds (p .made) ws (p .links) (p .reals) (put e (xs ++ (u ∷ zs)) live)) (sym (same wins)) k;
+    holds = λ wins live xs zs l k. subst (λ (ws : List WindowRecord). HoldsWindows (p .made) ws (p .links) (p .reals) (put e (xs ++ (u ∷ zs)) live)) (sym (same wins)) k;
     untouched = untouched-same (λ k. k ≡ e) p (p .queued) (suc (u .num)) (p .queue) (p .vertex);
     after = λ xs l. sym (last-snoc xs u);
   }
 
-module _ (cuts windows : ℕ) (limit : Float) (flags : List ℕ) (e : ℕ) (t : Float) (w u : Window) (keep : List Interval) (p : Place) where
+module _ (cuts windows : ℕ) (limit : Float) (flags : List ℕ) (e : ℕ) (t : Float) (w u : Window) (keep : List Interval) (p : Snapshot) where
   abbrev Turn : End → Type 0
   Turn = Does cuts windows limit flags e (visiting e t w u (from keep (p .made))) (u ∷ []) (visit betterOf t w u (from keep (p .made)) .survivors) p
 
@@ -225,8 +225,8 @@ module _ (cuts windows : ℕ) (limit : Float) (flags : List ℕ) (e : ℕ) (t : 
         plays = played-rest ∙ ap (λ (l : List Action). play cuts windows limit flags l (stockOf p)) (lost-some gs z ∙ ap (splitting e u (p .made)) (sym is)) ∙ d .plays;
         holds = λ wins live xs zs l k.
             let ws : winsAfter (visiting e t w u (from keep (p .made))) wins ≡ winsAfter (splitting e u (p .made) ps) wins = wins-rest wins ∙ ap (λ (l : List Action). winsAfter l wins) (lost-some gs z ∙ ap (splitting e u (p .made)) (sym is)) in
-            subst (λ (vs : List WindowRecord). Holds (p′ .made) vs (p′ .links) (p′ .reals) (put e (xs ++ (visit betterOf t w u (from keep (p .made)) .survivors ++ zs)) live)) (sym ws)
-            (subst (λ (ys : List Window). Holds (p′ .made) (winsAfter (splitting e u (p .made) ps) wins) (p′ .links) (p′ .reals) (put e (xs ++ (ys ++ zs)) live)) (sym same) (d .holds wins live xs zs l k));
+            subst (λ (vs : List WindowRecord). HoldsWindows (p′ .made) vs (p′ .links) (p′ .reals) (put e (xs ++ (visit betterOf t w u (from keep (p .made)) .survivors ++ zs)) live)) (sym ws)
+            (subst (λ (ys : List Window). HoldsWindows (p′ .made) (winsAfter (splitting e u (p .made) ps) wins) (p′ .links) (p′ .reals) (put e (xs ++ (ys ++ zs)) live)) (sym same) (d .holds wins live xs zs l k));
         untouched = d .untouched;
         after = λ xs l. d .after xs l ∙ ap (λ (ys : List Window). lastLink (xs ++ ys)) (sym same);
       }

@@ -18,12 +18,12 @@ use Rattle.windows.specs.declared.WindowRecord.{WindowRecord}
 use Rattle.chains.specs.Chains.{links}
 use Rattle.trim_model.specs.Windows.{Window}
 use Rattle.trim_model.specs.Add.{visit}
-use Rattle.live_windows.specs.Live.{liveOf, Follows, Loads}
+use Rattle.live_windows.specs.Live.{liveOf, LinkFollows, Loads}
 use Rattle.cut_lists.specs.Cut.{Sizes}
 use Rattle.cut_lists.specs.Buffers.{Cuts}
 use Rattle.trim_split.specs.declared.Counts.{Counts}
 use Rattle.trim_split.specs.Running.{End, stopped, at}
-use Rattle.trim_split.proofs.Loops.{Slices, SameLengths, same-refl, same-trans, same-windows, windowsOf, placeOf, ReadyIn, ready-same}
+use Rattle.trim_split.proofs.Loops.{Slices, SameLengths, same-refl, same-trans, same-windows, windowsOf, snapshotOf, ReadyIn, ready-same}
 use Rattle.trim_visit.specs.declared.Visited.{Visited}
 use Rattle.trim_visit.specs.declared.Visited.the-variants.{Stopped, Went}
 use Rattle.trim_visit.specs.Visiting.{from, Kept, Visits1, VisitsAll}
@@ -54,7 +54,7 @@ module _ (e : ℕ) (t : Float) (w : Window) (s₀ : Slices) (c₀ : Cuts) (made�
   size = length (c₀ .pts)
 
   abbrev All : ℕ → Slices → Cuts → ℕ → ℕ → ℕ → ℕ → (limit : Float) (flags : List ℕ) (vertex : List Float) → Visited → End → List Float → Type 0
-  All left s c made queued last k limit flags vertex = VisitsAll size (windowsOf s₀) limit flags e t w (λ zs. length zs ≤ left) (pairs k (c .keep)) (placeOf s made queued last vertex)
+  All left s c made queued last k limit flags vertex = VisitsAll size (windowsOf s₀) limit flags e t w (λ zs. length zs ≤ left) (pairs k (c .keep)) (snapshotOf s made queued last vertex)
 
   pub record VisitsInv (s : Slices) (c : Cuts) (made queued last k left : ℕ) : Type 0 where
     pub same : SameLengths s₀ s
@@ -97,20 +97,20 @@ module _ (e : ℕ) (t : Float) (w : Window) (s₀ : Slices) (c₀ : Cuts) (made�
     visits-few = subst (λ (n : ℕ). k ≤ n) (sym (inv .same-cuts .pts)) (inv .few)
 
     -- it ends here
-    pub visits-spent : left ≡ 0 → (limit : Float) (flags : List ℕ) (vertex : List Float) → All made₀ s₀ c₀ made₀ queued₀ last₀ k₀ limit flags vertex (Went now last k) (at (placeOf s made queued last vertex)) (c .keep)
-    visits-spent z limit flags vertex = inv .goal limit flags vertex (Went now last k) (at (placeOf s made queued last vertex)) (c .keep)
-        (subst (λ (n : ℕ). All n s c made queued last k limit flags vertex (Went now last k) (at (placeOf s made queued last vertex)) (c .keep)) (sym z)
-        (all-spent size (windowsOf s₀) limit flags e t w (pairs k (c .keep)) (placeOf s made queued last vertex) now k (c .keep) refl (inv .few) refl (inv .fits) (inv .linked)))
+    pub visits-spent : left ≡ 0 → (limit : Float) (flags : List ℕ) (vertex : List Float) → All made₀ s₀ c₀ made₀ queued₀ last₀ k₀ limit flags vertex (Went now last k) (at (snapshotOf s made queued last vertex)) (c .keep)
+    visits-spent z limit flags vertex = inv .goal limit flags vertex (Went now last k) (at (snapshotOf s made queued last vertex)) (c .keep)
+        (subst (λ (n : ℕ). All n s c made queued last k limit flags vertex (Went now last k) (at (snapshotOf s made queued last vertex)) (c .keep)) (sym z)
+        (all-spent size (windowsOf s₀) limit flags e t w (pairs k (c .keep)) (snapshotOf s made queued last vertex) now k (c .keep) refl (inv .few) refl (inv .fits) (inv .linked)))
 
-    module _ (link : ℕ) (follows : Follows made (links (s .edges) (s .words)) e last link) where
-      pub visits-end : link ≡ 0 → (limit : Float) (flags : List ℕ) (vertex : List Float) → All made₀ s₀ c₀ made₀ queued₀ last₀ k₀ limit flags vertex (Went now last k) (at (placeOf s made queued last vertex)) (c .keep)
-      visits-end z limit flags vertex = inv .goal limit flags vertex (Went now last k) (at (placeOf s made queued last vertex)) (c .keep)
-          (all-end size (windowsOf s₀) limit flags e t w (pairs k (c .keep)) (placeOf s made queued last vertex) now k (c .keep) refl (inv .few) refl (inv .fits) (inv .linked) left link follows z)
+    module _ (link : ℕ) (follows : LinkFollows made (links (s .edges) (s .words)) e last link) where
+      pub visits-end : link ≡ 0 → (limit : Float) (flags : List ℕ) (vertex : List Float) → All made₀ s₀ c₀ made₀ queued₀ last₀ k₀ limit flags vertex (Went now last k) (at (snapshotOf s made queued last vertex)) (c .keep)
+      visits-end z limit flags vertex = inv .goal limit flags vertex (Went now last k) (at (snapshotOf s made queued last vertex)) (c .keep)
+          (all-end size (windowsOf s₀) limit flags e t w (pairs k (c .keep)) (snapshotOf s made queued last vertex) now k (c .keep) refl (inv .few) refl (inv .fits) (inv .linked) left link follows z)
 
       module _ (i : ℕ) (is : link ≡ suc i) (x : WindowRecord) (loads : Loads (s .words) (s .reals) i x) where
-        pub visits-over : lt (x .win .b0) (w .b1 ⊕ t) ≡ false → (limit : Float) (flags : List ℕ) (vertex : List Float) → All made₀ s₀ c₀ made₀ queued₀ last₀ k₀ limit flags vertex (Went now last k) (at (placeOf s made queued last vertex)) (c .keep)
-        visits-over b limit flags vertex = inv .goal limit flags vertex (Went now last k) (at (placeOf s made queued last vertex)) (c .keep)
-            (all-over size (windowsOf s₀) limit flags e t w (pairs k (c .keep)) (placeOf s made queued last vertex) now k (c .keep) refl (inv .few) refl (inv .fits) (inv .linked) left link follows i is x loads b)
+        pub visits-over : lt (x .win .b0) (w .b1 ⊕ t) ≡ false → (limit : Float) (flags : List ℕ) (vertex : List Float) → All made₀ s₀ c₀ made₀ queued₀ last₀ k₀ limit flags vertex (Went now last k) (at (snapshotOf s made queued last vertex)) (c .keep)
+        visits-over b limit flags vertex = inv .goal limit flags vertex (Went now last k) (at (snapshotOf s made queued last vertex)) (c .keep)
+            (all-over size (windowsOf s₀) limit flags e t w (pairs k (c .keep)) (snapshotOf s made queued last vertex) now k (c .keep) refl (inv .few) refl (inv .fits) (inv .linked) left link follows i is x loads b)
 
         pub visits-inside : i < made
         visits-inside = subst (λ (n : ℕ). n ≤ made) is (follows .made)
@@ -118,22 +118,22 @@ module _ (e : ℕ) (t : Float) (w : Window) (s₀ : Slices) (c₀ : Cuts) (made�
         module _ (b : lt (x .win .b0) (w .b1 ⊕ t) ≡ true) where
           -- what `visit` ensures
           abbrev OneDoes : (List Float → End) → Type 0
-          OneDoes end = (limit : Float) (flags : List ℕ) (vertex : List Float) → Visits1 (length (c .pts)) (windowsOf s) limit flags e t w (pairs k (c .keep)) (liveOf x i) (placeOf s made queued last vertex) (end vertex)
+          OneDoes end = (limit : Float) (flags : List ℕ) (vertex : List Float) → Visits1 (length (c .pts)) (windowsOf s) limit flags e t w (pairs k (c .keep)) (liveOf x i) (snapshotOf s made queued last vertex) (end vertex)
 
-          in-first : (end : List Float → End) → OneDoes end → (limit : Float) (flags : List ℕ) (vertex : List Float) → Visits1 size (windowsOf s₀) limit flags e t w (pairs k (c .keep)) (liveOf x i) (placeOf s made queued last vertex) (end vertex)
+          in-first : (end : List Float → End) → OneDoes end → (limit : Float) (flags : List ℕ) (vertex : List Float) → Visits1 size (windowsOf s₀) limit flags e t w (pairs k (c .keep)) (liveOf x i) (snapshotOf s made queued last vertex) (end vertex)
           in-first end d limit flags vertex =
-              subst (λ (n : ℕ). Visits1 n (windowsOf s₀) limit flags e t w (pairs k (c .keep)) (liveOf x i) (placeOf s made queued last vertex) (end vertex)) (inv .same-cuts .pts)
-              (subst (λ (n : ℕ). Visits1 (length (c .pts)) n limit flags e t w (pairs k (c .keep)) (liveOf x i) (placeOf s made queued last vertex) (end vertex)) (same-windows s₀ s (inv .same)) (d limit flags vertex))
+              subst (λ (n : ℕ). Visits1 n (windowsOf s₀) limit flags e t w (pairs k (c .keep)) (liveOf x i) (snapshotOf s made queued last vertex) (end vertex)) (inv .same-cuts .pts)
+              (subst (λ (n : ℕ). Visits1 (length (c .pts)) n limit flags e t w (pairs k (c .keep)) (liveOf x i) (snapshotOf s made queued last vertex) (end vertex)) (same-windows s₀ s (inv .same)) (d limit flags vertex))
 
           pub visits-stopped : (n : Lack) (keep′ : List Float) → OneDoes (λ vertex. stopped (lackNumber n)) → (limit : Float) (flags : List ℕ) (vertex : List Float) → All made₀ s₀ c₀ made₀ queued₀ last₀ k₀ limit flags vertex (Stopped n) (stopped (lackNumber n)) keep′
           visits-stopped n keep′ d limit flags vertex = inv .goal limit flags vertex (Stopped n) (stopped (lackNumber n)) keep′
-              (all-stop size (windowsOf s₀) limit flags e t w (pairs k (c .keep)) (placeOf s made queued last vertex) left link follows i is x loads b n keep′ (in-first (λ vertex. stopped (lackNumber n)) d limit flags vertex))
+              (all-stop size (windowsOf s₀) limit flags e t w (pairs k (c .keep)) (snapshotOf s made queued last vertex) left link follows i is x loads b n keep′ (in-first (λ vertex. stopped (lackNumber n)) d limit flags vertex))
 
           pub visits-next : (s′ : Slices) (c′ : Cuts) (now′ : Counts) (last′ k′ left′ : ℕ) → SameLengths s s′ → SameCuts c c′ → 0 < left → left′ ≡ left - 1
               → Kept (length (c .pts)) (now′ .made) k′ (c′ .keep) (visit betterOf t w (liveOf x i) (from (pairs k (c .keep)) made))
-              → OneDoes (λ vertex. at (placeOf s′ (now′ .made) (now′ .queued) last′ vertex)) → (nan : Float) → VisitsInv s′ c′ (now′ .made) (now′ .queued) last′ k′ left′
+              → OneDoes (λ vertex. at (snapshotOf s′ (now′ .made) (now′ .queued) last′ vertex)) → (nan : Float) → VisitsInv s′ c′ (now′ .made) (now′ .queued) last′ k′ left′
           visits-next s′ c′ now′ last′ k′ left′ h j z isLeft kept d nan =
-              let one = in-first (λ vertex. at (placeOf s′ (now′ .made) (now′ .queued) last′ vertex)) d nan [] [] in
+              let one = in-first (λ vertex. at (snapshotOf s′ (now′ .made) (now′ .queued) last′ vertex)) d nan [] [] in
               record {
                 same = same-trans s₀ s s′ (inv .same) h;
                 same-cuts = cuts-trans c₀ c c′ (inv .same-cuts) j;
@@ -144,6 +144,6 @@ module _ (e : ℕ) (t : Float) (w : Window) (s₀ : Slices) (c₀ : Cuts) (made�
                 few = subst (λ (n : ℕ). k′ ≤ n) (inv .same-cuts .pts) (kept .few);
                 grown = le-trans (inv .grown) (subst (λ (n : ℕ). made ≤ n) (sym (kept .count)) (visit-grows t w (liveOf x i) (pairs k (c .keep)) made));
                 goal = λ limit flags vertex r end keep′ g. inv .goal limit flags vertex r end keep′
-                    (all-turn size (windowsOf s₀) limit flags e t w (pairs k (c .keep)) (placeOf s made queued last vertex) left link follows i is x loads b
-                    (placeOf s′ (now′ .made) (now′ .queued) last′ vertex) (in-first (λ vertex. at (placeOf s′ (now′ .made) (now′ .queued) last′ vertex)) d limit flags vertex) (kept .count) (pairs k′ (c′ .keep)) (kept .keep) left′ (omega (arith, z, isLeft)) r end keep′ g);
+                    (all-turn size (windowsOf s₀) limit flags e t w (pairs k (c .keep)) (snapshotOf s made queued last vertex) left link follows i is x loads b
+                    (snapshotOf s′ (now′ .made) (now′ .queued) last′ vertex) (in-first (λ vertex. at (snapshotOf s′ (now′ .made) (now′ .queued) last′ vertex)) d limit flags vertex) (kept .count) (pairs k′ (c′ .keep)) (kept .keep) left′ (omega (arith, z, isLeft)) r end keep′ g);
               }

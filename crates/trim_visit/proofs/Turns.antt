@@ -20,9 +20,9 @@ use Rattle.trim_model.specs.Add.{Walk, startsBefore, visit, visits}
 use Rattle.trim_model.proofs.Turns.{take-yes, take-no, take-nil}
 use Rattle.trim_state.specs.State.{put}
 use Rattle.trim_state.specs.Trace.{visiting, visitings}
-use Rattle.live_windows.specs.Live.{Holds, nums, lastLink, liveOf, Follows, Loads}
+use Rattle.live_windows.specs.Live.{HoldsWindows, nums, lastLink, liveOf, LinkFollows, Loads}
 use Rattle.trim_split.specs.declared.Counts.{Counts}
-use Rattle.trim_split.specs.Running.{Place, stockOf, End, stopped, at, Ran, Does}
+use Rattle.trim_split.specs.Running.{Snapshot, stockOf, End, stopped, at, Performed, Does}
 use Rattle.live_windows.proofs.Lists.{put-here}
 use Rattle.trim_split.proofs.Edges.{holds-equal}
 use Rattle.trim_split.proofs.Running.{ran-none, does-then, does-as}
@@ -44,7 +44,7 @@ no-last : (i : ℕ) → suc i ≡ firstLink (nums []) → ⊥
 unfolding nums firstLink
 no-last i h = omega arith
 
-module _ (cuts windows : ℕ) (limit : Float) (flags : List ℕ) (e : ℕ) (t : Float) (w : Window) (keep : List Interval) (p : Place) where
+module _ (cuts windows : ℕ) (limit : Float) (flags : List ℕ) (e : ℕ) (t : Float) (w : Window) (keep : List Interval) (p : Snapshot) where
   abbrev Goal : List Window → Visited → End → List Float → Type 0
   Goal zs r end keep′ = Does cuts windows limit flags e (visitings e t w (run t w zs) (from keep (p .made))) (run t w zs) (walked t w keep (p .made) zs .survivors) p end × Keeps cuts r keep′ (walked t w keep (p .made) zs)
 
@@ -61,7 +61,7 @@ module _ (cuts windows : ℕ) (limit : Float) (flags : List ℕ) (e : ℕ) (t : 
     all-spent wins live xs [] n l h = done [] (take-nil (startsBefore (w .b1 ⊕ t)))
     all-spent wins live xs (u ∷ us) n l h = let z : ⊥ = omega arith in absurd z
 
-    module _ (left r : ℕ) (follows : Follows (p .made) (p .links) e (p .last) r) where
+    module _ (left r : ℕ) (follows : LinkFollows (p .made) (p .links) e (p .last) r) where
       pub all-end : r ≡ 0 → VisitsAll cuts windows limit flags e t w (λ zs. length zs ≤ left) keep p (Went c (p .last) k) (at p) keep′
       all-end z wins live xs [] n l h = done [] (take-nil (startsBefore (w .b1 ⊕ t)))
       all-end z wins live xs (u ∷ us) n l h = absurd (no-first u us (sym z ∙ follows .first wins (p .reals) (put e (xs ++ (u ∷ us)) live) xs (u ∷ us) h (put-here e (xs ++ (u ∷ us)) live) l))
@@ -75,7 +75,7 @@ module _ (cuts windows : ℕ) (limit : Float) (flags : List ℕ) (e : ℕ) (t : 
           done (u ∷ us) (take-no (startsBefore (w .b1 ⊕ t)) u us (subst (λ (y : Window). startsBefore (w .b1 ⊕ t) y ≡ false) v b))
 
   -- a window is visited
-  module _ (left r : ℕ) (follows : Follows (p .made) (p .links) e (p .last) r) (i : ℕ) (z : r ≡ suc i) (x : WindowRecord) (loads : Loads (p .links .words) (p .reals) i x) (b : startsBefore (w .b1 ⊕ t) (liveOf x i) ≡ true) where
+  module _ (left r : ℕ) (follows : LinkFollows (p .made) (p .links) e (p .last) r) (i : ℕ) (z : r ≡ suc i) (x : WindowRecord) (loads : Loads (p .links .words) (p .reals) i x) (b : startsBefore (w .b1 ⊕ t) (liveOf x i) ≡ true) where
     abbrev u : Window
     u = liveOf x i
 
@@ -83,14 +83,14 @@ module _ (cuts windows : ℕ) (limit : Float) (flags : List ℕ) (e : ℕ) (t : 
     turned = visit betterOf t w u (from keep (p .made))
 
     -- what is known of the list, and so of what stands there
-    module _ (r′ : Visited) (end : End) (keep′ : List Float) (each : (wins : List WindowRecord) (live : ℕ → List Window) (xs zs : List Window) → length (u ∷ zs) ≤ left → p .last ≡ lastLink xs → Holds (p .made) wins (p .links) (p .reals) (put e (xs ++ (u ∷ zs)) live) → Goal (u ∷ zs) r′ end keep′) where
+    module _ (r′ : Visited) (end : End) (keep′ : List Float) (each : (wins : List WindowRecord) (live : ℕ → List Window) (xs zs : List Window) → length (u ∷ zs) ≤ left → p .last ≡ lastLink xs → HoldsWindows (p .made) wins (p .links) (p .reals) (put e (xs ++ (u ∷ zs)) live) → Goal (u ∷ zs) r′ end keep′) where
       pub all-there : VisitsAll cuts windows limit flags e t w (λ zs. length zs ≤ left) keep p r′ end keep′
       all-there wins live xs [] n l h = absurd (no-last i (sym z ∙ follows .first wins (p .reals) (put e (xs ++ []) live) xs [] h (put-here e (xs ++ []) live) l))
       all-there wins live xs (v ∷ zs) n l h =
           let f = first-num i v zs (sym z ∙ follows .first wins (p .reals) (put e (xs ++ (v ∷ zs)) live) xs (v ∷ zs) h (put-here e (xs ++ (v ∷ zs)) live) l) in
           let s = loads .live (p .made) wins (p .links .edges) e (put e (xs ++ (v ∷ zs)) live) xs v zs h (put-here e (xs ++ (v ∷ zs)) live) f .0 in
           subst (λ (y : Window). Goal (y ∷ zs) r′ end keep′) s
-          (each wins live xs zs n l (subst (λ (y : Window). Holds (p .made) wins (p .links) (p .reals) (put e (xs ++ (y ∷ zs)) live)) (sym s) h))
+          (each wins live xs zs n l (subst (λ (y : Window). HoldsWindows (p .made) wins (p .links) (p .reals) (put e (xs ++ (y ∷ zs)) live)) (sym s) h))
 
     first-of : (zs : List Window) → run t w (u ∷ zs) ≡ u ∷ run t w zs
     first-of zs = take-yes (startsBefore (w .b1 ⊕ t)) u zs b
@@ -101,7 +101,7 @@ module _ (cuts windows : ℕ) (limit : Float) (flags : List ℕ) (e : ℕ) (t : 
         (λ wins live xs zs q l h. (ap (λ (ys : List Window). play cuts windows limit flags (visitings e t w ys (from keep (p .made))) (stockOf p)) (first-of zs) ∙ ap (λ (ys : List Action). play cuts windows limit flags ys (stockOf p)) (turn-actions e t w u (run t w zs) keep (p .made)) ∙ play-stop-append cuts windows limit flags (visiting e t w u (from keep (p .made))) (visitings e t w (run t w zs) (from (turned .keep) (turned .made))) (stockOf p) (lackNumber n) d, tt))
 
     -- it goes on from there
-    module _ (p1 : Place) (ran : Ran cuts windows limit flags e (visiting e t w u (from keep (p .made))) (u ∷ []) (turned .survivors) p p1) (isMade : p1 .made ≡ turned .made) (keep1 : List Interval) (isKeep : keep1 ≡ turned .keep)
+    module _ (p1 : Snapshot) (ran : Performed cuts windows limit flags e (visiting e t w u (from keep (p .made))) (u ∷ []) (turned .survivors) p p1) (isMade : p1 .made ≡ turned .made) (keep1 : List Interval) (isKeep : keep1 ≡ turned .keep)
         (left1 : ℕ) (less : left ≡ suc left1) (r′ : Visited) (end : End) (keep′ : List Float) (rest : VisitsAll cuts windows limit flags e t w (λ zs. length zs ≤ left1) keep1 p1 r′ end keep′) where
       restart : (zs : List Window) → Does cuts windows limit flags e (visitings e t w (run t w zs) (from keep1 (p1 .made))) (run t w zs) (walked t w keep1 (p1 .made) zs .survivors) p1 end × Keeps cuts r′ keep′ (walked t w keep1 (p1 .made) zs)
           → Does cuts windows limit flags e (visitings e t w (run t w zs) (from (turned .keep) (turned .made))) (run t w zs) (walked t w (turned .keep) (turned .made) zs .survivors) p1 end × Keeps cuts r′ keep′ (walked t w (turned .keep) (turned .made) zs)

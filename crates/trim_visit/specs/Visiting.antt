@@ -14,8 +14,8 @@ use Rattle.trim_model.specs.Windows.{Window, takeWhile}
 use Rattle.trim_model.specs.Add.{Walk, startsBefore, visit, visits}
 use Rattle.trim_state.specs.State.{put}
 use Rattle.trim_state.specs.Trace.{visiting, visitings}
-use Rattle.live_windows.specs.Live.{Holds, lastLink}
-use Rattle.trim_split.specs.Running.{Place, place, End, stopped, at, Does}
+use Rattle.live_windows.specs.Live.{HoldsWindows, lastLink}
+use Rattle.trim_split.specs.Running.{Snapshot, snapshot, End, stopped, at, Does}
 use Rattle.trim_visit.specs.declared.Visited.{Visited}
 use Rattle.trim_visit.specs.declared.Visited.the-variants.{Stopped, Went}
 
@@ -24,14 +24,14 @@ abbrev pub from : List Interval → ℕ → Walk
 from keep made = record { survivors = []; keep = keep; made = made; slivers = [] }
 
 -- what an answer says, with what the buffers hold then
-abbrev pub endOf : Visited → Links → List Float → Queue → List Float → End
-endOf (Stopped lack) b f q vertex = stopped (lackNumber lack)
-endOf (Went c last k) b f q vertex = at (place (c .made) (c .queued) last b f q vertex)
+abbrev pub visitedEnd : Visited → Links → List Float → Queue → List Float → End
+visitedEnd (Stopped lack) b f q vertex = stopped (lackNumber lack)
+visitedEnd (Went c last k) b f q vertex = at (snapshot (c .made) (c .queued) last b f q vertex)
 
 -- if it was not stopped, the counts are within the buffers, and no window is lost
-abbrev pub Bounded : ℕ → ℕ → ℕ → Visited → Type 0
-Bounded cuts windows made (Stopped n) = Unit {0}
-Bounded cuts windows made (Went c last k) = (c .made ≤ windows) × ((last ≤ c .made) × ((k ≤ cuts) × (made ≤ c .made)))
+abbrev pub VisitedWithin : ℕ → ℕ → ℕ → Visited → Type 0
+VisitedWithin cuts windows made (Stopped n) = Unit {0}
+VisitedWithin cuts windows made (Went c last k) = (c .made ≤ windows) × ((last ≤ c .made) × ((k ≤ cuts) × (made ≤ c .made)))
 
 -- if it was not stopped, the counts and `keep` are those of a walk
 pub record Kept (cuts made k : ℕ) (keep′ : List Float) (s : Walk) : Type 0 where
@@ -53,10 +53,10 @@ walked tiny w keep made zs = visits betterOf tiny w (run tiny w zs) (from keep m
 -- the counts of the cut buffer and the window buffer, the limit, the flags of the vertices, the edge, tiny and the new window
 module _ (cuts windows : ℕ) (limit : Float) (flags : List ℕ) (e : ℕ) (tiny : Float) (w : Window) where
   -- one turn: window u becomes what survives of it
-  abbrev pub Visits1 : List Interval → Window → Place → End → Type 0
+  abbrev pub Visits1 : List Interval → Window → Snapshot → End → Type 0
   Visits1 keep u p = Does cuts windows limit flags e (visiting e tiny w u (from keep (p .made))) (u ∷ []) (visit betterOf tiny w u (from keep (p .made)) .survivors) p
 
   -- all turns, from the link of p on, behind which few windows stand
-  abbrev pub VisitsAll : (List Window → Type 0) → List Interval → Place → Visited → End → List Float → Type 0
-  VisitsAll Few keep p r end keep′ = (wins : List WindowRecord) (live : ℕ → List Window) (xs zs : List Window) → Few zs → p .last ≡ lastLink xs → Holds (p .made) wins (p .links) (p .reals) (put e (xs ++ zs) live)
+  abbrev pub VisitsAll : (List Window → Type 0) → List Interval → Snapshot → Visited → End → List Float → Type 0
+  VisitsAll Few keep p r end keep′ = (wins : List WindowRecord) (live : ℕ → List Window) (xs zs : List Window) → Few zs → p .last ≡ lastLink xs → HoldsWindows (p .made) wins (p .links) (p .reals) (put e (xs ++ zs) live)
       → Does cuts windows limit flags e (visitings e tiny w (run tiny w zs) (from keep (p .made))) (run tiny w zs) (walked tiny w keep (p .made) zs .survivors) p end × Keeps cuts r keep′ (walked tiny w keep (p .made) zs)

@@ -17,8 +17,8 @@ ghost use Rattle.trim_model.specs.Windows.{Window};
 ghost use Rattle.trim_model.specs.Add.{visit as Add·visit};
 ghost use Rattle.live_windows.specs.Live.{liveOf};
 ghost use Rattle.cut_lists.specs.Cut.{Sizes};
-ghost use Rattle.trim_split.specs.Running.{Ready, roomFor, placeBefore, endAfter};
-ghost use Rattle.trim_visit.specs.Visiting.{from, endOf, Keeps, Bounded, Visits1, VisitsAll};
+ghost use Rattle.trim_split.specs.Running.{Ready, roomFor, snapshotBefore, endAfter};
+ghost use Rattle.trim_visit.specs.Visiting.{from, visitedEnd, Keeps, VisitedWithin, Visits1, VisitsAll};
 
 // What there is no slot for; or how many windows and events there are now, the link of the last window that survived, and how many intervals the new
 // window keeps.
@@ -47,11 +47,13 @@ fn visit(
     w: WindowRecord,
     tiny: f64,
 ) -> Visited
-    requires { ⌜ Ready (e .0) (counts .made) before (now edges) (now words) (now reals) × ((id .0 < counts .made) × (Sizes (length (now pts)) (now out) (now keep) (now next) × (k ≤ length (now pts)))) ⌝ }
-    ensures { λ r. ⌜ Keeps (length (given pts)) r (left keep) (Add·visit betterOf tiny (liveOf w 0) (liveOf x (id .0)) (from (pairs k (given keep)) (counts .made))) × ((limit : Float) (flags : List ℕ) (vertex : List Float) →
+    requires { ⌜ Ready (e .0) (counts .made) before (now edges) (now words) (now reals)
+        × ((id .0 < counts .made) × (Sizes (length (now pts)) (now out) (now keep) (now next) × (k ≤ length (now pts)))) ⌝ }
+    ensures { λ r. ⌜ Keeps (length (given pts)) r (left keep) (Add·visit betterOf tiny (liveOf w 0) (liveOf x (id .0)) (from (pairs k (given keep)) (counts .made)))
+        × ((limit : Float) (flags : List ℕ) (vertex : List Float) →
         Visits1 (length (given pts)) (roomFor words reals) limit flags (e .0) tiny (liveOf w 0) (pairs k (given keep)) (liveOf x (id .0))
-        (placeBefore edges words reals keys events (counts .made) (counts .queued) before vertex)
-        (endAfter edges words reals keys events (endOf r) vertex)) ⌝ }
+        (snapshotBefore edges words reals keys events (counts .made) (counts .queued) before vertex)
+        (endAfter edges words reals keys events (visitedEnd r) vertex)) ⌝ }
 {
     let new = w.win;
     let old = x.win;
@@ -108,10 +110,10 @@ pub fn visits(
     tiny: f64,
 ) -> Visited
     requires { ⌜ Ready (e .0) (counts .made) before (now edges) (now words) (now reals) × (Sizes (length (now pts)) (now out) (now keep) (now next) × (k ≤ length (now pts))) ⌝ }
-    ensures { λ r. ⌜ Bounded (length (given pts)) (roomFor words reals) (counts .made) r × ((limit : Float) (flags : List ℕ) (vertex : List Float) →
+    ensures { λ r. ⌜ VisitedWithin (length (given pts)) (roomFor words reals) (counts .made) r × ((limit : Float) (flags : List ℕ) (vertex : List Float) →
         VisitsAll (length (given pts)) (roomFor words reals) limit flags (e .0) tiny (liveOf w 0) (λ zs. length zs ≤ counts .made) (pairs k (given keep))
-        (placeBefore edges words reals keys events (counts .made) (counts .queued) before vertex) r
-        (endAfter edges words reals keys events (endOf r) vertex) (left keep)) ⌝ }
+        (snapshotBefore edges words reals keys events (counts .made) (counts .queued) before vertex) r
+        (endAfter edges words reals keys events (visitedEnd r) vertex) (left keep)) ⌝ }
 {
     let new = w.win;
     let end = new.b1 + tiny;

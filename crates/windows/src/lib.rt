@@ -32,6 +32,7 @@ ghost use lib.ListN.{length};
 ghost use Rattle.layout.specs.Layout.{realsPerWindow, windowS0};
 ghost use Rattle.buffers.specs.Slots.{fill};
 ghost use Rattle.windows.specs.Windows.{isLine, srcOf, realsOf, winAt, windowAt, wordsWith, realsWith, rangeWith, flagsWith, flagsOf, hasFlag, capacityOf};
+ghost use Rattle.buffers.specs.Lent.{given, left};
 
 // What a window only carries along: the face it goes into, and whether it is queued.
 pub struct Carried {
@@ -67,7 +68,7 @@ pub struct WindowRecord {
 
 // How many windows the buffer counts for.
 pub fn capacity(words: &[u32], reals: &[f64]) -> u32
-    ensures { λ r. ⌜ r ≡ capacityOf (length (now (words .entry))) (length (now (reals .entry))) ⌝ }
+    ensures { λ r. ⌜ r ≡ capacityOf (length (given words)) (length (given reals)) ⌝ }
 {
     buffers::count(words.len(), WORDS_PER_WINDOW, reals.len(), REALS_PER_WINDOW)
 }
@@ -127,7 +128,7 @@ fn source_of(line: bool, s0: f64, s1: f64, s2: f64) -> Src
 
 fn load_win(reals: &[f64], id: WindowId, line: bool) -> Win
     requires { ⌜ realsPerWindow * id .0 + realsPerWindow ≤ length (now reals) ⌝ }
-    ensures { λ r. ⌜ r ≡ winAt line (now (reals .entry)) (id .0) ⌝ }
+    ensures { λ r. ⌜ r ≡ winAt line (given reals) (id .0) ⌝ }
 {
     let i = (REALS_PER_WINDOW as usize) * (id.0 as usize);
     let src = source_of(
@@ -147,7 +148,7 @@ fn load_win(reals: &[f64], id: WindowId, line: bool) -> Win
 // A window is read or written only where the buffer counts for it: each of these functions is lent both slices, since both make the count.
 pub fn load(words: &[u32], reals: &[f64], id: WindowId) -> WindowRecord
     requires { ⌜ id .0 < capacityOf (length (now words)) (length (now reals)) ⌝ }
-    ensures { λ r. ⌜ r ≡ windowAt (now (words .entry)) (now (reals .entry)) (id .0) ⌝ }
+    ensures { λ r. ⌜ r ≡ windowAt (given words) (given reals) (id .0) ⌝ }
 {
     let i = (WORDS_PER_WINDOW as usize) * (id.0 as usize);
     let flags = words[i + (WINDOW_FLAGS as usize)];
@@ -166,7 +167,7 @@ pub fn load(words: &[u32], reals: &[f64], id: WindowId) -> WindowRecord
 }
 
 fn store_words(words: &mut [u32], id: WindowId, x: WindowRecord)
-    ensures { λ r. ⌜ now (words .exit) ≡ wordsWith (now (words .entry)) (id .0) x ⌝ }
+    ensures { λ r. ⌜ left words ≡ wordsWith (given words) (id .0) x ⌝ }
 {
     let k = id.0;
     let edge = x.edge;
@@ -183,7 +184,7 @@ fn store_words(words: &mut [u32], id: WindowId, x: WindowRecord)
 }
 
 fn store_three(reals: &mut [f64], id: WindowId, s0: f64, s1: f64, s2: f64)
-    ensures { λ r. ⌜ now (reals .exit) ≡ fill realsPerWindow (now (reals .entry)) (id .0) windowS0 (s0 ∷ s1 ∷ s2 ∷ []) ⌝ }
+    ensures { λ r. ⌜ left reals ≡ fill realsPerWindow (given reals) (id .0) windowS0 (s0 ∷ s1 ∷ s2 ∷ []) ⌝ }
 {
     let k = id.0;
     write_f64(reals, REALS_PER_WINDOW, k, WINDOW_S0, s0);
@@ -192,7 +193,7 @@ fn store_three(reals: &mut [f64], id: WindowId, s0: f64, s1: f64, s2: f64)
 }
 
 fn store_src(reals: &mut [f64], id: WindowId, src: Src)
-    ensures { λ r. ⌜ now (reals .exit) ≡ fill realsPerWindow (now (reals .entry)) (id .0) windowS0 (realsOf src) ⌝ }
+    ensures { λ r. ⌜ left reals ≡ fill realsPerWindow (given reals) (id .0) windowS0 (realsOf src) ⌝ }
 {
     match src {
         Src::Point { x, y, s } => store_three(reals, id, x, y, s),
@@ -201,7 +202,7 @@ fn store_src(reals: &mut [f64], id: WindowId, src: Src)
 }
 
 fn store_reals(reals: &mut [f64], id: WindowId, x: Win)
-    ensures { λ r. ⌜ now (reals .exit) ≡ realsWith (now (reals .entry)) (id .0) x ⌝ }
+    ensures { λ r. ⌜ left reals ≡ realsWith (given reals) (id .0) x ⌝ }
 {
     let k = id.0;
     let src = x.src;
@@ -213,7 +214,7 @@ fn store_reals(reals: &mut [f64], id: WindowId, x: Win)
 
 pub fn store(words: &mut [u32], reals: &mut [f64], id: WindowId, x: WindowRecord)
     requires { ⌜ id .0 < capacityOf (length (now words)) (length (now reals)) ⌝ }
-    ensures { λ r. ⌜ (now (words .exit) ≡ wordsWith (now (words .entry)) (id .0) x) × (now (reals .exit) ≡ realsWith (now (reals .entry)) (id .0) (x .win)) ⌝ }
+    ensures { λ r. ⌜ (left words ≡ wordsWith (given words) (id .0) x) × (left reals ≡ realsWith (given reals) (id .0) (x .win)) ⌝ }
 {
     let win = x.win;
     store_words(words, id, x);
@@ -223,7 +224,7 @@ pub fn store(words: &mut [u32], reals: &mut [f64], id: WindowId, x: WindowRecord
 // A window is trimmed: its ends and its least value change, and nothing else.
 pub fn store_range(words: &[u32], reals: &mut [f64], id: WindowId, b0: f64, b1: f64, low: f64)
     requires { ⌜ id .0 < capacityOf (length (now words)) (length (now reals)) ⌝ }
-    ensures { λ r. ⌜ now (reals .exit) ≡ rangeWith (now (reals .entry)) (id .0) b0 b1 low ⌝ }
+    ensures { λ r. ⌜ left reals ≡ rangeWith (given reals) (id .0) b0 b1 low ⌝ }
 {
     let k = id.0;
     write_f64(reals, REALS_PER_WINDOW, k, WINDOW_B0, b0);
@@ -233,7 +234,7 @@ pub fn store_range(words: &[u32], reals: &mut [f64], id: WindowId, b0: f64, b1: 
 
 // A window's flags change, and nothing else.
 pub fn store_flags(words: &mut [u32], id: WindowId, alive: bool, queued: bool)
-    ensures { λ r. ⌜ now (words .exit) ≡ flagsWith (now (words .entry)) (id .0) alive queued ⌝ }
+    ensures { λ r. ⌜ left words ≡ flagsWith (given words) (id .0) alive queued ⌝ }
 {
     let old = read_u32(words, WORDS_PER_WINDOW, id.0, WINDOW_FLAGS);
     let line = has_flag(old, LINE_FLAG);

@@ -1,7 +1,7 @@
 -- `better_vectors::capacity` meets its contract. Assumes nothing.
 use native.Mathlib.Omega.{arith}
 use borrow.Author.Needs.{needs}
-use Rattle.better_vectors.specs.Replay.{capacityOf}
+use Rattle.better_vectors.specs.Replay.{slotCountOf}
 use Rattle.better_vectors.proofs.capacity.Statement.{statement}
 use Rattle.better_vectors.proofs.capacity.Tie as tie
 
@@ -12,7 +12,7 @@ word-from-requires : tie.Need-word-from-requires
 word-from-requires c κs = search needs
 
 returns : tie.Need-returns
-unfolding capacityOf
+unfolding slotCountOf
 returns c = (rw (c .word-from .ensures), omega arith)
 
 pub capacity-spec : {M : Type 1} → statement M

@@ -3,7 +3,7 @@ use mathlib.Core.Path.{_≡_, refl, sym, _∙_}
 use Prim.Native.Nat.{_+_, _-_}
 use lib.ListN.{length, length-set}
 use native.Mathlib.Omega.{arith}
-use Rattle.float64.specs.Scalar.{zero as zero64}
+use Rattle.float64.specs.Scalar.{zero64}
 use Rattle.buffers.specs.Zero.{zeroFrom}
 use Rattle.buffers.proofs.Zeroing.{zero-more, zero-end}
 use Rattle.buffers.proofs.zero_f64_from.Statement.{statement}

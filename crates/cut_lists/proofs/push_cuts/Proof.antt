@@ -7,13 +7,13 @@ use borrow.Author.Needs.{needs}
 use lib.ListN.{length, drop}
 use Rattle.better.specs.Stretches.{Interval}
 use Rattle.better.specs.Buffers.{pairs}
-use Rattle.trim_model.specs.Intervals.{cuts}
+use Rattle.trim_model.specs.Intervals.{cutsWithin}
 use Rattle.cut_lists.proofs.Pushes.{cuts-turn, cuts-full, cuts-done}
 use Rattle.cut_lists.proofs.push_cuts.Statement.{statement}
 use Rattle.cut_lists.proofs.push_cuts.Tie as tie
 
 abbrev Inv-loop : tie.InvT-loop
-Inv-loop better m o0 o1 out₀ n k₀ i₀ out k i = (i ≤ m) × (k + k ≤ length out) × (length out ≡ length out₀) × (pairs n out₀ ++ cuts o0 o1 (pairs m better) ≡ pairs k out ++ cuts o0 o1 (drop i (pairs m better)))
+Inv-loop better m o0 o1 out₀ n k₀ i₀ out k i = (i ≤ m) × (k + k ≤ length out) × (length out ≡ length out₀) × (pairs n out₀ ++ cutsWithin o0 o1 (pairs m better) ≡ pairs k out ++ cutsWithin o0 o1 (drop i (pairs m better)))
 
 abbrev μ-loop : tie.MeasureT-loop
 μ-loop better m o0 o1 out₀ n k₀ i₀ out k i = m - i
@@ -79,7 +79,7 @@ loop-again c =
       f .push-if .kept .1 .0 ∙ i .loop .inv .2,
       i .loop .inv .3
           ∙ cuts-turn (a .better .now) (a .m) (i .loop .i) gs (a .o0) (a .o1) (w .loop-test .taken)
-          ∙ ap (λ (hs : List Interval). hs ++ cuts (a .o0) (a .o1) (drop (i .loop .i + 1) (pairs (a .m) (a .better .now)))) (sym (h .1)),
+          ∙ ap (λ (hs : List Interval). hs ++ cutsWithin (a .o0) (a .o1) (drop (i .loop .i + 1) (pairs (a .m) (a .better .now)))) (sym (h .1)),
     )
 
 same-length-2 : tie.Need-same-length-2 Inv-loop μ-loop

@@ -4,7 +4,7 @@ use mathlib.Core.Bool.{false, not, _||_}
 use mathlib.Core.Logic.{⊎-elim}
 use borrow.Author.Needs.{needs}
 use lib.Ieee.{eq}
-use Rattle.float64.specs.Scalar.{zero, maxOf, absOf, isFinite}
+use Rattle.float64.specs.Scalar.{zero64, maxOf, absOf, isFinite}
 use Rattle.source.specs.Quadratic.{rootsOf}
 use Rattle.source.proofs.roots.Statement.{statement}
 use Rattle.source.proofs.roots.Tie as tie
@@ -13,7 +13,7 @@ use Rattle.source.proofs.roots.Tie as tie
 largest : (c : tie.After-max2) → maxOf (maxOf (absOf (c .before .before .before .before .before .args .a)) (absOf (c .before .before .before .before .before .args .b))) (absOf (c .before .before .before .before .before .args .c)) ≡ c .max2 .result
 largest c = rw (c .max2 .ensures, c .before .abs3 .ensures, c .before .before .max .ensures, c .before .before .before .abs2 .ensures, c .before .before .before .before .abs .ensures)
 
-counts : (c : tie.Else2) → (eq (c .before .before .before .max2 .result) zero || not (isFinite (c .before .before .before .max2 .result))) ≡ false
+counts : (c : tie.Else2) → (eq (c .before .before .before .max2 .result) zero64 || not (isFinite (c .before .before .before .max2 .result))) ≡ false
 counts c = rw (c .before .before .if1 .left, ← c .before .is-finite .ensures) (c .if2 .left)
 
 abs-requires : tie.Need-abs-requires

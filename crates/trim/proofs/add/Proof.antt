@@ -3,7 +3,7 @@ use mathlib.Core.Path.{refl}
 use lib.ListN.{length}
 use Rattle.buffers.specs.Lack.{lackNumber}
 use Rattle.trim_split.specs.Running.{stopped, at}
-use Rattle.trim_split.proofs.Loops.{slices, windowsOf, placeOf}
+use Rattle.trim_split.proofs.Loops.{slices, windowsOf, snapshotOf}
 use Rattle.cut_lists.specs.Buffers.{cutBuffers}
 use Rattle.trim.specs.Buffers.{slices as Buffers·slices}
 use Rattle.trim.proofs.Calls.{add-narrow, add-far, add-admitted, add-not-skipped, add-went, unchanged}
@@ -17,7 +17,7 @@ returns c =
     let a = start .args in
     let s = (slices (a .edges .now) (a .words .now) (a .reals .now) (a .keys .now) (a .events .now)) in
     let size = length (a .pts .now) in
-    let p = placeOf s (a .counts .made) (a .counts .queued) 0 (a .vertex .now) in
+    let p = snapshotOf s (a .counts .made) (a .counts .queued) 0 (a .vertex .now) in
     record {
       bounded = start .pre .0 .fits;
       adds = add-narrow size (windowsOf s) (a .limit) (a .vertex-words .now) (a .e) (a .w) p (c .if1 .taken);
@@ -37,7 +37,7 @@ returns-2 c =
     let a = start .args in
     let s = (slices (a .edges .now) (a .words .now) (a .reals .now) (a .keys .now) (a .events .now)) in
     let size = length (a .pts .now) in
-    let p = placeOf s (a .counts .made) (a .counts .queued) 0 (a .vertex .now) in
+    let p = snapshotOf s (a .counts .made) (a .counts .queued) 0 (a .vertex .now) in
     record {
       bounded = start .pre .0 .fits;
       adds = add-far size (windowsOf s) (a .limit) (a .vertex-words .now) (a .e) (a .w) p (lowest .result) (lowest .ensures) (at-if1 .if1 .left)
@@ -100,7 +100,7 @@ returns-3 c =
     let a = start .args in
     let s = (slices (a .edges .now) (a .words .now) (a .reals .now) (a .keys .now) (a .events .now)) in
     let size = length (a .pts .now) in
-    let p = placeOf s (a .counts .made) (a .counts .queued) 0 (a .vertex .now) in
+    let p = snapshotOf s (a .counts .made) (a .counts .queued) 0 (a .vertex .now) in
     let done = rw (admitted .given .1) at (at-admit .admit .ensures .1) in
     record {
       bounded = tt;
@@ -156,7 +156,7 @@ returns-4 c =
     let a = start .args in
     let s = (slices (a .edges .now) (a .words .now) (a .reals .now) (a .keys .now) (a .events .now)) in
     let size = length (a .pts .now) in
-    let p = placeOf s (a .counts .made) (a .counts .queued) 0 (a .vertex .now) in
+    let p = snapshotOf s (a .counts .made) (a .counts .queued) 0 (a .vertex .now) in
     let s′ = (slices (admit .last .0) (admit .last .1 .0) (admit .last .1 .1 .0) (admit .last .1 .1 .1 .0) (admit .last .1 .1 .1 .1 .0)) in
     let n = admitted2 .given .0 .0 in
     let last = admitted2 .given .0 .1 .0 in
@@ -166,7 +166,7 @@ returns-4 c =
       bounded = (rw (admitted2 .given .1) at (admit .ensures .0)) .0;
       adds = add-went size (windowsOf s) (a .limit) (a .vertex-words .now) (a .e) (a .w) p (n .made) (n .queued) last
           s′ vertex (add-admitted size (windowsOf s) (a .limit) (a .vertex-words .now) (a .e) (a .w) p (lowest .result) (lowest .ensures) (if1 .left) (if2 .left)
-          (at (placeOf s′ (n .made) (n .queued) last vertex)) (done (lowest .ensures) refl));
+          (at (snapshotOf s′ (n .made) (n .queued) last vertex)) (done (lowest .ensures) refl));
       skips = add-not-skipped size (windowsOf s) (a .limit) (a .vertex-words .now) (a .e) (a .w) p
           (lowest .result) (lowest .ensures) (if1 .left) (if2 .left) _ _ _ _ _ _;
     }

@@ -3,7 +3,7 @@ use mathlib.Core.Path.{_∙_}
 use lib.ListN.{length}
 use Rattle.heap.specs.Queue.{queue}
 use Rattle.chains.specs.Chains.{links}
-use Rattle.trim_split.specs.Running.{endOf}
+use Rattle.trim_split.specs.Running.{madeEnd}
 use Rattle.trim_split.proofs.Loops.{slices}
 use Rattle.trim.proofs.Calls.{admit-full, admit-stopped, admit-seated, seat-ready, kept-fit, bounded-in}
 use borrow.Author.Needs.{needs}
@@ -189,7 +189,7 @@ returns-3 c =
             reals = visits .kept .1 .1 .0;
             keys = visits .kept .1 .1 .1 .0;
             events = visits .kept .1 .1 .1 .1 .0;
-          }) (rw (visited2 .given .1) at (visits .ensures .1)) (endOf (keep-parts .result) (links (keep-parts .last .0) (keep-parts .last .1 .0)) (keep-parts .last .1 .1 .0)
+          }) (rw (visited2 .given .1) at (visits .ensures .1)) (madeEnd (keep-parts .result) (links (keep-parts .last .0) (keep-parts .last .1 .0)) (keep-parts .last .1 .1 .0)
           (queue (keep-parts .last .1 .1 .1 .0) (keep-parts .last .1 .1 .1 .1 .0)) (keep-parts .last .1 .1 .1 .1 .1 .0)) (keep-parts .ensures .1),
     )
 

@@ -1,5 +1,5 @@
 -- `trim_keep::touch_reached` meets its contract. Assumes nothing.
-use Rattle.float64.specs.Scalar.{zero}
+use Rattle.float64.specs.Scalar.{zero64}
 use Rattle.source.specs.Distance.{evalOf}
 use Rattle.heap.specs.Queue.{queue}
 use Rattle.actions.specs.Actions.{stock}
@@ -30,14 +30,14 @@ returns c = λ cuts windows made.
     let reached = value .before in
     let a = reached .before .before .before .before .before .args in
     let t = touched .touch in
-    touched-yes cuts windows (a .limit) (a .vertex-words .now) (a .reached) (reached .if1 .taken) (a .v .0) (evalOf (a .win) (a .x) zero)
+    touched-yes cuts windows (a .limit) (a .vertex-words .now) (a .reached) (reached .if1 .taken) (a .v .0) (evalOf (a .win) (a .x) zero64)
     (stock made (a .n) (queue (a .keys .now) (a .events .now)) (a .vertex .now)) made (t .last .0) (t .result, queue (t .last .1 .1 .0) (t .last .1 .1 .1 .0))
     (rw (value .eval .ensures) at (t .ensures cuts windows made))
 
 returns-2 : tie.Need-returns-2
 returns-2 c = λ cuts windows made.
     let a = c .before .before .before .before .before .args in
-    touched-no cuts windows (a .limit) (a .vertex-words .now) (a .reached) (c .if1 .left) (a .v .0) (evalOf (a .win) (a .x) zero) made (a .n) (queue (a .keys .now) (a .events .now)) (a .vertex .now)
+    touched-no cuts windows (a .limit) (a .vertex-words .now) (a .reached) (c .if1 .left) (a .v .0) (evalOf (a .win) (a .x) zero64) made (a .n) (queue (a .keys .now) (a .events .now)) (a .vertex .now)
 
 pub touch-reached-spec : {M : Type 1} → statement M
 touch-reached-spec =

@@ -11,7 +11,7 @@ use Rattle.better.proofs.Pairs.{pairs-length}
 use Rattle.chains.specs.Chains.{links}
 use Rattle.heap.specs.Queue.{queue}
 use Rattle.cut_lists.proofs.Entries.{pairs-from}
-use Rattle.trim_split.specs.Running.{endOf}
+use Rattle.trim_split.specs.Running.{madeEnd}
 use Rattle.trim_split.proofs.Loops.{slices, counted-as, but-first, none-of, split-killed, trimmed-ready, split-made, here-is}
 use borrow.Author.Needs.{needs}
 use Rattle.trim_split.proofs.split_window.Statement.{statement}
@@ -118,7 +118,7 @@ returns-2 c =
           (from-of .result) (to-of .result) (trimmed .result .low) (ap (λ (w : Win). w .low) (trimmed .ensures)) (trim-window .last .1 .0) (trim-window .ensures) (trim-window .kept .1 .0)
           (here-is (pairs (a .n) (a .pieces .now)) (drop 1 (pairs (a .n) (a .pieces .now))) (from-of .result) (to-of .result) (getD (a .pieces .now) 0 nan) (getD (a .pieces .now) 1 nan)
           (pairs-from (a .pieces .now) (a .n) 0 (omega (arith, at-if1 .if1 .left))) (from-of .ensures) (to-of .ensures)) (a .id .0 + 1) (add-one (a .id .0))
-          (endOf r (links (make-parts .last .0) (make-parts .last .1 .0)) (make-parts .last .1 .1 .0) (queue (make-parts .last .1 .1 .1 .0) (make-parts .last .1 .1 .1 .1 .0)))
+          (madeEnd r (links (make-parts .last .0) (make-parts .last .1 .0)) (make-parts .last .1 .1 .0) (queue (make-parts .last .1 .1 .1 .0) (make-parts .last .1 .1 .1 .1 .0)))
           (make-parts .ensures .1),
     )
 

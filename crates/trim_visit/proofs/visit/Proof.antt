@@ -7,7 +7,7 @@ use native.Mathlib.Numerals.{add-one}
 use lib.Ieee.{Float, nan}
 use Rattle.buffers.specs.Lack.{lackNumber}
 use Rattle.trim_split.specs.Running.{stopped, at}
-use Rattle.trim_split.proofs.Loops.{slices, placeOf}
+use Rattle.trim_split.proofs.Loops.{slices, snapshotOf}
 use Rattle.cut_lists.specs.Buffers.{cutBuffers}
 use Rattle.trim_visit.proofs.Meeting.{visit-passes, keeps-passes, visit-full, visit-none, keeps-none, pieces-fit, visit-split, keeps-split}
 use borrow.Author.Needs.{needs}
@@ -263,7 +263,7 @@ returns-5 c =
           (a .id .0) (a .counts .made) (a .counts .queued) (a .before) (a .k) the-slices the-cuts (start .pre .0 .fits) (start .pre .1 .0) (max .result) (min .result) (max .ensures)
           (min .ensures) (if1 .left) (met .given .0 .0) (met .given .0 .1 .0) (met .given .0 .1 .1 .0) (cut .last .1 .1 .1 .1 .1 .1 .1 .1 .1 .0) the-cut (rw (met .given .1) at (cut .ensures))
           (if2 .left) (λ (vertex : List Float). at
-          (placeOf (slices (split-window .last .0) (split-window .last .1 .0) (split-window .last .1 .1 .0) (split-window .last .1 .1 .1 .0) (split-window .last .1 .1 .1 .1 .0))
+          (snapshotOf (slices (split-window .last .0) (split-window .last .1 .0) (split-window .last .1 .1 .0) (split-window .last .1 .1 .1 .0) (split-window .last .1 .1 .1 .1 .0))
           (left2 .given .0 .0 .made) (left2 .given .0 .0 .queued) (left2 .given .0 .1 .0) vertex)) (rw (left2 .given .1) at (split-window .ensures .1)),
     )
 

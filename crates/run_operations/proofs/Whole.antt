@@ -1,0 +1,196 @@
+-- Whole slices as they are lent: their counts, the parts that are used, and zeros. Assumes nothing.
+use Prim.Native.Nat.{ℕ, zero, suc, _+_, _*_, _-_, _≤_, _<_, min}
+use native.Mathlib.Omega.{arith}
+use mathlib.Core.List.{List, [], _∷_}
+use mathlib.Core.Path.{_≡_, refl, sym, ap, subst, _∙_}
+use lib.ListN.{length, getD, take, drop, replicate, length-replicate}
+use lib.Seq.{length-take-le}
+use lib.Ieee.{Float}
+use Rattle.layout.specs.Layout.{realsPerVertex, wordsPerEdge, edgeHead, wordsPerWindow, realsPerWindow, wordsPerEnds, realsPerLen}
+use Rattle.float64.specs.Scalar.{zero64}
+use Rattle.windows.specs.Windows.{capacityOf}
+use Rattle.buffers.specs.Slots.{slotsOf}
+use Rattle.buffers.proofs.Zeroing.{zero-at}
+use Rattle.chains.specs.Chains.{headOf}
+use Rattle.trim_split.specs.Running.{Snapshot}
+use Rattle.contents.specs.Contents.{headsIn, wordsOf, realsOfAll, forgotten}
+use Rattle.contents.proofs.Held.{words-are, reals-are-all}
+use Rattle.contents.proofs.Forgotten.{heads-only}
+use Rattle.run_operations.specs.declared.Ran.{Ran}
+use Rattle.run_operations.specs.declared.Ran.the-variants.{Done, Ended}
+use Rattle.run_operations.specs.Lists.{meshOf, Setting, settingOf, ReadyToRun, Finishes, Ends, Runs, snapshotIn, edgeCount, operationCount, cutCount, lentSetting, cleared, ZeroSlices, ZeroCuts, RunWhole}
+use Rattle.trim.specs.Buffers.{Slices, slices}
+use Rattle.cut_lists.specs.Buffers.{Cuts, cutBuffers}
+use Rattle.run_operations.proofs.Loop.{SameLengths, SameCuts}
+
+-- ---- counts
+pub least-left : (x y a b : ℕ) → a ≡ x → b ≡ y → a ≤ b → a ≡ min x y
+least-left x y a b h k l = omega (arith, h, k, l)
+
+pub least-right : (x y a b : ℕ) → a ≡ x → b ≡ y → b < a → b ≡ min x y
+least-right x y a b h k l = omega (arith, h, k, l)
+
+-- the least of four is no more than each
+least-first : (a b c d x : ℕ) → x ≡ min (min a b) (min c d) → x ≤ a
+least-first a b c d x h = omega (arith, h)
+
+least-second : (a b c d x : ℕ) → x ≡ min (min a b) (min c d) → x ≤ b
+least-second a b c d x h = omega (arith, h)
+
+least-third : (a b c d x : ℕ) → x ≡ min (min a b) (min c d) → x ≤ c
+least-third a b c d x h = omega (arith, h)
+
+least-fourth : (a b c d x : ℕ) → x ≡ min (min a b) (min c d) → x ≤ d
+least-fourth a b c d x h = omega (arith, h)
+
+least-last : (a b x : ℕ) → x ≡ min a b → x ≤ b
+least-last a b x h = omega (arith, h)
+
+pub edges-same : (ends : List ℕ) (lens : List Float) (edges zeroed : List ℕ) (m : ℕ) → length zeroed ≡ length edges → m ≡ edgeCount ends lens edges → m ≡ edgeCount ends lens zeroed
+edges-same ends lens edges zeroed m h k = rw h k
+
+one-slot : (x n : ℕ) → x ≤ slotsOf n 1 → x ≤ n
+one-slot x n h = omega (arith, h)
+
+two-slots : (x n : ℕ) → x ≤ slotsOf n 2 → 2 * x ≤ n
+two-slots x n h = omega (arith, h)
+
+pub pts-fit : (c : Cuts) (x : ℕ) → x ≡ cutCount c → x ≤ length (c .pts)
+pts-fit c x h = one-slot x (length (c .pts)) (least-first (slotsOf (length (c .pts)) 1) (slotsOf (length (c .out)) 2) (slotsOf (length (c .keep)) 2) (slotsOf (length (c .next)) 2) x h)
+
+pub out-fit : (c : Cuts) (x : ℕ) → x ≡ cutCount c → 2 * x ≤ length (c .out)
+out-fit c x h = two-slots x (length (c .out)) (least-second (slotsOf (length (c .pts)) 1) (slotsOf (length (c .out)) 2) (slotsOf (length (c .keep)) 2) (slotsOf (length (c .next)) 2) x h)
+
+pub keep-fit : (c : Cuts) (x : ℕ) → x ≡ cutCount c → 2 * x ≤ length (c .keep)
+keep-fit c x h = two-slots x (length (c .keep)) (least-third (slotsOf (length (c .pts)) 1) (slotsOf (length (c .out)) 2) (slotsOf (length (c .keep)) 2) (slotsOf (length (c .next)) 2) x h)
+
+pub next-fit : (c : Cuts) (x : ℕ) → x ≡ cutCount c → 2 * x ≤ length (c .next)
+next-fit c x h = two-slots x (length (c .next)) (least-fourth (slotsOf (length (c .pts)) 1) (slotsOf (length (c .out)) 2) (slotsOf (length (c .keep)) 2) (slotsOf (length (c .next)) 2) x h)
+
+-- ---- the parts of the cut buffers that are used
+abbrev pub parts : ℕ → Cuts → Cuts
+parts x c = cutBuffers (take x (c .pts)) (take (2 * x) (c .out)) (take (2 * x) (c .keep)) (take (2 * x) (c .next))
+
+twice : (x a b : ℕ) → a ≡ 2 * x → b ≡ x → a ≡ b + b
+twice x a b h k = omega (arith, h, k)
+
+module _ (ends : List ℕ) (lens : List Float) (b : Slices) (c : Cuts) (m x : ℕ) (isEdges : m ≡ edgeCount ends lens (b .edges)) (isCuts : x ≡ cutCount c) where
+  pts-length : length (take x (c .pts)) ≡ x
+  pts-length = length-take-le x (c .pts) (pts-fit c x isCuts)
+
+  pub parts-ready : ReadyToRun m 0 b (parts x c)
+  parts-ready = record {
+    fits = omega arith;
+    edges = least-last (min (slotsOf (length ends) wordsPerEnds) (slotsOf (length lens) realsPerLen)) (slotsOf (length (b .edges)) wordsPerEdge) m isEdges;
+    outs = twice x _ _ (length-take-le (2 * x) (c .out) (out-fit c x isCuts)) pts-length;
+    keeps = twice x _ _ (length-take-le (2 * x) (c .keep) (keep-fit c x isCuts)) pts-length;
+    nexts = twice x _ _ (length-take-le (2 * x) (c .next) (next-fit c x isCuts)) pts-length;
+  }
+
+  module _ (limit : Float) (flags : List ℕ) where
+    abbrev settingAt : ℕ → ℕ → Setting
+    settingAt k e = record { cuts = k; windows = capacityOf (length (b .words)) (length (b .reals)); limit = limit; flags = flags; mesh = meshOf ends lens; edges = e; vertices = slotsOf (length (b .vertex)) realsPerVertex }
+
+    same-setting : settingOf (parts x c) b limit flags ends lens m ≡ lentSetting c b limit flags ends lens
+    same-setting = let p : length (take x (c .pts)) ≡ cutCount c = pts-length ∙ isCuts in λ t. settingAt (p t) (isEdges t)
+
+    pub parts-run : (ops : List ℕ) (args : List Float) (n : ℕ) → n ≡ operationCount ops args → (p : Snapshot) (r : Ran) (b′ : Slices) → Runs (settingOf (parts x c) b limit flags ends lens m) ops args n p r b′
+        → Runs (lentSetting c b limit flags ends lens) ops args (operationCount ops args) p r b′
+    parts-run ops args n isCount p r b′ k =
+        subst (λ (j : ℕ). Runs (lentSetting c b limit flags ends lens) ops args j p r b′) isCount
+        (subst (λ (g : Setting). Runs g ops args n p r b′) same-setting k)
+
+-- ---- zeros
+pub heads-zero : (edges : List ℕ) → edges ≡ replicate (length edges) 0 → (e : ℕ) → headOf edges e ≡ 0
+heads-zero edges h e = ap (λ (l : List ℕ). headOf l e) h ∙ zero-at 0 (length edges) (wordsPerEdge * e + edgeHead)
+
+pub zeroed-cuts : (c c₁ c′ : Cuts) → SameCuts c₁ c → ZeroCuts c₁ c′ → ZeroCuts c c′
+zeroed-cuts c c₁ c′ s z = record {
+  pts = z .pts ∙ ap (λ (n : ℕ). replicate n zero64) (s .pts);
+  out = z .out ∙ ap (λ (n : ℕ). replicate n zero64) (s .out);
+  keep = z .keep ∙ ap (λ (n : ℕ). replicate n zero64) (s .keep);
+  next = z .next ∙ ap (λ (n : ℕ). replicate n zero64) (s .next);
+}
+
+pub zeroed-slices : (b b₁ b′ : Slices) → SameLengths b₁ b → ZeroSlices b₁ b′ → ZeroSlices b b′
+zeroed-slices b b₁ b′ s z = record {
+  edges = z .edges ∙ ap (λ (n : ℕ). replicate n 0) (s .edges);
+  words = z .words ∙ ap (λ (n : ℕ). replicate n 0) (s .words);
+  reals = z .reals ∙ ap (λ (n : ℕ). replicate n zero64) (s .reals);
+  keys = z .keys ∙ ap (λ (n : ℕ). replicate n zero64) (s .keys);
+  events = z .events ∙ ap (λ (n : ℕ). replicate n 0) (s .events);
+  vertex = z .vertex ∙ ap (λ (n : ℕ). replicate n zero64) (s .vertex);
+}
+
+pub zeros-stay : (edges zeroed : List ℕ) → zeroed ≡ replicate (length edges) 0 → zeroed ≡ replicate (length zeroed) 0
+zeros-stay edges zeroed h = h ∙ ap (λ (n : ℕ). replicate n 0) (sym (ap (λ (l : List ℕ). length l) h ∙ length-replicate (length edges) 0))
+
+-- zeros from an element on
+drop-zeros : {A : Type 0} (z : A) (n m : ℕ) → drop n (replicate m z) ≡ replicate (m - n) z
+drop-zeros z zero m = let e : m ≡ m - zero = omega arith in ap (λ (k : ℕ). replicate k z) e
+drop-zeros z (suc n) zero = let e : zero ≡ zero - suc n = omega arith in ap (λ (k : ℕ). replicate k z) e
+drop-zeros z (suc n) (suc m) = let e : m - n ≡ suc m - suc n = omega arith in drop-zeros z n m ∙ ap (λ (k : ℕ). replicate k z) e
+
+-- windows that fit have their slots
+counted : (made m n : ℕ) → made ≤ capacityOf m n → (wordsPerWindow * made ≤ m) × (realsPerWindow * made ≤ n)
+counted made m n h = (omega (arith, h), omega (arith, h))
+
+-- ---- the whole: edges and windows are zeroed, the run leaves b₂ and c₁, and the cut buffers are zeroed to c′
+module _ (limit : Float) (flags ends : List ℕ) (lens : List Float) (ops : List ℕ) (args : List Float) (b : Slices) (c : Cuts) where
+  abbrev settingFor : ℕ → ℕ → ℕ → Setting
+  settingFor edges words reals = record { cuts = cutCount c; windows = capacityOf words reals; limit = limit; flags = flags; mesh = meshOf ends lens; edges = min (min (slotsOf (length ends) wordsPerEnds) (slotsOf (length lens) realsPerLen)) (slotsOf edges wordsPerEdge); vertices = slotsOf (length (b .vertex)) realsPerVertex }
+
+  same-lent : lentSetting c (cleared b) limit flags ends lens ≡ lentSetting c b limit flags ends lens
+  same-lent = λ t. settingFor (length-replicate {A = ℕ} (length (b .edges)) 0 t) (length-replicate {A = ℕ} (length (b .words)) 0 t) (length-replicate (length (b .reals)) zero64 t)
+
+  abbrev WholeRuns : Setting → Slices → Ran → Slices → Type 0
+  WholeRuns g b₁ r b₂ = Runs g ops args (operationCount ops args) (snapshotIn 0 0 b₁) r b₂
+
+  abbrev with : List ℕ → List ℕ → List Float → Slices
+  with edges words reals = slices edges words reals (b .keys) (b .events) (b .vertex)
+
+  module _ (edges words : List ℕ) (reals : List Float) (isEdges : edges ≡ replicate (length (b .edges)) 0) (isWords : words ≡ replicate (length (b .words)) 0) (isReals : reals ≡ replicate (length (b .reals)) zero64)
+      (r : Ran) (b₂ : Slices) (runs : WholeRuns (lentSetting c (with edges words reals) limit flags ends lens) (with edges words reals) r b₂)
+      (c₁ c′ : Cuts) (same : SameCuts c₁ c) (zeros : ZeroCuts c₁ c′) where
+    whole-runs : WholeRuns (lentSetting c b limit flags ends lens) (cleared b) r b₂
+    whole-runs =
+        subst (λ (g : Setting). WholeRuns g (cleared b) r b₂) same-lent
+        (subst (λ (z : Slices). WholeRuns (lentSetting c z limit flags ends lens) z r b₂) (λ t. with (isEdges t) (isWords t) (isReals t)) runs)
+
+    -- the slices keep their lengths, and the edges forget their links
+    pub whole-done : (made queued : ℕ) → r ≡ Done made queued → SameLengths b₂ b → (edges′ : List ℕ) → edges′ ≡ forgotten (slotsOf (length (b₂ .edges)) wordsPerEdge) (b₂ .edges)
+        → RunWhole limit flags ends lens ops args b c (Done made queued) (slices edges′ (b₂ .words) (b₂ .reals) (b₂ .keys) (b₂ .events) (b₂ .vertex)) c′
+    whole-done made queued h s edges′ forget =
+        let F : Finishes (lentSetting c b limit flags ends lens) ops args (operationCount ops args) (snapshotIn 0 0 (cleared b)) made queued b₂ = subst (λ (z : Ran). WholeRuns (lentSetting c b limit flags ends lens) (cleared b) z b₂) h whole-runs in
+        let m = edgeCount ends lens (b .edges) in
+        let H = F .stands .holds in
+        let room = counted made (length (b₂ .words)) (length (b₂ .reals)) (rw (s .words, s .reals) (F .fits)) in
+        let wins = F .state .wins in
+        let live = F .state .live in
+        record {
+          whole = record {
+            state = F .state;
+            is = F .is;
+            demand3 = F .demand3;
+            edges = forget ∙ heads-only m (slotsOf (length (b₂ .edges)) wordsPerEdge) made wins (b₂ .edges) (b₂ .words) (b₂ .reals) live H
+                (rw (s .edges) (least-last (min (slotsOf (length ends) wordsPerEnds) (slotsOf (length lens) realsPerLen)) (slotsOf (length (b .edges)) wordsPerEdge) m refl))
+                (λ p q. F .untouched .edges p q ∙ zero-at 0 (length (b .edges)) p)
+                ∙ ap (headsIn live) (s .edges);
+            words = words-are made wins (b₂ .edges) (b₂ .words) (b₂ .reals) live H (room .0) (room .1)
+                (F .untouched .words ∙ drop-zeros 0 (wordsPerWindow * made) (length (b .words)) ∙ ap (λ (n : ℕ). replicate (n - wordsPerWindow * made) 0) (sym (s .words)))
+                ∙ ap (λ (n : ℕ). wordsOf n wins live) (s .words);
+            reals = reals-are-all made wins (b₂ .edges) (b₂ .words) (b₂ .reals) live H (room .0) (room .1)
+                (F .untouched .reals ∙ drop-zeros zero64 (realsPerWindow * made) (length (b .reals)) ∙ ap (λ (n : ℕ). replicate (n - realsPerWindow * made) zero64) (sym (s .reals)))
+                ∙ ap (λ (n : ℕ). realsOfAll n wins) (s .reals);
+            rest = F .stands .stock;
+          };
+          cuts = zeroed-cuts c c₁ c′ same zeros;
+        }
+
+    pub whole-ended : (k number : ℕ) → r ≡ Ended k number → (b′ : Slices) → SameLengths b₂ b → ZeroSlices b₂ b′ → RunWhole limit flags ends lens ops args b c (Ended k number) b′ c′
+    whole-ended k number h b′ s z =
+        let E : Ends (lentSetting c b limit flags ends lens) ops args (operationCount ops args) (snapshotIn 0 0 (cleared b)) k number = subst (λ (y : Ran). WholeRuns (lentSetting c b limit flags ends lens) (cleared b) y b₂) h whole-runs in
+        record {
+          whole = record { before = record { state = E .state; is = E .is; shorter = E .shorter; demand3 = E .demand3 }; zeros = zeroed-slices b b₂ b′ s z };
+          cuts = zeroed-cuts c c₁ c′ same zeros;
+        }
