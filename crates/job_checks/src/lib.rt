@@ -5,6 +5,7 @@ use buffers::read_f64;
 use layout::COORDINATES_PER_PIECE;
 use layout::COORDINATES_PER_VERTEX;
 use vec3::Vec3;
+ghost use Rattle.buffers.specs.Lent.{given};
 ghost use mathlib.Core.Path.{_≡_};
 ghost use Prim.Native.Nat.{_/_, _<_};
 ghost use lib.ListN.{length, getD};
@@ -14,7 +15,6 @@ ghost use Rattle.job_checks.specs.Any.{anyBelow, firstOf};
 ghost use Rattle.job_checks.specs.Edge.{vertexAt, lower, higher};
 ghost use Rattle.job_checks.specs.Job.{job};
 ghost use Rattle.job_checks.specs.Refusals.{
-ghost use Rattle.buffers.specs.Lent.{given};
   refusalNumber,
   refusalOf,
   wrongCounts,

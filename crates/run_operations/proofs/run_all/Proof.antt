@@ -12,7 +12,7 @@ use Rattle.run_operations.proofs.run_all.Tie as tie
 
 abbrev Inv-loop : tie.InvT-loop
 Inv-loop m n limit ops args ends lens flags edges₀ words₀ reals₀ keys₀ events₀ vertex₀ pts₀ out₀ keep₀ next₀ made₀ queued₀ k₀ edges words reals keys events vertex pts out keep next made queued k =
-    Inv limit flags ends lens m ops args n (slices edges₀ words₀ reals₀ keys₀ events₀ vertex₀) (cuts pts₀ out₀ keep₀ next₀) k made queued (slices edges words reals keys events vertex) (cuts pts out keep next)
+    Inv limit flags ends lens m ops args n (slices edges₀ words₀ reals₀ keys₀ events₀ vertex₀) (cutBuffers pts₀ out₀ keep₀ next₀) k made queued (slices edges words reals keys events vertex) (cutBuffers pts out keep next)
 
 abbrev μ-loop : tie.MeasureT-loop
 μ-loop m n limit ops args ends lens flags edges₀ words₀ reals₀ keys₀ events₀ vertex₀ pts₀ out₀ keep₀ next₀ made₀ queued₀ k₀ edges words reals keys events vertex pts out keep next made queued k =
