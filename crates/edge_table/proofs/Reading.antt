@@ -50,9 +50,9 @@ module _ (triangles : List ℕ) (n : ℕ) where
     second-face-read = field edgeSecondFace (omega arith)
 
   -- no windows yet, and a zero
-  pub windows-read : (e : ℕ) → getD (edgeWords triangles n) (wordsPerEdge * e + edgeHead) 0 ≡ 0
+  pub head-read : (e : ℕ) → getD (edgeWords triangles n) (wordsPerEdge * e + edgeHead) 0 ≡ 0
   unfolding edgeWords edgeWord edgeRow
-  windows-read e = words-zero n wordsPerEdge (edgeWord (edges triangles) (edgeFaces triangles)) e edgeHead (omega arith) (no-matter (ltb e (length (edges triangles))))
+  head-read e = words-zero n wordsPerEdge (edgeWord (edges triangles) (edgeFaces triangles)) e edgeHead (omega arith) (no-matter (ltb e (length (edges triangles))))
 
   pub scratch-read : (e : ℕ) → getD (edgeWords triangles n) (wordsPerEdge * e + edgeScratch) 0 ≡ 0
   unfolding edgeWords edgeWord edgeRow

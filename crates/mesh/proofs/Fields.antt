@@ -19,7 +19,7 @@ use Rattle.topology.proofs.Rows.{row-inside, row-read}
 use Rattle.edge_table.specs.declared.Table.{Table}
 use Rattle.edge_table.specs.declared.Table.the-variants.{Edges as Table·Edges}
 use Rattle.edge_table.specs.Table.{edgeWords, triangleWords}
-use Rattle.edge_table.proofs.Reading.{low-read, high-read, first-face-read, second-face-read, windows-read, scratch-read, spare-read, number-read}
+use Rattle.edge_table.proofs.Reading.{low-read, high-read, first-face-read, second-face-read, head-read, scratch-read, spare-read, number-read}
 use Rattle.vertex_faces.specs.Ranges.{withFlags, startOf, endOf, roundOf}
 use Rattle.vertex_faces.proofs.Ranges.{read-start, read-end, flag-kept, length-flags, read-flag}
 use Rattle.frames.specs.Stored.{withLengths}
@@ -115,7 +115,7 @@ module _ (v : List Float) (triangles flags : List ℕ) (m : MeshBuffers) where
   unfolding filled
   filled-fresh =
       record {
-        no-windows = windows-read triangles (length (m .edge-words));
+        no-windows = head-read triangles (length (m .edge-words));
         scratch = scratch-read triangles (length (m .edge-words));
         no-entries = spare-read triangles (length (m .triangle-words));
       }
