@@ -14,10 +14,10 @@ use Rattle.nat_laws.proofs.Lists.{all-of, all-map, all-map2}
 use Rattle.buffers.specs.Slots.{slot}
 use Rattle.buffers.proofs.Strides.{slot-at, other-fields, other-slot}
 use Rattle.windows.specs.declared.WindowRecord.{WindowRecord}
-use Rattle.windows.specs.Windows.{linkWith, flagsOf, hasFlag, wordsWith, flagsWith}
+use Rattle.windows.specs.Windows.{linkWith, flagsOf, hasFlag, wordsWith, flagsWith, edgeStored}
 use Rattle.windows.proofs.WindowList.{stored-edge, stored-other, length-stored}
 use Rattle.chains.proofs.Paths.{path-same, path-set}
-use Rattle.chains.specs.Chains.{Links, links, headOf, edgeOf, nextLink, withLink, Path, Out, Belongs, AllBelong, Before, OnEdge, Chains}
+use Rattle.chains.specs.Chains.{Links, links, headOf, nextLink, withLink, Path, Out, Belongs, AllBelong, Before, OnEdge, Chains}
 
 -- ---- a store of a link changes nothing of the windows but links, and nothing of the edges but one head
 pub record OnlyLinks (w w′ : List ℕ) : Type 0 where
@@ -46,7 +46,7 @@ head-with b e (suc k) v = record { same-length = refl; fields = λ p ne. refl }
 
 -- ---- what chains see of a window
 pub record Agrees (w w′ : List ℕ) (i : ℕ) : Type 0 where
-  pub edge : edgeOf w′ i ≡ edgeOf w i
+  pub edge : edgeStored w′ i ≡ edgeStored w i
   pub next : nextLink w′ i ≡ nextLink w i
 
 slot-agrees : (w w′ : List ℕ) (i : ℕ) → slot wordsPerWindow w′ i ≡ slot wordsPerWindow w i → Agrees w w′ i
@@ -66,22 +66,22 @@ length-flags w k alive queued = simp length-set
 
 module _ (made : ℕ) where
   -- ---- windows stay their edge's
-  belongs-same : (w w′ : List ℕ) (e i : ℕ) → length w′ ≡ length w → edgeOf w′ i ≡ edgeOf w i → Belongs made w e i → Belongs made w′ e i
+  belongs-same : (w w′ : List ℕ) (e i : ℕ) → length w′ ≡ length w → edgeStored w′ i ≡ edgeStored w i → Belongs made w e i → Belongs made w′ e i
   belongs-same w w′ e i n h g = record { edge = h ∙ g .edge; made = g .made; there = rw n (g .there) }
 
   -- whose a window is depends on nothing but its edge and the length
-  pub all-same : (w w′ : List ℕ) (e : ℕ) (is : List ℕ) → length w′ ≡ length w → All (λ i. edgeOf w′ i ≡ edgeOf w i) is → AllBelong made w e is → AllBelong made w′ e is
+  pub all-same : (w w′ : List ℕ) (e : ℕ) (is : List ℕ) → length w′ ≡ length w → All (λ i. edgeStored w′ i ≡ edgeStored w i) is → AllBelong made w e is → AllBelong made w′ e is
   all-same w w′ e is n =
-      all-map2 {P = λ i. edgeOf w′ i ≡ edgeOf w i} {Q = Belongs made w e} {R = Belongs made w′ e} (λ i. belongs-same w w′ e i n) is
+      all-map2 {P = λ i. edgeStored w′ i ≡ edgeStored w i} {Q = Belongs made w e} {R = Belongs made w′ e} (λ i. belongs-same w w′ e i n) is
 
   pub all-set : (w : List ℕ) (e : ℕ) (is : List ℕ) (k v : ℕ) → AllBelong made w e is → AllBelong made (linkWith w k v) e is
   all-set w e is k v =
       all-same w (linkWith w k v) e is (simp length-set)
-      (all-of (λ i. edgeOf (linkWith w k v) i ≡ edgeOf w i) is (λ i. other-fields wordsPerWindow w k i windowLink windowEdge v 0 (λ z. omega (arith, z)) (omega arith) (omega arith)))
+      (all-of (λ i. edgeStored (linkWith w k v) i ≡ edgeStored w i) is (λ i. other-fields wordsPerWindow w k i windowLink windowEdge v 0 (λ z. omega (arith, z)) (omega arith) (omega arith)))
 
   -- a window of another edge is not among them, so chains never meet
-  pub elsewhere : (w : List ℕ) (e : ℕ) (is : List ℕ) (k : ℕ) → edgeOf w k ≢ e → AllBelong made w e is → Out k is
-  elsewhere w e is k d = all-map {P = Belongs made w e} {Q = λ i. k ≢ i} (λ i h z. d (ap (edgeOf w) z ∙ h .edge)) is
+  pub elsewhere : (w : List ℕ) (e : ℕ) (is : List ℕ) (k : ℕ) → edgeStored w k ≢ e → AllBelong made w e is → Out k is
+  elsewhere w e is k d = all-map {P = Belongs made w e} {Q = λ i. k ≢ i} (λ i h z. d (ap (edgeStored w) z ∙ h .edge)) is
 
   -- ---- the other chains stay
   module _ (b : Links) (e e′ : ℕ) (ne : e ≢ e′) (is : List ℕ) where
@@ -114,7 +114,7 @@ module _ (made : ℕ) where
       let w′ = b′ .words in
       record {
         path = rw h (path-same w w′ (headOf (b .edges) e) is (all-map {P = Agrees w w′} {Q = λ i. nextLink w′ i ≡ nextLink w i} (λ i g. g .next) is a) (o .path));
-        belong = all-same w w′ e is n (all-map {P = Agrees w w′} {Q = λ i. edgeOf w′ i ≡ edgeOf w i} (λ i g. g .edge) is a) (o .belong);
+        belong = all-same w w′ e is n (all-map {P = Agrees w w′} {Q = λ i. edgeStored w′ i ≡ edgeStored w i} (λ i g. g .edge) is a) (o .belong);
       }
 
   -- a store of flags; a store of a trimmed range leaves the words alone

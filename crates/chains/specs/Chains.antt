@@ -1,5 +1,5 @@
 -- The Rust's `on_edge` as chains of window numbers. A link is a window's number plus one, and 0 is none. An edge's slot has the
--- head of its chain; a window's slot has its edge and the next link (`edgeOf`, `linkOf` of windows).
+-- head of its chain; a window's slot has its edge and the next link (`edgeStored`, `linkOf` of windows).
 use Prim.Native.Nat.{ℕ, zero, suc, _+_, _*_, _≤_, _<_}
 use mathlib.Core.Bool.{cond}
 use mathlib.Core.List.{List, [], _∷_}
@@ -9,8 +9,7 @@ use lib.Dec.{leb}
 use lib.ListN.{getD, set, length}
 use Rattle.layout.specs.Layout.{wordsPerEdge, edgeHead, wordsPerWindow}
 use Rattle.nat_laws.specs.Lists.{All}
-use Rattle.windows.specs.Windows.{linkOf, linkWith}
-use Rattle.windows.specs.Windows.{edgeWord as Windows·edgeOf}
+use Rattle.windows.specs.Windows.{linkOf, linkWith, edgeStored}
 
 pub record Links : Type 0 where
   pub edges : List ℕ
@@ -21,9 +20,6 @@ links edges words = record { edges = edges; words = words }
 
 abbrev pub headOf : List ℕ → ℕ → ℕ
 headOf edges e = getD edges (wordsPerEdge * e + edgeHead) 0
-
-abbrev pub edgeOf : List ℕ → ℕ → ℕ
-edgeOf words i = Windows·edgeOf words i
 
 abbrev pub nextLink : List ℕ → ℕ → ℕ
 nextLink words i = linkOf words i
@@ -53,7 +49,7 @@ Out i is = All (λ j. i ≢ j) is
 
 -- one of the first n windows, of edge e, whose slot is there; n is the number of windows made, at most what the buffer counts for
 pub record Belongs (n : ℕ) (w : List ℕ) (e i : ℕ) : Type 0 where
-  pub edge : edgeOf w i ≡ e
+  pub edge : edgeStored w i ≡ e
   pub made : i < n
   pub there : wordsPerWindow * i + wordsPerWindow ≤ length w
 

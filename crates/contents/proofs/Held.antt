@@ -17,7 +17,7 @@ use Rattle.buffers.specs.Slots.{slot}
 use Rattle.buffers.proofs.Strides.{slot-at, length-slot}
 use Rattle.float64.specs.Scalar.{zero64}
 use Rattle.windows.specs.declared.WindowRecord.{WindowRecord}
-use Rattle.windows.specs.Windows.{isLine, realsOf, srcOf, flagsOf, hasFlag, edgeWord, intoOf, flagsAt, linkOf, winAt, windowAt, relinked}
+use Rattle.windows.specs.Windows.{isLine, realsOf, srcOf, flagsOf, hasFlag, edgeStored, intoOf, flagsAt, linkOf, winAt, windowAt, relinked}
 use Rattle.windows.proofs.WindowList.{length-realsOf}
 use Rattle.chains.specs.Chains.{links, headOf, nextLink, Path, Out, firstLink}
 use Rattle.chains.proofs.Paths.{path-first}
@@ -110,10 +110,10 @@ module _ (n : ℕ) (wins : List WindowRecord) (edges w : List ℕ) (f : List Flo
   link-of : (i : ℕ) → i < n → linkOf w i ≡ cond (x i .alive) (linkAfter i (nums (live (x i .edge .0)))) (x i .link)
   unfolding bare relinked windowAt
   link-of i l = go (hasFlag (flagsAt w i) aliveFlag) refl where
-    go : (b : Bool) → hasFlag (flagsAt w i) aliveFlag ≡ b → linkOf w i ≡ cond b (linkAfter i (nums (live (edgeWord w i)))) (cond b 0 (linkOf w i))
+    go : (b : Bool) → hasFlag (flagsAt w i) aliveFlag ≡ b → linkOf w i ≡ cond b (linkAfter i (nums (live (edgeStored w i)))) (cond b 0 (linkOf w i))
     go true h =
-        let s = H .on-edge (edgeWord w i) in
-        after-head w (headOf edges (edgeWord w i)) i (nums (live (edgeWord w i))) (s .chain .path) (s .complete i l refl h)
+        let s = H .on-edge (edgeStored w i) in
+        after-head w (headOf edges (edgeStored w i)) i (nums (live (edgeStored w i))) (s .chain .path) (s .complete i l refl h)
     go false h = refl
 
   flags-of : (i : ℕ) → i < n → flagsAt w i ≡ flagsOf (isLine (x i .win .src)) (x i .alive) (x i .carried .queued)
@@ -122,7 +122,7 @@ module _ (n : ℕ) (wins : List WindowRecord) (edges w : List ℕ) (f : List Flo
       below-eight (flagsAt w i) (H .flags i l)
       ∙ ap (λ b. flagsOf b (hasFlag (flagsAt w i) aliveFlag) (hasFlag (flagsAt w i) queuedFlag)) (sym (line-is (hasFlag (flagsAt w i) lineFlag) (getD f (realsPerWindow * i + windowS0) nan) (getD f (realsPerWindow * i + windowS1) nan) (getD f (realsPerWindow * i + windowS2) nan)))
 
-  edge-of : (i : ℕ) → edgeWord w i ≡ x i .edge .0
+  edge-of : (i : ℕ) → edgeStored w i ≡ x i .edge .0
   unfolding bare relinked windowAt
   edge-of i = refl
 

@@ -9,7 +9,7 @@ use borrow.Author.Tests.{eq-eqb, ne-eqb}
 use lib.Dec.{eqb}
 use lib.ListN.{length, getD, List·getD-append}
 use lib.Seq.{getD-append-seam}
-use Rattle.topology.specs.Edges.{Edge, noEdge}
+use Rattle.topology.specs.Edges.{EndPair, noEdge}
 use Rattle.topology.proofs.Find.{either}
 use Rattle.edge_table.specs.Words.{bucketOf, lastIn}
 
@@ -28,24 +28,24 @@ sub-mod-self n size l =
     let e : size * 1 + (n - size) ≡ n = omega arith in
     sym (mul-add-mod-self-left size 1 (n - size)) ∙ ap (λ (k : ℕ). k % size) e
 
-pub bucket-below : (size : ℕ) (x : Edge) → 0 < size → bucketOf size x < size
+pub bucket-below : (size : ℕ) (x : EndPair) → 0 < size → bucketOf size x < size
 unfolding bucketOf
 bucket-below size x l = mod-lt (4 * x .low + (x .high - x .low) % 8 + (x .high - x .low) / 8 * 2654435761 % 4294967296 * size / 4294967296) l
 
-module _ (size : ℕ) (es : List Edge) (b : ℕ) where
+module _ (size : ℕ) (es : List EndPair) (b : ℕ) where
   pub last-le : (n : ℕ) → lastIn size es b n ≤ n
   unfolding lastIn
   last-le zero = omega arith
   last-le (suc n) = ⊎-elim (λ q. rw q (omega arith)) (λ q. rw q (omega (arith, last-le n))) (either (eqb (bucketOf size (getD es n noEdge)) b))
 
   -- edges that are entered later count for nothing
-  pub last-append : (xs : List Edge) (n : ℕ) → n ≤ length es → lastIn size (es ++ xs) b n ≡ lastIn size es b n
+  pub last-append : (xs : List EndPair) (n : ℕ) → n ≤ length es → lastIn size (es ++ xs) b n ≡ lastIn size es b n
   unfolding lastIn
   last-append xs zero l = refl
   last-append xs (suc n) l = rw (List·getD-append es xs noEdge n (omega arith), last-append xs n (omega arith)) refl
 
   -- an edge that is entered in the bucket, or in another
-  module _ (x : Edge) where
+  module _ (x : EndPair) where
     pub last-new : bucketOf size x ≡ b → lastIn size (es ++ (x ∷ [])) b (suc (length es)) ≡ suc (length es)
     unfolding lastIn
     last-new e = rw (getD-append-seam es x [] noEdge, eq-eqb (bucketOf size x) b e) refl

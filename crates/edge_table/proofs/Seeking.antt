@@ -9,7 +9,7 @@ use borrow.Author.Tests.{eq-eqb, ne-eqb, eqb-true, eqb-false, lt-ltb, le-ltb, lt
 use lib.Dec.{ltb, eqb}
 use lib.ListN.{length, getD}
 use Rattle.layout.specs.Layout.{wordsPerEdge, edgeLow, edgeHigh, edgeScratch}
-use Rattle.topology.specs.Edges.{Edge, noEdge, sameEdge, find}
+use Rattle.topology.specs.Edges.{EndPair, noEdge, sameEdge, find}
 use Rattle.topology.proofs.Find.{either, same-edge, same-self, find-at, Numbered}
 use Rattle.edge_table.specs.Words.{bucketOf, lastIn}
 use Rattle.edge_table.specs.Sides.{Falling, seek}
@@ -77,12 +77,12 @@ ltb-suc : (k m : ℕ) → (k ≡ m → ⊥) → ltb k (suc m) ≡ ltb k m
 ltb-suc k m ne = ⊎-elim (λ q. rw q (lt-ltb k (suc m) (omega (arith, ltb-true k m q)))) (λ q. rw q (le-ltb k (suc m) (omega (arith, ltb-false k m q)))) (either (ltb k m))
 
 -- Words that hold the first fields and the links of a list of edges.
-pub record Linked (size : ℕ) (es : List Edge) (w : List ℕ) : Type 0 where
+pub record Linked (size : ℕ) (es : List EndPair) (w : List ℕ) : Type 0 where
   pub low-at : (e : ℕ) → e < length es → getD w (wordsPerEdge * e + edgeLow) 0 ≡ getD es e noEdge .low
   pub high-at : (e : ℕ) → e < length es → getD w (wordsPerEdge * e + edgeHigh) 0 ≡ getD es e noEdge .high
   pub next-at : (e : ℕ) → e < length es → getD w (wordsPerEdge * e + edgeScratch) 0 ≡ lastIn size es (bucketOf size (getD es e noEdge)) e
 
-module _ (size : ℕ) (es : List Edge) (w : List ℕ) (all : Numbered es) (linked : Linked size es w) (x : Edge) where
+module _ (size : ℕ) (es : List EndPair) (w : List ℕ) (all : Numbered es) (linked : Linked size es w) (x : EndPair) where
   -- the link of an edge that is among the first m
   linkBelow : ℕ → ℕ
   linkBelow m = cond (ltb (find x es) m) (suc (find x es)) 0
@@ -94,7 +94,7 @@ module _ (size : ℕ) (es : List Edge) (w : List ℕ) (all : Numbered es) (linke
       omega arith
 
   here : (m : ℕ) → m < length es → sameEdge (getD es m noEdge) x ≡ true → find x es ≡ m
-  here m l s = subst (λ (y : Edge). find y es ≡ m) (same-edge (getD es m noEdge) x s) (all m l)
+  here m l s = subst (λ (y : EndPair). find y es ≡ m) (same-edge (getD es m noEdge) x s) (all m l)
 
   less : (m : ℕ) → (find x es ≡ m → ⊥) → linkBelow m ≡ linkBelow (suc m)
   unfolding linkBelow

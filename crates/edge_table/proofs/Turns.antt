@@ -16,7 +16,7 @@ use Rattle.layout.specs.Layout.{wordsPerRound, roundHead, wordsPerEdge, edgeLow
 use Rattle.buffers.specs.Slots.{fill}
 use Rattle.job_checks.specs.Edge.{lower, higher}
 use Rattle.job_checks.proofs.Edge.{ends-below as both-below}
-use Rattle.topology.specs.Edges.{Edge, noEdge, noFace, between, sideVertex, sideEdge, find, edgesOf, facesAmong, sharedByThree}
+use Rattle.topology.specs.Edges.{EndPair, noEdge, noFace, between, sideVertex, sideEdge, find, edgesOf, facesAmong, sharedByThree}
 use Rattle.topology.proofs.Triangles.{ends}
 use Rattle.topology.proofs.Find.{entered, find-at, find-last}
 use Rattle.topology.proofs.Edges.{numbered, few-edges, number-kept}
@@ -36,7 +36,7 @@ unfolding fill
 stored l₀ l₁ l₂ l₃ l₄ l₅ l₆ e a b f n next k p e₁ e₂ e₃ e₄ e₅ e₆ = rw (e₆, e₅, e₄, e₃, e₂, e₁, p) refl
 
 -- A slot that has an edge, and one that has none.
-module _ (size : ℕ) (es : List Edge) (faces : ℕ → List ℕ) (e a : ℕ) where
+module _ (size : ℕ) (es : List EndPair) (faces : ℕ → List ℕ) (e a : ℕ) where
   pub edge-live : e < length es → linkedWord size es faces e a ≡ getD (linkedRow size es e (faces e)) a 0
   unfolding linkedWord
   edge-live l = rw (lt-ltb e (length es) l) refl
@@ -46,7 +46,7 @@ module _ (size : ℕ) (es : List Edge) (faces : ℕ → List ℕ) (e a : ℕ) wh
   edge-none l = rw (le-ltb e (length es) l) refl
 
 -- The row of an edge: its faces count, and of the list the edges up to it.
-module _ (size : ℕ) (es : List Edge) (e : ℕ) where
+module _ (size : ℕ) (es : List EndPair) (e : ℕ) where
   row-faces : (fs gs : List ℕ) (a : ℕ) → a ≢ edgeSecondFace → getD fs 0 noFace ≡ getD gs 0 noFace → getD (linkedRow size es e fs) a 0 ≡ getD (linkedRow size es e gs) a 0
   unfolding linkedRow
   row-faces fs gs zero n q = refl
@@ -60,11 +60,11 @@ module _ (size : ℕ) (es : List Edge) (e : ℕ) where
   unfolding linkedRow
   row-second fs = refl
 
-  row-append : (xs : List Edge) (fs : List ℕ) → e < length es → linkedRow size (es ++ xs) e fs ≡ linkedRow size es e fs
+  row-append : (xs : List EndPair) (fs : List ℕ) → e < length es → linkedRow size (es ++ xs) e fs ≡ linkedRow size es e fs
   unfolding linkedRow
   row-append xs fs l = rw (List·getD-append es xs noEdge e l, last-append size es (bucketOf size (getD es e noEdge)) xs e (omega arith)) refl
 
-  row-last : (x : Edge) (f : ℕ) → e ≡ length es → linkedRow size (es ++ (x ∷ [])) e (f ∷ []) ≡ x .low ∷ x .high ∷ f ∷ noFace ∷ 0 ∷ lastIn size es (bucketOf size x) (length es) ∷ []
+  row-last : (x : EndPair) (f : ℕ) → e ≡ length es → linkedRow size (es ++ (x ∷ [])) e (f ∷ []) ≡ x .low ∷ x .high ∷ f ∷ noFace ∷ 0 ∷ lastIn size es (bucketOf size x) (length es) ∷ []
   unfolding linkedRow
   row-last x f q = rw (q, getD-append-seam es x [] noEdge, last-append size es (bucketOf size x) (x ∷ []) (length es) (omega arith)) refl
 
@@ -98,8 +98,8 @@ module _ (triangles : List ℕ) (h : ℕ) where
 
     pub ends-below : (low high : ℕ) → record { low = low; high = high } ≡ sideEdge triangles h → (low ≤ high) × ((high < v) × ((0 < length triangles) × (length triangles ≤ 393210)))
     ends-below low high q =
-        let lo : low ≡ sideEdge triangles h .low = ap (λ (x : Edge). x .low) q in
-        let hi : high ≡ sideEdge triangles h .high = ap (λ (x : Edge). x .high) q in
+        let lo : low ≡ sideEdge triangles h .low = ap (λ (x : EndPair). x .low) q in
+        let hi : high ≡ sideEdge triangles h .high = ap (λ (x : EndPair). x .high) q in
         omega (arith, side-ordered, side-below .1, m .whole, m .few-triangles)
 
 -- the numbers of the sides
@@ -151,7 +151,7 @@ module _ (triangles : List ℕ) (size h : ℕ) (heads edge triangle : List ℕ) 
   second-at e l = p .edge-words e edgeSecondFace (omega arith) ∙ (edge-live size (edgesOf triangles h) (facesSoFar triangles h) e edgeSecondFace l ∙ row-second size (edgesOf triangles h) e (facesSoFar triangles h e))
 
   -- the look-up
-  module _ (x : Edge) (bucket head r : ℕ) (eb : bucket ≡ bucketOf size x) (eh : head ≡ getD heads (wordsPerRound * bucket + roundHead) 0) (er : r ≡ seek edge (x .low) (x .high) head head) where
+  module _ (x : EndPair) (bucket head r : ℕ) (eb : bucket ≡ bucketOf size x) (eh : head ≡ getD heads (wordsPerRound * bucket + roundHead) 0) (er : r ≡ seek edge (x .low) (x .high) head head) where
     from-head : head ≡ lastIn size (edgesOf triangles h) (bucketOf size x) (length (edgesOf triangles h))
     from-head = eh ∙ (head-at bucket ∙ ap (λ (b : ℕ). lastIn size (edgesOf triangles h) b (length (edgesOf triangles h))) eb)
 
@@ -164,25 +164,25 @@ module _ (triangles : List ℕ) (size h : ℕ) (heads edge triangle : List ℕ) 
   -- the same for a side whose ends were computed
   module _ (low high bucket head r : ℕ) (q : record { low = low; high = high } ≡ sideEdge triangles h) (eb : bucket ≡ bucketOf size (record { low = low; high = high })) (eh : head ≡ getD heads (wordsPerRound * bucket + roundHead) 0) (er : r ≡ seek edge low high head head) where
     pub side-missing : r ≡ 0 → length (edgesOf triangles h) ≤ find (sideEdge triangles h) (edgesOf triangles h)
-    side-missing z = subst (λ (x : Edge). length (edgesOf triangles h) ≤ find x (edgesOf triangles h)) q (look-missing (record { low = low; high = high }) bucket head r eb eh er z)
+    side-missing z = subst (λ (x : EndPair). length (edgesOf triangles h) ≤ find x (edgesOf triangles h)) q (look-missing (record { low = low; high = high }) bucket head r eb eh er z)
 
     pub side-found : r ≢ 0 → (find (sideEdge triangles h) (edgesOf triangles h) < length (edgesOf triangles h)) × (r - 1 ≡ find (sideEdge triangles h) (edgesOf triangles h))
-    side-found z = subst (λ (x : Edge). (find x (edgesOf triangles h) < length (edgesOf triangles h)) × (r - 1 ≡ find x (edgesOf triangles h))) q (look-found (record { low = low; high = high }) bucket head r eb eh er z)
+    side-found z = subst (λ (x : EndPair). (find x (edgesOf triangles h) < length (edgesOf triangles h)) × (r - 1 ≡ find x (edgesOf triangles h))) q (look-found (record { low = low; high = high }) bucket head r eb eh er z)
 
 -- the faces among the first n sides of edge j of a list
-abbrev facesIn : List ℕ → List Edge → ℕ → ℕ → List ℕ
+abbrev facesIn : List ℕ → List EndPair → ℕ → ℕ → List ℕ
 facesIn triangles es n j = facesAmong triangles (getD es j noEdge) n
 
 -- The buffers after one more side, whose edges are es.
-module _ (triangles : List ℕ) (size h : ℕ) (es : List Edge) (e : edgesOf triangles (suc h) ≡ es) where
+module _ (triangles : List ℕ) (size h : ℕ) (es : List EndPair) (e : edgesOf triangles (suc h) ≡ es) where
   partial : (heads edge triangle : List ℕ) → HoldsWords wordsPerRound heads (headWord size es) → HoldsWords wordsPerEdge edge (linkedWord size es (facesIn triangles es (suc h))) → HoldsWords wordsPerTriangle triangle (triangleWord (suc h) (numberSoFar triangles (suc h))) → ((j : ℕ) → j < length es → length (facesIn triangles es (suc h) j) ≤ 2) → Partial triangles size (suc h) heads edge triangle
   unfolding facesSoFar
   partial heads edge triangle a b c d =
       record {
-        head-words = subst (λ (z : List Edge). HoldsWords wordsPerRound heads (headWord size z)) (sym e) a;
-        edge-words = subst (λ (z : List Edge). HoldsWords wordsPerEdge edge (linkedWord size z (facesIn triangles z (suc h)))) (sym e) b;
+        head-words = subst (λ (z : List EndPair). HoldsWords wordsPerRound heads (headWord size z)) (sym e) a;
+        edge-words = subst (λ (z : List EndPair). HoldsWords wordsPerEdge edge (linkedWord size z (facesIn triangles z (suc h)))) (sym e) b;
         triangle-words = c;
-        two-faces = subst (λ (z : List Edge). (j : ℕ) → j < length z → length (facesIn triangles z (suc h) j) ≤ 2) (sym e) d;
+        two-faces = subst (λ (z : List EndPair). (j : ℕ) → j < length z → length (facesIn triangles z (suc h) j) ≤ 2) (sym e) d;
       }
 
 module _ (triangles : List ℕ) (size h : ℕ) (heads edge triangle : List ℕ) (m : Mesh triangles 65535) (long : TableFits triangles (length heads) (length edge) (length triangle)) (l : h < length triangles) (all : size ≡ length triangles) (p : Partial triangles size h heads edge triangle) where
@@ -193,7 +193,7 @@ module _ (triangles : List ℕ) (size h : ℕ) (heads edge triangle : List ℕ) 
   number-fits = omega (arith, m .whole, long .triangles-fit)
 
   -- a face is a triangle's number
-  face-small : (x : Edge) (i : ℕ) → i < length (facesAmong triangles x h) → getD (facesAmong triangles x h) i noFace ≢ noFace
+  face-small : (x : EndPair) (i : ℕ) → i < length (facesAmong triangles x h) → getD (facesAmong triangles x h) i noFace ≢ noFace
   face-small x i k q =
       let r : OfSide triangles x h (getD (facesAmong triangles x h) i noFace) = listed-face triangles x h i k in
       omega (arith, r .1 .0, r .1 .1 .1, m .whole, m .few-triangles)
@@ -217,10 +217,10 @@ module _ (triangles : List ℕ) (size h : ℕ) (heads edge triangle : List ℕ) 
 
     faces-before : facesSoFar triangles h e ≡ facesAmong triangles (sideEdge triangles h) h
     unfolding facesSoFar
-    faces-before = ap (λ (x : Edge). facesAmong triangles x h) edge-is
+    faces-before = ap (λ (x : EndPair). facesAmong triangles x h) edge-is
 
     faces-after : facesIn triangles (edgesOf triangles h) (suc h) e ≡ facesSoFar triangles h e ++ (h / 3 ∷ [])
-    faces-after = ap (λ (x : Edge). facesAmong triangles x (suc h)) edge-is ∙ (faces-more triangles h ∙ ap (λ (fs : List ℕ). fs ++ (h / 3 ∷ [])) (sym faces-before))
+    faces-after = ap (λ (x : EndPair). facesAmong triangles x (suc h)) edge-is ∙ (faces-more triangles h ∙ ap (λ (fs : List ℕ). fs ++ (h / 3 ∷ [])) (sym faces-before))
 
     some : 0 < length (facesSoFar triangles h e)
     unfolding facesSoFar
@@ -280,7 +280,7 @@ module _ (triangles : List ℕ) (size h : ℕ) (heads edge triangle : List ℕ) 
 
   -- The edge is new.
   module _ (fresh : length (edgesOf triangles h) ≤ find (sideEdge triangles h) (edgesOf triangles h)) where
-    abbrev grown : List Edge
+    abbrev grown : List EndPair
     grown = edgesOf triangles h ++ (sideEdge triangles h ∷ [])
 
     more-edges : edgesOf triangles (suc h) ≡ grown
@@ -308,12 +308,12 @@ module _ (triangles : List ℕ) (size h : ℕ) (heads edge triangle : List ℕ) 
     -- the faces of the new edge, and of those before it
     new-faces : facesIn triangles grown (suc h) (length (edgesOf triangles h)) ≡ h / 3 ∷ []
     new-faces =
-        ap (λ (x : Edge). facesAmong triangles x (suc h)) (getD-append-seam (edgesOf triangles h) (sideEdge triangles h) [] noEdge)
+        ap (λ (x : EndPair). facesAmong triangles x (suc h)) (getD-append-seam (edgesOf triangles h) (sideEdge triangles h) [] noEdge)
         ∙ (faces-more triangles h ∙ ap (λ (fs : List ℕ). fs ++ (h / 3 ∷ [])) (faces-none triangles h (sideEdge triangles h) fresh))
 
     old-faces : (j : ℕ) → j < length (edgesOf triangles h) → facesIn triangles grown (suc h) j ≡ facesSoFar triangles h j
     old-faces j k =
-        ap (λ (x : Edge). facesAmong triangles x (suc h)) (List·getD-append (edgesOf triangles h) (sideEdge triangles h ∷ []) noEdge j k) ∙ faces-kept j k (omega arith)
+        ap (λ (x : EndPair). facesAmong triangles x (suc h)) (List·getD-append (edgesOf triangles h) (sideEdge triangles h ∷ []) noEdge j k) ∙ faces-kept j k (omega arith)
 
     new-row : (a : ℕ) → a < wordsPerEdge → linkedWord size grown (facesIn triangles grown (suc h)) (length (edgesOf triangles h)) a ≡ getD (sideEdge triangles h .low ∷ sideEdge triangles h .high ∷ h / 3 ∷ noFace ∷ 0 ∷ lastIn size (edgesOf triangles h) (bucketOf size (sideEdge triangles h)) (length (edgesOf triangles h)) ∷ []) a 0
     new-row a k =
@@ -364,8 +364,8 @@ module _ (triangles : List ℕ) (size h : ℕ) (heads edge triangle : List ℕ) 
     unfolding Turned
     new-done low high bucket count fresh q eb ec ev ee et =
         let b : bucket ≡ bucketOf size (sideEdge triangles h) = eb ∙ ap (bucketOf size) q in
-        let lo : low ≡ sideEdge triangles h .low = ap (λ (x : Edge). x .low) q in
-        let hi : high ≡ sideEdge triangles h .high = ap (λ (x : Edge). x .high) q in
+        let lo : low ≡ sideEdge triangles h .low = ap (λ (x : EndPair). x .low) q in
+        let hi : high ≡ sideEdge triangles h .high = ap (λ (x : EndPair). x .high) q in
         let n : length (edgesOf triangles (suc h)) ≡ suc (length (edgesOf triangles h)) = ap length (more-edges fresh) ∙ one-more fresh in
         rw (add-one h, ev, ee, et, head-at triangles size h heads edge triangle p bucket, b, lo, hi, ec, add-one (length (edgesOf triangles h))) (sym n, new-turn fresh)
 

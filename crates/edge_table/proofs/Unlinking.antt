@@ -13,7 +13,7 @@ use lib.Dec.{ltb}
 use lib.ListN.{length, getD, set, length-set, List·getD-eq-default}
 use lib.Seq.{getD-set-same, getD-set-other}
 use Rattle.layout.specs.Layout.{wordsPerEdge, edgeScratch}
-use Rattle.topology.specs.Edges.{Edge}
+use Rattle.topology.specs.Edges.{EndPair}
 use Rattle.edge_table.specs.Words.{edgeRow, edgeWord}
 use Rattle.edge_table.specs.Sides.{HoldsWords, linkedRow, linkedWord, withoutLinks}
 
@@ -56,7 +56,7 @@ module _ (w : List ℕ) where
   unlinked-all w₁ e n p l m = p ∙ ap (λ (k : ℕ). withoutLinks k w) (le-antisymm l m)
 
 -- The rows of an edge differ in the link alone.
-module _ (size : ℕ) (es : List Edge) (faces : ℕ → List ℕ) where
+module _ (size : ℕ) (es : List EndPair) (faces : ℕ → List ℕ) where
   row-same : (e a : ℕ) (fs : List ℕ) → a ≢ edgeScratch → getD (linkedRow size es e fs) a 0 ≡ getD (edgeRow es e fs) a 0
   unfolding linkedRow edgeRow
   row-same e zero fs n = refl

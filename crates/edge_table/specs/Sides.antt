@@ -6,7 +6,7 @@ use mathlib.Core.List.{List, [], _∷_}
 use lib.Dec.{ltb, eqb}
 use lib.ListN.{length, getD, set}
 use Rattle.layout.specs.Layout.{wordsPerRound, wordsPerEdge, edgeLow, edgeHigh, edgeScratch, wordsPerTriangle}
-use Rattle.topology.specs.Edges.{Edge, noEdge, noFace, sideEdge, find, edgesOf, facesAmong, sharedByThree}
+use Rattle.topology.specs.Edges.{EndPair, noEdge, noFace, sideEdge, find, edgesOf, facesAmong, sharedByThree}
 use Rattle.edge_table.specs.declared.Table.{Table}
 use Rattle.edge_table.specs.declared.Table.the-variants.{Edges, ThirdFace}
 use Rattle.edge_table.specs.Words.{bucketOf, lastIn, headWord, triangleWord}
@@ -17,7 +17,7 @@ abbrev pub HoldsWords : ℕ → List ℕ → (ℕ → ℕ → ℕ) → Type 0
 HoldsWords s words word = (i a : ℕ) → a < s → getD words (s * i + a) 0 ≡ word i a
 
 -- the fields of edge e while edges are entered: the last is the link to the next edge of its bucket
-unfoldable pub linkedRow : ℕ → List Edge → ℕ → List ℕ → List ℕ
+unfoldable pub linkedRow : ℕ → List EndPair → ℕ → List ℕ → List ℕ
 linkedRow size es e fs =
     getD es e noEdge .low
     ∷ getD es e noEdge .high
@@ -27,7 +27,7 @@ linkedRow size es e fs =
     ∷ lastIn size es (bucketOf size (getD es e noEdge)) e
     ∷ []
 
-unfoldable pub linkedWord : ℕ → List Edge → (ℕ → List ℕ) → ℕ → ℕ → ℕ
+unfoldable pub linkedWord : ℕ → List EndPair → (ℕ → List ℕ) → ℕ → ℕ → ℕ
 linkedWord size es faces e a = cond (ltb e (length es)) (getD (linkedRow size es e (faces e)) a 0) 0
 
 -- the edges' words with the links of the first n edges zeroed

@@ -13,7 +13,7 @@ use lib.Ieee.{Float, nan}
 use Rattle.layout.specs.Layout.{verticesPerTriangle, wordsPerTriangle, realsPerTriangle, realsPerNormal}
 use Rattle.vec3.specs.declared.Vec3.{Vec3}
 use Rattle.vec3.specs.Vec.{subOf, dotOf}
-use Rattle.topology.specs.Edges.{Edge, noEdge, offEnds, joins, edges, triEdge, face, other, local, third, sharedVertex, edgeBetween, vertexFaces}
+use Rattle.topology.specs.Edges.{EndPair, noEdge, offEnds, joins, edges, triEdge, face, other, local, third, sharedVertex, edgeBetween, vertexFaces}
 use Rattle.topology.specs.Frames.{origin, len, xhat, yhat, coordsX, coordsY}
 use Rattle.topology.proofs.Edges.{tri-edge-there}
 use Rattle.topology.proofs.Sides.{local-below}

@@ -8,7 +8,7 @@ use lib.Ieee.{Float}
 use Rattle.layout.specs.Layout.{verticesPerTriangle, wordsPerVertex, vertexStart, vertexEnd, wordsPerTriangle, realsPerTriangle, realsPerNormal}
 use Rattle.vec3.specs.declared.Vec3.{Vec3}
 use Rattle.vec3.specs.Vec.{subOf, dotOf}
-use Rattle.topology.specs.Edges.{Edge, offEnds, joins}
+use Rattle.topology.specs.Edges.{EndPair, offEnds, joins}
 use Rattle.frames.specs.Stored.{lowAt, highAt, faceAt, vectorFrom, lengthAt, unitAt, originAt}
 use Rattle.windows.specs.declared.Edge.{Edge as TrimEdge}
 use Rattle.mesh_readers.specs.declared.EdgeEnds.{EdgeEnds}
@@ -17,7 +17,7 @@ use Rattle.mesh_readers.specs.declared.FrameCoords.{FrameCoords}
 use Rattle.mesh_readers.specs.declared.RoundRange.{RoundRange}
 
 -- ---- of an edge
-abbrev pub edgeAt : List ℕ → ℕ → Edge
+abbrev pub edgeAt : List ℕ → ℕ → EndPair
 edgeAt edgeWords e = record { low = lowAt edgeWords e; high = highAt edgeWords e }
 
 abbrev pub endsAt : List ℕ → ℕ → EdgeEnds

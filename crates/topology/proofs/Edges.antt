@@ -6,7 +6,7 @@ use mathlib.Core.Logic.{⊎-elim}
 use native.Mathlib.Nat.{le-of-suc-le-suc, not-suc-le-zero, eq-or-lt-of-le}
 use native.Mathlib.Omega.{arith}
 use lib.ListN.{length, getD}
-use Rattle.topology.specs.Edges.{Edge, noEdge, find, enter, sideEdge, edgesOf, edges, triEdge}
+use Rattle.topology.specs.Edges.{EndPair, noEdge, find, enter, sideEdge, edgesOf, edges, triEdge}
 use Rattle.topology.proofs.Find.{find-at, enter-longer, enter-has, enter-keeps, enter-grows, each-enter, Numbered, numbered-enter}
 
 module _ (triangles : List ℕ) where
@@ -35,7 +35,7 @@ module _ (triangles : List ℕ) where
   few-edges (suc n) = ⊎-elim (λ q. omega (arith, few-edges n)) (λ q. omega (arith, few-edges n)) (enter-longer (edgesOf triangles n) (sideEdge triangles n))
 
   -- every edge is that of a side
-  abbrev pub FromSide : ℕ → Edge → Type 0
+  abbrev pub FromSide : ℕ → EndPair → Type 0
   FromSide n e = (h : ℕ) × ((h < n) × (e ≡ sideEdge triangles h))
 
   pub edge-from-side : (n i : ℕ) → i < length (edgesOf triangles n) → FromSide n (getD (edgesOf triangles n) i noEdge)

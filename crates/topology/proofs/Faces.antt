@@ -10,12 +10,12 @@ use native.Mathlib.Omega.{arith}
 use borrow.Author.Tests.{ltb-false}
 use lib.ListN.{length, getD}
 use Rattle.job_checks.proofs.Any.{none-below}
-use Rattle.topology.specs.Edges.{Edge, noEdge, noFace, sameEdge, sideEdge, edges, triEdge, facesAmong, edgeFaces, overfull, sharedByThree, face}
+use Rattle.topology.specs.Edges.{EndPair, noEdge, noFace, sameEdge, sideEdge, edges, triEdge, facesAmong, edgeFaces, overfull, sharedByThree, face}
 use Rattle.topology.proofs.Find.{same-self}
 use Rattle.topology.proofs.Chosen.{Listed, chosen, chosen-listed, listed-chosen, chosen-pairs}
 use Rattle.topology.proofs.Edges.{FromSide, edge-is-side, tri-edge-there, tri-edge-is}
 
-module _ (triangles : List ℕ) (e : Edge) where
+module _ (triangles : List ℕ) (e : EndPair) where
   -- the sides that have the edge
   abbrev sides : ℕ → Bool
   sides h = sameEdge (sideEdge triangles h) e

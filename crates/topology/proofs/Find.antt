@@ -10,15 +10,15 @@ use borrow.Author.Tests.{eqb-true, eq-eqb, ltb-true, ltb-false}
 use lib.Dec.{ltb, eqb}
 use lib.ListN.{length, getD, length-append, List·getD-append}
 use lib.Seq.{getD-append-seam}
-use Rattle.topology.specs.Edges.{Edge, noEdge, sameEdge, find, enter}
+use Rattle.topology.specs.Edges.{EndPair, noEdge, sameEdge, find, enter}
 
-edge-ext : (x y : Edge) → x .low ≡ y .low → x .high ≡ y .high → x ≡ y
+edge-ext : (x y : EndPair) → x .low ≡ y .low → x .high ≡ y .high → x ≡ y
 edge-ext x y p q = λ i. record { low = p i; high = q i }
 
-pub same-edge : (x y : Edge) → sameEdge x y ≡ true → x ≡ y
+pub same-edge : (x y : EndPair) → sameEdge x y ≡ true → x ≡ y
 same-edge x y e = edge-ext x y (eqb-true (x .low) (y .low) (and-eq-true-iff (eqb (x .low) (y .low)) (eqb (x .high) (y .high)) .0 e .0)) (eqb-true (x .high) (y .high) (and-eq-true-iff (eqb (x .low) (y .low)) (eqb (x .high) (y .high)) .0 e .1))
 
-pub same-self : (x : Edge) → sameEdge x x ≡ true
+pub same-self : (x : EndPair) → sameEdge x x ≡ true
 same-self x = rw (eq-eqb (x .low) (x .low) refl, eq-eqb (x .high) (x .high) refl)
 
 -- a test that is either way
@@ -27,13 +27,13 @@ either true = inl refl
 either false = inr refl
 
 -- A list that has e, at find e, and one that does not.
-module _ (e : Edge) where
-  pub find-le : (es : List Edge) → find e es ≤ length es
+module _ (e : EndPair) where
+  pub find-le : (es : List EndPair) → find e es ≤ length es
   unfolding find
   find-le [] = omega arith
   find-le (x ∷ es) = ⊎-elim (λ q. rw q (omega arith)) (λ q. rw q (omega (arith, find-le es))) (either (sameEdge x e))
 
-  pub find-at : (es : List Edge) → find e es < length es → getD es (find e es) noEdge ≡ e
+  pub find-at : (es : List EndPair) → find e es < length es → getD es (find e es) noEdge ≡ e
   unfolding find
   find-at [] l = absurd (not-suc-le-zero l)
   find-at (x ∷ es) l =
@@ -41,7 +41,7 @@ module _ (e : Edge) where
       (λ q. let l′ : suc (find e es) < suc (length es) = rw q at l in rw q (find-at es (le-of-suc-le-suc l′)))
       (either (sameEdge x e))
 
-  pub find-append : (es xs : List Edge) → find e es < length es → find e (es ++ xs) ≡ find e es
+  pub find-append : (es xs : List EndPair) → find e es < length es → find e (es ++ xs) ≡ find e es
   unfolding find
   find-append [] xs l = absurd (not-suc-le-zero l)
   find-append (x ∷ es) xs l =
@@ -49,7 +49,7 @@ module _ (e : Edge) where
       (λ q. let l′ : suc (find e es) < suc (length es) = rw q at l in rw q (ap suc (find-append es xs (le-of-suc-le-suc l′))))
       (either (sameEdge x e))
 
-  pub find-last : (es : List Edge) → length es ≤ find e es → find e (es ++ (e ∷ [])) ≡ length es
+  pub find-last : (es : List EndPair) → length es ≤ find e es → find e (es ++ (e ∷ [])) ≡ length es
   unfolding find
   find-last [] l = rw (same-self e)
   find-last (x ∷ es) l =
@@ -58,7 +58,7 @@ module _ (e : Edge) where
       (either (sameEdge x e))
 
 -- Entering an edge: it is there afterwards, and so is what was there, under the same number.
-module _ (es : List Edge) (x : Edge) where
+module _ (es : List EndPair) (x : EndPair) where
   -- it was there, or it is appended
   pub entered : ((find x es < length es) × (enter es x ≡ es)) ⊎ ((length es ≤ find x es) × (enter es x ≡ es ++ (x ∷ [])))
   unfolding enter
@@ -69,11 +69,11 @@ module _ (es : List Edge) (x : Edge) where
 
   pub enter-has : find x (enter es x) < length (enter es x)
   enter-has =
-      ⊎-elim (λ w. subst (λ (l : List Edge). find x l < length l) (sym (w .1)) (w .0))
-      (λ w. subst (λ (l : List Edge). find x l < length l) (sym (w .1)) (rw (find-last x es (w .0), length-append es (x ∷ [])) (omega arith)))
+      ⊎-elim (λ w. subst (λ (l : List EndPair). find x l < length l) (sym (w .1)) (w .0))
+      (λ w. subst (λ (l : List EndPair). find x l < length l) (sym (w .1)) (rw (find-last x es (w .0), length-append es (x ∷ [])) (omega arith)))
       entered
 
-  pub enter-keeps : (e : Edge) → find e es < length es → find e (enter es x) ≡ find e es
+  pub enter-keeps : (e : EndPair) → find e es < length es → find e (enter es x) ≡ find e es
   enter-keeps e l =
       ⊎-elim (λ w. ap (find e) (w .1)) (λ w. ap (find e) (w .1) ∙ find-append e es (x ∷ []) l) entered
 
@@ -81,7 +81,7 @@ module _ (es : List Edge) (x : Edge) where
   enter-grows = ⊎-elim (λ w. omega arith) (λ w. omega arith) enter-longer
 
 -- What holds of each edge of a list and of x holds of each once x is entered.
-module _ (P : Edge → Type 0) (es : List Edge) (x : Edge) (each : (i : ℕ) → i < length es → P (getD es i noEdge)) (here : P x) where
+module _ (P : EndPair → Type 0) (es : List EndPair) (x : EndPair) (each : (i : ℕ) → i < length es → P (getD es i noEdge)) (here : P x) where
   each-append : (i : ℕ) → i < length (es ++ (x ∷ [])) → P (getD (es ++ (x ∷ [])) i noEdge)
   each-append i l =
       let l′ : i < suc (length es) = omega (arith, length-append es (x ∷ []), l) in
@@ -91,15 +91,15 @@ module _ (P : Edge → Type 0) (es : List Edge) (x : Edge) (each : (i : ℕ) →
 
   pub each-enter : (i : ℕ) → i < length (enter es x) → P (getD (enter es x) i noEdge)
   each-enter =
-      ⊎-elim (λ w. subst (λ (s : List Edge). (i : ℕ) → i < length s → P (getD s i noEdge)) (sym (w .1)) each)
-      (λ w. subst (λ (s : List Edge). (i : ℕ) → i < length s → P (getD s i noEdge)) (sym (w .1)) each-append)
+      ⊎-elim (λ w. subst (λ (s : List EndPair). (i : ℕ) → i < length s → P (getD s i noEdge)) (sym (w .1)) each)
+      (λ w. subst (λ (s : List EndPair). (i : ℕ) → i < length s → P (getD s i noEdge)) (sym (w .1)) each-append)
       (entered es x)
 
 -- No edge stands twice: each is found at its own place.
-abbrev pub Numbered : List Edge → Type 0
+abbrev pub Numbered : List EndPair → Type 0
 Numbered es = (i : ℕ) → i < length es → find (getD es i noEdge) es ≡ i
 
-module _ (es : List Edge) (x : Edge) (all : Numbered es) where
+module _ (es : List EndPair) (x : EndPair) (all : Numbered es) where
   numbered-append : length es ≤ find x es → Numbered (es ++ (x ∷ []))
   numbered-append fresh i l =
       let l′ : i < suc (length es) = omega (arith, length-append es (x ∷ []), l) in

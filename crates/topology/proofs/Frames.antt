@@ -13,7 +13,7 @@ use Rattle.job_checks.specs.Edge.{vertexAt, lower, higher, lenOf, altitudeOf}
 use Rattle.job_checks.specs.Refusals.{minLength, minAltitude, degenerate, degenerateEdge, degenerateIn}
 use Rattle.job_checks.proofs.Any.{head-none, tail-none}
 use Rattle.topology.specs.Checked.{ValidTriangles, RegularTriangles}
-use Rattle.topology.specs.Edges.{Edge, noEdge, between, sideVertex, sideEdge, edges, triEdge}
+use Rattle.topology.specs.Edges.{EndPair, noEdge, between, sideVertex, sideEdge, edges, triEdge}
 use Rattle.topology.specs.Frames.{origin, end, len}
 use Rattle.topology.proofs.Edges.{FromSide, edge-is-side, tri-edge-is}
 use Rattle.topology.proofs.Checked.{three-ways, corner-at, side-inside}
@@ -41,11 +41,11 @@ regular-side v triangles h e =
 module _ (v : List Float) (triangles : List ℕ) (e h : ℕ) (q : getD (edges triangles) e noEdge ≡ sideEdge triangles h) where
   origin-is : origin v triangles e ≡ vertexAt v (lower (sideVertex triangles h 0) (sideVertex triangles h 1))
   unfolding origin sideEdge between
-  origin-is = ap (λ (x : Edge). vertexAt v (x .low)) q
+  origin-is = ap (λ (x : EndPair). vertexAt v (x .low)) q
 
   end-is : end v triangles e ≡ vertexAt v (higher (sideVertex triangles h 0) (sideVertex triangles h 1))
   unfolding end sideEdge between
-  end-is = ap (λ (x : Edge). vertexAt v (x .high)) q
+  end-is = ap (λ (x : EndPair). vertexAt v (x .high)) q
 
   module _ (d : degenerateEdge v (sideVertex triangles h 0) (sideVertex triangles h 1) (sideVertex triangles h 2) ≡ false) where
     side-long : le minLength (len v triangles e) ≡ true

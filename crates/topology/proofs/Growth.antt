@@ -9,7 +9,7 @@ use native.Mathlib.Omega.{arith}
 use borrow.Author.Tests.{lt-ltb, le-ltb}
 use lib.ListN.{length, getD, length-append}
 use Rattle.job_checks.proofs.Any.{found, none-all}
-use Rattle.topology.specs.Edges.{Edge, noEdge, noFace, sameEdge, find, sideEdge, edgesOf, edges, triEdge, facesAmong, edgeFaces, overfull, sharedByThree}
+use Rattle.topology.specs.Edges.{EndPair, noEdge, noFace, sameEdge, find, sideEdge, edgesOf, edges, triEdge, facesAmong, edgeFaces, overfull, sharedByThree}
 use Rattle.topology.proofs.Find.{either, same-edge, same-self, Numbered}
 use Rattle.topology.proofs.Edges.{FromSide, edge-from-side, side-there, tri-edge-there, tri-edge-is}
 use Rattle.topology.proofs.Chosen.{Listed}
@@ -20,9 +20,9 @@ empty [] none = refl
 empty (f ∷ fs) none = absurd (none (omega arith))
 
 -- another edge of the list than the one at e's number
-pub other-edge : (es : List Edge) (x : Edge) (e : ℕ) → Numbered es → e < length es → find x es ≢ e → sameEdge x (getD es e noEdge) ≡ false
+pub other-edge : (es : List EndPair) (x : EndPair) (e : ℕ) → Numbered es → e < length es → find x es ≢ e → sameEdge x (getD es e noEdge) ≡ false
 other-edge es x e all l ne =
-    ⊎-elim (λ q. absurd (ne (subst (λ (y : Edge). find y es ≡ e) (sym (same-edge x (getD es e noEdge) q)) (all e l)))) (λ q. q) (either (sameEdge x (getD es e noEdge)))
+    ⊎-elim (λ q. absurd (ne (subst (λ (y : EndPair). find y es ≡ e) (sym (same-edge x (getD es e noEdge) q)) (all e l)))) (λ q. q) (either (sameEdge x (getD es e noEdge)))
 
 module _ (triangles : List ℕ) where
   -- one more side: it has the edge, or not
@@ -30,11 +30,11 @@ module _ (triangles : List ℕ) where
   unfolding facesAmong
   faces-more h = rw (same-self (sideEdge triangles h)) refl
 
-  pub faces-same : (h : ℕ) (e : Edge) → sameEdge (sideEdge triangles h) e ≡ false → facesAmong triangles e (suc h) ≡ facesAmong triangles e h
+  pub faces-same : (h : ℕ) (e : EndPair) → sameEdge (sideEdge triangles h) e ≡ false → facesAmong triangles e (suc h) ≡ facesAmong triangles e h
   unfolding facesAmong
   faces-same h e q = rw q refl
 
-  pub faces-grow : (e : Edge) (n m : ℕ) → n ≤ m → length (facesAmong triangles e n) ≤ length (facesAmong triangles e m)
+  pub faces-grow : (e : EndPair) (n m : ℕ) → n ≤ m → length (facesAmong triangles e n) ≤ length (facesAmong triangles e m)
   unfolding facesAmong
   faces-grow e n zero l = let q : n ≡ 0 = omega arith in rw q (omega arith)
   faces-grow e n (suc m) l =
@@ -43,12 +43,12 @@ module _ (triangles : List ℕ) where
       (eq-or-lt-of-le l)
 
   -- an edge that is not among the first n sides has no face there, one that is has some
-  pub faces-none : (n : ℕ) (x : Edge) → length (edgesOf triangles n) ≤ find x (edgesOf triangles n) → facesAmong triangles x n ≡ []
+  pub faces-none : (n : ℕ) (x : EndPair) → length (edgesOf triangles n) ≤ find x (edgesOf triangles n) → facesAmong triangles x n ≡ []
   faces-none n x fresh =
       empty (facesAmong triangles x n) (λ l.
       let r : OfSide triangles x n (getD (facesAmong triangles x n) 0 noFace) = listed-face triangles x n 0 l in
       let q : sideEdge triangles (r .0) ≡ x = same-edge (sideEdge triangles (r .0)) x (r .1 .1 .0) in
-      let k : find x (edgesOf triangles n) < length (edgesOf triangles n) = subst (λ (y : Edge). find y (edgesOf triangles n) < length (edgesOf triangles n)) q (side-there triangles n (r .0) (r .1 .0)) in
+      let k : find x (edgesOf triangles n) < length (edgesOf triangles n) = subst (λ (y : EndPair). find y (edgesOf triangles n) < length (edgesOf triangles n)) q (side-there triangles n (r .0) (r .1 .0)) in
       omega arith)
 
   pub faces-some : (n e : ℕ) → e < length (edgesOf triangles n) → 0 < length (facesAmong triangles (getD (edgesOf triangles n) e noEdge) n)

@@ -10,7 +10,7 @@ use borrow.Author.Tests.{eq-eqb, ne-eqb, ltb-true, ltb-false}
 use lib.Dec.{ltb, eqb}
 use lib.ListN.{length, getD, List·getD-eq-default}
 use Rattle.topology.specs.Checked.{ValidTriangles}
-use Rattle.topology.specs.Edges.{Edge, noEdge, noFace, find, sameEdge, sideEdge, edges, triEdge, edgeFaces, sharedByThree, face, other}
+use Rattle.topology.specs.Edges.{EndPair, noEdge, noFace, find, sameEdge, sideEdge, edges, triEdge, edgeFaces, sharedByThree, face, other}
 use Rattle.topology.proofs.Find.{either, same-edge}
 use Rattle.topology.proofs.Chosen.{Listed}
 use Rattle.topology.proofs.Faces.{face-pairs, some-face, face-in-range, two-faces, first-or-second}
@@ -18,9 +18,9 @@ use Rattle.topology.proofs.Triangles.{sides-apart}
 use Rattle.topology.proofs.Checked.{face-edges, side-inside}
 
 -- two sides that have one edge find it at one place
-one-edge : (triangles : List ℕ) (e : Edge) (a b : ℕ) → sameEdge (sideEdge triangles a) e ≡ true → sameEdge (sideEdge triangles b) e ≡ true → triEdge triangles a ≡ triEdge triangles b
+one-edge : (triangles : List ℕ) (e : EndPair) (a b : ℕ) → sameEdge (sideEdge triangles a) e ≡ true → sameEdge (sideEdge triangles b) e ≡ true → triEdge triangles a ≡ triEdge triangles b
 unfolding triEdge
-one-edge triangles e a b p q = ap (λ (x : Edge). find x (edges triangles)) (same-edge (sideEdge triangles a) e p ∙ sym (same-edge (sideEdge triangles b) e q))
+one-edge triangles e a b p q = ap (λ (x : EndPair). find x (edges triangles)) (same-edge (sideEdge triangles a) e p ∙ sym (same-edge (sideEdge triangles b) e q))
 
 -- past the first face
 pub other-first : (triangles : List ℕ) (e : ℕ) → other triangles e (face triangles e 0) ≡ face triangles e 1

@@ -14,7 +14,7 @@ use lib.Dec.{eqb}
 use lib.ListN.{length, getD}
 use Rattle.job_checks.specs.Sound.{Distinct}
 use Rattle.topology.specs.Checked.{ValidTriangles}
-use Rattle.topology.specs.Edges.{Edge, noEdge, noFace, between, sameEdge, offEnds, joins, find, sideVertex, sideEdge, edges, triEdge, facesAmong, edgeFaces, local, third, sharedVertex, edgeBetween, vertexFaces}
+use Rattle.topology.specs.Edges.{EndPair, noEdge, noFace, between, sameEdge, offEnds, joins, find, sideVertex, sideEdge, edges, triEdge, facesAmong, edgeFaces, local, third, sharedVertex, edgeBetween, vertexFaces}
 use Rattle.topology.proofs.Find.{either, same-edge}
 use Rattle.topology.proofs.Chosen.{Listed}
 use Rattle.topology.proofs.Edges.{edges-numbered, tri-edge-is, tri-edge-there}
@@ -37,7 +37,7 @@ between-turned a b =
     λ i. record { low = l i; high = h i }
 
 -- the vertex that two edges of the triangle a b c share, as `sharedVertex` picks it
-abbrev picked : Edge → Edge → ℕ
+abbrev picked : EndPair → EndPair → ℕ
 picked x y = cond (offEnds (x .low) y) (x .high) (x .low)
 
 module _ (a b c : ℕ) (d : Distinct a b c) where
@@ -59,7 +59,7 @@ module _ (a b c : ℕ) (d : Distinct a b c) where
       ⊎-elim (λ v. ⊎-elim (λ w. w) (λ w. absurd (d .third-first (sym w ∙ v))) (on-either k b c q)) (λ v. v) (on-either k a b p)
 
 -- both ends of an edge, and one that is not
-module _ (a b : ℕ) (e : Edge) where
+module _ (a b : ℕ) (e : EndPair) where
   joins-both : offEnds a e ≡ false → offEnds b e ≡ false → joins a b e ≡ true
   unfolding joins
   joins-both p q = rw (p, q)
@@ -160,9 +160,9 @@ module _ (triangles : List ℕ) (n : ℕ) (s : ValidTriangles triangles n) where
     side-of : (h : ℕ) × ((h < length triangles) × ((triEdge triangles h ≡ e) × (f ≡ h / 3)))
     unfolding edgeFaces triEdge
     side-of =
-        let x : Edge = getD (edges triangles) e noEdge in
+        let x : EndPair = getD (edges triangles) e noEdge in
         let r : OfSide triangles x (length triangles) (getD (facesAmong triangles x (length triangles)) (of .0) noFace) = listed-face triangles x (length triangles) (of .0) (of .1 .0) in
-        (r .0, (r .1 .0, (ap (λ (y : Edge). find y (edges triangles)) (same-edge (sideEdge triangles (r .0)) x (r .1 .1 .0)) ∙ edges-numbered triangles e l, sym (of .1 .1) ∙ r .1 .1 .1)))
+        (r .0, (r .1 .0, (ap (λ (y : EndPair). find y (edges triangles)) (same-edge (sideEdge triangles (r .0)) x (r .1 .1 .0)) ∙ edges-numbered triangles e l, sym (of .1 .1) ∙ r .1 .1 .1)))
 
     pub face-there : f < length triangles / 3
     face-there = let r = side-of in omega (arith, r .1 .0, r .1 .1 .1, s .whole)
@@ -244,14 +244,14 @@ module _ (triangles : List ℕ) (n : ℕ) (s : ValidTriangles triangles n) where
     shared-is = λ t. picked (edge-at (3 * f + i) h-in t) (edge-at (3 * f + j) g-in t)
 
     -- from the two edges as pairs of the triangle's vertices
-    shared-of : (x y : Edge) (v : ℕ) → getD (edges triangles) e noEdge ≡ x → getD (edges triangles) o noEdge ≡ y → sharedVertex triangles e o ≡ v
+    shared-of : (x y : EndPair) (v : ℕ) → getD (edges triangles) e noEdge ≡ x → getD (edges triangles) o noEdge ≡ y → sharedVertex triangles e o ≡ v
         → offEnds v x ≡ false → offEnds v y ≡ false → ((k : ℕ) → offEnds k x ≡ false → offEnds k y ≡ false → k ≡ v) → v < n → Listed f (vertexFaces triangles v)
         → Shared triangles n f e o (sharedVertex triangles e o)
     shared-of x y v p q r on-e on-o one below listed =
         record {
           on-first = rw (r, p) on-e;
           on-second = rw (r, q) on-o;
-          only = λ k c d. one k (subst (λ (z : Edge). offEnds k z ≡ false) p c) (subst (λ (z : Edge). offEnds k z ≡ false) q d) ∙ sym r;
+          only = λ k c d. one k (subst (λ (z : EndPair). offEnds k z ≡ false) p c) (subst (λ (z : EndPair). offEnds k z ≡ false) q d) ∙ sym r;
           there = rw r below;
           listed = subst (λ (z : ℕ). Listed f (vertexFaces triangles z)) (sym r) listed;
         }
@@ -372,4 +372,4 @@ module _ (triangles : List ℕ) (n : ℕ) (s : ValidTriangles triangles n) where
         (λ q. beyond up C (omega arith) (λ x. omega arith) (sym (third-is e f l of))
         ((λ t. edgeBetween triangles f ((q ∙ sym u0) t) (sym u1 t)) ∙ between-of-side f fl up (omega arith))
         (λ t. between ((u0 ∙ sym q) t) (u1 t)))
-        (on-either v A B (subst (λ (x : Edge). offEnds v x ≡ false) (edge-is e f l of) on))
+        (on-either v A B (subst (λ (x : EndPair). offEnds v x ≡ false) (edge-is e f l of) on))

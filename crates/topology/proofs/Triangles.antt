@@ -11,7 +11,7 @@ use borrow.Author.Tests.{eq-eqb, ne-eqb, ltb-true, ltb-false}
 use lib.Dec.{ltb, eqb}
 use lib.ListN.{length, getD}
 use Rattle.job_checks.specs.Sound.{Distinct}
-use Rattle.topology.specs.Edges.{Edge, noEdge, between, sideVertex, sideEdge, edges, triEdge, local, offEnds, third}
+use Rattle.topology.specs.Edges.{EndPair, noEdge, between, sideVertex, sideEdge, edges, triEdge, local, offEnds, third}
 use Rattle.topology.proofs.Find.{either}
 use Rattle.topology.proofs.Edges.{tri-edge-is}
 
@@ -51,8 +51,8 @@ ends-rise a b ne = ⊎-elim (λ w. omega arith) (λ w. ⊎-elim (λ q. absurd (n
 -- two sides of a triangle have different edges
 pub sides-differ : (a b c : ℕ) → Distinct a b c → between a b ≡ between b c → ⊥
 sides-differ a b c d e =
-    let l : between a b .low ≡ between b c .low = ap (λ (x : Edge). x .low) e in
-    let h : between a b .high ≡ between b c .high = ap (λ (x : Edge). x .high) e in
+    let l : between a b .low ≡ between b c .low = ap (λ (x : EndPair). x .low) e in
+    let h : between a b .high ≡ between b c .high = ap (λ (x : EndPair). x .high) e in
     ⊎-elim
     (λ v. ⊎-elim (λ w. d .first-second (omega arith)) (λ w. d .third-first (omega arith)) (ends b c))
     (λ v. ⊎-elim (λ w. d .third-first (omega arith)) (λ w. d .second-third (omega arith)) (ends b c))
@@ -67,11 +67,11 @@ module _ (k a b : ℕ) where
       (λ w. rw (ne-eqb k (between a b .low) (λ e. q (e ∙ w .1 .0)), ne-eqb k (between a b .high) (λ e. p (e ∙ w .1 .1))))
       (ends a b)
 
-pub on-low : (k : ℕ) (e : Edge) → k ≡ e .low → offEnds k e ≡ false
+pub on-low : (k : ℕ) (e : EndPair) → k ≡ e .low → offEnds k e ≡ false
 unfolding offEnds
 on-low k e q = rw (eq-eqb k (e .low) q)
 
-pub on-high : (k : ℕ) (e : Edge) → k ≡ e .high → offEnds k e ≡ false
+pub on-high : (k : ℕ) (e : EndPair) → k ≡ e .high → offEnds k e ≡ false
 unfolding offEnds
 on-high k e q = rw (eq-eqb k (e .high) q) (and-false (not (eqb k (e .low))))
 

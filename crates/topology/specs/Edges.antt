@@ -10,38 +10,38 @@ use Rattle.job_checks.specs.Any.{anyBelow}
 use Rattle.job_checks.specs.Edge.{lower, higher}
 
 -- the two vertices of an edge, the lower-numbered one first
-pub record Edge : Type 0 where
+pub record EndPair : Type 0 where
   pub low : ℕ
   pub high : ℕ
 
 -- what stands where there is no edge or no face
-abbrev pub noEdge : Edge
+abbrev pub noEdge : EndPair
 noEdge = record { low = 0; high = 0 }
 
 abbrev pub noFace : ℕ
 noFace = 4_294_967_295
 
-unfoldable pub between : ℕ → ℕ → Edge
+unfoldable pub between : ℕ → ℕ → EndPair
 between a b = record { low = lower a b; high = higher a b }
 
-abbrev pub sameEdge : Edge → Edge → Bool
+abbrev pub sameEdge : EndPair → EndPair → Bool
 sameEdge x y = eqb (x .low) (y .low) && eqb (x .high) (y .high)
 
 -- vertex k is neither end of an edge
-unfoldable pub offEnds : ℕ → Edge → Bool
+unfoldable pub offEnds : ℕ → EndPair → Bool
 offEnds k e = not (eqb k (e .low)) && not (eqb k (e .high))
 
 -- both vertices are ends of an edge
-unfoldable pub joins : ℕ → ℕ → Edge → Bool
+unfoldable pub joins : ℕ → ℕ → EndPair → Bool
 joins a b e = not (offEnds a e) && not (offEnds b e)
 
 -- the place of e in a list, or the list's length
-unfoldable pub find : Edge → List Edge → ℕ
+unfoldable pub find : EndPair → List EndPair → ℕ
 find e [] = 0
 find e (x ∷ xs) = cond (sameEdge x e) 0 (suc (find e xs))
 
 -- e entered at the end, unless it is there
-unfoldable pub enter : List Edge → Edge → List Edge
+unfoldable pub enter : List EndPair → EndPair → List EndPair
 enter es e = cond (ltb (find e es) (length es)) es (es ++ (e ∷ []))
 
 module _ (triangles : List ℕ) where
@@ -49,15 +49,15 @@ module _ (triangles : List ℕ) where
   unfoldable pub sideVertex : ℕ → ℕ → ℕ
   sideVertex h k = getD triangles (3 * (h / 3) + (h % 3 + k) % 3) 0
 
-  unfoldable pub sideEdge : ℕ → Edge
+  unfoldable pub sideEdge : ℕ → EndPair
   sideEdge h = between (sideVertex h 0) (sideVertex h 1)
 
   -- the edges of the first n sides, numbered by first appearance
-  unfoldable pub edgesOf : ℕ → List Edge
+  unfoldable pub edgesOf : ℕ → List EndPair
   edgesOf zero = []
   edgesOf (suc n) = enter (edgesOf n) (sideEdge n)
 
-  unfoldable pub edges : List Edge
+  unfoldable pub edges : List EndPair
   edges = edgesOf (length triangles)
 
   -- the Rust's tri_edges, of triangle h / 3 at h % 3
@@ -65,7 +65,7 @@ module _ (triangles : List ℕ) where
   triEdge h = find (sideEdge h) edges
 
   -- the faces of an edge among the first n sides, in rising order
-  unfoldable pub facesAmong : Edge → ℕ → List ℕ
+  unfoldable pub facesAmong : EndPair → ℕ → List ℕ
   facesAmong e zero = []
   facesAmong e (suc n) = cond (sameEdge (sideEdge n) e) (facesAmong e n ++ (n / 3 ∷ [])) (facesAmong e n)
 
@@ -94,7 +94,7 @@ module _ (triangles : List ℕ) where
   -- the vertex of face f that is not on edge e
   unfoldable pub third : ℕ → ℕ → ℕ
   third e f =
-      let ends : Edge = getD edges e noEdge in
+      let ends : EndPair = getD edges e noEdge in
       cond (offEnds (getD triangles (3 * f) 0) ends) (getD triangles (3 * f) 0)
       (cond (offEnds (getD triangles (3 * f + 1) 0) ends) (getD triangles (3 * f + 1) 0)
       (getD triangles (3 * f + 2) 0))
@@ -102,7 +102,7 @@ module _ (triangles : List ℕ) where
   -- the vertex that the edges e and o share, for two edges of one face: the first end of e if o has it, or else the second
   unfoldable pub sharedVertex : ℕ → ℕ → ℕ
   sharedVertex e o =
-      let ends : Edge = getD edges e noEdge in
+      let ends : EndPair = getD edges e noEdge in
       cond (offEnds (ends .low) (getD edges o noEdge)) (ends .high) (ends .low)
 
   -- the edge of face f between the vertices a and b: the first of its edges that has both

@@ -14,7 +14,7 @@ use Rattle.float64.specs.TotalOrder.{totalLess}
 use Rattle.better.specs.Stretches.{Interval}
 use Rattle.trim_model.specs.Intervals.{width, next, pieces, pieceSlivers, wideOf, keepSlivers}
 use Rattle.trim_model.specs.Windows.{Window, part, fresh, split, unqueued, insert, sorted, takeWhile, dropWhile, all, takeWhileEnd, dropWhileEnd}
-use Rattle.trim_model.specs.Add.{Better, Walk, Added, startsBefore, endsAfter, before, onward, run, behind, start, untouched, meet, visit, visits, addTo, sharedLo, sharedHi}
+use Rattle.trim_model.specs.Add.{Better, Walk, AddOutcome, startsBefore, endsAfter, before, onward, run, behind, start, untouched, meet, visit, visits, addTo, sharedLo, sharedHi}
 use Rattle.trim_model.specs.Model.{EdgeState}
 use Rattle.better.specs.Claim.{All, Pairs}
 use Rattle.trim_model.specs.Claim.{Any, InWindow, Trimmed}
@@ -27,7 +27,7 @@ use Rattle.trim_model.proofs.Order.{Tidy}
 abbrev pub walkFlags : Walk → Walk
 walkFlags s = record { survivors = map unqueued (s .survivors); keep = s .keep; made = s .made; slivers = s .slivers }
 
-abbrev pub addedFlags : Added → Added
+abbrev pub addedFlags : AddOutcome → AddOutcome
 addedFlags a = record { live = map unqueued (a .live); made = a .made; slivers = a .slivers }
 
 -- ---- parts and sorting
@@ -148,7 +148,7 @@ module _ (better : Better) (t : Float) (w : Window) where
   ended-flags l made = visits-flags (run t w l) (start w made) ∙ ap (λ (us : List Window). visits better t (unqueued w) us (start (unqueued w) made)) (run-flags t w l)
 
 -- what an addition leaves, from its parts
-abbrev resultOf : Float → Window → List Window → List Window → Walk → Added
+abbrev resultOf : Float → Window → List Window → List Window → Walk → AddOutcome
 resultOf t w pre suf s = record {
   live = pre ++ (sorted (s .survivors ++ fresh w (s .made) (wideOf t (s .keep))) ++ suf);
   made = s .made + length (wideOf t (s .keep));
@@ -165,7 +165,7 @@ result-flags t w pre suf s = ap (λ (l : List Window). with-live l)
     ns : List Window
     ns = fresh w (s .made) (wideOf t (s .keep))
 
-    with-live : List Window → Added
+    with-live : List Window → AddOutcome
     with-live l = record { live = l; made = s .made + length (wideOf t (s .keep)); slivers = s .slivers ++ keepSlivers t (s .keep) }
 
 module _ (better : Better) (t : Float) where
@@ -180,15 +180,15 @@ module _ (better : Better) (t : Float) where
 
   -- its live windows
   pub add-flags-live : (w : Window) (l : List Window) (made : ℕ) → map unqueued (addTo better t w l made .live) ≡ addTo better t (unqueued w) (map unqueued l) made .live
-  add-flags-live w l made = ap (λ (a : Added). a .live) (add-flags w l made)
+  add-flags-live w l made = ap (λ (a : AddOutcome). a .live) (add-flags w l made)
 
   -- the number made
   pub add-flags-made : (w : Window) (l : List Window) (made : ℕ) → addTo better t w l made .made ≡ addTo better t (unqueued w) (map unqueued l) made .made
-  add-flags-made w l made = ap (λ (a : Added). a .made) (add-flags w l made)
+  add-flags-made w l made = ap (λ (a : AddOutcome). a .made) (add-flags w l made)
 
   -- its slivers
   pub add-flags-slivers : (w : Window) (l : List Window) (made : ℕ) → addTo better t w l made .slivers ≡ addTo better t (unqueued w) (map unqueued l) made .slivers
-  add-flags-slivers w l made = ap (λ (a : Added). a .slivers) (add-flags w l made)
+  add-flags-slivers w l made = ap (λ (a : AddOutcome). a .slivers) (add-flags w l made)
 
   -- windows and lists that differ in flags alone
   module _ (w w' : Window) (l l' : List Window) (made : ℕ) (h : unqueued w ≡ unqueued w') (k : map unqueued l ≡ map unqueued l') where
@@ -202,15 +202,15 @@ module _ (better : Better) (t : Float) where
 
     -- of them the live windows
     pub add-same-live : map unqueued (addTo better t w l made .live) ≡ map unqueued (addTo better t w' l' made .live)
-    add-same-live = ap (λ (a : Added). a .live) add-same
+    add-same-live = ap (λ (a : AddOutcome). a .live) add-same
 
     -- the number made
     pub add-same-made : addTo better t w l made .made ≡ addTo better t w' l' made .made
-    add-same-made = ap (λ (a : Added). a .made) add-same
+    add-same-made = ap (λ (a : AddOutcome). a .made) add-same
 
     -- the slivers
     pub add-same-slivers : addTo better t w l made .slivers ≡ addTo better t w' l' made .slivers
-    add-same-slivers = ap (λ (a : Added). a .slivers) add-same
+    add-same-slivers = ap (λ (a : AddOutcome). a .slivers) add-same
 
 -- ---- what does not look at the flag holds of both lists or of neither
 module _ (P : Window → Type 0) (f : (u : Window) → P u → P (unqueued u)) (g : (u : Window) → P (unqueued u) → P u) where

@@ -13,7 +13,7 @@ use Rattle.source.specs.Distance.{lowestOf}
 use Rattle.better.specs.Stretches.{Interval, interval}
 use Rattle.trim_model.specs.Intervals.{width, tinyOf}
 use Rattle.trim_model.specs.Windows.{Window}
-use Rattle.trim_model.specs.Add.{Better, Added, addTo, addBound}
+use Rattle.trim_model.specs.Add.{Better, AddOutcome, addTo, addBound}
 use Rattle.trim_model.specs.Model.{Candidate, EdgeState, Model, empty, asWindow, admits, updated, admit, step, steps, stepBound, stepsBound}
 use Rattle.better.specs.Claim.{All, Point}
 use Rattle.trim_model.specs.Claim.{Any, Proper, AdmittedProper}
@@ -49,7 +49,7 @@ module _ {t : Float} (t0 : Nonneg t) {better : Better} (B : Stretches better) (c
   abbrev w : Window
   w = asWindow c
 
-  abbrev a : Added
+  abbrev a : AddOutcome
   a = addTo better t w (s .live) made
 
   covered : (X : ℕ) → HoldsWindow X w ⊎ Any (HoldsWindow X) (s .live) → Any (HoldsWindow X) (a .live) ⊎ Any (Holds X) (s .slivers ++ a .slivers)

@@ -23,7 +23,7 @@ pub record Walk : Type 0 where
   pub slivers : List Interval
 
 -- what an addition leaves: the edge's live windows, how many windows are made, and the slivers that it dropped
-pub record Added : Type 0 where
+pub record AddOutcome : Type 0 where
   pub live : List Window
   pub made : ℕ
   pub slivers : List Interval
@@ -97,7 +97,7 @@ module _ (better : Better) where
   visits tiny w (u ∷ us) s = visits tiny w us (visit tiny w u s)
 
   -- the whole: the run is replaced by what survives and the new windows
-  unfoldable pub addTo : Float → Window → List Window → ℕ → Added
+  unfoldable pub addTo : Float → Window → List Window → ℕ → AddOutcome
   unfolding visits
   addTo tiny w list made =
       let s = visits tiny w (run tiny w list) (start w made) in

@@ -11,7 +11,7 @@ use Rattle.source.specs.Distance.{lowestOf}
 use Rattle.better.specs.Stretches.{Interval, interval}
 use Rattle.trim_model.specs.Intervals.{width, tinyOf}
 use Rattle.trim_model.specs.Windows.{Window}
-use Rattle.trim_model.specs.Add.{Better, Added, addTo, addBound}
+use Rattle.trim_model.specs.Add.{Better, AddOutcome, addTo, addBound}
 use Rattle.float64.specs.Notation.{if_then_else_}
 
 pub record Candidate : Type 0 where
@@ -45,7 +45,7 @@ abbrev pub admits : Float → (ℕ → Float) → Candidate → Bool
 admits limit len c = not (le (width (c .b0) (c .b1)) (tinyOf (len (c .edge))) || lt limit (lowestOf (c .src) (c .b0) (c .b1)))
 
 -- the edge of an admitted candidate, after its addition
-abbrev pub updated : Candidate → EdgeState → Added → EdgeState
+abbrev pub updated : Candidate → EdgeState → AddOutcome → EdgeState
 updated c s a = record { live = a .live; admitted = s .admitted ++ (interval (c .b0) (c .b1) ∷ []); slivers = s .slivers ++ a .slivers }
 
 module _ (better : Better) (limit : Float) (len : ℕ → Float) where

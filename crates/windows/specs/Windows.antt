@@ -36,8 +36,8 @@ abbrev pub hasFlag : ℕ → ℕ → Bool
 hasFlag flags v = eqb (flags / v % 2) 1
 
 -- the four u32 of window k
-abbrev pub edgeWord : List ℕ → ℕ → ℕ
-edgeWord w k = getD w (wordsPerWindow * k + windowEdge) 0
+abbrev pub edgeStored : List ℕ → ℕ → ℕ
+edgeStored w k = getD w (wordsPerWindow * k + windowEdge) 0
 
 abbrev pub intoOf : List ℕ → ℕ → ℕ
 intoOf w k = getD w (wordsPerWindow * k + windowInto) 0
@@ -60,7 +60,7 @@ winAt line f k = record {
 -- the window of number k
 unfoldable pub windowAt : List ℕ → List Float → ℕ → WindowRecord
 windowAt w f k = record {
-  edge = record { 0 = edgeWord w k };
+  edge = record { 0 = edgeStored w k };
   carried = record { into = record { 0 = intoOf w k }; queued = hasFlag (flagsAt w k) queuedFlag };
   alive = hasFlag (flagsAt w k) aliveFlag;
   link = linkOf w k;

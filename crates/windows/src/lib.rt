@@ -1,5 +1,5 @@
-// The window buffer: for each window four u32 (its edge, the face it goes into, its flags, its link) and six f64 (its ends,
-// its least value, the three numbers of its source).
+// The window buffer: for each window u32 words (its edge, the face it goes into, its flags, its link) and f64 reals (its ends,
+// its least value, the three numbers of its source). Crate `layout` says where each stands.
 use buffers::EdgeId;
 use buffers::FaceId;
 use buffers::VertexId;

@@ -1,5 +1,5 @@
 use mathlib.Core.Path.{ap, _∙_}
-use Rattle.windows.specs.Windows.{edgeWord, intoOf, linkOf, winAt, windowAt}
+use Rattle.windows.specs.Windows.{edgeStored, intoOf, linkOf, winAt, windowAt}
 use borrow.Author.Needs.{needs}
 use Rattle.windows.proofs.load.Statement.{statement}
 use Rattle.windows.proofs.load.Tie as tie
@@ -80,7 +80,7 @@ returns c =
     let w = a .words .now in
     let k = a .id .0 in
     λ t. record {
-      edge = record { 0 = edgeWord w k };
+      edge = record { 0 = edgeStored w k };
       carried = record { into = record { 0 = intoOf w k }; queued = c .before .before .before .has-flag2 .ensures t };
       alive = c .before .has-flag3 .ensures t;
       link = linkOf w k;
