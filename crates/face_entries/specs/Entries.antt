@@ -26,7 +26,7 @@ unfoldable pub entriesOf : ℕ → List FaceEntry → List PiecePart
 entriesOf f [] = []
 entriesOf f (x ∷ xs) = cond (eqb (x .face) f) (x .entry ∷ entriesOf f xs) (entriesOf f xs)
 
--- the numbers of the entries of face f, where the first of the list is number i; entries are each-numbered in the order of their pushes
+-- the numbers of the entries of face f, where the first of the list is number i; entries are numbered in the order of their pushes
 unfoldable pub numbersFrom : ℕ → ℕ → List FaceEntry → List ℕ
 numbersFrom i f [] = []
 numbersFrom i f (x ∷ xs) = cond (eqb (x .face) f) (i ∷ numbersFrom (suc i) f xs) (numbersFrom (suc i) f xs)
