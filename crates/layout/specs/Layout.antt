@@ -245,3 +245,19 @@ endsHigh = 1
 -- an edge's length
 abbrev pub realsPerLen : ℕ
 realsPerLen = 1
+
+-- 01's face entries: words of each
+abbrev pub wordsPerEntry : ℕ
+wordsPerEntry = 3
+
+-- the piece
+abbrev pub entryPiece : ℕ
+entryPiece = 0
+
+-- which part of it
+abbrev pub entryPart : ℕ
+entryPart = 1
+
+-- link
+abbrev pub entryLink : ℕ
+entryLink = 2

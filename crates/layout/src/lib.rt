@@ -137,3 +137,12 @@ pub const ENDS_LOW: u32 = 0;
 pub const ENDS_HIGH: u32 = 1;
 
 pub const REALS_PER_LEN: u32 = 1;
+
+// 01's face entries.
+pub const WORDS_PER_ENTRY: u32 = 3;
+
+pub const ENTRY_PIECE: u32 = 0;
+
+pub const ENTRY_PART: u32 = 1;
+
+pub const ENTRY_LINK: u32 = 2;

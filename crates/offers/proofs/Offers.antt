@@ -92,19 +92,19 @@ module _ (cuts windows : ℕ) (limit : Float) (flags : List ℕ) (mesh : EdgeDat
           untouched = untouched-wider (λ k. k ≡ e .id .0) (λ k. Unit {0}) (λ k h. tt) p p′ (r .untouched);
         }
 
-  -- a list that stops, and a list behind one that went
+  -- a list that stops, and a list behind one that went: what it offers may depend on what was not touched
   module _ (cs ds : List Candidate) (p : Snapshot) where
     pub offers-stop : (n : ℕ) → Does cs p (running.stopped n) → Does (cs ++ ds) p (running.stopped n)
     offers-stop n h past s S a = add-append cs ds s ∙ next-stopped (all cs s) n (all ds) (h past s S (all-left (AdmittedProper limit (mesh .len)) cs ds a))
 
     module _ (p′ : Snapshot) (h : Does cs p (running.at p′)) where
-      pub offers-then : (end : End) → Does ds p′ end → Does (cs ++ ds) p end
+      pub offers-then : (end : End) → (Untouched (λ e. Unit {0}) p p′ → Does ds p′ end) → Does (cs ++ ds) p end
       offers-then (running.stopped n) g past s S a =
           let r = h past s S (all-left (AdmittedProper limit (mesh .len)) cs ds a) in
-          add-append cs ds s ∙ next-state (all cs s) (r .state) (all ds) (r .is) ∙ g (past ++ cs) (r .state) (r .stands) (all-right (AdmittedProper limit (mesh .len)) cs ds a)
+          add-append cs ds s ∙ next-state (all cs s) (r .state) (all ds) (r .is) ∙ g (r .untouched) (past ++ cs) (r .state) (r .stands) (all-right (AdmittedProper limit (mesh .len)) cs ds a)
       offers-then (running.at q) g past s S a =
           let r = h past s S (all-left (AdmittedProper limit (mesh .len)) cs ds a) in
-          let o = g (past ++ cs) (r .state) (r .stands) (all-right (AdmittedProper limit (mesh .len)) cs ds a) in
+          let o = g (r .untouched) (past ++ cs) (r .state) (r .stands) (all-right (AdmittedProper limit (mesh .len)) cs ds a) in
           record {
             state = o .state;
             is = add-append cs ds s ∙ next-state (all cs s) (r .state) (all ds) (r .is) ∙ o .is;
