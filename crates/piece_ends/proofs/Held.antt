@@ -1,0 +1,259 @@
+-- What the readers find in words that hold the table: the ends of a point's bits, in the Rust's order, whatever the buckets are. Assumes nothing.
+use Prim.Native.Nat.{ℕ, zero, suc, _+_, _-_, _*_, _/_, _%_, _<_, _≤_}
+use mathlib.Core.Path.{_≡_, refl, sym, ap, subst, _∙_}
+use mathlib.Core.Bool.{Bool, true, false, not, cond, _&&_, and-false}
+use mathlib.Core.List.{List, [], _∷_}
+use mathlib.Core.Logic.{⊎-elim}
+use native.Mathlib.Decide.{decLe}
+use native.Mathlib.Omega.{arith}
+use borrow.Author.Tests.{eq-eqb, ne-eqb, eqb-true, ltb-true}
+use lib.Dec.{eqb, ltb}
+use lib.Ieee.{Float, binary64, toBits}
+use lib.ListN.{length, getD}
+use Rattle.vec3.specs.declared.Vec3.{Vec3}
+use Rattle.job_checks.specs.Any.{anyBelow}
+use Rattle.job_checks.proofs.Any.{none-below, none-all}
+use Rattle.topology.proofs.Find.{either}
+use Rattle.edge_table.proofs.Holding.{words-at}
+use Rattle.piece_ends.specs.Ends.{passing, endPoint, isEnd, sameBits, hasBits, endsWithBits, firstOfBits}
+use Rattle.piece_ends.specs.Table.{mixed, pointBucket, linkTo, slotWord, bucketAt, inBucket, bucketFrom, headLink, nextLink, pieceWords}
+use Rattle.piece_ends.specs.Walk.{linkAt, chainFrom, seekBits, firstLinkAt, nextLinkAt, isFirstAt, walkBits, HoldsTable}
+use Rattle.piece_ends.proofs.Passing.{both, never, link-none, link-one, pass-none, pass-here, pass-over, pass-same, link-first, First, first-link}
+use Rattle.piece_ends.proofs.Seeking.{seek-none, seek-here, seek-on, seek-all}
+use Rattle.piece_ends.proofs.Building.{bucket-below, slot-end, some-link}
+
+-- ---- bits
+-- a point's bits by coordinate
+pub record SameBits (p q : Vec3) : Type 0 where
+  pub x-bits : toBits binary64 (p .x) ≡ toBits binary64 (q .x)
+  pub y-bits : toBits binary64 (p .y) ≡ toBits binary64 (q .y)
+  pub z-bits : toBits binary64 (p .z) ≡ toBits binary64 (q .z)
+
+pub same-are : (p q : Vec3) → sameBits p q ≡ true → SameBits p q
+unfolding sameBits
+same-are p q h =
+    let a = both (eqb (toBits binary64 (p .x)) (toBits binary64 (q .x))) (eqb (toBits binary64 (p .y)) (toBits binary64 (q .y)) && eqb (toBits binary64 (p .z)) (toBits binary64 (q .z))) h in
+    let b = both (eqb (toBits binary64 (p .y)) (toBits binary64 (q .y))) (eqb (toBits binary64 (p .z)) (toBits binary64 (q .z))) (a .1) in
+    record { x-bits = eqb-true _ _ (a .0); y-bits = eqb-true _ _ (b .0); z-bits = eqb-true _ _ (b .1) }
+
+pub same-self : (p : Vec3) → sameBits p p ≡ true
+unfolding sameBits
+same-self p = rw (eq-eqb (toBits binary64 (p .x)) (toBits binary64 (p .x)) refl, eq-eqb (toBits binary64 (p .y)) (toBits binary64 (p .y)) refl, eq-eqb (toBits binary64 (p .z)) (toBits binary64 (p .z)) refl) refl
+
+same-other : (r p q : Vec3) → SameBits p q → sameBits r p ≡ sameBits r q
+unfolding sameBits
+same-other r p q s = rw (s .x-bits, s .y-bits, s .z-bits) refl
+
+-- the same bits are in the same bucket
+same-bucket : (size : ℕ) (p q : Vec3) → SameBits p q → pointBucket size p ≡ pointBucket size q
+unfolding pointBucket mixed
+same-bucket size p q s = rw (s .x-bits, s .y-bits, s .z-bits) refl
+
+-- ---- the table that `build` leaves
+module _ (kinds : List ℕ) (coords : List Float) where
+  pub built-holds : (n : ℕ) → 3 * length kinds ≤ n → HoldsTable kinds coords (pieceWords kinds coords n)
+  unfolding pieceWords slotWord
+  built-holds n room = record {
+    heads = λ b l. words-at n 3 (slotWord (headLink kinds coords) (nextLink kinds coords)) b 0 (omega arith) (omega arith);
+    links = λ e l.
+        words-at n 3 (slotWord (headLink kinds coords) (nextLink kinds coords)) (e / 2) (1 + e % 2) (omega arith) (omega arith)
+        ∙ slot-end (headLink kinds coords) (nextLink kinds coords) e;
+  }
+
+  bucket-all : (b : ℕ) → bucketFrom kinds coords b 0 ≡ passing (inBucket kinds coords b) (2 * length kinds) 0
+  unfolding bucketFrom
+  bucket-all b = let z : 2 * length kinds - 0 ≡ 2 * length kinds = omega arith in rw z refl
+
+  head-all : (b : ℕ) → headLink kinds coords b ≡ linkTo (passing (inBucket kinds coords b) (2 * length kinds) 0)
+  unfolding headLink
+  head-all b = ap linkTo (bucket-all b)
+
+  end-below : (e : ℕ) → isEnd kinds e ≡ true → e < 2 * length kinds
+  unfolding isEnd
+  end-below e h = omega (arith, ltb-true (e / 2) (length kinds) (both (ltb (e / 2) (length kinds)) _ h .0))
+
+  module _ (p : Vec3) (e : ℕ) where
+    has-end : hasBits kinds coords p e ≡ true → (isEnd kinds e ≡ true) × (sameBits (endPoint coords e) p ≡ true)
+    unfolding hasBits
+    has-end h = both (isEnd kinds e) (sameBits (endPoint coords e) p) h
+
+    has-both : isEnd kinds e ≡ true → sameBits (endPoint coords e) p ≡ true → hasBits kinds coords p e ≡ true
+    unfolding hasBits
+    has-both a b = rw (a, b) refl
+
+    has-not : sameBits (endPoint coords e) p ≡ false → hasBits kinds coords p e ≡ false
+    unfolding hasBits
+    has-not h = rw h (and-false (isEnd kinds e))
+
+  in-end : (b e : ℕ) → inBucket kinds coords b e ≡ true → (isEnd kinds e ≡ true) × (bucketAt kinds coords e ≡ b)
+  unfolding inBucket
+  in-end b e h =
+      let a = both (isEnd kinds e) (eqb (bucketAt kinds coords e) b) h in
+      (a .0, eqb-true (bucketAt kinds coords e) b (a .1))
+
+  in-both : (b e : ℕ) → isEnd kinds e ≡ true → bucketAt kinds coords e ≡ b → inBucket kinds coords b e ≡ true
+  unfolding inBucket
+  in-both b e h q = rw (h, eq-eqb (bucketAt kinds coords e) b q) refl
+
+  -- an end of p's bits is in p's bucket
+  not-in-bucket : (p : Vec3) (e : ℕ) → inBucket kinds coords (pointBucket (length kinds) p) e ≡ false → hasBits kinds coords p e ≡ false
+  unfolding bucketAt
+  not-in-bucket p e h = ⊎-elim
+      (λ q. let a = has-end p e q in absurd (never (in-both (pointBucket (length kinds) p) e (a .0) (same-bucket (length kinds) (endPoint coords e) p (same-are (endPoint coords e) p (a .1)))) h))
+      (λ q. q)
+      (either (hasBits kinds coords p e))
+
+module _ (kinds : List ℕ) (coords : List Float) (words : List ℕ) (held : HoldsTable kinds coords words) where
+  -- the link of an end
+  next-is : (e : ℕ) → isEnd kinds e ≡ true → linkAt words e ≡ linkTo (bucketFrom kinds coords (bucketAt kinds coords e) (suc e))
+  next-is e h = held .links e (end-below kinds coords e h) ∙ some-link kinds coords e h
+
+  -- and where so many numbers come after it
+  next-left : (b k e : ℕ) → suc e + k ≡ 2 * length kinds → inBucket kinds coords b e ≡ true → linkAt words e ≡ linkTo (passing (inBucket kinds coords b) k (suc e))
+  unfolding bucketFrom
+  next-left b k e s h =
+      let a = in-end kinds coords b e h in
+      let m : 2 * length kinds - suc e ≡ k = omega arith in
+      next-is e (a .0) ∙ rw (a .1, m) refl
+
+  -- ---- a bucket's chain
+  chain-none : (f : ℕ) → chainFrom words f 0 ≡ []
+  unfolding chainFrom
+  chain-none zero = refl
+  chain-none (suc f) = refl
+
+  chain-on : (f e : ℕ) → chainFrom words (suc f) (suc e) ≡ e ∷ chainFrom words f (linkAt words e)
+  unfolding chainFrom
+  chain-on f e = refl
+
+  chain-left : (b k e f : ℕ) → e + k ≡ 2 * length kinds → k ≤ f → chainFrom words f (linkTo (passing (inBucket kinds coords b) k e)) ≡ passing (inBucket kinds coords b) k e
+  chain-left b zero e f s l = rw (pass-none (inBucket kinds coords b) e, link-none) (chain-none f)
+  chain-left b (suc k) e zero s l = absurd (omega arith)
+  chain-left b (suc k) e (suc f) s l = ⊎-elim
+      (λ q. rw (pass-here (inBucket kinds coords b) k e q, link-one e (passing (inBucket kinds coords b) k (suc e)), chain-on f e, next-left b k e (omega arith) q)
+      (ap (λ es. e ∷ es) (chain-left b k (suc e) f (omega arith) (omega arith))))
+      (λ q. rw (pass-over (inBucket kinds coords b) k e q) (chain-left b k (suc e) (suc f) (omega arith) (omega arith)))
+      (either (inBucket kinds coords b e))
+
+  -- A bucket's chain is exactly its ends, in order; no chain is longer than there are ends.
+  pub chain-held : (b : ℕ) → b < length kinds → chainFrom words (2 * length kinds) (getD words (3 * b + 0) 0) ≡ bucketFrom kinds coords b 0
+  chain-held b l =
+      ap (chainFrom words (2 * length kinds)) (held .heads b l ∙ head-all kinds coords b)
+      ∙ (chain-left b (2 * length kinds) 0 (2 * length kinds) (omega arith) (omega arith) ∙ sym (bucket-all kinds coords b))
+
+  -- ---- the ends of p's bits
+  module _ (p : Vec3) where
+    abbrev own : ℕ → Bool
+    own = inBucket kinds coords (pointBucket (length kinds) p)
+
+    abbrev has : ℕ → Bool
+    has = hasBits kinds coords p
+
+    seek-at : (f k e : ℕ) → own e ≡ true → seekBits coords words p f (linkTo (passing own (suc k) e)) ≡ seekBits coords words p f (suc e)
+    seek-at f k e q = ap (λ (es : List ℕ). seekBits coords words p f (linkTo es)) (pass-here own k e q) ∙ ap (seekBits coords words p f) (link-one e (passing own k (suc e)))
+
+    seek-left : (k e f : ℕ) → e + k ≡ 2 * length kinds → k ≤ f → seekBits coords words p f (linkTo (passing own k e)) ≡ linkTo (passing has k e)
+    seek-left zero e f s l = rw (pass-none own e, pass-none has e, link-none) (seek-none coords words p f)
+    seek-left (suc k) e zero s l = absurd (omega arith)
+    seek-left (suc k) e (suc f) s l = ⊎-elim
+        (λ q. seek-at (suc f) k e q ∙ ⊎-elim
+        (λ t. seek-here coords words p f e t ∙ sym (ap linkTo (pass-here has k e (has-both kinds coords p e (in-end kinds coords (pointBucket (length kinds) p) e q .0) t)) ∙ link-one e (passing has k (suc e))))
+        (λ t. seek-on coords words p f e t
+        ∙ (ap (seekBits coords words p f) (next-left (pointBucket (length kinds) p) k e (omega arith) q)
+        ∙ (seek-left k (suc e) f (omega arith) (omega arith) ∙ sym (ap linkTo (pass-over has k e (has-not kinds coords p e t))))))
+        (either (sameBits (endPoint coords e) p)))
+        (λ q. ap (λ (es : List ℕ). seekBits coords words p (suc f) (linkTo es)) (pass-over own k e q)
+        ∙ (seek-left k (suc e) (suc f) (omega arith) (omega arith) ∙ sym (ap linkTo (pass-over has k e (not-in-bucket kinds coords p e q)))))
+        (either (own e))
+
+    head-is : 0 < length kinds → getD words (3 * pointBucket (length kinds) p + 0) 0 ≡ linkTo (passing own (2 * length kinds) 0)
+    head-is l = held .heads (pointBucket (length kinds) p) (bucket-below (length kinds) p l) ∙ head-all kinds coords (pointBucket (length kinds) p)
+
+    -- the first end of p's bits
+    pub first-held : firstLinkAt coords words (length kinds) p ≡ linkTo (endsWithBits kinds coords p)
+    unfolding firstLinkAt endsWithBits
+    first-held = elim (decLe (length kinds) 0) [
+      | yes z ↦
+          let n : 2 * length kinds ≡ 0 = omega arith in
+          ap (λ (k : ℕ). seekBits coords words p k (getD words (3 * pointBucket (length kinds) p + 0) 0)) n
+          ∙ (seek-all coords words p (getD words (3 * pointBucket (length kinds) p + 0) 0) ∙ sym (ap (λ (k : ℕ). linkTo (passing has k 0)) n ∙ (ap linkTo (pass-none has 0) ∙ link-none)))
+      | no z ↦
+          ap (seekBits coords words p (2 * length kinds)) (head-is (omega (arith, z)))
+          ∙ seek-left (2 * length kinds) 0 (2 * length kinds) (omega arith) (omega arith)
+    ]
+
+  -- the next end of the bits of end e
+  pub next-held : (e : ℕ) → isEnd kinds e ≡ true → nextLinkAt coords words (length kinds) e ≡ linkTo (passing (hasBits kinds coords (endPoint coords e)) (2 * length kinds - suc e) (suc e))
+  unfolding nextLinkAt bucketAt
+  next-held e h =
+      let l : e < 2 * length kinds = end-below kinds coords e h in
+      ap (seekBits coords words (endPoint coords e) (2 * length kinds)) (next-left (pointBucket (length kinds) (endPoint coords e)) (2 * length kinds - suc e) e (omega arith) (in-both kinds coords (pointBucket (length kinds) (endPoint coords e)) e h refl))
+      ∙ seek-left (endPoint coords e) (2 * length kinds - suc e) (suc e) (2 * length kinds) (omega arith) (omega arith)
+
+  -- ---- all of them, one after the other
+  module _ (p : Vec3) where
+    walk-none : (f : ℕ) → walkBits coords words (length kinds) f 0 ≡ []
+    unfolding walkBits
+    walk-none zero = refl
+    walk-none (suc f) = refl
+
+    walk-on : (f e : ℕ) → walkBits coords words (length kinds) (suc f) (suc e) ≡ e ∷ walkBits coords words (length kinds) f (nextLinkAt coords words (length kinds) e)
+    unfolding walkBits
+    walk-on f e = refl
+
+    has-same : (e : ℕ) → sameBits (endPoint coords e) p ≡ true → (d : ℕ) → hasBits kinds coords (endPoint coords e) d ≡ hasBits kinds coords p d
+    unfolding hasBits
+    has-same e h d = ap (λ (b : Bool). isEnd kinds d && b) (same-other (endPoint coords d) (endPoint coords e) p (same-are (endPoint coords e) p h))
+
+    -- from one of them to the next
+    pub after-held : (e : ℕ) → hasBits kinds coords p e ≡ true → nextLinkAt coords words (length kinds) e ≡ linkTo (passing (hasBits kinds coords p) (2 * length kinds - suc e) (suc e))
+    after-held e h =
+        let a = has-end kinds coords p e h in
+        next-held e (a .0) ∙ ap linkTo (pass-same (hasBits kinds coords (endPoint coords e)) (hasBits kinds coords p) (has-same e (a .1)) (2 * length kinds - suc e) (suc e))
+
+    walk-left : (k e f : ℕ) → e + k ≡ 2 * length kinds → k ≤ f → walkBits coords words (length kinds) f (linkTo (passing (hasBits kinds coords p) k e)) ≡ passing (hasBits kinds coords p) k e
+    walk-left zero e f s l = rw (pass-none (hasBits kinds coords p) e, link-none) (walk-none f)
+    walk-left (suc k) e zero s l = absurd (omega arith)
+    walk-left (suc k) e (suc f) s l =
+        let m : 2 * length kinds - suc e ≡ k = omega arith in
+        ⊎-elim
+        (λ q. rw (pass-here (hasBits kinds coords p) k e q, link-one e (passing (hasBits kinds coords p) k (suc e)), walk-on f e, after-held e q, m) (ap (λ es. e ∷ es) (walk-left k (suc e) f (omega arith) (omega arith))))
+        (λ q. rw (pass-over (hasBits kinds coords p) k e q) (walk-left k (suc e) (suc f) (omega arith) (omega arith)))
+        (either (hasBits kinds coords p e))
+
+    -- The walk from the first end of p's bits is all of them, in the Rust's order.
+    pub walk-held : walkBits coords words (length kinds) (2 * length kinds) (firstLinkAt coords words (length kinds) p) ≡ endsWithBits kinds coords p
+    unfolding endsWithBits
+    walk-held = ap (walkBits coords words (length kinds) (2 * length kinds)) (first-held p) ∙ walk-left (2 * length kinds) 0 (2 * length kinds) (omega arith) (omega arith)
+
+  -- ---- the first of its bits
+  module _ (e : ℕ) where
+    abbrev met : ℕ → Bool
+    met = hasBits kinds coords (endPoint coords e)
+
+    met-self : isEnd kinds e ≡ true → met e ≡ true
+    met-self h = has-both kinds coords (endPoint coords e) e h (same-self (endPoint coords e))
+
+    is-first : isEnd kinds e ≡ true → anyBelow met e ≡ false → linkTo (endsWithBits kinds coords (endPoint coords e)) ≡ suc e
+    unfolding endsWithBits
+    is-first h none =
+        link-first met (2 * length kinds) 0 e (omega arith) (omega (arith, end-below kinds coords e h)) (met-self h) (λ j a b. none-below met e none j b)
+
+    first-means : linkTo (endsWithBits kinds coords (endPoint coords e)) ≡ suc e → (isEnd kinds e ≡ true) × (anyBelow met e ≡ false)
+    unfolding endsWithBits
+    first-means h =
+        let f = first-link met (2 * length kinds) 0 e h in
+        (has-end kinds coords (endPoint coords e) e (f .passes) .0, none-all met e (λ j l. f .before j (omega arith) l))
+
+    no-link : (linkTo (endsWithBits kinds coords (endPoint coords e)) ≡ suc e → ⊥) → eqb (linkTo (endsWithBits kinds coords (endPoint coords e))) (suc e) ≡ false
+    no-link ne = ne-eqb _ _ ne
+
+    decided : (a b : Bool) → isEnd kinds e ≡ a → anyBelow met e ≡ b → eqb (linkTo (endsWithBits kinds coords (endPoint coords e))) (suc e) ≡ (isEnd kinds e && not (anyBelow met e))
+    decided true false h n = rw (h, n) (eq-eqb _ _ (is-first h n))
+    decided true true h n = rw (h, n) (no-link (λ z. never n (first-means z .1)))
+    decided false b h n = rw h (no-link (λ z. never (first-means z .0) h))
+
+    -- `is_first` is the Rust's `points.insert(..)`
+    pub is-first-held : isFirstAt coords words (length kinds) e ≡ firstOfBits kinds coords e
+    unfolding isFirstAt firstOfBits
+    is-first-held = ap (λ (k : ℕ). eqb k (suc e)) (first-held (endPoint coords e)) ∙ decided (isEnd kinds e) (anyBelow met e) refl refl

@@ -1,0 +1,5 @@
+pub mod Passing
+pub mod Building
+pub mod Seeking
+pub mod Held
+pub mod Unit
