@@ -1,7 +1,7 @@
 -- What the readers find in words that hold the table: the ends of a point's bits, in the Rust's order, whatever the buckets are. Assumes nothing.
 use Prim.Native.Nat.{ℕ, zero, suc, _+_, _-_, _*_, _/_, _%_, _<_, _≤_}
 use mathlib.Core.Path.{_≡_, refl, sym, ap, subst, _∙_}
-use mathlib.Core.Bool.{Bool, true, false, not, cond, _&&_, and-false}
+use mathlib.Core.Bool.{Bool, true, false, not, _&&_}
 use mathlib.Core.List.{List, [], _∷_}
 use mathlib.Core.Logic.{⊎-elim}
 use native.Mathlib.Decide.{decLe}
@@ -17,9 +17,9 @@ use Rattle.topology.proofs.Find.{either}
 use Rattle.edge_table.proofs.Holding.{words-at}
 use Rattle.piece_ends.specs.Ends.{passing, endPoint, isEnd, sameBits, hasBits, endsWithBits, firstOfBits}
 use Rattle.piece_ends.specs.Table.{mixed, pointBucket, linkTo, slotWord, bucketAt, inBucket, bucketFrom, headLink, nextLink, pieceWords}
-use Rattle.piece_ends.specs.Walk.{linkAt, chainFrom, seekBits, firstLinkAt, nextLinkAt, isFirstAt, walkBits, HoldsTable}
-use Rattle.piece_ends.proofs.Passing.{both, never, link-none, link-one, pass-none, pass-here, pass-over, pass-same, link-first, First, first-link}
-use Rattle.piece_ends.proofs.Seeking.{seek-none, seek-here, seek-on, seek-all}
+use Rattle.piece_ends.specs.Walk.{linkAt, standsAt, follow, findAlong, firstLinkAt, nextLinkAt, isFirstAt, HoldsTable}
+use Rattle.piece_ends.proofs.Passing.{both, never, link-none, pass-none, pass-same, link-first, First, first-link}
+use Rattle.piece_ends.proofs.Following.{search-no-steps, follow-left, search-left}
 use Rattle.piece_ends.proofs.Building.{bucket-below, slot-end, some-link}
 
 -- ---- bits
@@ -68,12 +68,12 @@ module _ (kinds : List ℕ) (coords : List Float) where
   unfolding headLink
   head-all b = ap linkTo (bucket-all b)
 
-  end-below : (e : ℕ) → isEnd kinds e ≡ true → e < 2 * length kinds
+  pub end-below : (e : ℕ) → isEnd kinds e ≡ true → e < 2 * length kinds
   unfolding isEnd
   end-below e h = omega (arith, ltb-true (e / 2) (length kinds) (both (ltb (e / 2) (length kinds)) _ h .0))
 
   module _ (p : Vec3) (e : ℕ) where
-    has-end : hasBits kinds coords p e ≡ true → (isEnd kinds e ≡ true) × (sameBits (endPoint coords e) p ≡ true)
+    pub has-end : hasBits kinds coords p e ≡ true → (isEnd kinds e ≡ true) × (sameBits (endPoint coords e) p ≡ true)
     unfolding hasBits
     has-end h = both (isEnd kinds e) (sameBits (endPoint coords e) p) h
 
@@ -81,9 +81,9 @@ module _ (kinds : List ℕ) (coords : List Float) where
     unfolding hasBits
     has-both a b = rw (a, b) refl
 
-    has-not : sameBits (endPoint coords e) p ≡ false → hasBits kinds coords p e ≡ false
+    has-stands : isEnd kinds e ≡ true → hasBits kinds coords p e ≡ standsAt coords p e
     unfolding hasBits
-    has-not h = rw h (and-false (isEnd kinds e))
+    has-stands h = rw h refl
 
   in-end : (b e : ℕ) → inBucket kinds coords b e ≡ true → (isEnd kinds e ≡ true) × (bucketAt kinds coords e ≡ b)
   unfolding inBucket
@@ -103,128 +103,76 @@ module _ (kinds : List ℕ) (coords : List Float) where
       (λ q. q)
       (either (hasBits kinds coords p e))
 
-module _ (kinds : List ℕ) (coords : List Float) (words : List ℕ) (held : HoldsTable kinds coords words) where
-  -- the link of an end
-  next-is : (e : ℕ) → isEnd kinds e ≡ true → linkAt words e ≡ linkTo (bucketFrom kinds coords (bucketAt kinds coords e) (suc e))
-  next-is e h = held .links e (end-below kinds coords e h) ∙ some-link kinds coords e h
+  -- of an end in p's bucket, p's bits are all that is asked
+  bucket-has : (p : Vec3) (e : ℕ) → (inBucket kinds coords (pointBucket (length kinds) p) e && standsAt coords p e) ≡ hasBits kinds coords p e
+  bucket-has p e = go (inBucket kinds coords (pointBucket (length kinds) p) e) refl where
+    go : (b : Bool) → inBucket kinds coords (pointBucket (length kinds) p) e ≡ b → (inBucket kinds coords (pointBucket (length kinds) p) e && standsAt coords p e) ≡ hasBits kinds coords p e
+    go true h = rw h (sym (has-stands p e (in-end (pointBucket (length kinds) p) e h .0)))
+    go false h = rw h (sym (not-in-bucket p e h))
 
-  -- and where so many numbers come after it
-  next-left : (b k e : ℕ) → suc e + k ≡ 2 * length kinds → inBucket kinds coords b e ≡ true → linkAt words e ≡ linkTo (passing (inBucket kinds coords b) k (suc e))
+  -- the ends of the same bits are the same
+  pub has-same : (p : Vec3) (e : ℕ) → hasBits kinds coords p e ≡ true → (d : ℕ) → hasBits kinds coords (endPoint coords e) d ≡ hasBits kinds coords p d
+  unfolding hasBits
+  has-same p e h d = ap (λ (b : Bool). isEnd kinds d && b) (same-other (endPoint coords d) (endPoint coords e) p (same-are (endPoint coords e) p (both (isEnd kinds e) (sameBits (endPoint coords e) p) h .1)))
+
+module _ (kinds : List ℕ) (coords : List Float) (words : List ℕ) (held : HoldsTable kinds coords words) where
+  -- the link of an end leads to the next of its bucket
+  bucket-leads : (b k e : ℕ) → suc e + k ≡ 2 * length kinds → inBucket kinds coords b e ≡ true → linkAt words e ≡ linkTo (passing (inBucket kinds coords b) k (suc e))
   unfolding bucketFrom
-  next-left b k e s h =
+  bucket-leads b k e s h =
       let a = in-end kinds coords b e h in
       let m : 2 * length kinds - suc e ≡ k = omega arith in
-      next-is e (a .0) ∙ rw (a .1, m) refl
-
-  -- ---- a bucket's chain
-  chain-none : (f : ℕ) → chainFrom words f 0 ≡ []
-  unfolding chainFrom
-  chain-none zero = refl
-  chain-none (suc f) = refl
-
-  chain-on : (f e : ℕ) → chainFrom words (suc f) (suc e) ≡ e ∷ chainFrom words f (linkAt words e)
-  unfolding chainFrom
-  chain-on f e = refl
-
-  chain-left : (b k e f : ℕ) → e + k ≡ 2 * length kinds → k ≤ f → chainFrom words f (linkTo (passing (inBucket kinds coords b) k e)) ≡ passing (inBucket kinds coords b) k e
-  chain-left b zero e f s l = rw (pass-none (inBucket kinds coords b) e, link-none) (chain-none f)
-  chain-left b (suc k) e zero s l = absurd (omega arith)
-  chain-left b (suc k) e (suc f) s l = ⊎-elim
-      (λ q. rw (pass-here (inBucket kinds coords b) k e q, link-one e (passing (inBucket kinds coords b) k (suc e)), chain-on f e, next-left b k e (omega arith) q)
-      (ap (λ es. e ∷ es) (chain-left b k (suc e) f (omega arith) (omega arith))))
-      (λ q. rw (pass-over (inBucket kinds coords b) k e q) (chain-left b k (suc e) (suc f) (omega arith) (omega arith)))
-      (either (inBucket kinds coords b e))
+      held .links e (end-below kinds coords e (a .0)) ∙ (some-link kinds coords e (a .0) ∙ rw (a .1, m) refl)
 
   -- A bucket's chain is exactly its ends, in order; no chain is longer than there are ends.
-  pub chain-held : (b : ℕ) → b < length kinds → chainFrom words (2 * length kinds) (getD words (3 * b + 0) 0) ≡ bucketFrom kinds coords b 0
+  pub chain-held : (b : ℕ) → b < length kinds → follow (linkAt words) (2 * length kinds) (getD words (3 * b + 0) 0) ≡ bucketFrom kinds coords b 0
   chain-held b l =
-      ap (chainFrom words (2 * length kinds)) (held .heads b l ∙ head-all kinds coords b)
-      ∙ (chain-left b (2 * length kinds) 0 (2 * length kinds) (omega arith) (omega arith) ∙ sym (bucket-all kinds coords b))
+      ap (follow (linkAt words) (2 * length kinds)) (held .heads b l ∙ head-all kinds coords b)
+      ∙ (follow-left (linkAt words) (inBucket kinds coords b) (2 * length kinds) (bucket-leads b) (2 * length kinds) 0 (2 * length kinds) (omega arith) (omega arith) ∙ sym (bucket-all kinds coords b))
 
   -- ---- the ends of p's bits
-  module _ (p : Vec3) where
-    abbrev own : ℕ → Bool
-    own = inBucket kinds coords (pointBucket (length kinds) p)
+  -- found along the chain of p's bucket
+  found-left : (p : Vec3) (k e : ℕ) → e + k ≡ 2 * length kinds → findAlong (linkAt words) (standsAt coords p) (2 * length kinds) (linkTo (passing (inBucket kinds coords (pointBucket (length kinds) p)) k e)) ≡ linkTo (passing (hasBits kinds coords p) k e)
+  found-left p k e s =
+      search-left (linkAt words) (inBucket kinds coords (pointBucket (length kinds) p)) (2 * length kinds) (bucket-leads (pointBucket (length kinds) p)) (standsAt coords p) k e (2 * length kinds) s (omega arith)
+      ∙ ap linkTo (pass-same (λ (d : ℕ). inBucket kinds coords (pointBucket (length kinds) p) d && standsAt coords p d) (hasBits kinds coords p) (bucket-has kinds coords p) k e)
 
-    abbrev has : ℕ → Bool
-    has = hasBits kinds coords p
+  head-is : (p : Vec3) → 0 < length kinds → getD words (3 * pointBucket (length kinds) p + 0) 0 ≡ linkTo (passing (inBucket kinds coords (pointBucket (length kinds) p)) (2 * length kinds) 0)
+  head-is p l = held .heads (pointBucket (length kinds) p) (bucket-below (length kinds) p l) ∙ head-all kinds coords (pointBucket (length kinds) p)
 
-    seek-at : (f k e : ℕ) → own e ≡ true → seekBits coords words p f (linkTo (passing own (suc k) e)) ≡ seekBits coords words p f (suc e)
-    seek-at f k e q = ap (λ (es : List ℕ). seekBits coords words p f (linkTo es)) (pass-here own k e q) ∙ ap (seekBits coords words p f) (link-one e (passing own k (suc e)))
+  -- the first
+  pub first-held : (p : Vec3) → firstLinkAt coords words (length kinds) p ≡ linkTo (endsWithBits kinds coords p)
+  unfolding firstLinkAt endsWithBits
+  first-held p = elim (decLe (length kinds) 0) [
+    | yes z ↦
+        let n : 2 * length kinds ≡ 0 = omega arith in
+        ap (λ (k : ℕ). findAlong (linkAt words) (standsAt coords p) k (getD words (3 * pointBucket (length kinds) p + 0) 0)) n
+        ∙ (search-no-steps (linkAt words) (standsAt coords p) (getD words (3 * pointBucket (length kinds) p + 0) 0)
+        ∙ sym (ap (λ (k : ℕ). linkTo (passing (hasBits kinds coords p) k 0)) n ∙ (ap linkTo (pass-none (hasBits kinds coords p) 0) ∙ link-none)))
+    | no z ↦ ap (findAlong (linkAt words) (standsAt coords p) (2 * length kinds)) (head-is p (omega (arith, z))) ∙ found-left p (2 * length kinds) 0 (omega arith)
+  ]
 
-    seek-left : (k e f : ℕ) → e + k ≡ 2 * length kinds → k ≤ f → seekBits coords words p f (linkTo (passing own k e)) ≡ linkTo (passing has k e)
-    seek-left zero e f s l = rw (pass-none own e, pass-none has e, link-none) (seek-none coords words p f)
-    seek-left (suc k) e zero s l = absurd (omega arith)
-    seek-left (suc k) e (suc f) s l = ⊎-elim
-        (λ q. seek-at (suc f) k e q ∙ ⊎-elim
-        (λ t. seek-here coords words p f e t ∙ sym (ap linkTo (pass-here has k e (has-both kinds coords p e (in-end kinds coords (pointBucket (length kinds) p) e q .0) t)) ∙ link-one e (passing has k (suc e))))
-        (λ t. seek-on coords words p f e t
-        ∙ (ap (seekBits coords words p f) (next-left (pointBucket (length kinds) p) k e (omega arith) q)
-        ∙ (seek-left k (suc e) f (omega arith) (omega arith) ∙ sym (ap linkTo (pass-over has k e (has-not kinds coords p e t))))))
-        (either (sameBits (endPoint coords e) p)))
-        (λ q. ap (λ (es : List ℕ). seekBits coords words p (suc f) (linkTo es)) (pass-over own k e q)
-        ∙ (seek-left k (suc e) (suc f) (omega arith) (omega arith) ∙ sym (ap linkTo (pass-over has k e (not-in-bucket kinds coords p e q)))))
-        (either (own e))
-
-    head-is : 0 < length kinds → getD words (3 * pointBucket (length kinds) p + 0) 0 ≡ linkTo (passing own (2 * length kinds) 0)
-    head-is l = held .heads (pointBucket (length kinds) p) (bucket-below (length kinds) p l) ∙ head-all kinds coords (pointBucket (length kinds) p)
-
-    -- the first end of p's bits
-    pub first-held : firstLinkAt coords words (length kinds) p ≡ linkTo (endsWithBits kinds coords p)
-    unfolding firstLinkAt endsWithBits
-    first-held = elim (decLe (length kinds) 0) [
-      | yes z ↦
-          let n : 2 * length kinds ≡ 0 = omega arith in
-          ap (λ (k : ℕ). seekBits coords words p k (getD words (3 * pointBucket (length kinds) p + 0) 0)) n
-          ∙ (seek-all coords words p (getD words (3 * pointBucket (length kinds) p + 0) 0) ∙ sym (ap (λ (k : ℕ). linkTo (passing has k 0)) n ∙ (ap linkTo (pass-none has 0) ∙ link-none)))
-      | no z ↦
-          ap (seekBits coords words p (2 * length kinds)) (head-is (omega (arith, z)))
-          ∙ seek-left (2 * length kinds) 0 (2 * length kinds) (omega arith) (omega arith)
-    ]
-
-  -- the next end of the bits of end e
+  -- the next of the bits of end e
   pub next-held : (e : ℕ) → isEnd kinds e ≡ true → nextLinkAt coords words (length kinds) e ≡ linkTo (passing (hasBits kinds coords (endPoint coords e)) (2 * length kinds - suc e) (suc e))
   unfolding nextLinkAt bucketAt
   next-held e h =
       let l : e < 2 * length kinds = end-below kinds coords e h in
-      ap (seekBits coords words (endPoint coords e) (2 * length kinds)) (next-left (pointBucket (length kinds) (endPoint coords e)) (2 * length kinds - suc e) e (omega arith) (in-both kinds coords (pointBucket (length kinds) (endPoint coords e)) e h refl))
-      ∙ seek-left (endPoint coords e) (2 * length kinds - suc e) (suc e) (2 * length kinds) (omega arith) (omega arith)
+      ap (findAlong (linkAt words) (standsAt coords (endPoint coords e)) (2 * length kinds)) (bucket-leads (pointBucket (length kinds) (endPoint coords e)) (2 * length kinds - suc e) e (omega arith) (in-both kinds coords (pointBucket (length kinds) (endPoint coords e)) e h refl))
+      ∙ found-left (endPoint coords e) (2 * length kinds - suc e) (suc e) (omega arith)
 
-  -- ---- all of them, one after the other
-  module _ (p : Vec3) where
-    walk-none : (f : ℕ) → walkBits coords words (length kinds) f 0 ≡ []
-    unfolding walkBits
-    walk-none zero = refl
-    walk-none (suc f) = refl
+  -- so one of p's bits leads to the next of them
+  pub bits-lead : (p : Vec3) (k e : ℕ) → suc e + k ≡ 2 * length kinds → hasBits kinds coords p e ≡ true → nextLinkAt coords words (length kinds) e ≡ linkTo (passing (hasBits kinds coords p) k (suc e))
+  bits-lead p k e s h =
+      let m : 2 * length kinds - suc e ≡ k = omega arith in
+      next-held e (has-end kinds coords p e h .0)
+      ∙ (ap linkTo (pass-same (hasBits kinds coords (endPoint coords e)) (hasBits kinds coords p) (has-same kinds coords p e h) (2 * length kinds - suc e) (suc e)) ∙ ap (λ (j : ℕ). linkTo (passing (hasBits kinds coords p) j (suc e))) m)
 
-    walk-on : (f e : ℕ) → walkBits coords words (length kinds) (suc f) (suc e) ≡ e ∷ walkBits coords words (length kinds) f (nextLinkAt coords words (length kinds) e)
-    unfolding walkBits
-    walk-on f e = refl
-
-    has-same : (e : ℕ) → sameBits (endPoint coords e) p ≡ true → (d : ℕ) → hasBits kinds coords (endPoint coords e) d ≡ hasBits kinds coords p d
-    unfolding hasBits
-    has-same e h d = ap (λ (b : Bool). isEnd kinds d && b) (same-other (endPoint coords d) (endPoint coords e) p (same-are (endPoint coords e) p h))
-
-    -- from one of them to the next
-    pub after-held : (e : ℕ) → hasBits kinds coords p e ≡ true → nextLinkAt coords words (length kinds) e ≡ linkTo (passing (hasBits kinds coords p) (2 * length kinds - suc e) (suc e))
-    after-held e h =
-        let a = has-end kinds coords p e h in
-        next-held e (a .0) ∙ ap linkTo (pass-same (hasBits kinds coords (endPoint coords e)) (hasBits kinds coords p) (has-same e (a .1)) (2 * length kinds - suc e) (suc e))
-
-    walk-left : (k e f : ℕ) → e + k ≡ 2 * length kinds → k ≤ f → walkBits coords words (length kinds) f (linkTo (passing (hasBits kinds coords p) k e)) ≡ passing (hasBits kinds coords p) k e
-    walk-left zero e f s l = rw (pass-none (hasBits kinds coords p) e, link-none) (walk-none f)
-    walk-left (suc k) e zero s l = absurd (omega arith)
-    walk-left (suc k) e (suc f) s l =
-        let m : 2 * length kinds - suc e ≡ k = omega arith in
-        ⊎-elim
-        (λ q. rw (pass-here (hasBits kinds coords p) k e q, link-one e (passing (hasBits kinds coords p) k (suc e)), walk-on f e, after-held e q, m) (ap (λ es. e ∷ es) (walk-left k (suc e) f (omega arith) (omega arith))))
-        (λ q. rw (pass-over (hasBits kinds coords p) k e q) (walk-left k (suc e) (suc f) (omega arith) (omega arith)))
-        (either (hasBits kinds coords p e))
-
-    -- The walk from the first end of p's bits is all of them, in the Rust's order.
-    pub walk-held : walkBits coords words (length kinds) (2 * length kinds) (firstLinkAt coords words (length kinds) p) ≡ endsWithBits kinds coords p
-    unfolding endsWithBits
-    walk-held = ap (walkBits coords words (length kinds) (2 * length kinds)) (first-held p) ∙ walk-left (2 * length kinds) 0 (2 * length kinds) (omega arith) (omega arith)
+  -- The walk from the first end of p's bits is all of them, in the Rust's order.
+  pub walk-held : (p : Vec3) → follow (nextLinkAt coords words (length kinds)) (2 * length kinds) (firstLinkAt coords words (length kinds) p) ≡ endsWithBits kinds coords p
+  unfolding endsWithBits
+  walk-held p =
+      ap (follow (nextLinkAt coords words (length kinds)) (2 * length kinds)) (first-held p)
+      ∙ follow-left (nextLinkAt coords words (length kinds)) (hasBits kinds coords p) (2 * length kinds) (bits-lead p) (2 * length kinds) 0 (2 * length kinds) (omega arith) (omega arith)
 
   -- ---- the first of its bits
   module _ (e : ℕ) where

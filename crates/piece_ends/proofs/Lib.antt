@@ -1,4 +1,5 @@
 pub mod Passing
+pub mod Following
 pub mod Building
 pub mod Seeking
 pub mod Held

@@ -10,39 +10,37 @@ use Rattle.vec3.specs.declared.Vec3.{Vec3}
 use Rattle.piece_ends.specs.Ends.{endPoint, sameBits}
 use Rattle.piece_ends.specs.Table.{pointBucket, headLink, nextLink}
 
+-- the ends from a link on, up to k of them, where `next` gives each end's link
+unfoldable pub follow : (ℕ → ℕ) → ℕ → ℕ → List ℕ
+follow next zero at = []
+follow next (suc k) zero = []
+follow next (suc k) (suc e) = e ∷ follow next k (next e)
+
+-- the link to the first of them that passes a test, or 0
+unfoldable pub findAlong : (ℕ → ℕ) → (ℕ → Bool) → ℕ → ℕ → ℕ
+findAlong next test zero at = 0
+findAlong next test (suc k) zero = 0
+findAlong next test (suc k) (suc e) = cond (test e) (suc e) (findAlong next test k (next e))
+
 -- the link of end e
 abbrev pub linkAt : List ℕ → ℕ → ℕ
 linkAt words e = getD words (3 * (e / 2) + (1 + e % 2)) 0
 
--- the ends along the links from one on, up to k of them
-unfoldable pub chainFrom : List ℕ → ℕ → ℕ → List ℕ
-chainFrom words zero at = []
-chainFrom words (suc k) zero = []
-chainFrom words (suc k) (suc e) = e ∷ chainFrom words k (linkAt words e)
+-- whether end e has p's bits
+abbrev pub standsAt : List Float → Vec3 → ℕ → Bool
+standsAt coords p e = sameBits (endPoint coords e) p
 
-module _ (coords : List Float) (words : List ℕ) where
-  -- the link to the first end of p's bits along the links from one on, among k of them, or 0
-  unfoldable pub seekBits : Vec3 → ℕ → ℕ → ℕ
-  seekBits p zero at = 0
-  seekBits p (suc k) zero = 0
-  seekBits p (suc k) (suc e) = cond (sameBits (endPoint coords e) p) (suc e) (seekBits p k (linkAt words e))
+module _ (coords : List Float) (words : List ℕ) (pieces : ℕ) where
+  -- the link to the first end of p's bits, from the head of p's bucket on
+  unfoldable pub firstLinkAt : Vec3 → ℕ
+  firstLinkAt p = findAlong (linkAt words) (standsAt coords p) (2 * pieces) (getD words (3 * pointBucket pieces p + 0) 0)
 
-  module _ (pieces : ℕ) where
-    -- from the head of p's bucket on, and from end e on to the next of its bits
-    unfoldable pub firstLinkAt : Vec3 → ℕ
-    firstLinkAt p = seekBits p (2 * pieces) (getD words (3 * pointBucket pieces p + 0) 0)
+  -- the link to the next end of the bits of end e
+  unfoldable pub nextLinkAt : ℕ → ℕ
+  nextLinkAt e = findAlong (linkAt words) (standsAt coords (endPoint coords e)) (2 * pieces) (linkAt words e)
 
-    unfoldable pub nextLinkAt : ℕ → ℕ
-    nextLinkAt e = seekBits (endPoint coords e) (2 * pieces) (linkAt words e)
-
-    unfoldable pub isFirstAt : ℕ → Bool
-    isFirstAt e = eqb (firstLinkAt (endPoint coords e)) (suc e)
-
-    -- the ends from a link on, each followed by the next of its bits, up to k of them
-    unfoldable pub walkBits : ℕ → ℕ → List ℕ
-    walkBits zero at = []
-    walkBits (suc k) zero = []
-    walkBits (suc k) (suc e) = e ∷ walkBits k (nextLinkAt e)
+  unfoldable pub isFirstAt : ℕ → Bool
+  isFirstAt e = eqb (firstLinkAt (endPoint coords e)) (suc e)
 
 -- Words that hold the table of the pieces.
 pub record HoldsTable (kinds : List ℕ) (coords : List Float) (words : List ℕ) : Type 0 where

@@ -17,7 +17,7 @@ ghost use Rattle.buffers.specs.Slots.{fill};
 ghost use Rattle.frames.specs.Stored.{row3};
 ghost use Rattle.piece_ends.specs.Ends.{endPoint, isEnd, sameBits};
 ghost use Rattle.piece_ends.specs.Table.{mixed, pointBucket, pieceWords, entered};
-ghost use Rattle.piece_ends.specs.Walk.{linkAt, seekBits, firstLinkAt, nextLinkAt, isFirstAt};
+ghost use Rattle.piece_ends.specs.Walk.{linkAt, standsAt, findAlong, firstLinkAt, nextLinkAt, isFirstAt};
 ghost use Rattle.piece_ends.specs.Directions.{isLong, directionOf, pieceReals};
 
 fn bits(x: f64) -> u64
@@ -122,7 +122,7 @@ fn next_link(words: &[u32], e: u32) -> u32
 
 // The link to the first end with p's bits along the links from one on. No chain is longer than there are ends.
 fn seek(coords: &[f64], words: &[u32], pieces: u32, p: Vec3, link: u32) -> u32
-    ensures { λ r. ⌜ r ≡ seekBits (given coords) (given words) p (2 * pieces) link ⌝ }
+    ensures { λ r. ⌜ r ≡ findAlong (linkAt (given words)) (standsAt (given coords) p) (2 * pieces) link ⌝ }
 {
     let mut at = link;
     let mut rest = 2 * (pieces as u64);
