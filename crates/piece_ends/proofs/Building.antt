@@ -1,25 +1,24 @@
 -- The table while ends are entered from the last to the first. Assumes nothing.
 use Prim.Native.Nat.{ℕ, zero, suc, _+_, _-_, _*_, _/_, _%_, _<_, _≤_}
 use mathlib.Core.Path.{_≡_, refl, sym, ap, subst, _∙_}
-use mathlib.Core.Bool.{Bool, true, false, cond, _&&_}
-use mathlib.Core.List.{List, [], _∷_}
+use mathlib.Core.Bool.{true, false, cond}
+use mathlib.Core.List.{List}
 use mathlib.Core.Logic.{⊎-elim, _≢_}
 use native.Mathlib.Decide.{ℕ-discrete, decLe}
 use native.Mathlib.Nat.{mod-lt}
 use native.Mathlib.Omega.{arith}
-use borrow.Author.Tests.{eq-eqb, ne-eqb, lt-ltb, le-ltb, le-leb, lt-leb, ltb-true}
-use lib.Dec.{leb, leb·zero, eqb, ltb}
+use borrow.Author.Tests.{eq-eqb, ne-eqb, le-ltb, le-leb, lt-leb}
+use lib.Dec.{leb, leb·zero}
 use lib.Ieee.{Float}
 use lib.ListN.{length, getD, set, replicate, length-set}
 use Rattle.vec3.specs.declared.Vec3.{Vec3}
 use Rattle.buffers.proofs.Zeroing.{zero-at}
 use Rattle.topology.proofs.Find.{either}
-use Rattle.edge_table.specs.Words.{wordsOf}
 use Rattle.edge_table.specs.Sides.{Holds}
 use Rattle.edge_table.proofs.Holding.{holds-set, words-are}
 use Rattle.piece_ends.specs.Ends.{passing, endPoint, isEnd}
 use Rattle.piece_ends.specs.Table.{mixed, golden, pointBucket, linkTo, slotWord, bucketAt, inBucket, bucketFrom, headLink, nextLink, pieceWords, entered}
-use Rattle.piece_ends.proofs.Passing.{both, never, link-none, link-one, pass-none, pass-here, pass-over}
+use Rattle.piece_ends.proofs.Passing.{link-none, link-one, pass-none, pass-here, pass-over}
 
 pub bucket-below : (size : ℕ) (p : Vec3) → 0 < size → pointBucket size p < size
 unfolding pointBucket

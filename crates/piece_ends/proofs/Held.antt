@@ -1,8 +1,8 @@
 -- What the readers find in words that hold the table: the ends of a point's bits, in the Rust's order, whatever the buckets are. Assumes nothing.
-use Prim.Native.Nat.{ℕ, zero, suc, _+_, _-_, _*_, _/_, _%_, _<_, _≤_}
-use mathlib.Core.Path.{_≡_, refl, sym, ap, subst, _∙_}
+use Prim.Native.Nat.{ℕ, suc, _+_, _-_, _*_, _/_, _%_, _<_, _≤_}
+use mathlib.Core.Path.{_≡_, refl, sym, ap, _∙_}
 use mathlib.Core.Bool.{Bool, true, false, not, _&&_}
-use mathlib.Core.List.{List, [], _∷_}
+use mathlib.Core.List.{List}
 use mathlib.Core.Logic.{⊎-elim}
 use native.Mathlib.Decide.{decLe}
 use native.Mathlib.Omega.{arith}
@@ -18,7 +18,7 @@ use Rattle.edge_table.proofs.Holding.{words-at}
 use Rattle.piece_ends.specs.Ends.{passing, endPoint, isEnd, sameBits, hasBits, endsWithBits, firstOfBits}
 use Rattle.piece_ends.specs.Table.{mixed, pointBucket, linkTo, slotWord, bucketAt, inBucket, bucketFrom, headLink, nextLink, pieceWords}
 use Rattle.piece_ends.specs.Walk.{linkAt, standsAt, follow, findAlong, firstLinkAt, nextLinkAt, isFirstAt, HoldsTable}
-use Rattle.piece_ends.proofs.Passing.{both, never, link-none, pass-none, pass-same, link-first, First, first-link}
+use Rattle.piece_ends.proofs.Passing.{both, never, link-none, pass-none, pass-same, link-first, first-link}
 use Rattle.piece_ends.proofs.Following.{search-no-steps, follow-left, search-left}
 use Rattle.piece_ends.proofs.Building.{bucket-below, slot-end, some-link}
 

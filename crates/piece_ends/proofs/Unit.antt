@@ -1,11 +1,10 @@
 -- The directions as the code computes them, and read from the buffer that `directions` leaves. Assumes nothing.
 use Prim.Native.Nat.{ℕ, _+_, _*_, _<_, _≤_}
 use mathlib.Core.Path.{_≡_, refl, sym, ap, _∙_}
-use mathlib.Core.Bool.{Bool, true, false, _&&_, and-false}
+use mathlib.Core.Bool.{true, false, and-false}
 use mathlib.Core.List.{List}
 use lib.Ieee.{Float, lt}
-use lib.ListN.{length, set, replicate}
-use lib.ListN.{length-replicate}
+use lib.ListN.{length, set, replicate, length-replicate}
 use native.Mathlib.Omega.{arith}
 use Rattle.float64.specs.Scalar.{zero, one}
 use Rattle.float64.specs.Notation.{_⊘_}

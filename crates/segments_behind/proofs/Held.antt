@@ -1,23 +1,23 @@
 -- Where the pieces' buffer holds the table, the walk by `first_behind` and `next_behind` is the Rust's `behind`, and `any_round` answers for all ends of a point's bits. Assumes nothing.
-use Prim.Native.Nat.{ℕ, zero, suc, _+_, _-_, _*_, _/_, _<_, _≤_}
+use Prim.Native.Nat.{ℕ, zero, suc, _+_, _*_, _/_, _<_, _≤_}
 use mathlib.Core.Path.{_≡_, refl, sym, ap, _∙_}
-use mathlib.Core.Bool.{Bool, true, false, not, cond, _&&_}
-use mathlib.Core.List.{List, [], _∷_, map}
+use mathlib.Core.Bool.{Bool, true, false, not, _&&_}
+use mathlib.Core.List.{List, _∷_, map}
 use mathlib.Core.Logic.{⊎-elim}
 use native.Mathlib.Omega.{arith}
-use borrow.Author.Tests.{eq-eqb, ne-eqb, eqb-true, eqb-false}
+use borrow.Author.Tests.{ne-eqb, eqb-true, eqb-false}
 use lib.Dec.{eqb}
 use lib.Ieee.{Float}
-use lib.ListN.{length, getD}
+use lib.ListN.{length}
 use Rattle.vec3.specs.declared.Vec3.{Vec3}
 use Rattle.job_checks.specs.Any.{anyBelow}
 use Rattle.job_checks.proofs.Any.{found, none-all}
 use Rattle.topology.proofs.Find.{either}
-use Rattle.piece_ends.specs.Ends.{passing, isEnd, hasBits, endsWithBits}
+use Rattle.piece_ends.specs.Ends.{passing, hasBits, endsWithBits}
 use Rattle.piece_ends.specs.Table.{linkTo}
 use Rattle.piece_ends.specs.Walk.{follow, findAlong, firstLinkAt, nextLinkAt, HoldsTable}
 use Rattle.piece_ends.specs.Directions.{directionOf, pieceReals}
-use Rattle.piece_ends.proofs.Passing.{both, First, pass-none, pass-here, pass-over, link-one, first-link}
+use Rattle.piece_ends.proofs.Passing.{both, pass-none, pass-here, pass-over, link-one, first-link}
 use Rattle.piece_ends.proofs.Following.{follow-left, search-left}
 use Rattle.piece_ends.proofs.Held.{end-below, has-end, first-held, bits-lead}
 use Rattle.piece_ends.proofs.Unit.{direction-held}

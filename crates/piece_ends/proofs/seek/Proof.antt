@@ -1,6 +1,6 @@
 -- `piece_ends::seek` meets its contract. The invariant: what is found from here with the steps that are left is what is found from the start. Assumes nothing.
 use Prim.Native.Nat.{_*_, _≤_, _<_}
-use mathlib.Core.Path.{_≡_, refl, sym, _∙_}
+use mathlib.Core.Path.{_≡_, refl}
 use native.Mathlib.Omega.{arith}
 use Rattle.piece_ends.specs.Walk.{linkAt, standsAt, findAlong}
 use Rattle.piece_ends.proofs.Following.{search-ends, search-spent, search-found, search-next}
