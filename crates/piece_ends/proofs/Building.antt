@@ -49,11 +49,11 @@ module _ (kinds : List ℕ) (coords : List Float) where
   abbrev pub Partial : ℕ → List ℕ → Type 0
   Partial s words = Holds 3 words (slotWord (headFrom s) (linkFrom s))
 
-  past-end : (e : ℕ) → 2 * length kinds ≤ e → isEnd kinds e ≡ false
+  pub past-end : (e : ℕ) → 2 * length kinds ≤ e → isEnd kinds e ≡ false
   unfolding isEnd
   past-end e l = rw (le-ltb (e / 2) (length kinds) (omega arith)) refl
 
-  no-link : (e : ℕ) → isEnd kinds e ≡ false → nextLink kinds coords e ≡ 0
+  pub no-link : (e : ℕ) → isEnd kinds e ≡ false → nextLink kinds coords e ≡ 0
   unfolding nextLink
   no-link e h = rw h refl
 

@@ -1,5 +1,5 @@
 -- What the readers find in words that hold the table: the ends of a point's bits, in the Rust's order, whatever the buckets are. Assumes nothing.
-use Prim.Native.Nat.{ℕ, suc, _+_, _-_, _*_, _/_, _%_, _<_, _≤_}
+use Prim.Native.Nat.{ℕ, zero, suc, _+_, _-_, _*_, _/_, _%_, _<_, _≤_}
 use mathlib.Core.Path.{_≡_, refl, sym, ap, _∙_}
 use mathlib.Core.Bool.{Bool, true, false, not, _&&_}
 use mathlib.Core.List.{List}
@@ -14,13 +14,13 @@ use Rattle.vec3.specs.declared.Vec3.{Vec3}
 use Rattle.job_checks.specs.Any.{anyBelow}
 use Rattle.job_checks.proofs.Any.{none-below, none-all}
 use Rattle.topology.proofs.Find.{either}
-use Rattle.edge_table.proofs.Holding.{words-at}
+use Rattle.edge_table.proofs.Holding.{words-at, words-zero}
 use Rattle.piece_ends.specs.Ends.{passing, endPoint, isEnd, sameBits, hasBits, endsWithBits, firstOfBits}
 use Rattle.piece_ends.specs.Table.{mixed, pointBucket, linkTo, slotWord, bucketAt, inBucket, bucketFrom, headLink, nextLink, pieceWords}
 use Rattle.piece_ends.specs.Walk.{linkAt, standsAt, follow, findAlong, firstLinkAt, nextLinkAt, isFirstAt, HoldsTable}
-use Rattle.piece_ends.proofs.Passing.{both, never, link-none, pass-none, pass-same, link-first, first-link}
+use Rattle.piece_ends.proofs.Passing.{both, never, link-none, pass-none, pass-never, pass-same, link-first, first-link}
 use Rattle.piece_ends.proofs.Following.{search-no-steps, follow-left, search-left}
-use Rattle.piece_ends.proofs.Building.{bucket-below, slot-end, some-link}
+use Rattle.piece_ends.proofs.Building.{bucket-below, slot-end, past-end, no-link as no-next, some-link}
 
 -- ---- bits
 -- a point's bits by coordinate
@@ -114,6 +114,26 @@ module _ (kinds : List ℕ) (coords : List Float) where
   pub has-same : (p : Vec3) (e : ℕ) → hasBits kinds coords p e ≡ true → (d : ℕ) → hasBits kinds coords (endPoint coords e) d ≡ hasBits kinds coords p d
   unfolding hasBits
   has-same p e h d = ap (λ (b : Bool). isEnd kinds d && b) (same-other (endPoint coords d) (endPoint coords e) p (same-are (endPoint coords e) p (both (isEnd kinds e) (sameBits (endPoint coords e) p) h .1)))
+
+  -- no end is in a bucket that there is not
+  never-in : (b : ℕ) → length kinds ≤ b → (e : ℕ) → inBucket kinds coords b e ≡ false
+  unfolding bucketAt
+  never-in b l e = ⊎-elim
+      (λ q. let a = in-end b e q in
+      let m : e < 2 * length kinds = end-below e (a .0) in
+      absurd (omega (arith, a .1, bucket-below (length kinds) (endPoint coords e) (omega arith))))
+      (λ q. q)
+      (either (inBucket kinds coords b e))
+
+  slot-zero : (i a : ℕ) → length kinds ≤ i → slotWord (headLink kinds coords) (nextLink kinds coords) i a ≡ 0
+  unfolding slotWord
+  slot-zero i zero l = head-all i ∙ (ap linkTo (pass-never (inBucket kinds coords i) (never-in i l) (2 * length kinds) 0) ∙ link-none)
+  slot-zero i (suc w) l = no-next kinds coords (2 * i + w) (past-end kinds coords (2 * i + w) (omega arith))
+
+  -- the slots behind the pieces are zero
+  pub spare-zero : (n i a : ℕ) → length kinds ≤ i → a < 3 → getD (pieceWords kinds coords n) (3 * i + a) 0 ≡ 0
+  unfolding pieceWords
+  spare-zero n i a l m = words-zero n 3 (slotWord (headLink kinds coords) (nextLink kinds coords)) i a m (slot-zero i a l)
 
 module _ (kinds : List ℕ) (coords : List Float) (words : List ℕ) (held : HoldsTable kinds coords words) where
   -- the link of an end leads to the next of its bucket

@@ -30,6 +30,11 @@ module _ (test : ℕ → Bool) where
   unfolding passing
   pass-none e = refl
 
+  pub pass-never : ((e : ℕ) → test e ≡ false) → (k e : ℕ) → passing test k e ≡ []
+  unfolding passing
+  pass-never none zero e = refl
+  pass-never none (suc k) e = rw (none e) (pass-never none k (suc e))
+
   module _ (k e : ℕ) where
     pub pass-here : test e ≡ true → passing test (suc k) e ≡ e ∷ passing test k (suc e)
     unfolding passing

@@ -53,7 +53,7 @@ module _ (kinds : List ℕ) (coords : List Float) where
   unfoldable pub nextLink : ℕ → ℕ
   nextLink e = cond (isEnd kinds e) (linkTo (bucketFrom (bucketAt e) (suc e))) 0
 
-  -- the buffer, of n words: zeros behind the pieces' slots
+  -- the buffer, of n words; behind the pieces' slots they are zeros (`spare-zero` in proofs/Held.antt)
   unfoldable pub pieceWords : ℕ → List ℕ
   pieceWords n = wordsOf n 3 (slotWord headLink nextLink)
 
