@@ -1,0 +1,6 @@
+pub mod Passing
+pub mod Following
+pub mod Building
+pub mod Seeking
+pub mod Held
+pub mod Unit

@@ -1,0 +1,36 @@
+-- The readers' answers from the values that they computed. Assumes nothing.
+use Prim.Native.Nat.{ℕ, suc, _+_, _*_}
+use mathlib.Core.Path.{_≡_, refl, sym, ap, _∙_}
+use mathlib.Core.Bool.{Bool, true, false}
+use mathlib.Core.List.{List}
+use borrow.Author.Tests.{eq-eqb, ne-eqb}
+use lib.Ieee.{Float}
+use lib.ListN.{getD}
+use Rattle.vec3.specs.declared.Vec3.{Vec3}
+use Rattle.piece_ends.specs.Ends.{endPoint, sameBits}
+use Rattle.piece_ends.specs.Table.{pointBucket}
+use Rattle.piece_ends.specs.Walk.{linkAt, standsAt, findAlong, firstLinkAt, nextLinkAt, isFirstAt}
+
+pub stands-said : (coords : List Float) (p q : Vec3) (e : ℕ) (b : Bool) → q ≡ endPoint coords e → b ≡ sameBits q p → b ≡ standsAt coords p e
+stands-said coords p q e b is said = said ∙ ap (λ (r : Vec3). sameBits r p) is
+
+module _ (coords : List Float) (words : List ℕ) (pieces : ℕ) where
+  pub first-done : (p : Vec3) (b head r : ℕ) → b ≡ pointBucket pieces p → head ≡ getD words (3 * b + 0) 0 → r ≡ findAlong (linkAt words) (standsAt coords p) (2 * pieces) head → r ≡ firstLinkAt coords words pieces p
+  unfolding firstLinkAt
+  first-done p b head r is-b is-head is-r = is-r ∙ rw (is-head, is-b) refl
+
+  pub next-done : (e : ℕ) (q : Vec3) (link r : ℕ) → q ≡ endPoint coords e → link ≡ linkAt words e → r ≡ findAlong (linkAt words) (standsAt coords q) (2 * pieces) link → r ≡ nextLinkAt coords words pieces e
+  unfolding nextLinkAt
+  next-done e q link r is-q is-link is-r = is-r ∙ rw (is-link, is-q) refl
+
+  module _ (e : ℕ) (q : Vec3) (link : ℕ) (is-q : q ≡ endPoint coords e) (is-link : link ≡ firstLinkAt coords words pieces q) where
+    link-is : link ≡ firstLinkAt coords words pieces (endPoint coords e)
+    link-is = is-link ∙ ap (firstLinkAt coords words pieces) is-q
+
+    pub first-is : link ≡ suc e → true ≡ isFirstAt coords words pieces e
+    unfolding isFirstAt
+    first-is h = sym (eq-eqb (firstLinkAt coords words pieces (endPoint coords e)) (suc e) (sym link-is ∙ h))
+
+    pub first-is-not : (link ≡ suc e → ⊥) → false ≡ isFirstAt coords words pieces e
+    unfolding isFirstAt
+    first-is-not h = sym (ne-eqb (firstLinkAt coords words pieces (endPoint coords e)) (suc e) (λ z. h (link-is ∙ z)))

@@ -1,0 +1,4 @@
+pub mod Ends
+pub mod Table
+pub mod Walk
+pub mod Directions
