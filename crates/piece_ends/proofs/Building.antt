@@ -14,7 +14,7 @@ use lib.ListN.{length, getD, set, replicate, length-set}
 use Rattle.vec3.specs.declared.Vec3.{Vec3}
 use Rattle.buffers.proofs.Zeroing.{zero-at}
 use Rattle.topology.proofs.Find.{either}
-use Rattle.edge_table.specs.Sides.{Holds}
+use Rattle.edge_table.specs.Sides.{HoldsWords}
 use Rattle.edge_table.proofs.Holding.{holds-set, words-are}
 use Rattle.piece_ends.specs.Ends.{passing, endPoint, isEnd}
 use Rattle.piece_ends.specs.Table.{mixed, golden, pointBucket, linkTo, slotWord, bucketAt, inBucket, bucketFrom, headLink, nextLink, pieceWords, entered}
@@ -47,7 +47,7 @@ module _ (kinds : List ℕ) (coords : List Float) where
   linkFrom s e = cond (leb s e) (nextLink kinds coords e) 0
 
   abbrev pub Partial : ℕ → List ℕ → Type 0
-  Partial s words = Holds 3 words (slotWord (headFrom s) (linkFrom s))
+  Partial s words = HoldsWords 3 words (slotWord (headFrom s) (linkFrom s))
 
   pub past-end : (e : ℕ) → 2 * length kinds ≤ e → isEnd kinds e ≡ false
   unfolding isEnd
@@ -164,7 +164,7 @@ module _ (kinds : List ℕ) (coords : List Float) where
       abbrev linked : List ℕ
       linked = set words (3 * (e / 2) + (1 + e % 2)) (getD words (3 * b + 0) 0)
 
-      halfway : Holds 3 linked (slotWord (headFrom (suc e)) (linkFrom e))
+      halfway : HoldsWords 3 linked (slotWord (headFrom (suc e)) (linkFrom e))
       halfway =
           holds-set 3 words (slotWord (headFrom (suc e)) (linkFrom (suc e))) (slotWord (headFrom (suc e)) (linkFrom e)) part (e / 2) (1 + e % 2) (getD words (3 * b + 0) 0) (omega arith) (omega arith)
           (slot-end (headFrom (suc e)) (linkFrom e) e ∙ (own-link ∙ (some-link e end ∙ sym head-read)))

@@ -6,7 +6,7 @@ use mathlib.Core.List.{List}
 use lib.Ieee.{Float, lt}
 use lib.ListN.{length, set, replicate, length-replicate}
 use native.Mathlib.Omega.{arith}
-use Rattle.float64.specs.Scalar.{zero, one}
+use Rattle.float64.specs.Scalar.{zero64, one}
 use Rattle.float64.specs.Notation.{_⊘_}
 use Rattle.vec3.specs.declared.Vec3.{Vec3}
 use Rattle.vec3.specs.Vec.{scaleOf, subOf, normOf}
@@ -27,7 +27,7 @@ module _ (kinds : List ℕ) (coords : List Float) (i : ℕ) where
   unfolding directionOf
   long-direction h = rw h refl
 
-  pub no-direction : isLong kinds coords i ≡ false → record { x = zero; y = zero; z = zero } ≡ directionOf kinds coords i
+  pub no-direction : isLong kinds coords i ≡ false → record { x = zero64; y = zero64; z = zero64 } ≡ directionOf kinds coords i
   unfolding directionOf
   no-direction h = rw h refl
 
@@ -40,11 +40,11 @@ module _ (kinds : List ℕ) (coords : List Float) (i : ℕ) where
     unfolding lenOf
     length-is = is-len ∙ ap normOf vector-is
 
-    pub long-is : isEnd kinds (2 * i + 1) ≡ true → lt zero len ≡ true → isLong kinds coords i ≡ true
+    pub long-is : isEnd kinds (2 * i + 1) ≡ true → lt zero64 len ≡ true → isLong kinds coords i ≡ true
     unfolding isLong
     long-is end h = rw (end, ← length-is, h) refl
 
-    pub short-is : lt zero len ≡ false → isLong kinds coords i ≡ false
+    pub short-is : lt zero64 len ≡ false → isLong kinds coords i ≡ false
     unfolding isLong
     short-is h = rw (← length-is, h) (and-false (isEnd kinds (2 * i + 1)))
 
@@ -52,7 +52,7 @@ module _ (kinds : List ℕ) (coords : List Float) (i : ℕ) where
     unfolding xhatOf
     scaled-is = λ j. scaleOf (vector-is j) (one ⊘ length-is j)
 
-    pub direction-is : (r : Vec3) → isEnd kinds (2 * i + 1) ≡ true → lt zero len ≡ true → r ≡ scaleOf d (one ⊘ len) → r ≡ directionOf kinds coords i
+    pub direction-is : (r : Vec3) → isEnd kinds (2 * i + 1) ≡ true → lt zero64 len ≡ true → r ≡ scaleOf d (one ⊘ len) → r ≡ directionOf kinds coords i
     direction-is r end h e = e ∙ (scaled-is ∙ sym (long-direction (long-is end h)))
 
   -- one written
@@ -63,12 +63,12 @@ module _ (kinds : List ℕ) (coords : List Float) (i : ℕ) where
 
 module _ (kinds : List ℕ) (coords : List Float) where
   -- all written, and the rest zeroed
-  pub directions-made : (r₀ r out : List Float) → r ≡ withRows 3 (λ (i : ℕ). row3 (directionOf kinds coords i)) (length kinds) r₀ → out ≡ zeroFrom zero (3 * length kinds) r → out ≡ pieceReals kinds coords (length r₀)
+  pub directions-made : (r₀ r out : List Float) → r ≡ withRows 3 (λ (i : ℕ). row3 (directionOf kinds coords i)) (length kinds) r₀ → out ≡ zeroFrom zero64 (3 * length kinds) r → out ≡ pieceReals kinds coords (length r₀)
   unfolding pieceReals
   directions-made r₀ r out written zeroed =
-      zeroed ∙ (ap (zeroFrom zero (3 * length kinds)) written ∙ zero-past-rows zero 3 (λ (i : ℕ). row3 (directionOf kinds coords i)) (λ k. refl) (length kinds) r₀)
+      zeroed ∙ (ap (zeroFrom zero64 (3 * length kinds)) written ∙ zero-past-rows zero64 3 (λ (i : ℕ). row3 (directionOf kinds coords i)) (λ k. refl) (length kinds) r₀)
 
   -- the direction of a piece, read from the buffer
   pub direction-held : (n i : ℕ) → i < length kinds → 3 * length kinds ≤ n → normalAt (pieceReals kinds coords n) i ≡ directionOf kinds coords i
   unfolding pieceReals
-  direction-held n i l room = vectors-at (directionOf kinds coords) (length kinds) (replicate n zero) i l (omega (arith, length-replicate n zero))
+  direction-held n i l room = vectors-at (directionOf kinds coords) (length kinds) (replicate n zero64) i l (omega (arith, length-replicate n zero64))

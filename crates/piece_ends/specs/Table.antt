@@ -7,7 +7,7 @@ use lib.Dec.{eqb}
 use lib.ListN.{length, getD, set}
 use lib.Ieee.{Float, binary64, toBits}
 use Rattle.vec3.specs.declared.Vec3.{Vec3}
-use Rattle.edge_table.specs.Words.{wordsOf}
+use Rattle.edge_table.specs.Words.{slotWords}
 use Rattle.piece_ends.specs.Ends.{passing, endPoint, isEnd}
 
 -- 2^32 over the golden ratio
@@ -55,7 +55,7 @@ module _ (kinds : List ℕ) (coords : List Float) where
 
   -- the buffer, of n words; behind the pieces' slots they are zeros (`spare-zero` in proofs/Held.antt)
   unfoldable pub pieceWords : ℕ → List ℕ
-  pieceWords n = wordsOf n 3 (slotWord headLink nextLink)
+  pieceWords n = slotWords n 3 (slotWord headLink nextLink)
 
   -- end e put before the others of its bucket, where there is such an end
   unfoldable pub entered : ℕ → List ℕ → List ℕ
