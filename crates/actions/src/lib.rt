@@ -45,20 +45,20 @@ pub fn touch(
     vertex: &mut [f64],
     vertex_words: &[u32],
     keys: &mut [f64],
-    words: &mut [u32],
+    events: &mut [u32],
     n: u32,
     limit: f64,
     v: VertexId,
     d: f64,
 ) -> Pushed
-    ensures { λ r. ⌜ ((cuts windows made : ℕ) → act cuts windows limit (given «vertex_words») (Action·touch (v .0) d) (stock made n (queue (given keys) (given words)) (given vertex))
-        ≡ queueing made (left vertex) (r, queue (left keys) (left words))) ⌝ }
+    ensures { λ r. ⌜ ((cuts windows made : ℕ) → act cuts windows limit (given «vertex_words») (Action·touch (v .0) d) (stock made n (queue (given keys) (given events)) (given vertex))
+        ≡ queueing made (left vertex) (r, queue (left keys) (left events))) ⌝ }
 {
     if d < distance(vertex, v) {
         write_f64(vertex, REALS_PER_VERTEX, v.0, VERTEX_DISTANCE, d);
         if flagged(vertex_words, v) {
             if d <= limit {
-                return heap::push(keys, words, n, heap::vertex_event(d, v));
+                return heap::push(keys, events, n, heap::vertex_event(d, v));
             }
         }
     }

@@ -76,10 +76,10 @@ struct Outcome {
     differs: u64,
 }
 
-fn replay_push(keys: &mut [f64], words: &mut [u32], n: u32, e: Event, found: bool) -> Outcome
-    ensures { λ r. ⌜ (r .n, (r .differs, queue (left keys) (left words))) ≡ afterPush found n (pushing (queue (given keys) (given words)) n e) ⌝ }
+fn replay_push(keys: &mut [f64], events: &mut [u32], n: u32, e: Event, found: bool) -> Outcome
+    ensures { λ r. ⌜ (r .n, (r .differs, queue (left keys) (left events))) ≡ afterPush found n (pushing (queue (given keys) (given events)) n e) ⌝ }
 {
-    match push(keys, words, n, e) {
+    match push(keys, events, n, e) {
         Pushed::Full => Outcome {
             n,
             differs: one_if(found),
@@ -101,10 +101,10 @@ fn pop_differs(found: bool, x: Event, e: Event) -> u64
     1
 }
 
-fn replay_pop(keys: &mut [f64], words: &mut [u32], n: u32, e: Event, found: bool) -> Outcome
-    ensures { λ r. ⌜ (r .n, (r .differs, queue (left keys) (left words))) ≡ afterPop found e n (popping (queue (given keys) (given words)) n) ⌝ }
+fn replay_pop(keys: &mut [f64], events: &mut [u32], n: u32, e: Event, found: bool) -> Outcome
+    ensures { λ r. ⌜ (r .n, (r .differs, queue (left keys) (left events))) ≡ afterPop found e n (popping (queue (given keys) (given events)) n) ⌝ }
 {
-    match pop(keys, words, n) {
+    match pop(keys, events, n) {
         Popped::Empty => Outcome {
             n,
             differs: one_if(found),
@@ -117,29 +117,29 @@ fn replay_pop(keys: &mut [f64], words: &mut [u32], n: u32, e: Event, found: bool
 }
 
 // Record k of s.
-fn replay_record(keys: &mut [f64], words: &mut [u32], n: u32, s: &[u8], k: usize) -> Outcome
+fn replay_record(keys: &mut [f64], events: &mut [u32], n: u32, s: &[u8], k: usize) -> Outcome
     requires { ⌜ 32 * k + 32 ≤ length (now s) ⌝ }
-    ensures { λ r. ⌜ (r .n, (r .differs, queue (left keys) (left words))) ≡ afterRecord (given s) k n (queue (given keys) (given words)) ⌝ }
+    ensures { λ r. ⌜ (r .n, (r .differs, queue (left keys) (left events))) ≡ afterRecord (given s) k n (queue (given keys) (given events)) ⌝ }
 {
     let what = vectors::word(s, 4 * k);
     let e = event(s, k);
     if what < 2 {
-        return replay_push(keys, words, n, e, what == 0);
+        return replay_push(keys, events, n, e, what == 0);
     }
-    replay_pop(keys, words, n, e, what == 2)
+    replay_pop(keys, events, n, e, what == 2)
 }
 
 // The records of a chunk, from a queue of n events on.
-fn replay_records(keys: &mut [f64], words: &mut [u32], n: u32, s: &[u8]) -> State
+fn replay_records(keys: &mut [f64], events: &mut [u32], n: u32, s: &[u8]) -> State
     requires { ⌜ length (now s) ≤ 32768 ⌝ }
-    ensures { λ r. ⌜ (r .n, (r .differences, queue (left keys) (left words))) ≡ afterRecords (length (given s) / 32) (given s) 0 n 0 (queue (given keys) (given words)) ⌝ }
+    ensures { λ r. ⌜ (r .n, (r .differences, queue (left keys) (left events))) ≡ afterRecords (length (given s) / 32) (given s) 0 n 0 (queue (given keys) (given events)) ⌝ }
     ensures { λ r. ⌜ (r .cases ≡ length (given s) / 32) × (r .differences ≤ r .cases) ⌝ }
 {
     let mut n = n;
     let mut differences: u64 = 0;
     let mut k: usize = 0;
     while k < s.len() / 32 {
-        let r = replay_record(keys, words, n, s, k);
+        let r = replay_record(keys, events, n, s, k);
         n = r.n;
         differences += r.differs;
         k += 1;
@@ -152,24 +152,24 @@ fn replay_records(keys: &mut [f64], words: &mut [u32], n: u32, s: &[u8]) -> Stat
 }
 
 // The next 1,024 records of a file, or what is left of it.
-fn replay_chunk(keys: &mut [f64], words: &mut [u32], n: u32, fd: i32) -> State
+fn replay_chunk(keys: &mut [f64], events: &mut [u32], n: u32, fd: i32) -> State
     ensures { λ r. ⌜ (r .cases ≤ 1024) × (r .differences ≤ 1024) ⌝ }
 {
     let mut buf = [0u8; 32768];
     let got = io::read_full(fd, &mut buf);
-    replay_records(keys, words, n, &buf[..got])
+    replay_records(keys, events, n, &buf[..got])
 }
 
 // A whole file, up to 1,024 chunks, from an empty queue of as many slots as the stored runs had.
 fn replay(fd: i32) -> State {
     let mut keys = [0.0f64; 256];
-    let mut words = [0u32; 512];
+    let mut events = [0u32; 512];
     let mut n: u32 = 0;
     let mut cases: u64 = 0;
     let mut differences: u64 = 0;
     let mut turns: u64 = 1024;
     while turns > 0 {
-        let t = replay_chunk(&mut keys, &mut words, n, fd);
+        let t = replay_chunk(&mut keys, &mut events, n, fd);
         if t.cases == 0 {
             break;
         }

@@ -1,2 +1,3 @@
 pub mod Offers
 pub mod Calls
+pub mod Walks

@@ -40,7 +40,7 @@ use Rattle.trim_split.specs.declared.Counts.{Counts}
 use Rattle.trim_split.specs.declared.Made.{Made}
 use Rattle.cut_lists.specs.Cut.{Sizes}
 use Rattle.trim_split.proofs.Untouched.{untouched-same, untouched-then}
-use Rattle.trim_split.proofs.Loops.{Slices, slices, SameLengths, same-windows, windowsOf, snapshotOf, ReadyIn, ready-same}
+use Rattle.trim_split.proofs.Loops.{WindowSlices, windowSlices, SameWindowSlices, same-windows, windowsOf, snapshotOf, ReadyIn, ready-same}
 use Rattle.trim_visit.specs.declared.Visited.the-variants.{Stopped, Went}
 use Rattle.trim_visit.specs.Visiting.{VisitsAll}
 use Rattle.trim_keep.specs.Keeping.{Seats, MadeWithin}
@@ -57,7 +57,7 @@ says-from : (e : ℕ) (p p1 : Snapshot) (end : End) (r : Result) → Untouched (
 says-from e p p1 (stopped n) r u h = h
 says-from e p p1 (at p2) r u h = record { wins = h .wins; live = h .live; is = h .is; holds = h .holds; untouched = untouched-then (λ k. k ≡ e) p p1 p2 u (h .untouched) }
 
-module _ (cuts : ℕ) (limit : Float) (flags : List ℕ) (e : Edge) (x : WindowRecord) (made queued : ℕ) (s : Slices) (vertex : List Float) where
+module _ (cuts : ℕ) (limit : Float) (flags : List ℕ) (e : Edge) (x : WindowRecord) (made queued : ℕ) (s : WindowSlices) (vertex : List Float) where
   abbrev w : Window
   w = liveOf x 0
 
@@ -110,8 +110,8 @@ module _ (cuts : ℕ) (limit : Float) (flags : List ℕ) (e : Edge) (x : WindowR
 
   -- the walk along the front leaves s₁, where the edge remembers its end
   module _ (tiny : Float) (some : cuts ≢ 0) (before : ℕ) (edges₁ : List ℕ) (fronted : Fronted (passes tiny (x .win .b0)) made (p .links) (p .reals) edges₁ id before) (keep : List Float) (one : pairs 1 keep ≡ interval (x .win .b0) (x .win .b1) ∷ []) where
-    abbrev s₁ : Slices
-    s₁ = slices edges₁ (s .words) (s .reals) (s .keys) (s .events)
+    abbrev s₁ : WindowSlices
+    s₁ = windowSlices edges₁ (s .words) (s .reals) (s .keys) (s .events)
 
     above : 0 < cuts
     above = omega (arith, some)
@@ -141,7 +141,7 @@ module _ (cuts : ℕ) (limit : Float) (flags : List ℕ) (e : Edge) (x : WindowR
         low
 
     -- the windows that are kept are seated, or that is stopped
-    module _ (n : Counts) (last k : ℕ) (s′ : Slices) (keep′ : List Float) (same : SameLengths s s′)
+    module _ (n : Counts) (last k : ℕ) (s′ : WindowSlices) (keep′ : List Float) (same : SameWindowSlices s s′)
         (d : (limit : Float) (flags : List ℕ) (vertex : List Float) → VisitsAll cuts (windowsOf s) limit flags id tiny w Few (pairs 1 keep) (snapshotOf s₁ made queued before vertex) (Went n last k) (at (snapshotOf s′ (n .made) (n .queued) last vertex)) keep′) where
       pub admit-seated : (end : End) → ((cuts j : ℕ) → Seats cuts (windowsOf s′) limit flags e (liveOf x j) (wideOf tiny (pairs k keep′)) (snapshotOf s′ (n .made) (n .queued) before vertex) end)
           → LowIs → tiny ≡ tinyOf (e .len) → Admits cuts (windowsOf s) limit flags e new p end
@@ -205,20 +205,20 @@ module _ (cuts windows : ℕ) (limit : Float) (flags : List ℕ) (e : Edge) (new
     add-not-skipped h counts b x r b′ x′ z = absurd (subst (λ (d : Bool). T (not d)) (passed false h) z)
 
   -- the link where it ended is of no use any more
-  pub add-went : (made queued last : ℕ) (s : Slices) (vertex : List Float) → AddsFrom cuts windows limit flags e new p (at (snapshotOf s made queued last vertex)) → AddsFrom cuts windows limit flags e new p (at (snapshotOf s made queued 0 vertex))
+  pub add-went : (made queued last : ℕ) (s : WindowSlices) (vertex : List Float) → AddsFrom cuts windows limit flags e new p (at (snapshotOf s made queued last vertex)) → AddsFrom cuts windows limit flags e new p (at (snapshotOf s made queued 0 vertex))
   add-went made queued last s vertex d mesh k g = let l = d mesh k g in let u = l .untouched in record { wins = l .wins; live = l .live; is = l .is; holds = l .holds; untouched = record { more = u .more; edges = u .edges; words = u .words; reals = u .reals } }
 
 -- nothing is changed
 pub unchanged : (counts : Counts) (b : Slices₁) (x : Cuts) → Unchanged counts b x (Went₁ counts) b x
-unchanged counts b x = record { answer = refl; slices = refl; cuts = refl }
+unchanged counts b x = record { answer = refl; windowSlices = refl; cuts = refl }
 
 -- ---- what the parts require
 
-pub seat-ready : (e made before made′ last k cuts : ℕ) (s s′ : Slices) → SameLengths s s′ → ReadyIn e made 0 s → before ≤ made → (made′ ≤ windowsOf s) × ((last ≤ made′) × ((k ≤ cuts) × (made ≤ made′))) → ReadyIn e made′ before s′
+pub seat-ready : (e made before made′ last k cuts : ℕ) (s s′ : WindowSlices) → SameWindowSlices s s′ → ReadyIn e made 0 s → before ≤ made → (made′ ≤ windowsOf s) × ((last ≤ made′) × ((k ≤ cuts) × (made ≤ made′))) → ReadyIn e made′ before s′
 seat-ready e made before made′ last k cuts s s′ same r i h = ready-same e made′ before s s′ same (r .edge) (h .0) (le-trans i (h .1 .1 .1))
 
 pub kept-fit : (size k : ℕ) (out keep next keep′ : List Float) → Sizes size out keep next → length keep′ ≡ length keep → k ≤ size → k + k ≤ length keep′
 kept-fit size k out keep next keep′ h same i = omega (arith, h .keeps, same, i)
 
-pub bounded-in : (s s′ : Slices) (r : Made) → SameLengths s s′ → MadeWithin (windowsOf s′) r → MadeWithin (windowsOf s) r
+pub bounded-in : (s s′ : WindowSlices) (r : Made) → SameWindowSlices s s′ → MadeWithin (windowsOf s′) r → MadeWithin (windowsOf s) r
 bounded-in s s′ r same = subst (λ (n : ℕ). MadeWithin n r) (same-windows s s′ same)

@@ -15,19 +15,19 @@ use Rattle.trim_model.specs.Intervals.{width, wideOf}
 use Rattle.trim_state.proofs.Turns.{wide-yes}
 use Rattle.live_windows.specs.Live.{liveOf}
 use Rattle.trim_split.specs.Running.{End, stopped, at}
-use Rattle.trim_split.proofs.Loops.{Slices, SameLengths, same-refl, same-trans, same-windows, windowsOf, snapshotOf, ReadyIn, ready-same}
+use Rattle.trim_split.proofs.Loops.{WindowSlices, SameWindowSlices, same-refl, same-trans, same-windows, windowsOf, snapshotOf, ReadyIn, ready-same}
 use Rattle.trim_keep.specs.Keeping.{Seats, KeptOne}
 use Rattle.trim_keep.proofs.Seating.{seats-skip, seats-none}
 
-module _ (limit : Float) (flags : List ℕ) (e : Edge) (x : WindowRecord) (t : Float) (ps : List Interval) (s₀ : Slices) (vertex₀ : List Float) (made₀ queued₀ last₀ : ℕ) where
-  abbrev From : ℕ → Slices → List Float → ℕ → ℕ → ℕ → (cuts j : ℕ) → End → Type 0
+module _ (limit : Float) (flags : List ℕ) (e : Edge) (x : WindowRecord) (t : Float) (ps : List Interval) (s₀ : WindowSlices) (vertex₀ : List Float) (made₀ queued₀ last₀ : ℕ) where
+  abbrev From : ℕ → WindowSlices → List Float → ℕ → ℕ → ℕ → (cuts j : ℕ) → End → Type 0
   From i s vertex made queued last cuts j = Seats cuts (windowsOf s₀) limit flags e (liveOf x j) (wideOf t (drop i ps)) (snapshotOf s made queued last vertex)
 
   abbrev Whole : (cuts j : ℕ) → End → Type 0
   Whole cuts j = Seats cuts (windowsOf s₀) limit flags e (liveOf x j) (wideOf t ps) (snapshotOf s₀ made₀ queued₀ last₀ vertex₀)
 
-  pub record KeepInv (s : Slices) (vertex : List Float) (made queued last i : ℕ) : Type 0 where
-    pub same : SameLengths s₀ s
+  pub record KeepInv (s : WindowSlices) (vertex : List Float) (made queued last i : ℕ) : Type 0 where
+    pub same : SameWindowSlices s₀ s
     pub same-vertex : length vertex ≡ length vertex₀
     pub edge : e .id .0 < slotsOf (length (s₀ .edges)) wordsPerEdge
     pub fits : made ≤ windowsOf s₀
@@ -37,7 +37,7 @@ module _ (limit : Float) (flags : List ℕ) (e : Edge) (x : WindowRecord) (t : F
   pub keep-start : ReadyIn (e .id .0) made₀ last₀ s₀ → KeepInv s₀ vertex₀ made₀ queued₀ last₀ 0
   keep-start r = record { same = same-refl s₀; same-vertex = refl; edge = r .edge; fits = r .fits; linked = r .linked; goal = λ cuts j end d. d }
 
-  module _ (s : Slices) (vertex : List Float) (made queued last i : ℕ) (inv : KeepInv s vertex made queued last i) where
+  module _ (s : WindowSlices) (vertex : List Float) (made queued last i : ℕ) (inv : KeepInv s vertex made queued last i) where
     pub keep-ready : ReadyIn (e .id .0) made last s
     keep-ready = ready-same (e .id .0) made last s₀ s (inv .same) (inv .edge) (inv .fits) (inv .linked)
 
@@ -73,7 +73,7 @@ module _ (limit : Float) (flags : List ℕ) (e : Edge) (x : WindowRecord) (t : F
         pub keep-stopped : (n : ℕ) → OneDoes (stopped n) → (cuts j : ℕ) → Whole cuts j (stopped n)
         keep-stopped n d cuts j = inv .goal cuts j (stopped n) (as-wide cuts j (stopped n) (in-first (stopped n) d cuts j (wideOf t (drop (suc i) ps))))
 
-        pub keep-next : (s′ : Slices) (vertex′ : List Float) (made′ queued′ last′ : ℕ) → SameLengths s s′ → length vertex′ ≡ length vertex → (made′ ≤ windowsOf s) × (last′ ≤ made′) → OneDoes (at (snapshotOf s′ made′ queued′ last′ vertex′)) → KeepInv s′ vertex′ made′ queued′ last′ (i + 1)
+        pub keep-next : (s′ : WindowSlices) (vertex′ : List Float) (made′ queued′ last′ : ℕ) → SameWindowSlices s s′ → length vertex′ ≡ length vertex → (made′ ≤ windowsOf s) × (last′ ≤ made′) → OneDoes (at (snapshotOf s′ made′ queued′ last′ vertex′)) → KeepInv s′ vertex′ made′ queued′ last′ (i + 1)
         keep-next s′ vertex′ made′ queued′ last′ h v l d = record {
           same = same-trans s₀ s s′ (inv .same) h;
           same-vertex = v ∙ inv .same-vertex;

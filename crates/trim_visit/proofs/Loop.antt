@@ -23,7 +23,7 @@ use Rattle.cut_lists.specs.Cut.{Sizes}
 use Rattle.cut_lists.specs.Buffers.{Cuts}
 use Rattle.trim_split.specs.declared.Counts.{Counts}
 use Rattle.trim_split.specs.Running.{End, stopped, at}
-use Rattle.trim_split.proofs.Loops.{Slices, SameLengths, same-refl, same-trans, same-windows, windowsOf, snapshotOf, ReadyIn, ready-same}
+use Rattle.trim_split.proofs.Loops.{WindowSlices, SameWindowSlices, same-refl, same-trans, same-windows, windowsOf, snapshotOf, ReadyIn, ready-same}
 use Rattle.trim_visit.specs.declared.Visited.{Visited}
 use Rattle.trim_visit.specs.declared.Visited.the-variants.{Stopped, Went}
 use Rattle.trim_visit.specs.Visiting.{from, Kept, Visits1, VisitsAll}
@@ -49,15 +49,15 @@ sizes-same c c′ h s = record {
   nexts = h .next ∙ s .nexts ∙ ap (λ (n : ℕ). n + n) (sym (h .pts));
 }
 
-module _ (e : ℕ) (t : Float) (w : Window) (s₀ : Slices) (c₀ : Cuts) (made₀ queued₀ last₀ k₀ : ℕ) where
+module _ (e : ℕ) (t : Float) (w : Window) (s₀ : WindowSlices) (c₀ : Cuts) (made₀ queued₀ last₀ k₀ : ℕ) where
   abbrev size : ℕ
   size = length (c₀ .pts)
 
-  abbrev All : ℕ → Slices → Cuts → ℕ → ℕ → ℕ → ℕ → (limit : Float) (flags : List ℕ) (vertex : List Float) → Visited → End → List Float → Type 0
+  abbrev All : ℕ → WindowSlices → Cuts → ℕ → ℕ → ℕ → ℕ → (limit : Float) (flags : List ℕ) (vertex : List Float) → Visited → End → List Float → Type 0
   All left s c made queued last k limit flags vertex = VisitsAll size (windowsOf s₀) limit flags e t w (λ zs. length zs ≤ left) (pairs k (c .keep)) (snapshotOf s made queued last vertex)
 
-  pub record VisitsInv (s : Slices) (c : Cuts) (made queued last k left : ℕ) : Type 0 where
-    pub same : SameLengths s₀ s
+  pub record VisitsInv (s : WindowSlices) (c : Cuts) (made queued last k left : ℕ) : Type 0 where
+    pub same : SameWindowSlices s₀ s
     pub same-cuts : SameCuts c₀ c
     pub sizes : SizesOf c₀
     pub edge : e < slotsOf (length (s₀ .edges)) wordsPerEdge
@@ -80,7 +80,7 @@ module _ (e : ℕ) (t : Float) (w : Window) (s₀ : Slices) (c₀ : Cuts) (made�
     goal = λ limit flags vertex r end keep′ d. d;
   }
 
-  module _ (s : Slices) (c : Cuts) (now : Counts) (last k left : ℕ) (inv : VisitsInv s c (now .made) (now .queued) last k left) where
+  module _ (s : WindowSlices) (c : Cuts) (now : Counts) (last k left : ℕ) (inv : VisitsInv s c (now .made) (now .queued) last k left) where
     abbrev made : ℕ
     made = now .made
 
@@ -129,7 +129,7 @@ module _ (e : ℕ) (t : Float) (w : Window) (s₀ : Slices) (c₀ : Cuts) (made�
           visits-stopped n keep′ d limit flags vertex = inv .goal limit flags vertex (Stopped n) (stopped (lackNumber n)) keep′
               (all-stop size (windowsOf s₀) limit flags e t w (pairs k (c .keep)) (snapshotOf s made queued last vertex) left link follows i is x loads b n keep′ (in-first (λ vertex. stopped (lackNumber n)) d limit flags vertex))
 
-          pub visits-next : (s′ : Slices) (c′ : Cuts) (now′ : Counts) (last′ k′ left′ : ℕ) → SameLengths s s′ → SameCuts c c′ → 0 < left → left′ ≡ left - 1
+          pub visits-next : (s′ : WindowSlices) (c′ : Cuts) (now′ : Counts) (last′ k′ left′ : ℕ) → SameWindowSlices s s′ → SameCuts c c′ → 0 < left → left′ ≡ left - 1
               → Kept (length (c .pts)) (now′ .made) k′ (c′ .keep) (visit betterOf t w (liveOf x i) (from (pairs k (c .keep)) made))
               → OneDoes (λ vertex. at (snapshotOf s′ (now′ .made) (now′ .queued) last′ vertex)) → (nan : Float) → VisitsInv s′ c′ (now′ .made) (now′ .queued) last′ k′ left′
           visits-next s′ c′ now′ last′ k′ left′ h j z isLeft kept d nan =

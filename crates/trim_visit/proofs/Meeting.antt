@@ -17,12 +17,12 @@ use Rattle.trim_state.specs.Trace.{splitting}
 use Rattle.live_windows.specs.Live.{liveOf}
 use Rattle.cut_lists.specs.Cut.{lengths, LeavesLists}
 use Rattle.trim_split.specs.Running.{End, stopped, at, Does}
-use Rattle.trim_split.proofs.Loops.{Slices, windowsOf, snapshotOf}
+use Rattle.trim_split.proofs.Loops.{WindowSlices, windowsOf, snapshotOf}
 use Rattle.trim_visit.specs.Visiting.{from, Kept, Visits1}
 use Rattle.trim_visit.proofs.Lists.{turn-untouched, kept-untouched, turn-full, turn-none, kept-none, turn-split, kept-split}
 use Rattle.cut_lists.specs.Buffers.{Cuts}
 
-module _ (e : ℕ) (t : Float) (w x : WindowRecord) (id made queued last k : ℕ) (s : Slices) (c : Cuts) (fits : made ≤ windowsOf s) (inside : id < made) where
+module _ (e : ℕ) (t : Float) (w x : WindowRecord) (id made queued last k : ℕ) (s : WindowSlices) (c : Cuts) (fits : made ≤ windowsOf s) (inside : id < made) where
   abbrev new : Window
   new = liveOf w 0
 

@@ -43,7 +43,7 @@ returns c = λ cuts windows made.
     let flagged = at-flagged .flagged in
     let distance = at-distance .distance in
     let a = start .args in
-    touch-queued cuts windows (a .limit) (a .vertex-words .now) made (a .n) (queue (a .keys .now) (a .words .now)) (a .vertex .now) (a .v .0) (a .d) (distance .result) (distance .ensures)
+    touch-queued cuts windows (a .limit) (a .vertex-words .now) made (a .n) (queue (a .keys .now) (a .events .now)) (a .vertex .now) (a .v .0) (a .d) (distance .result) (distance .ensures)
     (at-if1 .if1 .taken) _ (at-write-f64 .write-f64 .ensures) (flagged .result) (flagged .ensures) (at-if2 .if2 .taken) (at-if3 .if3 .taken) (vertex-event .result) (vertex-event .ensures) _
     (at-push .push .ensures .0)
 
@@ -61,7 +61,7 @@ returns-2 c = λ cuts windows made.
     let flagged = at-flagged .flagged in
     let distance = at-distance .distance in
     let a = start .args in
-    touch-beyond cuts windows (a .limit) (a .vertex-words .now) made (a .n) (queue (a .keys .now) (a .words .now)) (a .vertex .now) (a .v .0) (a .d) (distance .result) (distance .ensures)
+    touch-beyond cuts windows (a .limit) (a .vertex-words .now) made (a .n) (queue (a .keys .now) (a .events .now)) (a .vertex .now) (a .v .0) (a .d) (distance .result) (distance .ensures)
     (at-if1 .if1 .taken) _ (at-write-f64 .write-f64 .ensures) (flagged .result) (flagged .ensures) (at-if2 .if2 .taken) (c .if3 .left)
 
 same-length-5 : tie.Need-same-length-5
@@ -77,7 +77,7 @@ returns-3 c = λ cuts windows made.
     let flagged = at-flagged .flagged in
     let distance = at-distance .distance in
     let a = start .args in
-    touch-unflagged cuts windows (a .limit) (a .vertex-words .now) made (a .n) (queue (a .keys .now) (a .words .now)) (a .vertex .now) (a .v .0) (a .d) (distance .result)
+    touch-unflagged cuts windows (a .limit) (a .vertex-words .now) made (a .n) (queue (a .keys .now) (a .events .now)) (a .vertex .now) (a .v .0) (a .d) (distance .result)
     (distance .ensures) (at-if1 .if1 .taken) _ (at-write-f64 .write-f64 .ensures) (flagged .result) (flagged .ensures) (c .if2 .left)
 
 same-length-6 : tie.Need-same-length-6
@@ -86,7 +86,7 @@ same-length-6 c = search needs
 returns-4 : tie.Need-returns-4
 returns-4 c = λ cuts windows made.
     let a = c .before .before .before .before .before .before .before .args in
-    touch-longer cuts windows (a .limit) (a .vertex-words .now) made (a .n) (queue (a .keys .now) (a .words .now)) (a .vertex .now) (a .v .0) (a .d) (c .before .distance .result) (c .before .distance .ensures) (c .if1 .left)
+    touch-longer cuts windows (a .limit) (a .vertex-words .now) made (a .n) (queue (a .keys .now) (a .events .now)) (a .vertex .now) (a .v .0) (a .d) (c .before .distance .result) (c .before .distance .ensures) (c .if1 .left)
 
 pub touch-spec : {M : Type 1} → statement M
 touch-spec =

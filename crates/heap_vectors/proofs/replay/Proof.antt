@@ -7,10 +7,10 @@ use Rattle.heap_vectors.proofs.replay.Statement.{statement}
 use Rattle.heap_vectors.proofs.replay.Tie as tie
 
 abbrev Inv-loop : tie.InvT-loop
-Inv-loop fd keys₀ words₀ n₀ cases₀ differences₀ turns₀ keys words n cases differences turns = (length keys ≡ 256) × ((length words ≡ 512) × ((turns ≤ 1024) × ((cases + 1024 * turns ≤ 1048576) × (differences + 1024 * turns ≤ 1048576))))
+Inv-loop fd keys₀ events₀ n₀ cases₀ differences₀ turns₀ keys events n cases differences turns = (length keys ≡ 256) × ((length events ≡ 512) × ((turns ≤ 1024) × ((cases + 1024 * turns ≤ 1048576) × (differences + 1024 * turns ≤ 1048576))))
 
 abbrev μ-loop : tie.MeasureT-loop
-μ-loop fd keys₀ words₀ n₀ cases₀ differences₀ turns₀ keys words n cases differences turns = turns
+μ-loop fd keys₀ events₀ n₀ cases₀ differences₀ turns₀ keys events n cases differences turns = turns
 
 loop-holds : tie.Need-loop-holds Inv-loop μ-loop
 loop-holds c = search needs

@@ -28,7 +28,7 @@ returns c =
     let tested = replayed .before .before .before in
     let read = tested .before in
     let a = read .before .before .before .before .before .args in
-    record-push (a .s .now) (a .k) (a .n) (queue (a .keys .now) (a .words .now)) (read .before .word .ensures) (read .event .ensures) (tested .if1 .taken) (replayed .replay-push .ensures)
+    record-push (a .s .now) (a .k) (a .n) (queue (a .keys .now) (a .events .now)) (read .before .word .ensures) (read .event .ensures) (tested .if1 .taken) (replayed .replay-push .ensures)
 
 replay-pop-requires : tie.Need-replay-pop-requires
 replay-pop-requires c κs = search needs
@@ -45,7 +45,7 @@ returns-2 c =
     let tested = replayed .before .before .before in
     let read = tested .before in
     let a = read .before .before .before .before .before .args in
-    record-pop (a .s .now) (a .k) (a .n) (queue (a .keys .now) (a .words .now)) (read .before .word .ensures) (read .event .ensures) (tested .if1 .left) (replayed .replay-pop .ensures)
+    record-pop (a .s .now) (a .k) (a .n) (queue (a .keys .now) (a .events .now)) (read .before .word .ensures) (read .event .ensures) (tested .if1 .left) (replayed .replay-pop .ensures)
 
 pub replay-record-spec : {M : Type 1} → statement M
 replay-record-spec =

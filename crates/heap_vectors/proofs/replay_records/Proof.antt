@@ -10,10 +10,10 @@ use Rattle.heap_vectors.proofs.replay_records.Statement.{statement}
 use Rattle.heap_vectors.proofs.replay_records.Tie as tie
 
 abbrev Inv-loop : tie.InvT-loop
-Inv-loop keys₀ words₀ n s n₀ differences₀ k₀ keys words n' differences k = (length keys ≡ length keys₀) × ((length words ≡ length words₀) × ((k ≤ length s / 32) × ((differences ≤ k) × (afterRecords (length s / 32) s 0 n 0 (queue keys₀ words₀) ≡ afterRecords (length s / 32 - k) s k n' differences (queue keys words)))))
+Inv-loop keys₀ events₀ n s n₀ differences₀ k₀ keys events n' differences k = (length keys ≡ length keys₀) × ((length events ≡ length events₀) × ((k ≤ length s / 32) × ((differences ≤ k) × (afterRecords (length s / 32) s 0 n 0 (queue keys₀ events₀) ≡ afterRecords (length s / 32 - k) s k n' differences (queue keys events)))))
 
 abbrev μ-loop : tie.MeasureT-loop
-μ-loop keys₀ words₀ n s n₀ differences₀ k₀ keys words n' differences k = length s / 32 - k
+μ-loop keys₀ events₀ n s n₀ differences₀ k₀ keys events n' differences k = length s / 32 - k
 
 loop-holds : tie.Need-loop-holds Inv-loop μ-loop
 loop-holds c = (refl, (refl, (omega arith, (omega arith, records-start _ _ _ _))))
@@ -27,7 +27,7 @@ add-differences c =
     let at-loop = replayed .before .before .before .before in
     let l = at-loop .loop in
     let a = at-loop .before .before .before .before .args in
-    let q = queue (l .keys) (l .words) in
+    let q = queue (l .keys) (l .events) in
     omega (arith, l .inv, answer-le (a .s .now) (l .k) (l .n) q (replayed .replay-record .ensures))
 
 add-k : tie.Need-add-k Inv-loop μ-loop
@@ -42,7 +42,7 @@ loop-again c =
     let at-loop = replayed .before .before .before .before in
     let l = at-loop .loop in
     let a = at-loop .before .before .before .before .args in
-    let q = queue (l .keys) (l .words) in
+    let q = queue (l .keys) (l .events) in
     let m = length (a .s .now) / 32 in
     let more : l .k < m = replayed .before .before .before .loop-test .taken in
     let e : m - l .k - 1 ≡ m - (l .k + 1) = omega arith in (
@@ -72,7 +72,7 @@ returns c =
     let l = c .before .loop in
     let a = c .before .before .before .before .before .args in
     let k : l .k ≡ length (a .s .now) / 32 = omega (arith, l .inv, c .loop-test .left) in (
-      records-end (a .s .now) (l .k) (l .n) (l .differences) (queue (l .keys) (l .words)) (length (a .s .now) / 32 - l .k) (omega arith) ∙ sym (l .inv .1 .1 .1 .1),
+      records-end (a .s .now) (l .k) (l .n) (l .differences) (queue (l .keys) (l .events)) (length (a .s .now) / 32 - l .k) (omega arith) ∙ sym (l .inv .1 .1 .1 .1),
       (k, l .inv .1 .1 .1 .0),
     )
 

@@ -3,7 +3,7 @@ use mathlib.Core.Path.{refl}
 use lib.ListN.{length}
 use Rattle.buffers.specs.Lack.{lackNumber}
 use Rattle.trim_split.specs.Running.{stopped, at}
-use Rattle.trim_split.proofs.Loops.{slices, windowsOf, snapshotOf}
+use Rattle.trim_split.proofs.Loops.{windowSlices, windowsOf, snapshotOf}
 use Rattle.cut_lists.specs.Buffers.{cutBuffers}
 use Rattle.trim.specs.Buffers.{slices as Buffers·slices}
 use Rattle.trim.proofs.Calls.{add-narrow, add-far, add-admitted, add-not-skipped, add-went, unchanged}
@@ -15,7 +15,7 @@ returns : tie.Need-returns
 returns c =
     let start = c .before .before .before .before .before .before .before .before .before .before .before .before .before .before .before in
     let a = start .args in
-    let s = (slices (a .edges .now) (a .words .now) (a .reals .now) (a .keys .now) (a .events .now)) in
+    let s = (windowSlices (a .edges .now) (a .words .now) (a .reals .now) (a .keys .now) (a .events .now)) in
     let size = length (a .pts .now) in
     let p = snapshotOf s (a .counts .made) (a .counts .queued) 0 (a .vertex .now) in
     record {
@@ -35,7 +35,7 @@ returns-2 c =
     let start = at-if1 .before .before .before .before .before .before .before .before .before .before .before .before .before .before .before in
     let lowest = at-lowest .lowest in
     let a = start .args in
-    let s = (slices (a .edges .now) (a .words .now) (a .reals .now) (a .keys .now) (a .events .now)) in
+    let s = (windowSlices (a .edges .now) (a .words .now) (a .reals .now) (a .keys .now) (a .events .now)) in
     let size = length (a .pts .now) in
     let p = snapshotOf s (a .counts .made) (a .counts .queued) 0 (a .vertex .now) in
     record {
@@ -98,7 +98,7 @@ returns-3 c =
     let lowest = at-lowest .lowest in
     let if1 = at-if1 .if1 in
     let a = start .args in
-    let s = (slices (a .edges .now) (a .words .now) (a .reals .now) (a .keys .now) (a .events .now)) in
+    let s = (windowSlices (a .edges .now) (a .words .now) (a .reals .now) (a .keys .now) (a .events .now)) in
     let size = length (a .pts .now) in
     let p = snapshotOf s (a .counts .made) (a .counts .queued) 0 (a .vertex .now) in
     let done = rw (admitted .given .1) at (at-admit .admit .ensures .1) in
@@ -154,10 +154,10 @@ returns-4 c =
     let lowest = at-lowest .lowest in
     let if1 = at-if1 .if1 in
     let a = start .args in
-    let s = (slices (a .edges .now) (a .words .now) (a .reals .now) (a .keys .now) (a .events .now)) in
+    let s = (windowSlices (a .edges .now) (a .words .now) (a .reals .now) (a .keys .now) (a .events .now)) in
     let size = length (a .pts .now) in
     let p = snapshotOf s (a .counts .made) (a .counts .queued) 0 (a .vertex .now) in
-    let s′ = (slices (admit .last .0) (admit .last .1 .0) (admit .last .1 .1 .0) (admit .last .1 .1 .1 .0) (admit .last .1 .1 .1 .1 .0)) in
+    let s′ = (windowSlices (admit .last .0) (admit .last .1 .0) (admit .last .1 .1 .0) (admit .last .1 .1 .1 .0) (admit .last .1 .1 .1 .1 .0)) in
     let n = admitted2 .given .0 .0 in
     let last = admitted2 .given .0 .1 .0 in
     let vertex = admit .last .1 .1 .1 .1 .1 .0 in

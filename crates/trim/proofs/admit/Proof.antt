@@ -4,7 +4,7 @@ use lib.ListN.{length}
 use Rattle.heap.specs.Queue.{queue}
 use Rattle.chains.specs.Chains.{links}
 use Rattle.trim_split.specs.Running.{madeEnd}
-use Rattle.trim_split.proofs.Loops.{slices}
+use Rattle.trim_split.proofs.Loops.{windowSlices}
 use Rattle.trim.proofs.Calls.{admit-full, admit-stopped, admit-seated, seat-ready, kept-fit, bounded-in}
 use borrow.Author.Needs.{needs}
 use Rattle.trim.proofs.admit.Statement.{statement}
@@ -13,7 +13,7 @@ use Rattle.trim.proofs.admit.Tie as tie
 returns : tie.Need-returns
 returns c =
     let a = c .before .before .before .before .before .before .before .before .before .before .before .before .args in
-    (tt, admit-full (length (a .pts .now)) (a .limit) (a .vertex-words .now) (a .e) (a .w) (a .counts .made) (a .counts .queued) (slices (a .edges .now) (a .words .now) (a .reals .now) (a .keys .now) (a .events .now)) (a .vertex .now) (a .tiny) (c .if1 .taken))
+    (tt, admit-full (length (a .pts .now)) (a .limit) (a .vertex-words .now) (a .e) (a .w) (a .counts .made) (a .counts .queued) (windowSlices (a .edges .now) (a .words .now) (a .reals .now) (a .keys .now) (a .events .now)) (a .vertex .now) (a .tiny) (c .if1 .taken))
 
 whole-requires : tie.Need-whole-requires
 whole-requires c κs = search needs
@@ -43,8 +43,8 @@ keep-parts-requires c κs =
     let a = start .args in
     let b = (rw (visited2 .given .1) at (visits .ensures .0)) in (
       seat-ready (a .e .id .0) (a .counts .made) (pass-front .result) (visited2 .given .0 .0 .made) (visited2 .given .0 .1 .0) (visited2 .given .0 .1 .1 .0) (length (a .pts .now))
-          (slices (a .edges .now) (a .words .now) (a .reals .now) (a .keys .now) (a .events .now))
-          (slices (visits .last .0) (visits .last .1 .0) (visits .last .1 .1 .0) (visits .last .1 .1 .1 .0) (visits .last .1 .1 .1 .1 .0))
+          (windowSlices (a .edges .now) (a .words .now) (a .reals .now) (a .keys .now) (a .events .now))
+          (windowSlices (visits .last .0) (visits .last .1 .0) (visits .last .1 .1 .0) (visits .last .1 .1 .1 .0) (visits .last .1 .1 .1 .1 .0))
           (record {
             edges = visits .kept .0 ∙ pass-front .kept .0;
             words = visits .kept .1 .0;
@@ -102,7 +102,7 @@ returns-2 c =
     let a = start .args in (
       tt,
       admit-stopped (length (a .pts .now)) (a .limit) (a .vertex-words .now) (a .e) (a .w) (a .counts .made) (a .counts .queued)
-          (slices (a .edges .now) (a .words .now) (a .reals .now) (a .keys .now) (a .events .now)) (a .vertex .now) (a .tiny) (at-if1 .if1 .left) (pass-front .result) (pass-front .last .0)
+          (windowSlices (a .edges .now) (a .words .now) (a .reals .now) (a .keys .now) (a .events .now)) (a .vertex .now) (a .tiny) (at-if1 .if1 .left) (pass-front .result) (pass-front .last .0)
           (pass-front .ensures) (whole .last .0) (whole .ensures) (visited .given .0 .0) (visits .last .1 .1 .1 .1 .1 .1 .1 .0) (rw (visited .given .1) at (visits .ensures .1)),
     )
 
@@ -170,8 +170,8 @@ returns-3 c =
     let pass-front = at-pass-front .pass-front in
     let whole = at-whole .whole in
     let a = start .args in
-    let the-slices-2 = slices (a .edges .now) (a .words .now) (a .reals .now) (a .keys .now) (a .events .now) in
-    let the-slices = slices (visits .last .0) (visits .last .1 .0) (visits .last .1 .1 .0) (visits .last .1 .1 .1 .0) (visits .last .1 .1 .1 .1 .0) in (
+    let the-slices-2 = windowSlices (a .edges .now) (a .words .now) (a .reals .now) (a .keys .now) (a .events .now) in
+    let the-slices = windowSlices (visits .last .0) (visits .last .1 .0) (visits .last .1 .1 .0) (visits .last .1 .1 .1 .0) (visits .last .1 .1 .1 .1 .0) in (
       bounded-in the-slices-2 the-slices (keep-parts .result)
           (record {
             edges = visits .kept .0 ∙ pass-front .kept .0;

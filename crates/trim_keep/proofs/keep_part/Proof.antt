@@ -5,7 +5,7 @@ use Rattle.buffers.specs.Lack.{lackNumber}
 use Rattle.better.specs.Stretches.{interval}
 use Rattle.heap.specs.Queue.{queue}
 use Rattle.live_windows.specs.Live.{liveOf}
-use Rattle.trim_split.proofs.Loops.{slices, snapshotOf, windowsOf}
+use Rattle.trim_split.proofs.Loops.{windowSlices, snapshotOf, windowsOf}
 use Rattle.trim_keep.proofs.Touching.{queue-full, queue-more}
 use Rattle.trim_keep.proofs.Seating.{seats-full, seats-stop, seats-turn}
 use borrow.Author.Needs.{needs}
@@ -63,11 +63,11 @@ returns c =
     let make-part = at-make-part .make-part in
     let seat-from = at-seat-from .seat-from in
     let a = start .args in
-    let the-windowsOf = windowsOf (slices (a .edges .now) (a .words .now) (a .reals .now) (a .keys .now) (a .events .now)) in (
+    let the-windowsOf = windowsOf (windowSlices (a .edges .now) (a .words .now) (a .reals .now) (a .keys .now) (a .events .now)) in (
       tt,
       λ cuts k ks. seats-stop cuts the-windowsOf (a .limit) (a .vertex-words .now) (a .e) (liveOf (a .x) k) (interval (a .b0) (a .b1)) ks
-          (snapshotOf (slices (a .edges .now) (a .words .now) (a .reals .now) (a .keys .now) (a .events .now)) (a .counts .made) (a .counts .queued) (a .before) (a .vertex .now)) (seat-from .result)
-          (seat-from .ensures) (snapshotOf (slices (make-part .last .0) (make-part .last .1 .0) (make-part .last .1 .1 .0) (make-part .last .1 .1 .1 .0) (make-part .last .1 .1 .1 .1 .0))
+          (snapshotOf (windowSlices (a .edges .now) (a .words .now) (a .reals .now) (a .keys .now) (a .events .now)) (a .counts .made) (a .counts .queued) (a .before) (a .vertex .now)) (seat-from .result)
+          (seat-from .ensures) (snapshotOf (windowSlices (make-part .last .0) (make-part .last .1 .0) (make-part .last .1 .1 .0) (make-part .last .1 .1 .1 .0) (make-part .last .1 .1 .1 .1 .0))
           ((part2 .given .0 .0) .made) ((part2 .given .0 .0) .queued) (part2 .given .0 .1 .0) (a .vertex .now))
           ((rw (part2 .given .1) at (make-part .ensures .1)) cuts (a .limit) (a .vertex-words .now) (a .vertex .now) k) 13
           (((rw (c .enum-told .given .1) at (touch-ends .ensures)) cuts the-windowsOf ((part2 .given .0 .0) .made) k (a .counts .made)) ∙ queue-full ((part2 .given .0 .0) .made)
@@ -96,7 +96,7 @@ returns-2 c =
     let start = at-make-part .before .before .before .before .before .before .before .before .before .before .before .before .before .before .before .before .before in
     let part = at-part .part in
     let a = start .args in
-    let the-slices = slices (a .edges .now) (a .words .now) (a .reals .now) (a .keys .now) (a .events .now) in (
+    let the-slices = windowSlices (a .edges .now) (a .words .now) (a .reals .now) (a .keys .now) (a .events .now) in (
       tt,
       λ cuts k ks. seats-full cuts (windowsOf the-slices) (a .limit) (a .vertex-words .now) (a .e) (liveOf (a .x) k) (interval (a .b0) (a .b1)) ks
           (snapshotOf the-slices (a .counts .made) (a .counts .queued) (a .before) (a .vertex .now)) (lackNumber (part .given .0 .0))
@@ -137,11 +137,11 @@ returns-3 c =
     let a = start .args in
     let r = (rw (part2 .given .1) at (make-part .ensures .1)) 0 (a .limit) (a .vertex-words .now) (a .vertex .now) 0 in
     let the-queue = queue (touch-ends .last .1 .1 .0) (touch-ends .last .1 .1 .1 .0) in
-    let the-windowsOf = windowsOf (slices (a .edges .now) (a .words .now) (a .reals .now) (a .keys .now) (a .events .now)) in (
+    let the-windowsOf = windowsOf (windowSlices (a .edges .now) (a .words .now) (a .reals .now) (a .keys .now) (a .events .now)) in (
       (r .fits, r .linked),
       λ cuts k ks end d. seats-turn cuts the-windowsOf (a .limit) (a .vertex-words .now) (a .e) (liveOf (a .x) k) (interval (a .b0) (a .b1)) ks
-          (snapshotOf (slices (a .edges .now) (a .words .now) (a .reals .now) (a .keys .now) (a .events .now)) (a .counts .made) (a .counts .queued) (a .before) (a .vertex .now)) (seat-from .result)
-          (seat-from .ensures) (snapshotOf (slices (make-part .last .0) (make-part .last .1 .0) (make-part .last .1 .1 .0) (make-part .last .1 .1 .1 .0) (make-part .last .1 .1 .1 .1 .0))
+          (snapshotOf (windowSlices (a .edges .now) (a .words .now) (a .reals .now) (a .keys .now) (a .events .now)) (a .counts .made) (a .counts .queued) (a .before) (a .vertex .now)) (seat-from .result)
+          (seat-from .ensures) (snapshotOf (windowSlices (make-part .last .0) (make-part .last .1 .0) (make-part .last .1 .1 .0) (make-part .last .1 .1 .1 .0) (make-part .last .1 .1 .1 .1 .0))
           ((part2 .given .0 .0) .made) ((part2 .given .0 .0) .queued) (part2 .given .0 .1 .0) (a .vertex .now))
           ((rw (part2 .given .1) at (make-part .ensures .1)) cuts (a .limit) (a .vertex-words .now) (a .vertex .now) k) (touched .given .0 .0) the-queue (touch-ends .last .0)
           (((rw (touched .given .1) at (touch-ends .ensures)) cuts the-windowsOf ((part2 .given .0 .0) .made) k (a .counts .made)) ∙ queue-more ((part2 .given .0 .0) .made) (touched .given .0 .0)

@@ -7,14 +7,14 @@ use lib.Ieee.{nan}
 use Rattle.buffers.specs.Lack.{lackNumber}
 use Rattle.better.specs.Buffers.{pairs}
 use Rattle.cut_lists.proofs.Entries.{pairs-from, pairs-past}
-use Rattle.trim_split.proofs.Loops.{slices, here-is}
+use Rattle.trim_split.proofs.Loops.{windowSlices, here-is}
 use Rattle.trim_keep.proofs.Loop.{KeepInv, keep-start, keep-ready, keep-over, keep-skip, keep-stopped, keep-next}
 use borrow.Author.Needs.{needs}
 use Rattle.trim_keep.proofs.keep_parts.Statement.{statement}
 use Rattle.trim_keep.proofs.keep_parts.Tie as tie
 
 abbrev Inv-loop : tie.InvT-loop
-Inv-loop edges₀ words₀ reals₀ keys₀ events₀ vertex₀ flags keep k e before x tiny limit now₀ last₀ i₀ edges words reals keys events vertex now last i = KeepInv limit flags e x tiny (pairs k keep) (slices edges₀ words₀ reals₀ keys₀ events₀) vertex₀ (now₀ .made) (now₀ .queued) last₀ (slices edges words reals keys events) vertex (now .made) (now .queued) last i
+Inv-loop edges₀ words₀ reals₀ keys₀ events₀ vertex₀ flags keep k e before x tiny limit now₀ last₀ i₀ edges words reals keys events vertex now last i = KeepInv limit flags e x tiny (pairs k keep) (windowSlices edges₀ words₀ reals₀ keys₀ events₀) vertex₀ (now₀ .made) (now₀ .queued) last₀ (windowSlices edges words reals keys events) vertex (now .made) (now .queued) last i
 
 abbrev μ-loop : tie.MeasureT-loop
 μ-loop edges₀ words₀ reals₀ keys₀ events₀ vertex₀ flags keep k e before x tiny limit now₀ last₀ i₀ edges words reals keys events vertex now last i = k - i
@@ -22,7 +22,7 @@ abbrev μ-loop : tie.MeasureT-loop
 loop-holds : tie.Need-loop-holds Inv-loop μ-loop
 loop-holds c =
     let a = c .before .before .before .before .before .before .before .before .args in
-    keep-start (a .limit) (a .vertex-words .now) (a .e) (a .x) (a .tiny) (pairs (a .k) (a .keep .now)) (slices (a .edges .now) (a .words .now) (a .reals .now) (a .keys .now) (a .events .now)) (a .vertex .now) (a .counts .made) (a .counts .queued) (a .before) (c .before .before .before .before .before .before .before .before .pre .0)
+    keep-start (a .limit) (a .vertex-words .now) (a .e) (a .x) (a .tiny) (pairs (a .k) (a .keep .now)) (windowSlices (a .edges .now) (a .words .now) (a .reals .now) (a .keys .now) (a .events .now)) (a .vertex .now) (a .counts .made) (a .counts .queued) (a .before) (c .before .before .before .before .before .before .before .before .pre .0)
 
 from-of-requires : tie.Need-from-of-requires Inv-loop μ-loop
 from-of-requires c κs = omega (arith, c .before .before .before .before .before .before .before .before .before .before .pre .1, c .loop-test .taken)
@@ -48,8 +48,8 @@ loop-again c =
     let loop = at-loop .loop in
     let a = start .args in
     keep-skip (a .limit) (a .vertex-words .now) (a .e) (a .x) (a .tiny) (pairs (a .k) (a .keep .now))
-    (slices (a .edges .now) (a .words .now) (a .reals .now) (a .keys .now) (a .events .now)) (a .vertex .now) (a .counts .made) (a .counts .queued) (a .before)
-    (slices (loop .edges) (loop .words) (loop .reals) (loop .keys) (loop .events)) (loop .vertex) (loop .now .made) (loop .now .queued) (loop .last) (loop .i) (loop .inv) (from-of .result)
+    (windowSlices (a .edges .now) (a .words .now) (a .reals .now) (a .keys .now) (a .events .now)) (a .vertex .now) (a .counts .made) (a .counts .queued) (a .before)
+    (windowSlices (loop .edges) (loop .words) (loop .reals) (loop .keys) (loop .events)) (loop .vertex) (loop .now .made) (loop .now .queued) (loop .last) (loop .i) (loop .inv) (from-of .result)
     (to-of .result) (here-is (drop (loop .i) (pairs (a .k) (a .keep .now))) (drop (suc (loop .i)) (pairs (a .k) (a .keep .now))) (from-of .result) (to-of .result)
     (getD (a .keep .now) (loop .i + loop .i) nan) (getD (a .keep .now) (suc (loop .i + loop .i)) nan) (pairs-from (a .keep .now) (a .k) (loop .i) (at-loop-test .loop-test .taken))
     (from-of .ensures) (to-of .ensures)) (c .if1 .taken)
@@ -61,8 +61,8 @@ keep-part-requires c κs =
     let loop = at-loop .loop in
     let a = start .args in
     keep-ready (a .limit) (a .vertex-words .now) (a .e) (a .x) (a .tiny) (pairs (a .k) (a .keep .now))
-    (slices (a .edges .now) (a .words .now) (a .reals .now) (a .keys .now) (a .events .now)) (a .vertex .now) (a .counts .made) (a .counts .queued) (a .before)
-    (slices (loop .edges) (loop .words) (loop .reals) (loop .keys) (loop .events)) (loop .vertex) (loop .now .made) (loop .now .queued) (loop .last) (loop .i) (loop .inv)
+    (windowSlices (a .edges .now) (a .words .now) (a .reals .now) (a .keys .now) (a .events .now)) (a .vertex .now) (a .counts .made) (a .counts .queued) (a .before)
+    (windowSlices (loop .edges) (loop .words) (loop .reals) (loop .keys) (loop .events)) (loop .vertex) (loop .now .made) (loop .now .queued) (loop .last) (loop .i) (loop .inv)
 
 enum-known-part : tie.Need-enum-known-part Inv-loop μ-loop
 enum-known-part c = search needs
@@ -114,8 +114,8 @@ returns c =
     let a = start .args in (
       tt,
       keep-stopped (a .limit) (a .vertex-words .now) (a .e) (a .x) (a .tiny) (pairs (a .k) (a .keep .now))
-          (slices (a .edges .now) (a .words .now) (a .reals .now) (a .keys .now) (a .events .now)) (a .vertex .now) (a .counts .made) (a .counts .queued) (a .before)
-          (slices (loop .edges) (loop .words) (loop .reals) (loop .keys) (loop .events)) (loop .vertex) (loop .now .made) (loop .now .queued) (loop .last) (loop .i) (loop .inv) (from-of .result)
+          (windowSlices (a .edges .now) (a .words .now) (a .reals .now) (a .keys .now) (a .events .now)) (a .vertex .now) (a .counts .made) (a .counts .queued) (a .before)
+          (windowSlices (loop .edges) (loop .words) (loop .reals) (loop .keys) (loop .events)) (loop .vertex) (loop .now .made) (loop .now .queued) (loop .last) (loop .i) (loop .inv) (from-of .result)
           (to-of .result) (here-is (drop (loop .i) (pairs (a .k) (a .keep .now))) (drop (suc (loop .i)) (pairs (a .k) (a .keep .now))) (from-of .result) (to-of .result)
           (getD (a .keep .now) (loop .i + loop .i) nan) (getD (a .keep .now) (suc (loop .i + loop .i)) nan) (pairs-from (a .keep .now) (a .k) (loop .i) (at-loop-test .loop-test .taken))
           (from-of .ensures) (to-of .ensures)) (at-if1 .if1 .left) (lackNumber (part .given .0 .0)) (rw (part .given .1) at (at-keep-part .keep-part .ensures .1)),
@@ -150,12 +150,12 @@ loop-again-2 c =
     let loop = at-loop .loop in
     let a = start .args in
     keep-next (a .limit) (a .vertex-words .now) (a .e) (a .x) (a .tiny) (pairs (a .k) (a .keep .now))
-    (slices (a .edges .now) (a .words .now) (a .reals .now) (a .keys .now) (a .events .now)) (a .vertex .now) (a .counts .made) (a .counts .queued) (a .before)
-    (slices (loop .edges) (loop .words) (loop .reals) (loop .keys) (loop .events)) (loop .vertex) (loop .now .made) (loop .now .queued) (loop .last) (loop .i) (loop .inv) (from-of .result)
+    (windowSlices (a .edges .now) (a .words .now) (a .reals .now) (a .keys .now) (a .events .now)) (a .vertex .now) (a .counts .made) (a .counts .queued) (a .before)
+    (windowSlices (loop .edges) (loop .words) (loop .reals) (loop .keys) (loop .events)) (loop .vertex) (loop .now .made) (loop .now .queued) (loop .last) (loop .i) (loop .inv) (from-of .result)
     (to-of .result) (here-is (drop (loop .i) (pairs (a .k) (a .keep .now))) (drop (suc (loop .i)) (pairs (a .k) (a .keep .now))) (from-of .result) (to-of .result)
     (getD (a .keep .now) (loop .i + loop .i) nan) (getD (a .keep .now) (suc (loop .i + loop .i)) nan) (pairs-from (a .keep .now) (a .k) (loop .i) (at-loop-test .loop-test .taken))
     (from-of .ensures) (to-of .ensures)) (at-if1 .if1 .left)
-    (slices (keep-part .last .0) (keep-part .last .1 .0) (keep-part .last .1 .1 .0) (keep-part .last .1 .1 .1 .0) (keep-part .last .1 .1 .1 .1 .0)) (keep-part .last .1 .1 .1 .1 .1 .0)
+    (windowSlices (keep-part .last .0) (keep-part .last .1 .0) (keep-part .last .1 .1 .0) (keep-part .last .1 .1 .1 .0) (keep-part .last .1 .1 .1 .1 .0)) (keep-part .last .1 .1 .1 .1 .1 .0)
     (part2 .given .0 .0 .made) (part2 .given .0 .0 .queued) (part2 .given .0 .1 .0)
     (record { edges = keep-part .kept .0; words = keep-part .kept .1 .0; reals = keep-part .kept .1 .1 .0; keys = keep-part .kept .1 .1 .1 .0; events = keep-part .kept .1 .1 .1 .1 .0 })
     (keep-part .kept .1 .1 .1 .1 .1 .0) (rw (part2 .given .1) at (keep-part .ensures .0)) (rw (part2 .given .1) at (keep-part .ensures .1))
@@ -186,8 +186,8 @@ returns-2 c =
     let a = start .args in (
       (loop .inv .fits, loop .inv .linked),
       keep-over (a .limit) (a .vertex-words .now) (a .e) (a .x) (a .tiny) (pairs (a .k) (a .keep .now))
-          (slices (a .edges .now) (a .words .now) (a .reals .now) (a .keys .now) (a .events .now)) (a .vertex .now) (a .counts .made) (a .counts .queued) (a .before)
-          (slices (loop .edges) (loop .words) (loop .reals) (loop .keys) (loop .events)) (loop .vertex) (loop .now .made) (loop .now .queued) (loop .last) (loop .i) (loop .inv)
+          (windowSlices (a .edges .now) (a .words .now) (a .reals .now) (a .keys .now) (a .events .now)) (a .vertex .now) (a .counts .made) (a .counts .queued) (a .before)
+          (windowSlices (loop .edges) (loop .words) (loop .reals) (loop .keys) (loop .events)) (loop .vertex) (loop .now .made) (loop .now .queued) (loop .last) (loop .i) (loop .inv)
           (pairs-past (a .keep .now) (a .k) (loop .i) (c .loop-test .left)),
     )
 

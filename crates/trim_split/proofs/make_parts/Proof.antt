@@ -7,13 +7,13 @@ use lib.Ieee.{nan}
 use Rattle.buffers.specs.Lack.{lackNumber}
 use Rattle.better.specs.Buffers.{pairs}
 use Rattle.cut_lists.proofs.Entries.{pairs-from, pairs-past}
-use Rattle.trim_split.proofs.Loops.{slices, PartsInv, parts-start, parts-ready, parts-stopped, parts-next, parts-over, parts-count, here-is}
+use Rattle.trim_split.proofs.Loops.{windowSlices, PartsInv, parts-start, parts-ready, parts-stopped, parts-next, parts-over, parts-count, here-is}
 use borrow.Author.Needs.{needs}
 use Rattle.trim_split.proofs.make_parts.Statement.{statement}
 use Rattle.trim_split.proofs.make_parts.Tie as tie
 
 abbrev Inv-loop : tie.InvT-loop
-Inv-loop edges₀ words₀ reals₀ keys₀ events₀ e before x pieces n now₀ last₀ i₀ edges words reals keys events now last i = PartsInv (e .0) x (pairs n pieces) (slices edges₀ words₀ reals₀ keys₀ events₀) (now₀ .made) (now₀ .queued) last₀ (slices edges words reals keys events) (now .made) (now .queued) last i
+Inv-loop edges₀ words₀ reals₀ keys₀ events₀ e before x pieces n now₀ last₀ i₀ edges words reals keys events now last i = PartsInv (e .0) x (pairs n pieces) (windowSlices edges₀ words₀ reals₀ keys₀ events₀) (now₀ .made) (now₀ .queued) last₀ (windowSlices edges words reals keys events) (now .made) (now .queued) last i
 
 abbrev μ-loop : tie.MeasureT-loop
 μ-loop edges₀ words₀ reals₀ keys₀ events₀ e before x pieces n now₀ last₀ i₀ edges words reals keys events now last i = n - i
@@ -21,7 +21,7 @@ abbrev μ-loop : tie.MeasureT-loop
 loop-holds : tie.Need-loop-holds Inv-loop μ-loop
 loop-holds c =
     let a = c .before .before .before .before .before .before .args in
-    parts-start (a .e .0) (a .x) (pairs (a .n) (a .pieces .now)) (slices (a .edges .now) (a .words .now) (a .reals .now) (a .keys .now) (a .events .now)) (a .counts .made) (a .counts .queued) (a .before) (c .before .before .before .before .before .before .pre .0)
+    parts-start (a .e .0) (a .x) (pairs (a .n) (a .pieces .now)) (windowSlices (a .edges .now) (a .words .now) (a .reals .now) (a .keys .now) (a .events .now)) (a .counts .made) (a .counts .queued) (a .before) (c .before .before .before .before .before .before .pre .0)
 
 from-of-requires : tie.Need-from-of-requires Inv-loop μ-loop
 from-of-requires c κs = omega (arith, c .before .before .before .before .before .before .before .before .pre .1, c .loop-test .taken)
@@ -35,8 +35,8 @@ make-part-requires c κs =
     let start = at-loop .before .before .before .before .before .before .before in
     let loop = at-loop .loop in
     let a = start .args in
-    parts-ready (a .e .0) (a .x) (pairs (a .n) (a .pieces .now)) (slices (a .edges .now) (a .words .now) (a .reals .now) (a .keys .now) (a .events .now)) (a .counts .made)
-    (a .counts .queued) (a .before) (slices (loop .edges) (loop .words) (loop .reals) (loop .keys) (loop .events)) (loop .now .made) (loop .now .queued) (loop .last) (loop .i) (loop .inv)
+    parts-ready (a .e .0) (a .x) (pairs (a .n) (a .pieces .now)) (windowSlices (a .edges .now) (a .words .now) (a .reals .now) (a .keys .now) (a .events .now)) (a .counts .made)
+    (a .counts .queued) (a .before) (windowSlices (loop .edges) (loop .words) (loop .reals) (loop .keys) (loop .events)) (loop .now .made) (loop .now .queued) (loop .last) (loop .i) (loop .inv)
 
 enum-known-part : tie.Need-enum-known-part Inv-loop μ-loop
 enum-known-part c = search needs
@@ -72,11 +72,11 @@ returns c =
     let loop = at-loop .loop in
     let a = start .args in (
       tt,
-      parts-stopped (a .e .0) (a .x) (pairs (a .n) (a .pieces .now)) (slices (a .edges .now) (a .words .now) (a .reals .now) (a .keys .now) (a .events .now)) (a .counts .made)
-          (a .counts .queued) (a .before) (slices (loop .edges) (loop .words) (loop .reals) (loop .keys) (loop .events)) (loop .now .made) (loop .now .queued) (loop .last) (loop .i) (loop .inv)
+      parts-stopped (a .e .0) (a .x) (pairs (a .n) (a .pieces .now)) (windowSlices (a .edges .now) (a .words .now) (a .reals .now) (a .keys .now) (a .events .now)) (a .counts .made)
+          (a .counts .queued) (a .before) (windowSlices (loop .edges) (loop .words) (loop .reals) (loop .keys) (loop .events)) (loop .now .made) (loop .now .queued) (loop .last) (loop .i) (loop .inv)
           (from-of .result) (to-of .result) (here-is (drop (loop .i) (pairs (a .n) (a .pieces .now))) (drop (suc (loop .i)) (pairs (a .n) (a .pieces .now))) (from-of .result) (to-of .result)
           (getD (a .pieces .now) (loop .i + loop .i) nan) (getD (a .pieces .now) (suc (loop .i + loop .i)) nan) (pairs-from (a .pieces .now) (a .n) (loop .i) (at-loop-test .loop-test .taken))
-          (from-of .ensures) (to-of .ensures)) (slices (make-part .last .0) (make-part .last .1 .0) (make-part .last .1 .1 .0) (make-part .last .1 .1 .1 .0) (make-part .last .1 .1 .1 .1 .0))
+          (from-of .ensures) (to-of .ensures)) (windowSlices (make-part .last .0) (make-part .last .1 .0) (make-part .last .1 .1 .0) (make-part .last .1 .1 .1 .0) (make-part .last .1 .1 .1 .1 .0))
           (lackNumber (part .given .0 .0)) (rw (part .given .1) at (make-part .ensures .1)),
     )
 
@@ -107,11 +107,11 @@ loop-again c =
     let from-of = at-from-of .from-of in
     let loop = at-loop .loop in
     let a = start .args in
-    parts-next (a .e .0) (a .x) (pairs (a .n) (a .pieces .now)) (slices (a .edges .now) (a .words .now) (a .reals .now) (a .keys .now) (a .events .now)) (a .counts .made)
-    (a .counts .queued) (a .before) (slices (loop .edges) (loop .words) (loop .reals) (loop .keys) (loop .events)) (loop .now .made) (loop .now .queued) (loop .last) (loop .i) (loop .inv)
+    parts-next (a .e .0) (a .x) (pairs (a .n) (a .pieces .now)) (windowSlices (a .edges .now) (a .words .now) (a .reals .now) (a .keys .now) (a .events .now)) (a .counts .made)
+    (a .counts .queued) (a .before) (windowSlices (loop .edges) (loop .words) (loop .reals) (loop .keys) (loop .events)) (loop .now .made) (loop .now .queued) (loop .last) (loop .i) (loop .inv)
     (from-of .result) (to-of .result) (here-is (drop (loop .i) (pairs (a .n) (a .pieces .now))) (drop (suc (loop .i)) (pairs (a .n) (a .pieces .now))) (from-of .result) (to-of .result)
     (getD (a .pieces .now) (loop .i + loop .i) nan) (getD (a .pieces .now) (suc (loop .i + loop .i)) nan) (pairs-from (a .pieces .now) (a .n) (loop .i) (at-loop-test .loop-test .taken))
-    (from-of .ensures) (to-of .ensures)) (slices (make-part .last .0) (make-part .last .1 .0) (make-part .last .1 .1 .0) (make-part .last .1 .1 .1 .0) (make-part .last .1 .1 .1 .1 .0))
+    (from-of .ensures) (to-of .ensures)) (windowSlices (make-part .last .0) (make-part .last .1 .0) (make-part .last .1 .1 .0) (make-part .last .1 .1 .1 .0) (make-part .last .1 .1 .1 .1 .0))
     (record { edges = make-part .kept .0; words = make-part .kept .1 .0; reals = make-part .kept .1 .1 .0; keys = make-part .kept .1 .1 .1 .0; events = make-part .kept .1 .1 .1 .1 .0 })
     (part2 .given .0 .0 .made) (part2 .given .0 .0 .queued) (part2 .given .0 .1 .0) (loop .i + 1) (rw (part2 .given .1) at (make-part .ensures .0)) refl
     (rw (part2 .given .1) at (make-part .ensures .1)) nan
@@ -138,8 +138,8 @@ returns-2 c =
     let loop = at-loop .loop in
     let a = start .args in
     let none = pairs-past (a .pieces .now) (a .n) (loop .i) (c .loop-test .left) in
-    let the-slices-2 = slices (loop .edges) (loop .words) (loop .reals) (loop .keys) (loop .events) in
-    let the-slices = slices (a .edges .now) (a .words .now) (a .reals .now) (a .keys .now) (a .events .now) in (
+    let the-slices-2 = windowSlices (loop .edges) (loop .words) (loop .reals) (loop .keys) (loop .events) in
+    let the-slices = windowSlices (a .edges .now) (a .words .now) (a .reals .now) (a .keys .now) (a .events .now) in (
       parts-count (a .e .0) (a .x) (pairs (a .n) (a .pieces .now)) the-slices (a .counts .made) (a .counts .queued) (a .before) the-slices-2 (loop .now .made) (loop .now .queued)
           (loop .last) (loop .i) (loop .inv) none,
       parts-over (a .e .0) (a .x) (pairs (a .n) (a .pieces .now)) the-slices (a .counts .made) (a .counts .queued) (a .before) the-slices-2

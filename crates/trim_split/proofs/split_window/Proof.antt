@@ -12,7 +12,7 @@ use Rattle.chains.specs.Chains.{links}
 use Rattle.heap.specs.Queue.{queue}
 use Rattle.cut_lists.proofs.Entries.{pairs-from}
 use Rattle.trim_split.specs.Running.{madeEnd}
-use Rattle.trim_split.proofs.Loops.{slices, counted-as, but-first, none-of, split-killed, trimmed-ready, split-made, here-is}
+use Rattle.trim_split.proofs.Loops.{windowSlices, counted-as, but-first, none-of, split-killed, trimmed-ready, split-made, here-is}
 use borrow.Author.Needs.{needs}
 use Rattle.trim_split.proofs.split_window.Statement.{statement}
 use Rattle.trim_split.proofs.split_window.Tie as tie
@@ -38,7 +38,7 @@ returns c =
     let a = start .args in (
       omega (arith, pairs-length (a .n) (a .pieces .now), if1 .taken),
       split-killed (a .e .0) (a .x) (a .id .0) (a .counts .made) (a .counts .queued) (a .before)
-          (slices (a .edges .now) (a .words .now) (a .reals .now) (a .keys .now) (a .events .now)) (start .pre .0 .fits) (pairs (a .n) (a .pieces .now)) (start .pre .0 .linked)
+          (windowSlices (a .edges .now) (a .words .now) (a .reals .now) (a .keys .now) (a .events .now)) (start .pre .0 .fits) (pairs (a .n) (a .pieces .now)) (start .pre .0 .linked)
           (none-of (a .n) (a .pieces .now) (if1 .taken)) (kill-window .last .0) (kill-window .last .1 .0) (kill-window .ensures),
     )
 
@@ -72,7 +72,7 @@ make-parts-requires c κs =
     let to-of = at-to-of .to-of in
     let from-of = at-from-of .from-of in
     let a = start .args in (
-      trimmed-ready (a .e .0) (a .x) (a .id .0) (a .counts .made) (a .counts .queued) (a .before) (slices (a .edges .now) (a .words .now) (a .reals .now) (a .keys .now) (a .events .now))
+      trimmed-ready (a .e .0) (a .x) (a .id .0) (a .counts .made) (a .counts .queued) (a .before) (windowSlices (a .edges .now) (a .words .now) (a .reals .now) (a .keys .now) (a .events .now))
           (start .pre .0 .fits) (pairs (a .n) (a .pieces .now)) (start .pre .1 .0) (from-of .result) (to-of .result) (trimmed .result .low) (ap (λ (w : Win). w .low) (trimmed .ensures))
           (trim-window .last .1 .0) (trim-window .ensures) (trim-window .kept .1 .0)
           (here-is (pairs (a .n) (a .pieces .now)) (drop 1 (pairs (a .n) (a .pieces .now))) (from-of .result) (to-of .result) (getD (a .pieces .now) 0 nan) (getD (a .pieces .now) 1 nan)
@@ -114,7 +114,7 @@ returns-2 c =
       counted-as r (a .counts .made + length (drop 1 (pairs (a .n) (a .pieces .now)))) (a .counts .made + pred (length (pairs (a .n) (a .pieces .now))))
           (ap (λ (j : ℕ). a .counts .made + j) (but-first (pairs (a .n) (a .pieces .now)))) (make-parts .ensures .0),
       split-made (a .e .0) (a .x) (a .id .0) (a .counts .made) (a .counts .queued)
-          (a .before) (slices (a .edges .now) (a .words .now) (a .reals .now) (a .keys .now) (a .events .now)) (start .pre .0 .fits) (pairs (a .n) (a .pieces .now)) (start .pre .1 .0)
+          (a .before) (windowSlices (a .edges .now) (a .words .now) (a .reals .now) (a .keys .now) (a .events .now)) (start .pre .0 .fits) (pairs (a .n) (a .pieces .now)) (start .pre .1 .0)
           (from-of .result) (to-of .result) (trimmed .result .low) (ap (λ (w : Win). w .low) (trimmed .ensures)) (trim-window .last .1 .0) (trim-window .ensures) (trim-window .kept .1 .0)
           (here-is (pairs (a .n) (a .pieces .now)) (drop 1 (pairs (a .n) (a .pieces .now))) (from-of .result) (to-of .result) (getD (a .pieces .now) 0 nan) (getD (a .pieces .now) 1 nan)
           (pairs-from (a .pieces .now) (a .n) 0 (omega (arith, at-if1 .if1 .left))) (from-of .ensures) (to-of .ensures)) (a .id .0 + 1) (add-one (a .id .0))

@@ -7,7 +7,7 @@ use native.Mathlib.Numerals.{add-one}
 use lib.Ieee.{Float, nan}
 use Rattle.buffers.specs.Lack.{lackNumber}
 use Rattle.trim_split.specs.Running.{stopped, at}
-use Rattle.trim_split.proofs.Loops.{slices, snapshotOf}
+use Rattle.trim_split.proofs.Loops.{windowSlices, snapshotOf}
 use Rattle.cut_lists.specs.Buffers.{cutBuffers}
 use Rattle.trim_visit.proofs.Meeting.{visit-passes, keeps-passes, visit-full, visit-none, keeps-none, pieces-fit, visit-split, keeps-split}
 use borrow.Author.Needs.{needs}
@@ -34,7 +34,7 @@ returns c =
     let max = at-max .max in
     let a = start .args in
     let the-cuts = cutBuffers (a .pts .now) (a .out .now) (a .keep .now) (a .next .now) in
-    let the-slices = slices (a .edges .now) (a .words .now) (a .reals .now) (a .keys .now) (a .events .now) in (
+    let the-slices = windowSlices (a .edges .now) (a .words .now) (a .reals .now) (a .keys .now) (a .events .now) in (
       keeps-passes (a .e .0) (a .tiny) (a .w) (a .x) (a .id .0) (a .counts .made) (a .counts .queued) (a .before) (a .k) the-slices the-cuts (start .pre .0 .fits) (start .pre .1 .0)
           (max .result) (min .result) (max .ensures) (min .ensures) (if1 .taken) (start .pre .1 .1 .1) nan,
       visit-passes (a .e .0) (a .tiny) (a .w) (a .x) (a .id .0) (a .counts .made)
@@ -75,7 +75,7 @@ returns-2 c =
     let a = start .args in (
       tt,
       visit-full (a .e .0) (a .tiny) (a .w) (a .x) (a .id .0) (a .counts .made) (a .counts .queued) (a .before) (a .k)
-          (slices (a .edges .now) (a .words .now) (a .reals .now) (a .keys .now) (a .events .now)) (cutBuffers (a .pts .now) (a .out .now) (a .keep .now) (a .next .now)) (start .pre .0 .fits)
+          (windowSlices (a .edges .now) (a .words .now) (a .reals .now) (a .keys .now) (a .events .now)) (cutBuffers (a .pts .now) (a .out .now) (a .keep .now) (a .next .now)) (start .pre .0 .fits)
           (start .pre .1 .0) (max .result) (min .result) (max .ensures) (min .ensures) (at-if1 .if1 .left) (rw (c .enum-told .given .1) at (at-cut .cut .ensures)),
     )
 
@@ -114,7 +114,7 @@ returns-3 c =
     let a = start .args in
     let the-cut = cut .last .1 .1 .1 .1 .1 .1 .1 .1 .1 .1 .1 .0 in
     let the-cuts = cutBuffers (a .pts .now) (a .out .now) (a .keep .now) (a .next .now) in
-    let the-slices = slices (a .edges .now) (a .words .now) (a .reals .now) (a .keys .now) (a .events .now) in (
+    let the-slices = windowSlices (a .edges .now) (a .words .now) (a .reals .now) (a .keys .now) (a .events .now) in (
       keeps-none (a .e .0) (a .tiny) (a .w) (a .x) (a .id .0) (a .counts .made) (a .counts .queued) (a .before) (a .k) the-slices the-cuts (start .pre .0 .fits) (start .pre .1 .0)
           (max .result) (min .result) (max .ensures) (min .ensures) (if1 .left) (met .given .0 .0) (met .given .0 .1 .0) (met .given .0 .1 .1 .0) (cut .last .1 .1 .1 .1 .1 .1 .1 .1 .1 .0) the-cut
           (rw (met .given .1) at (cut .ensures)) (if2 .taken) nan,
@@ -141,7 +141,7 @@ split-window-requires c κs =
       (
         start .pre .1 .0,
         pieces-fit (a .e .0) (a .tiny) (a .w) (a .x) (a .id .0) (a .counts .made) (a .counts .queued) (a .before) (a .k)
-            (slices (a .edges .now) (a .words .now) (a .reals .now) (a .keys .now) (a .events .now)) (cutBuffers (a .pts .now) (a .out .now) (a .keep .now) (a .next .now)) (start .pre .0 .fits)
+            (windowSlices (a .edges .now) (a .words .now) (a .reals .now) (a .keys .now) (a .events .now)) (cutBuffers (a .pts .now) (a .out .now) (a .keep .now) (a .next .now)) (start .pre .0 .fits)
             (start .pre .1 .0) (max .result) (min .result) (max .ensures) (min .ensures) (at-if1 .if1 .left) (met .given .0 .0) (met .given .0 .1 .0) (met .given .0 .1 .1 .0)
             (cut .last .1 .1 .1 .1 .1 .1 .1 .1 .1 .0) (cut .last .1 .1 .1 .1 .1 .1 .1 .1 .1 .1 .1 .0) (rw (met .given .1) at (cut .ensures)) (at-if2 .if2 .left)
             (cut .kept .1 .1 .1 .1 .1 .1 .1 .1 .1 .1 .1 .0 ∙ start .pre .1 .1 .0 .nexts),
@@ -200,7 +200,7 @@ returns-4 c =
     let a = start .args in (
       tt,
       visit-split (a .e .0) (a .tiny) (a .w) (a .x) (a .id .0) (a .counts .made) (a .counts .queued) (a .before) (a .k)
-          (slices (a .edges .now) (a .words .now) (a .reals .now) (a .keys .now) (a .events .now)) (cutBuffers (a .pts .now) (a .out .now) (a .keep .now) (a .next .now)) (start .pre .0 .fits)
+          (windowSlices (a .edges .now) (a .words .now) (a .reals .now) (a .keys .now) (a .events .now)) (cutBuffers (a .pts .now) (a .out .now) (a .keep .now) (a .next .now)) (start .pre .0 .fits)
           (start .pre .1 .0) (max .result) (min .result) (max .ensures) (min .ensures) (at-if1 .if1 .left) (met .given .0 .0) (met .given .0 .1 .0) (met .given .0 .1 .1 .0)
           (cut .last .1 .1 .1 .1 .1 .1 .1 .1 .1 .0) (cut .last .1 .1 .1 .1 .1 .1 .1 .1 .1 .1 .1 .0) (rw (met .given .1) at (cut .ensures)) (at-if2 .if2 .left)
           (λ (vertex : List Float). stopped (lackNumber (left .given .0 .0))) (rw (left .given .1) at (at-split-window .split-window .ensures .1)),
@@ -255,7 +255,7 @@ returns-5 c =
     let a = start .args in
     let the-cut = cut .last .1 .1 .1 .1 .1 .1 .1 .1 .1 .1 .1 .0 in
     let the-cuts = cutBuffers (a .pts .now) (a .out .now) (a .keep .now) (a .next .now) in
-    let the-slices = slices (a .edges .now) (a .words .now) (a .reals .now) (a .keys .now) (a .events .now) in (
+    let the-slices = windowSlices (a .edges .now) (a .words .now) (a .reals .now) (a .keys .now) (a .events .now) in (
       keeps-split (a .e .0) (a .tiny) (a .w) (a .x) (a .id .0) (a .counts .made) (a .counts .queued) (a .before) (a .k) the-slices the-cuts (start .pre .0 .fits) (start .pre .1 .0)
           (max .result) (min .result) (max .ensures) (min .ensures) (if1 .left) (met .given .0 .0) (met .given .0 .1 .0) (met .given .0 .1 .1 .0) (cut .last .1 .1 .1 .1 .1 .1 .1 .1 .1 .0) the-cut
           (rw (met .given .1) at (cut .ensures)) (if2 .left) (left2 .given .0 .0 .made) (rw (left2 .given .1) at (split-window .ensures .0)) nan,
@@ -263,7 +263,7 @@ returns-5 c =
           (a .id .0) (a .counts .made) (a .counts .queued) (a .before) (a .k) the-slices the-cuts (start .pre .0 .fits) (start .pre .1 .0) (max .result) (min .result) (max .ensures)
           (min .ensures) (if1 .left) (met .given .0 .0) (met .given .0 .1 .0) (met .given .0 .1 .1 .0) (cut .last .1 .1 .1 .1 .1 .1 .1 .1 .1 .0) the-cut (rw (met .given .1) at (cut .ensures))
           (if2 .left) (λ (vertex : List Float). at
-          (snapshotOf (slices (split-window .last .0) (split-window .last .1 .0) (split-window .last .1 .1 .0) (split-window .last .1 .1 .1 .0) (split-window .last .1 .1 .1 .1 .0))
+          (snapshotOf (windowSlices (split-window .last .0) (split-window .last .1 .0) (split-window .last .1 .1 .0) (split-window .last .1 .1 .1 .0) (split-window .last .1 .1 .1 .1 .0))
           (left2 .given .0 .0 .made) (left2 .given .0 .0 .queued) (left2 .given .0 .1 .0) vertex)) (rw (left2 .given .1) at (split-window .ensures .1)),
     )
 

@@ -4,7 +4,7 @@ use mathlib.Core.Path.{refl, _∙_}
 use native.Mathlib.Omega.{arith}
 use lib.Ieee.{nan}
 use Rattle.live_windows.specs.Live.{liveOf}
-use Rattle.trim_split.proofs.Loops.{slices}
+use Rattle.trim_split.proofs.Loops.{windowSlices}
 use Rattle.trim_visit.proofs.Loop.{VisitsInv, visits-start, visits-ready, visits-sizes, visits-few, visits-inside, visits-spent, visits-end, visits-over, visits-stopped, visits-next}
 use Rattle.cut_lists.specs.Buffers.{cutBuffers}
 use borrow.Author.Needs.{needs}
@@ -12,7 +12,7 @@ use Rattle.trim_visit.proofs.visits.Statement.{statement}
 use Rattle.trim_visit.proofs.visits.Tie as tie
 
 abbrev Inv-loop : tie.InvT-loop
-Inv-loop edges₀ words₀ reals₀ keys₀ events₀ pts₀ out₀ keep₀ next₀ e before k w tiny end now₀ last₀ kept₀ left₀ edges words reals keys events pts out keep next now last kept left = VisitsInv (e .0) tiny (liveOf w 0) (slices edges₀ words₀ reals₀ keys₀ events₀) (cutBuffers pts₀ out₀ keep₀ next₀) (now₀ .made) (now₀ .queued) last₀ kept₀ (slices edges words reals keys events) (cutBuffers pts out keep next) (now .made) (now .queued) last kept left
+Inv-loop edges₀ words₀ reals₀ keys₀ events₀ pts₀ out₀ keep₀ next₀ e before k w tiny end now₀ last₀ kept₀ left₀ edges words reals keys events pts out keep next now last kept left = VisitsInv (e .0) tiny (liveOf w 0) (windowSlices edges₀ words₀ reals₀ keys₀ events₀) (cutBuffers pts₀ out₀ keep₀ next₀) (now₀ .made) (now₀ .queued) last₀ kept₀ (windowSlices edges words reals keys events) (cutBuffers pts out keep next) (now .made) (now .queued) last kept left
 
 abbrev μ-loop : tie.MeasureT-loop
 μ-loop edges₀ words₀ reals₀ keys₀ events₀ pts₀ out₀ keep₀ next₀ e before k w tiny end now₀ last₀ kept₀ left₀ edges words reals keys events pts out keep next now last kept left = left
@@ -21,7 +21,7 @@ loop-holds : tie.Need-loop-holds Inv-loop μ-loop
 loop-holds c =
     let start = c .before .before .before .before .before .before .before .before .before .before .before in
     let a = start .args in
-    visits-start (a .e .0) (a .tiny) (liveOf (a .w) 0) (slices (a .edges .now) (a .words .now) (a .reals .now) (a .keys .now) (a .events .now))
+    visits-start (a .e .0) (a .tiny) (liveOf (a .w) 0) (windowSlices (a .edges .now) (a .words .now) (a .reals .now) (a .keys .now) (a .events .now))
     (cutBuffers (a .pts .now) (a .out .now) (a .keep .now) (a .next .now)) (a .counts .made) (a .counts .queued) (a .before) (a .k) (start .pre .0) (start .pre .1 .0) (start .pre .1 .1)
 
 next-link-requires : tie.Need-next-link-requires Inv-loop μ-loop
@@ -64,8 +64,8 @@ returns c =
     let a = start .args in (
       (loop .inv .fits, (loop .inv .linked, (loop .inv .few, loop .inv .grown))),
       visits-end (a .e .0) (a .tiny) (liveOf (a .w) 0)
-          (slices (a .edges .now) (a .words .now) (a .reals .now) (a .keys .now) (a .events .now)) (cutBuffers (a .pts .now) (a .out .now) (a .keep .now) (a .next .now)) (a .counts .made)
-          (a .counts .queued) (a .before) (a .k) (slices (loop .edges) (loop .words) (loop .reals) (loop .keys) (loop .events)) (cutBuffers (loop .pts) (loop .out) (loop .keep) (loop .next))
+          (windowSlices (a .edges .now) (a .words .now) (a .reals .now) (a .keys .now) (a .events .now)) (cutBuffers (a .pts .now) (a .out .now) (a .keep .now) (a .next .now)) (a .counts .made)
+          (a .counts .queued) (a .before) (a .k) (windowSlices (loop .edges) (loop .words) (loop .reals) (loop .keys) (loop .events)) (cutBuffers (loop .pts) (loop .out) (loop .keep) (loop .next))
           (loop .now) (loop .last) (loop .kept) (loop .left) (loop .inv) (next-link .result) (next-link .ensures) (c .if1 .taken),
     )
 
@@ -80,9 +80,9 @@ load-requires c κs =
     let start = at-loop .before .before .before .before .before .before .before .before .before .before .before .before in
     let a = start .args in
     let l = at-loop .loop in
-    let r = visits-ready (a .e .0) (a .tiny) (liveOf (a .w) 0) (slices (a .edges .now) (a .words .now) (a .reals .now) (a .keys .now) (a .events .now))
+    let r = visits-ready (a .e .0) (a .tiny) (liveOf (a .w) 0) (windowSlices (a .edges .now) (a .words .now) (a .reals .now) (a .keys .now) (a .events .now))
     (cutBuffers (a .pts .now) (a .out .now) (a .keep .now) (a .next .now)) (a .counts .made) (a .counts .queued) (a .before) (a .k)
-    (slices (l .edges) (l .words) (l .reals) (l .keys) (l .events)) (cutBuffers (l .pts) (l .out) (l .keep) (l .next)) (l .now) (l .last) (l .kept) (l .left) (l .inv) in
+    (windowSlices (l .edges) (l .words) (l .reals) (l .keys) (l .events)) (cutBuffers (l .pts) (l .out) (l .keep) (l .next)) (l .now) (l .last) (l .kept) (l .left) (l .inv) in
     omega (arith, r .fits, at-next-link .next-link .ensures .made, at-if1 .if1 .left)
 
 visit-requires : tie.Need-visit-requires Inv-loop μ-loop
@@ -98,8 +98,8 @@ visit-requires c κs =
     let a = start .args in
     let the-cuts-2 = cutBuffers (loop .pts) (loop .out) (loop .keep) (loop .next) in
     let the-cuts = cutBuffers (a .pts .now) (a .out .now) (a .keep .now) (a .next .now) in
-    let the-slices-2 = slices (loop .edges) (loop .words) (loop .reals) (loop .keys) (loop .events) in
-    let the-slices = slices (a .edges .now) (a .words .now) (a .reals .now) (a .keys .now) (a .events .now) in (
+    let the-slices-2 = windowSlices (loop .edges) (loop .words) (loop .reals) (loop .keys) (loop .events) in
+    let the-slices = windowSlices (a .edges .now) (a .words .now) (a .reals .now) (a .keys .now) (a .events .now) in (
       visits-ready (a .e .0) (a .tiny) (liveOf (a .w) 0) the-slices the-cuts (a .counts .made) (a .counts .queued) (a .before) (a .k) the-slices-2 the-cuts-2 (loop .now)
           (loop .last) (loop .kept) (loop .left) (loop .inv),
       (
@@ -199,9 +199,9 @@ returns-2 c =
     let loop = at-loop .loop in
     let a = start .args in (
       tt,
-      visits-stopped (a .e .0) (a .tiny) (liveOf (a .w) 0) (slices (a .edges .now) (a .words .now) (a .reals .now) (a .keys .now) (a .events .now))
+      visits-stopped (a .e .0) (a .tiny) (liveOf (a .w) 0) (windowSlices (a .edges .now) (a .words .now) (a .reals .now) (a .keys .now) (a .events .now))
           (cutBuffers (a .pts .now) (a .out .now) (a .keep .now) (a .next .now)) (a .counts .made) (a .counts .queued) (a .before) (a .k)
-          (slices (loop .edges) (loop .words) (loop .reals) (loop .keys) (loop .events)) (cutBuffers (loop .pts) (loop .out) (loop .keep) (loop .next)) (loop .now) (loop .last) (loop .kept)
+          (windowSlices (loop .edges) (loop .words) (loop .reals) (loop .keys) (loop .events)) (cutBuffers (loop .pts) (loop .out) (loop .keep) (loop .next)) (loop .now) (loop .last) (loop .kept)
           (loop .left) (loop .inv) (next-link .result) (next-link .ensures) (next-link .result - 1) (omega (arith, at-if1 .if1 .left)) (load .result) (load .ensures) (at-if2 .if2 .taken)
           (visited .given .0 .0) (visit .last .1 .1 .1 .1 .1 .1 .1 .0) (rw (visited .given .1) at (visit .ensures .1)),
     )
@@ -232,11 +232,11 @@ loop-again c =
     let next-link = at-next-link .next-link in
     let loop = at-loop .loop in
     let a = start .args in
-    visits-next (a .e .0) (a .tiny) (liveOf (a .w) 0) (slices (a .edges .now) (a .words .now) (a .reals .now) (a .keys .now) (a .events .now))
+    visits-next (a .e .0) (a .tiny) (liveOf (a .w) 0) (windowSlices (a .edges .now) (a .words .now) (a .reals .now) (a .keys .now) (a .events .now))
     (cutBuffers (a .pts .now) (a .out .now) (a .keep .now) (a .next .now)) (a .counts .made) (a .counts .queued) (a .before) (a .k)
-    (slices (loop .edges) (loop .words) (loop .reals) (loop .keys) (loop .events)) (cutBuffers (loop .pts) (loop .out) (loop .keep) (loop .next)) (loop .now) (loop .last) (loop .kept)
+    (windowSlices (loop .edges) (loop .words) (loop .reals) (loop .keys) (loop .events)) (cutBuffers (loop .pts) (loop .out) (loop .keep) (loop .next)) (loop .now) (loop .last) (loop .kept)
     (loop .left) (loop .inv) (next-link .result) (next-link .ensures) (next-link .result - 1) (omega (arith, at-if1 .if1 .left)) (load .result) (load .ensures) (at-if2 .if2 .taken)
-    (slices (visit .last .0) (visit .last .1 .0) (visit .last .1 .1 .0) (visit .last .1 .1 .1 .0) (visit .last .1 .1 .1 .1 .0))
+    (windowSlices (visit .last .0) (visit .last .1 .0) (visit .last .1 .1 .0) (visit .last .1 .1 .1 .0) (visit .last .1 .1 .1 .1 .0))
     (cutBuffers (visit .last .1 .1 .1 .1 .1 .0) (visit .last .1 .1 .1 .1 .1 .1 .0) (visit .last .1 .1 .1 .1 .1 .1 .1 .0) (visit .last .1 .1 .1 .1 .1 .1 .1 .1 .0)) (visited2 .given .0 .0)
     (visited2 .given .0 .1 .0) (visited2 .given .0 .1 .1 .0) (loop .left - 1)
     (record { edges = visit .kept .0; words = visit .kept .1 .0; reals = visit .kept .1 .1 .0; keys = visit .kept .1 .1 .1 .0; events = visit .kept .1 .1 .1 .1 .0 })
@@ -283,8 +283,8 @@ returns-3 c =
     let a = start .args in (
       (loop .inv .fits, (loop .inv .linked, (loop .inv .few, loop .inv .grown))),
       visits-over (a .e .0) (a .tiny) (liveOf (a .w) 0)
-          (slices (a .edges .now) (a .words .now) (a .reals .now) (a .keys .now) (a .events .now)) (cutBuffers (a .pts .now) (a .out .now) (a .keep .now) (a .next .now)) (a .counts .made)
-          (a .counts .queued) (a .before) (a .k) (slices (loop .edges) (loop .words) (loop .reals) (loop .keys) (loop .events)) (cutBuffers (loop .pts) (loop .out) (loop .keep) (loop .next))
+          (windowSlices (a .edges .now) (a .words .now) (a .reals .now) (a .keys .now) (a .events .now)) (cutBuffers (a .pts .now) (a .out .now) (a .keep .now) (a .next .now)) (a .counts .made)
+          (a .counts .queued) (a .before) (a .k) (windowSlices (loop .edges) (loop .words) (loop .reals) (loop .keys) (loop .events)) (cutBuffers (loop .pts) (loop .out) (loop .keep) (loop .next))
           (loop .now) (loop .last) (loop .kept) (loop .left) (loop .inv) (next-link .result) (next-link .ensures) (next-link .result - 1) (omega (arith, at-if1 .if1 .left)) (load .result)
           (load .ensures) (c .if2 .left),
     )
@@ -324,8 +324,8 @@ returns-4 c =
     let a = start .args in (
       (loop .inv .fits, (loop .inv .linked, (loop .inv .few, loop .inv .grown))),
       visits-spent (a .e .0) (a .tiny) (liveOf (a .w) 0)
-          (slices (a .edges .now) (a .words .now) (a .reals .now) (a .keys .now) (a .events .now)) (cutBuffers (a .pts .now) (a .out .now) (a .keep .now) (a .next .now)) (a .counts .made)
-          (a .counts .queued) (a .before) (a .k) (slices (loop .edges) (loop .words) (loop .reals) (loop .keys) (loop .events)) (cutBuffers (loop .pts) (loop .out) (loop .keep) (loop .next))
+          (windowSlices (a .edges .now) (a .words .now) (a .reals .now) (a .keys .now) (a .events .now)) (cutBuffers (a .pts .now) (a .out .now) (a .keep .now) (a .next .now)) (a .counts .made)
+          (a .counts .queued) (a .before) (a .k) (windowSlices (loop .edges) (loop .words) (loop .reals) (loop .keys) (loop .events)) (cutBuffers (loop .pts) (loop .out) (loop .keep) (loop .next))
           (loop .now) (loop .last) (loop .kept) (loop .left) (loop .inv) (omega (arith, c .loop-test .left)),
     )
 
