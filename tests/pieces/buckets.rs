@@ -12,7 +12,7 @@ fn bucket(size: u64, p: Point) -> u64 {
         let product = (h + b % WORD) % WORD * ((b / WORD + GOLDEN) % WORD);
         (product / WORD + product % WORD) % WORD
     };
-    p.into_iter().fold(GOLDEN, mix) % size
+    p.into_iter().fold(GOLDEN, mix) * size / WORD
 }
 
 /// The segments of a job: points, most different in a bucket, most ends in a bucket, steps for each end.
@@ -76,6 +76,19 @@ fn main() {
         &lines(1, 65_535, |_, j| [0., 0., f(j) / 1024.]),
     );
     count("one diagonal", &lines(1, 65_535, |_, j| [f(j), -f(j), 1.]));
+    // A remainder by 65,535 would put these into two buckets: the upper half of 133.24 and the golden number add up to a multiple of it.
+    count(
+        "a flat grid of tenths, z = 133.24",
+        &lines(255, 257, |i, j| [f(j) * 0.1, f(i) * 0.1, 133.24]),
+    );
+    count(
+        "a flat grid of tenths, y = 133.24",
+        &lines(100, 257, |i, j| [f(j) * 0.1, 133.24, f(i) * 0.1]),
+    );
+    count(
+        "one line along x, y = 133.24",
+        &lines(1, 65_535, |_, j| [f(j) * 0.1, 133.24, 0.]),
+    );
     let star: Vec<_> = (0..65_535)
         .map(|j| ([1.5, 2.5, 0.], [f(j), 3.25, 0.5]))
         .collect();

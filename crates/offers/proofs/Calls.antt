@@ -2,6 +2,7 @@
 use Prim.Native.Nat.{ℕ, _≤_, _<_}
 use native.Mathlib.Omega.{arith}
 use mathlib.Core.List.{List}
+use mathlib.Core.Logic.{⊎-elim}
 use mathlib.Core.Path.{_≡_, refl, sym, subst}
 use lib.ListN.{length}
 use lib.Ieee.{Float}
@@ -36,21 +37,30 @@ module _ (limit : Float) (vw : List ℕ) (er : List Float) (counts : Counts) (b 
   abbrev windows : ℕ
   windows = capacityOf (length (b .words)) (length (b .reals))
 
-  pub offer-nothing : o ≡ Nothing → counts .made ≤ windows → OffersTo limit vw er o counts b c (Went counts) b
+  pub offer-nothing : o ≡ Nothing → counts .made ≤ windows → OffersTo limit vw er o counts b c (Went counts) b c
   offer-nothing h fits =
-      subst (λ (x : Offered). OffersTo limit vw er x counts b c (Went counts) b) (sym h)
-      (record { bounded = fits; offers = λ mesh there. offers-none (length (c .pts)) windows limit vw mesh (snapshotAt counts b) })
+      subst (λ (x : Offered). OffersTo limit vw er x counts b c (Went counts) b c) (sym h)
+      (record {
+        bounded = fits;
+        offers = λ mesh there. offers-none (length (c .pts)) windows limit vw mesh (snapshotAt counts b);
+        skips = λ none. record { answer = refl; slices = refl; cuts = refl };
+      })
 
   module _ (e : EdgeId) (w : NewWindow) (h : o ≡ Window e w) where
-    pub offer-missing : slotsOf (length (b .edges)) wordsPerEdge ≤ e .0 → counts .made ≤ windows → OffersTo limit vw er o counts b c (Went counts) b
+    pub offer-missing : slotsOf (length (b .edges)) wordsPerEdge ≤ e .0 → counts .made ≤ windows → OffersTo limit vw er o counts b c (Went counts) b c
     offer-missing far fits =
-        subst (λ (x : Offered). OffersTo limit vw er x counts b c (Went counts) b) (sym h)
-        (record { bounded = fits; offers = λ mesh there. absurd (let z : ⊥ = omega (arith, far, there .0) in z) })
+        subst (λ (x : Offered). OffersTo limit vw er x counts b c (Went counts) b c) (sym h)
+        (record {
+          bounded = fits;
+          offers = λ mesh there. absurd (let z : ⊥ = omega (arith, far, there .0) in z);
+          skips = λ past. record { answer = refl; slices = refl; cuts = refl };
+        })
 
-    pub offer-added : (r : Added) (b′ : Slices) (c′ : Cuts) → AddsTo limit vw (trimEdgeAt (b .edges) er (e .0)) w counts b c r b′ c′ → OffersTo limit vw er o counts b c r b′
-    offer-added r b′ c′ a =
-        subst (λ (x : Offered). OffersTo limit vw er x counts b c r b′) (sym h)
+    pub offer-added : e .0 < slotsOf (length (b .edges)) wordsPerEdge → (r : Added) (b′ : Slices) (c′ : Cuts) → AddsTo limit vw (trimEdgeAt (b .edges) er (e .0)) w counts b c r b′ c′ → OffersTo limit vw er o counts b c r b′ c′
+    offer-added near r b′ c′ a =
+        subst (λ (x : Offered). OffersTo limit vw er x counts b c r b′ c′) (sym h)
         (record {
           bounded = a .bounded;
           offers = λ mesh there. offers-one (length (c .pts)) windows limit vw mesh (trimEdgeAt (b .edges) er (e .0)) w (there .1) (snapshotAt counts b) (addedEndIn r b′) (a .adds);
+          skips = ⊎-elim (λ far. absurd (let z : ⊥ = omega (arith, near, far) in z)) (a .skips);
         })

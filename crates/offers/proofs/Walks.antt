@@ -80,5 +80,5 @@ pub windows-same : (B B′ : Slices) (c c′ : Cuts) → SameSizes B B′ c c′
 windows-same B B′ c c′ h = (λ i. capacityOf (h .words i) (h .reals i))
 
 -- what was read is offered
-pub offers-read : (limit : Float) (vw : List ℕ) (er : List Float) (o o′ : Offered) → o ≡ o′ → (counts : Counts) (B : Slices) (c : Cuts) (r : Added) (B′ : Slices) → OffersTo limit vw er o counts B c r B′ → OffersTo limit vw er o′ counts B c r B′
-offers-read limit vw er o o′ h counts B c r B′ = subst (λ (z : Offered). OffersTo limit vw er z counts B c r B′) h
+pub offers-read : (limit : Float) (vw : List ℕ) (er : List Float) (o o′ : Offered) → o ≡ o′ → (counts : Counts) (B : Slices) (c : Cuts) (r : Added) (B′ : Slices) (c′ : Cuts) → OffersTo limit vw er o counts B c r B′ c′ → OffersTo limit vw er o′ counts B c r B′ c′
+offers-read limit vw er o o′ h counts B c r B′ c′ = subst (λ (z : Offered). OffersTo limit vw er z counts B c r B′ c′) h

@@ -1,6 +1,9 @@
 -- Candidates added one after the other, as insertion, propagation and a vertex that passes distances on offer them: what they come to on values, and what it is
 -- that buffers come to hold the outcome. Definitions only.
-use Prim.Native.Nat.{ℕ, _<_}
+use Prim.Native.Nat.{ℕ, _≤_, _<_}
+use mathlib.Core.Bool.{not}
+use mathlib.Core.Logic.{_⊎_}
+use lib.Dec.{T}
 use mathlib.Core.List.{List, [], _∷_, _++_}
 use mathlib.Core.Path.{_≡_}
 use lib.ListN.{length}
@@ -8,7 +11,8 @@ use lib.Ieee.{Float}
 use Rattle.layout.specs.Layout.{wordsPerEdge}
 use Rattle.buffers.specs.Slots.{slotsOf}
 use Rattle.better.specs.Claim.{All}
-use Rattle.trim_model.specs.Model.{Candidate}
+use Rattle.frames.specs.Stored.{lengthAt}
+use Rattle.trim_model.specs.Model.{Candidate, admits}
 use Rattle.trim_model.specs.Claim.{AdmittedProper}
 use Rattle.trim_state.specs.State.{State, Result, stopped, went, EdgeData, edgeIn, addOf}
 use Rattle.trim_state.specs.Follows.{Follows}
@@ -20,7 +24,7 @@ use Rattle.windows.specs.Windows.{capacityOf}
 use Rattle.mesh_readers.specs.Readers.{trimEdgeAt}
 use Rattle.cut_lists.specs.Buffers.{Cuts}
 use Rattle.trim.specs.Buffers.{Slices}
-use Rattle.trim.specs.Adding.{AddedWithin, snapshotAt, addedEndIn}
+use Rattle.trim.specs.Adding.{candidateOf, AddedWithin, snapshotAt, addedEndIn, Unchanged}
 use Rattle.trim.specs.declared.Added.{Added}
 use Rattle.offers.specs.declared.Offered.{Offered}
 use Rattle.offers.specs.declared.Offered.the-variants.{Nothing, Window}
@@ -70,9 +74,17 @@ abbrev pub EdgeThere : EdgeData → List ℕ → List Float → Offered → Type
 EdgeThere mesh edgeWords edgeReals Nothing = Unit {0}
 EdgeThere mesh edgeWords edgeReals (Window e w) = (e .0 < slotsOf (length edgeWords) wordsPerEdge) × (edgeIn mesh (e .0) ≡ trimEdgeAt edgeWords edgeReals (e .0))
 
--- buffers b and c at the call, b′ at the return
-pub record OffersTo (limit : Float) (vertexWords : List ℕ) (edgeReals : List Float) (o : Offered) (counts : Counts) (b : Slices) (c : Cuts) (r : Added) (b′ : Slices) : Type 0 where
+-- nothing is offered, or to an edge without a slot, or what is not admitted
+abbrev pub PassedOver : Float → List ℕ → List Float → Offered → Type 0
+PassedOver limit edgeWords edgeReals Nothing = Unit {0}
+PassedOver limit edgeWords edgeReals (Window e w) =
+    (slotsOf (length edgeWords) wordsPerEdge ≤ e .0) ⊎ T (not (admits limit (λ k. lengthAt edgeReals (e .0)) (candidateOf (trimEdgeAt edgeWords edgeReals (e .0)) w)))
+
+-- buffers b and c at the call, b′ and c′ at the return
+pub record OffersTo (limit : Float) (vertexWords : List ℕ) (edgeReals : List Float) (o : Offered) (counts : Counts) (b : Slices) (c : Cuts) (r : Added) (b′ : Slices) (c′ : Cuts) : Type 0 where
   -- no more windows are made than the buffer has slots for
   pub bounded : AddedWithin (capacityOf (length (b .words)) (length (b .reals))) r
   pub offers : (mesh : EdgeData) → EdgeThere mesh (b .edges) edgeReals o
       → Offers (length (c .pts)) (capacityOf (length (b .words)) (length (b .reals))) limit vertexWords mesh (offerList o) (snapshotAt counts b) (addedEndIn r b′)
+  -- what is passed over changes nothing
+  pub skips : PassedOver limit (b .edges) edgeReals o → Unchanged counts b c r b′ c′

@@ -85,7 +85,7 @@ pub fn offer(
 ) -> Added
     requires { ⌜ (counts .made ≤ capacityOf (length (now words)) (length (now reals))) × Sizes (length (now pts)) (now out) (now keep) (now next) ⌝ }
     ensures { λ r. ⌜ OffersTo limit (given «vertex_words») (given «edge_reals») o counts (before «edge_words» words reals keys events vertex) (cutsBefore pts out keep next)
-        r (after «edge_words» words reals keys events vertex) ⌝ }
+        r (after «edge_words» words reals keys events vertex) (cutsAfter pts out keep next) ⌝ }
 {
     match o {
         Offered::Nothing => Added::Went(counts),

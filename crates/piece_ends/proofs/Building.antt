@@ -15,14 +15,15 @@ use Rattle.vec3.specs.declared.Vec3.{Vec3}
 use Rattle.buffers.proofs.Zeroing.{zero-at}
 use Rattle.topology.proofs.Find.{either}
 use Rattle.edge_table.specs.Sides.{HoldsWords}
+use Rattle.edge_table.proofs.Buckets.{scaled-below}
 use Rattle.edge_table.proofs.Holding.{holds-set, words-are}
 use Rattle.piece_ends.specs.Ends.{passing, endPoint, isEnd}
 use Rattle.piece_ends.specs.Table.{mixed, golden, pointBucket, linkTo, slotWord, bucketAt, inBucket, bucketFrom, headLink, nextLink, pieceWords, entered}
 use Rattle.piece_ends.proofs.Passing.{link-none, link-one, pass-none, pass-here, pass-over}
 
 pub bucket-below : (size : ℕ) (p : Vec3) → 0 < size → pointBucket size p < size
-unfolding pointBucket
-bucket-below size p l = mod-lt (mixed (mixed (mixed golden (p .x)) (p .y)) (p .z)) l
+unfolding pointBucket mixed
+bucket-below size p l = scaled-below _ size l
 
 -- a link of a slot, as code writes its field
 pub slot-link : (head link : ℕ → ℕ) (i w : ℕ) → slotWord head link i (1 + w) ≡ link (2 * i + w)

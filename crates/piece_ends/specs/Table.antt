@@ -23,7 +23,7 @@ mixed h x =
 
 -- the bucket of a point, among size of them
 unfoldable pub pointBucket : ℕ → Vec3 → ℕ
-pointBucket size p = mixed (mixed (mixed golden (p .x)) (p .y)) (p .z) % size
+pointBucket size p = mixed (mixed (mixed golden (p .x)) (p .y)) (p .z) * size / 4294967296
 
 -- the link to the first of a list of ends
 unfoldable pub linkTo : List ℕ → ℕ

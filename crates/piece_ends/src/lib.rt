@@ -39,14 +39,13 @@ fn mix(h: u32, x: f64) -> u32
     ((product / 4294967296 + product % 4294967296) % 4294967296) as u32
 }
 
+// A remainder by the size would fall on few buckets where a coordinate's upper half and the size have a common factor.
 fn bucket_of(p: Vec3, size: u32) -> u32
     ensures { λ r. ⌜ r ≡ pointBucket size p ⌝ }
 {
     let h = mix(mix(mix(2654435769, p.x), p.y), p.z);
-    if size == 0 {
-        return h;
-    }
-    h % size
+    let scaled = (h as u64) * (size as u64);
+    (scaled / 4294967296) as u32
 }
 
 // Whether two points have the same coordinate bits.

@@ -70,10 +70,10 @@ module _ (limit : Float) (vw : List ℕ) (v er : List Float) (tw : List ℕ) (tr
   Does cuts windows triangles = Offers cuts windows limit vw (edgeData v triangles)
 
   -- one side, by what `offer` ensures
-  one : (triangles : List ℕ) (n : ℕ) (B : Slices) → MeshIn v triangles n (B .edges) er tw tr → f < length triangles / 3 → (k : ℕ) → k < 3 → (side : Normal) (counts : Counts) (c : Cuts) (r : Added) (B′ : Slices)
-      → OffersTo limit vw er (segmentOfferAt v (B .edges) er tw tr f k a b side) counts B c r B′
+  one : (triangles : List ℕ) (n : ℕ) (B : Slices) → MeshIn v triangles n (B .edges) er tw tr → f < length triangles / 3 → (k : ℕ) → k < 3 → (side : Normal) (counts : Counts) (c : Cuts) (r : Added) (B′ : Slices) (c′ : Cuts)
+      → OffersTo limit vw er (segmentOfferAt v (B .edges) er tw tr f k a b side) counts B c r B′ c′
       → Does (length (c .pts)) (windowsIn B) triangles (offerList (segmentOffer v triangles f k a b side)) (snapshotAt counts B) (addedEndIn r B′)
-  one triangles n B m l k q side counts c r B′ h =
+  one triangles n B m l k q side counts c r B′ c′ h =
       let H = held triangles n (B .edges) m l k q side in
       subst (λ (o : Offered). Does (length (c .pts)) (windowsIn B) triangles (offerList o) (snapshotAt counts B) (addedEndIn r B′)) H
       (h .offers (edgeData v triangles) (subst (λ (o : Offered). EdgeThere (edgeData v triangles) (B .edges) er o) (sym H) (offer-there triangles n (B .edges) m l k q side)))
@@ -83,27 +83,27 @@ module _ (limit : Float) (vw : List ℕ) (v er : List Float) (tw : List ℕ) (tr
     abbrev Both : Added → Slices → Type 0
     Both r B′ = AddsCandidates limit vw v er tw tr f (λ triangles. sideCandidates v triangles f a b k) counts B c r B′
 
-    pub both-stopped : (lack : Lack) (B′ : Slices) → OffersTo limit vw er (segmentOfferAt v (B .edges) er tw tr f k a b Left) counts B c (Stopped lack) B′ → Both (Stopped lack) B′
-    both-stopped lack B′ h = record {
+    pub both-stopped : (lack : Lack) (B′ : Slices) (c′ : Cuts) → OffersTo limit vw er (segmentOfferAt v (B .edges) er tw tr f k a b Left) counts B c (Stopped lack) B′ c′ → Both (Stopped lack) B′
+    both-stopped lack B′ c′ h = record {
       bounded = tt;
       adds = λ triangles n m l.
           offers-stop (length (c .pts)) (windowsIn B) limit vw (edgeData v triangles) (offerList (segmentOffer v triangles f k a b Left)) (offerList (segmentOffer v triangles f k a b Right)) (snapshotAt counts B) (lackNumber lack)
-          (one triangles n B m l k q Left counts c (Stopped lack) B′ h);
+          (one triangles n B m l k q Left counts c (Stopped lack) B′ c′ h);
     }
 
-    module _ (between : Counts) (B₁ : Slices) (c₁ : Cuts) (same : SameSizes B B₁ c c₁) (first : OffersTo limit vw er (segmentOfferAt v (B .edges) er tw tr f k a b Left) counts B c (Went between) B₁) where
+    module _ (between : Counts) (B₁ : Slices) (c₁ : Cuts) (same : SameSizes B B₁ c c₁) (first : OffersTo limit vw er (segmentOfferAt v (B .edges) er tw tr f k a b Left) counts B c (Went between) B₁ c₁) where
       pub between-fits : between .made ≤ windowsIn B₁
       between-fits = subst (λ (z : ℕ). between .made ≤ z) (sym (windows-same B B₁ c c₁ same)) (first .bounded)
 
-      pub both-then : (r : Added) (B′ : Slices) → OffersTo limit vw er (segmentOfferAt v (B₁ .edges) er tw tr f k a b Right) between B₁ c₁ r B′ → Both r B′
-      both-then r B′ h = record {
+      pub both-then : (r : Added) (B′ : Slices) (c′ : Cuts) → OffersTo limit vw er (segmentOfferAt v (B₁ .edges) er tw tr f k a b Right) between B₁ c₁ r B′ c′ → Both r B′
+      both-then r B′ c′ h = record {
         bounded = subst (λ (z : ℕ). AddedWithin z r) (windows-same B B₁ c c₁ same) (h .bounded);
         adds = λ triangles n m l.
             offers-then (length (c .pts)) (windowsIn B) limit vw (edgeData v triangles) (offerList (segmentOffer v triangles f k a b Left)) (offerList (segmentOffer v triangles f k a b Right)) (snapshotAt counts B)
-            (snapshotAt between B₁) (one triangles n B m l k q Left counts c (Went between) B₁ first) (addedEndIn r B′)
+            (snapshotAt between B₁) (one triangles n B m l k q Left counts c (Went between) B₁ c₁ first) (addedEndIn r B′)
             (λ u. subst (λ (z : ℕ). Does z (windowsIn B) triangles (offerList (segmentOffer v triangles f k a b Right)) (snapshotAt between B₁) (addedEndIn r B′)) (same .pts)
             (subst (λ (z : ℕ). Does (length (c₁ .pts)) z triangles (offerList (segmentOffer v triangles f k a b Right)) (snapshotAt between B₁) (addedEndIn r B′)) (windows-same B B₁ c c₁ same)
-            (one triangles n B₁ (mesh-kept v triangles n er tw tr (B .edges) (B₁ .edges) (same .edges) (u .edges) m) l k q Right between c₁ r B′ h)));
+            (one triangles n B₁ (mesh-kept v triangles n er tw tr (B .edges) (B₁ .edges) (same .edges) (u .edges) m) l k q Right between c₁ r B′ c′ h)));
       }
 
   -- ---- the three sides: the loop

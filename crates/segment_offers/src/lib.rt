@@ -8,7 +8,7 @@ ghost use Prim.Native.Nat.{_≤_, _<_};
 ghost use lib.ListN.{length};
 ghost use Rattle.buffers.specs.Lent.{given};
 ghost use Rattle.windows.specs.Windows.{capacityOf};
-ghost use Rattle.cut_lists.specs.Buffers.{cutsBefore};
+ghost use Rattle.cut_lists.specs.Buffers.{cutsBefore, cutsAfter};
 ghost use Rattle.cut_lists.specs.Cut.{Sizes};
 ghost use Rattle.trim.specs.Buffers.{before, after};
 ghost use Rattle.offers.specs.Offers.{OffersTo};
@@ -44,7 +44,7 @@ fn offer_side(
     requires { ⌜ (counts .made ≤ capacityOf (length (now words)) (length (now reals))) × Sizes (length (now pts)) (now out) (now keep) (now next) ⌝ }
     ensures { λ r. ⌜ OffersTo limit (given «vertex_words») (given «edge_reals»)
         (segmentOfferAt (given vertices) (given «edge_words») (given «edge_reals») (given «triangle_words») (given «triangle_reals») (f .0) k a b n)
-        counts (before «edge_words» words reals keys events vertex) (cutsBefore pts out keep next) r (after «edge_words» words reals keys events vertex) ⌝ }
+        counts (before «edge_words» words reals keys events vertex) (cutsBefore pts out keep next) r (after «edge_words» words reals keys events vertex) (cutsAfter pts out keep next) ⌝ }
 {
     let o = source_offers::segment_offer(
         vertices,

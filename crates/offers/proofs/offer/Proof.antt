@@ -70,11 +70,12 @@ same-length-10 c = search needs
 returns-3 : tie.Need-returns-3
 returns-3 c =
     let added = c .before .before .before .before .before .before .before .before .before .before .before .before .before .before .before .before .before .before .before .before in
+    let near = added .before .before .before .before .before .before .before .before .before .before .before in
     let there = added .before .before .before .before .before .before .before .before .before .before .before .before .before .before .before in
     let a = there .before .before .before .before .before .before .before .before .before .before .before .before .before .before .args in
     let o = there .o .given in
     let r = added .add-to in
-    offer-added (a .limit) (a .vertex-words .now) (a .edge-reals .now) (a .counts) (slices (a .edge-words .now) (a .words .now) (a .reals .now) (a .keys .now) (a .events .now) (a .vertex .now)) (cutBuffers (a .pts .now) (a .out .now) (a .keep .now) (a .next .now)) (a .o) (o .0 .0) (o .0 .1 .0) (o .1) (r .result)
+    offer-added (a .limit) (a .vertex-words .now) (a .edge-reals .now) (a .counts) (slices (a .edge-words .now) (a .words .now) (a .reals .now) (a .keys .now) (a .events .now) (a .vertex .now)) (cutBuffers (a .pts .now) (a .out .now) (a .keep .now) (a .next .now)) (a .o) (o .0 .0) (o .0 .1 .0) (o .1) (omega (arith, near .if1 .left, near .before .before .slots .ensures)) (r .result)
     (slices (r .last .0) (r .last .1 .0) (r .last .1 .1 .0) (r .last .1 .1 .1 .0) (r .last .1 .1 .1 .1 .0) (r .last .1 .1 .1 .1 .1 .0))
     (cutBuffers (r .last .1 .1 .1 .1 .1 .1 .1 .1 .0) (r .last .1 .1 .1 .1 .1 .1 .1 .1 .1 .0) (r .last .1 .1 .1 .1 .1 .1 .1 .1 .1 .1 .0) (r .last .1 .1 .1 .1 .1 .1 .1 .1 .1 .1 .1 .0)) (r .ensures)
 

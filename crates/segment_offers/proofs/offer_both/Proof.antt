@@ -98,6 +98,7 @@ returns c =
     (start .pre .1 .1) (a .counts) (slices (a .edge-words .now) (a .words .now) (a .reals .now) (a .keys .now) (a .events .now) (a .vertex .now))
     (cutBuffers (a .pts .now) (a .out .now) (a .keep .now) (a .next .now)) (stopped .left .given .0 .0)
     (slices (r .last .1 .0) (r .last .1 .1 .0) (r .last .1 .1 .1 .0) (r .last .1 .1 .1 .1 .0) (r .last .1 .1 .1 .1 .1 .0) (r .last .1 .1 .1 .1 .1 .1 .0))
+    (cutBuffers (r .last .1 .1 .1 .1 .1 .1 .1 .1 .1 .1 .1 .0) (r .last .1 .1 .1 .1 .1 .1 .1 .1 .1 .1 .1 .1 .0) (r .last .1 .1 .1 .1 .1 .1 .1 .1 .1 .1 .1 .1 .1 .0) (r .last .1 .1 .1 .1 .1 .1 .1 .1 .1 .1 .1 .1 .1 .1 .0))
     (rw (stopped .left .given .1) at (r .ensures))
 
 same-length-11 : tie.Need-same-length-11
@@ -189,7 +190,7 @@ returns-2 c =
           = r .kept .1 .1 .1 .1 .1 .1 .1 .1 .1 .1 .1 .1 .1 .0;
       next = r .kept .1 .1 .1 .1 .1 .1 .1 .1 .1 .1 .1 .1 .1 .1 .0;
     }) (rw (went .left2 .given .1) at (r .ensures)) (q .result)
-    (slices (q .last .1 .0) (q .last .1 .1 .0) (q .last .1 .1 .1 .0) (q .last .1 .1 .1 .1 .0) (q .last .1 .1 .1 .1 .1 .0) (q .last .1 .1 .1 .1 .1 .1 .0)) (q .ensures)
+    (slices (q .last .1 .0) (q .last .1 .1 .0) (q .last .1 .1 .1 .0) (q .last .1 .1 .1 .1 .0) (q .last .1 .1 .1 .1 .1 .0) (q .last .1 .1 .1 .1 .1 .1 .0)) (cutBuffers (q .last .1 .1 .1 .1 .1 .1 .1 .1 .1 .1 .1 .0) (q .last .1 .1 .1 .1 .1 .1 .1 .1 .1 .1 .1 .1 .0) (q .last .1 .1 .1 .1 .1 .1 .1 .1 .1 .1 .1 .1 .1 .0) (q .last .1 .1 .1 .1 .1 .1 .1 .1 .1 .1 .1 .1 .1 .1 .0)) (q .ensures)
 
 pub offer-both-spec : {M : Type 1} → statement M
 offer-both-spec =

@@ -53,7 +53,8 @@ returns c =
     offers-read (a .limit) (a .vertex-words .now) (a .edge-reals .now) (read .segment-offer .result) _ (read .segment-offer .ensures) (a .counts)
     (slices (a .edge-words .now) (a .words .now) (a .reals .now) (a .keys .now) (a .events .now) (a .vertex .now)) (cutBuffers (a .pts .now) (a .out .now) (a .keep .now) (a .next .now))
     (r .result)
-    (slices (r .last .0) (r .last .1 .0) (r .last .1 .1 .0) (r .last .1 .1 .1 .0) (r .last .1 .1 .1 .1 .0) (r .last .1 .1 .1 .1 .1 .0)) (r .ensures)
+    (slices (r .last .0) (r .last .1 .0) (r .last .1 .1 .0) (r .last .1 .1 .1 .0) (r .last .1 .1 .1 .1 .0) (r .last .1 .1 .1 .1 .1 .0))
+    (cutBuffers (r .last .1 .1 .1 .1 .1 .1 .1 .1 .0) (r .last .1 .1 .1 .1 .1 .1 .1 .1 .1 .0) (r .last .1 .1 .1 .1 .1 .1 .1 .1 .1 .1 .0) (r .last .1 .1 .1 .1 .1 .1 .1 .1 .1 .1 .1 .0)) (r .ensures)
 
 pub offer-side-spec : {M : Type 1} → statement M
 offer-side-spec =
