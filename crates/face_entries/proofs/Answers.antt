@@ -13,16 +13,16 @@ use Rattle.face_entries.specs.declared.PiecePart.{PiecePart}
 use Rattle.face_entries.specs.declared.Entered.{Entered}
 use Rattle.face_entries.specs.declared.Entered.the-variants.{Full, Count}
 use Rattle.layout.specs.Layout.{wordsPerTriangle, triangleLastEntry}
-use Rattle.face_entries.specs.Buffers.{EntryBuffers, entryBuffers, entryCapacity, entered, entering}
+use Rattle.face_entries.specs.Buffers.{EntryBuffers, entryBuffers, entryCapacity, enteredIn, entering}
 use Rattle.face_entries.specs.Entries.{FaceEntry, HoldsEntries, HoldsOnly}
 use Rattle.face_entries.proofs.Keeping.{enter-others, enter-held, enter-only}
 
 module _ (b p : EntryBuffers) (count f : ℕ) (x : PiecePart) (r : Entered) (said : (r, p) ≡ entering b count f x) where
-  pub was-free : (n : ℕ) → r ≡ Count n → (n ≡ suc count) × ((p ≡ entered b count f x) × (count < entryCapacity (length (b .words))))
+  pub was-free : (n : ℕ) → r ≡ Count n → (n ≡ suc count) × ((p ≡ enteredIn b count f x) × (count < entryCapacity (length (b .words))))
   unfolding entering
   was-free n e = go (ltb count (entryCapacity (length (b .words)))) refl said where
-    go : (c : Bool) → ltb count (entryCapacity (length (b .words))) ≡ c → (r, p) ≡ cond {A = Entered × EntryBuffers} c (Count (suc count), entered b count f x) (Full, b)
-        → (n ≡ suc count) × ((p ≡ entered b count f x) × (count < entryCapacity (length (b .words))))
+    go : (c : Bool) → ltb count (entryCapacity (length (b .words))) ≡ c → (r, p) ≡ cond {A = Entered × EntryBuffers} c (Count (suc count), enteredIn b count f x) (Full, b)
+        → (n ≡ suc count) × ((p ≡ enteredIn b count f x) × (count < entryCapacity (length (b .words))))
     go true h s =
         let a : r ≡ Count (suc count) = ap (λ (q : Entered × EntryBuffers). q .0) s in
         let m : n ≡ suc count = cc in
@@ -35,7 +35,7 @@ module _ (b p : EntryBuffers) (count f : ℕ) (x : PiecePart) (r : Entered) (sai
   pub was-full : r ≡ Full → (p ≡ b) × (entryCapacity (length (b .words)) ≤ count)
   unfolding entering
   was-full e = go (ltb count (entryCapacity (length (b .words)))) refl said where
-    go : (c : Bool) → ltb count (entryCapacity (length (b .words))) ≡ c → (r, p) ≡ cond {A = Entered × EntryBuffers} c (Count (suc count), entered b count f x) (Full, b)
+    go : (c : Bool) → ltb count (entryCapacity (length (b .words))) ≡ c → (r, p) ≡ cond {A = Entered × EntryBuffers} c (Count (suc count), enteredIn b count f x) (Full, b)
         → (p ≡ b) × (entryCapacity (length (b .words)) ≤ count)
     go true h s =
         let a : r ≡ Count (suc count) = ap (λ (q : Entered × EntryBuffers). q .0) s in

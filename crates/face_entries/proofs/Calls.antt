@@ -16,7 +16,7 @@ use Rattle.face_entries.specs.declared.PiecePart.{PiecePart}
 use Rattle.face_entries.specs.declared.Entered.{Entered}
 use Rattle.face_entries.specs.declared.Entered.the-variants.{Full, Count}
 use Rattle.layout.specs.Layout.{wordsPerTriangle, triangleFirstEntry, triangleLastEntry, wordsPerEntry, entryLink}
-use Rattle.face_entries.specs.Buffers.{EntryBuffers, entryBuffers, entryCapacity, lastEntryOf, storedIn, linkedIn, entered, entering, enteredNumber}
+use Rattle.face_entries.specs.Buffers.{EntryBuffers, entryBuffers, entryCapacity, lastEntryOf, storedIn, linkedIn, enteredIn, entering, enteredNumber}
 
 module _ (b : EntryBuffers) (f : ℕ) where
   pub put-first : (last link : ℕ) (t t′ : List ℕ) → last ≡ 0 → t ≡ set (b .triangles) (wordsPerTriangle * f + triangleLastEntry) link → t′ ≡ set t (wordsPerTriangle * f + triangleFirstEntry) link
@@ -39,7 +39,7 @@ module _ (b : EntryBuffers) (count f : ℕ) (x : PiecePart) where
 
   pub enter-done : (w : List ℕ) (read last : ℕ) (b′ : EntryBuffers) → count < entryCapacity (length (b .words)) → w ≡ storedIn (b .words) count x → read ≡ lastEntryOf (b .triangles) f
       → last ≡ linkIn count read → b′ ≡ linkedIn (entryBuffers (b .triangles) w) f last (count + 1) → (Count (count + 1), b′) ≡ entering b count f x
-  unfolding entering entered
+  unfolding entering enteredIn
   enter-done w read last b′ h d r l e =
       rw (lt-ltb count (entryCapacity (length (b .words))) h)
       (λ i. (
@@ -50,7 +50,7 @@ module _ (b : EntryBuffers) (count f : ℕ) (x : PiecePart) where
   refusal : enteredNumber (entering b count f x .0) ≡ cond (ltb count (entryCapacity (length (b .words)))) 0 (lackNumber Entries)
   unfolding entering
   refusal = go (ltb count (entryCapacity (length (b .words)))) where
-    go : (c : Bool) → enteredNumber (cond {A = Entered × EntryBuffers} c (Count (suc count), entered b count f x) (Full, b) .0) ≡ cond c 0 (lackNumber Entries)
+    go : (c : Bool) → enteredNumber (cond {A = Entered × EntryBuffers} c (Count (suc count), enteredIn b count f x) (Full, b) .0) ≡ cond c 0 (lackNumber Entries)
     go true = refl
     go false = refl
 

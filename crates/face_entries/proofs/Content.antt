@@ -19,7 +19,7 @@ use Rattle.buffers.proofs.Zeroing.{zero-at}
 use Rattle.chains.specs.Chains.{firstLink}
 use Rattle.face_entries.specs.declared.Part.the-variants.{EndA, EndB, Whole}
 use Rattle.layout.specs.Layout.{wordsPerTriangle, triangleFirstEntry, triangleLastEntry, wordsPerEntry}
-use Rattle.face_entries.specs.Buffers.{EntryBuffers, entryBuffers, entryCapacity, firstEntryOf, lastEntryOf, partNumber, nextEntryOf, entered}
+use Rattle.face_entries.specs.Buffers.{EntryBuffers, entryBuffers, entryCapacity, firstEntryOf, lastEntryOf, partNumber, nextEntryOf, enteredIn}
 use Rattle.face_entries.specs.Entries.{FaceEntry, faceEntry, numbersFrom, numbersOf, finalLink, EntryChain, StoredFrom, HoldsEntries, HoldsOnly, entryWordsFrom, entryWords, wordWith, trianglesWith}
 use Rattle.face_entries.proofs.Linking.{chain-first}
 use Rattle.face_entries.proofs.Keeping.{none-only, enter-only, entered-words}
@@ -119,7 +119,7 @@ only-these t₀ count t w xs h =
 -- ---- any list of entries for which there is room comes about
 unfoldable pub allEntered : EntryBuffers → ℕ → List FaceEntry → EntryBuffers
 allEntered b count [] = b
-allEntered b count (x ∷ xs) = allEntered (entered b count (x .face) (x .entry)) (suc count) xs
+allEntered b count (x ∷ xs) = allEntered (enteredIn b count (x .face) (x .entry)) (suc count) xs
 
 -- its face has its first and last entry in the triangles' words
 abbrev pub FaceThere : List ℕ → FaceEntry → Type 0
@@ -132,7 +132,7 @@ all-only t₀ b count es [] h room i =
     let e : count ≡ count + 0 = omega arith in
     subst (λ (n : ℕ). HoldsOnly t₀ n (b .triangles) (b .words) (es ++ [])) e (subst (HoldsOnly t₀ count (b .triangles) (b .words)) (sym (append-nil es)) h)
 all-only t₀ b count es (x ∷ xs) h room i =
-    let b′ = entered b count (x .face) (x .entry) in
+    let b′ = enteredIn b count (x .face) (x .entry) in
     let e : suc count + length xs ≡ count + suc (length xs) = omega arith in
     let free : count < entryCapacity (length (b .words)) = omega (arith, room) in
     let there : wordsPerTriangle * x .face + triangleLastEntry < length (b .triangles) = omega (arith, i .0, h .same-length) in
@@ -154,7 +154,7 @@ module _ (t₀ : List ℕ) (n : ℕ) (fresh : (f : ℕ) → (firstEntryOf t₀ f
   length-run : (b : EntryBuffers) (count : ℕ) (ys : List FaceEntry) → length (allEntered b count ys .words) ≡ length (b .words)
   unfolding allEntered
   length-run b count [] = refl
-  length-run b count (y ∷ ys) = length-run (entered b count (y .face) (y .entry)) (suc count) ys ∙ entered-words b count (y .face) (y .entry)
+  length-run b count (y ∷ ys) = length-run (enteredIn b count (y .face) (y .entry)) (suc count) ys ∙ entered-words b count (y .face) (y .entry)
 
   -- the two lists of the content hold the entries
   pub content-only : HoldsOnly t₀ (length xs) (trianglesWith t₀ xs) (entryWords n xs) xs

@@ -21,7 +21,7 @@ use Rattle.face_entries.specs.declared.PiecePart.{PiecePart}
 use Rattle.face_entries.specs.declared.Entered.{Entered}
 use Rattle.face_entries.specs.declared.Entered.the-variants.{Full, Count}
 use Rattle.layout.specs.Layout.{wordsPerTriangle, triangleFirstEntry, triangleLastEntry, wordsPerEntry, entryLink}
-use Rattle.face_entries.specs.Buffers.{EntryBuffers, entryBuffers, entryCapacity, firstEntryOf, lastEntryOf, nextEntryOf, storedIn, linkedIn, entered, entering}
+use Rattle.face_entries.specs.Buffers.{EntryBuffers, entryBuffers, entryCapacity, firstEntryOf, lastEntryOf, nextEntryOf, storedIn, linkedIn, enteredIn, entering}
 use Rattle.face_entries.specs.Entries.{FaceEntry, numbersFrom, numbersOf, finalLink, EntryChain, HasEntry, StoredFrom, HoldsEntries, HoldsOnly}
 use Rattle.face_entries.proofs.Numbers.{Numbered, each-numbered, numbers-snoc, numbers-below, faces-apart, final-in, final-snoc, final-none}
 use Rattle.face_entries.proofs.Linking.{chain-same, chain-end, chain-grown, length-stored, stored-other, stored-here, stored-behind, stored-snoc, linked-others, linked-triangles, linked-words, linked-behind}
@@ -31,21 +31,21 @@ module _ (b : EntryBuffers) (count f : ℕ) (x : PiecePart) where
   abbrev stored : EntryBuffers
   stored = entryBuffers (b .triangles) (storedIn (b .words) count x)
 
-  pub entered-others : (i : ℕ) → ((g : ℕ) → (i ≢ wordsPerTriangle * g + triangleFirstEntry) × (i ≢ wordsPerTriangle * g + triangleLastEntry)) → getD (entered b count f x .triangles) i 0 ≡ getD (b .triangles) i 0
-  unfolding entered
+  pub entered-others : (i : ℕ) → ((g : ℕ) → (i ≢ wordsPerTriangle * g + triangleFirstEntry) × (i ≢ wordsPerTriangle * g + triangleLastEntry)) → getD (enteredIn b count f x .triangles) i 0 ≡ getD (b .triangles) i 0
+  unfolding enteredIn
   entered-others = linked-others stored f (linkIn count (lastEntryOf (b .triangles) f)) (suc count)
 
-  pub entered-triangles : length (entered b count f x .triangles) ≡ length (b .triangles)
-  unfolding entered
+  pub entered-triangles : length (enteredIn b count f x .triangles) ≡ length (b .triangles)
+  unfolding enteredIn
   entered-triangles = linked-triangles stored f (linkIn count (lastEntryOf (b .triangles) f)) (suc count)
 
-  pub entered-words : length (entered b count f x .words) ≡ length (b .words)
-  unfolding entered
+  pub entered-words : length (enteredIn b count f x .words) ≡ length (b .words)
+  unfolding enteredIn
   entered-words = linked-words stored f (linkIn count (lastEntryOf (b .triangles) f)) (suc count) ∙ length-stored (b .words) count x
 
   -- words behind the new slot stay
-  pub entered-behind : (p : ℕ) → wordsPerEntry * suc count ≤ p → getD (entered b count f x .words) p 0 ≡ getD (b .words) p 0
-  unfolding entered
+  pub entered-behind : (p : ℕ) → wordsPerEntry * suc count ≤ p → getD (enteredIn b count f x .words) p 0 ≡ getD (b .words) p 0
+  unfolding enteredIn
   entered-behind p h =
       let last = linkIn count (lastEntryOf (b .triangles) f) in
       linked-behind stored f last (suc count) p (omega (arith, h, link-le count (lastEntryOf (b .triangles) f) last refl)) ∙ stored-behind (b .words) count x p (omega (arith, h))
@@ -54,7 +54,7 @@ module _ (b : EntryBuffers) (count f : ℕ) (x : PiecePart) where
   pub enter-others : (i : ℕ) → ((g : ℕ) → (i ≢ wordsPerTriangle * g + triangleFirstEntry) × (i ≢ wordsPerTriangle * g + triangleLastEntry)) → getD (entering b count f x .1 .triangles) i 0 ≡ getD (b .triangles) i 0
   unfolding entering
   enter-others i ne = go (ltb count (entryCapacity (length (b .words)))) where
-    go : (c : Bool) → getD (cond {A = Entered × EntryBuffers} c (Count (suc count), entered b count f x) (Full, b) .1 .triangles) i 0 ≡ getD (b .triangles) i 0
+    go : (c : Bool) → getD (cond {A = Entered × EntryBuffers} c (Count (suc count), enteredIn b count f x) (Full, b) .1 .triangles) i 0 ≡ getD (b .triangles) i 0
     go true = entered-others i ne
     go false = refl
 
@@ -197,8 +197,8 @@ module _ (count : ℕ) (t w : List ℕ) (xs : List FaceEntry) (H : HoldsEntries 
     last-read zero z = link-in count (lastEntryOf t f) (omega (arith, H .last f, z)) ∙ H .last f ∙ z
     last-read (suc k) z = link-in count (lastEntryOf t f) (omega (arith, H .last f, z, k-below k z)) ∙ H .last f ∙ z
 
-    pub entered-held : HoldsEntries (suc count) (entered (entryBuffers t w) count f x .triangles) (entered (entryBuffers t w) count f x .words) (xs ++ (new ∷ []))
-    unfolding entered
+    pub entered-held : HoldsEntries (suc count) (enteredIn (entryBuffers t w) count f x .triangles) (enteredIn (entryBuffers t w) count f x .words) (xs ++ (new ∷ []))
+    unfolding enteredIn
     entered-held =
         subst (λ (last : ℕ). HoldsEntries (suc count) (linkedIn (entryBuffers t w₁) f last (suc count) .triangles) (linkedIn (entryBuffers t w₁) f last (suc count) .words) (xs ++ (new ∷ [])))
         (sym (last-read (finalLink (numbersOf f xs)) refl)) (linked-held (finalLink (numbersOf f xs)) refl)
@@ -208,10 +208,10 @@ module _ (count : ℕ) (t w : List ℕ) (xs : List FaceEntry) (f : ℕ) (x : Pie
   slot-there : wordsPerEntry * suc count ≤ length w
   slot-there = omega (arith, in-slots (length w) wordsPerEntry count free)
 
-  pub enter-held : HoldsEntries count t w xs → HoldsEntries (suc count) (entered (entryBuffers t w) count f x .triangles) (entered (entryBuffers t w) count f x .words) (xs ++ (record { face = f; entry = x } ∷ []))
+  pub enter-held : HoldsEntries count t w xs → HoldsEntries (suc count) (enteredIn (entryBuffers t w) count f x .triangles) (enteredIn (entryBuffers t w) count f x .words) (xs ++ (record { face = f; entry = x } ∷ []))
   enter-held h = entered-held count t w xs h f x slot-there there
 
-  pub enter-only : (t₀ : List ℕ) → HoldsOnly t₀ count t w xs → HoldsOnly t₀ (suc count) (entered (entryBuffers t w) count f x .triangles) (entered (entryBuffers t w) count f x .words) (xs ++ (record { face = f; entry = x } ∷ []))
+  pub enter-only : (t₀ : List ℕ) → HoldsOnly t₀ count t w xs → HoldsOnly t₀ (suc count) (enteredIn (entryBuffers t w) count f x .triangles) (enteredIn (entryBuffers t w) count f x .words) (xs ++ (record { face = f; entry = x } ∷ []))
   enter-only t₀ h =
       let b = entryBuffers t w in
       record {

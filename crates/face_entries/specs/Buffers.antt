@@ -62,12 +62,12 @@ linkedIn b f zero link =
 linkedIn b f (suc k) link = entryBuffers (set (b .triangles) (wordsPerTriangle * f + triangleLastEntry) link) (set (b .words) (wordsPerEntry * k + entryLink) link)
 
 -- x is entered in face f as number `count`; a last link past the count is none. Of a face that has no words the entry stands in its slot, and no link leads to it
-unfoldable pub entered : EntryBuffers → ℕ → ℕ → PiecePart → EntryBuffers
-entered b count f x = linkedIn (entryBuffers (b .triangles) (storedIn (b .words) count x)) f (linkIn count (lastEntryOf (b .triangles) f)) (suc count)
+unfoldable pub enteredIn : EntryBuffers → ℕ → ℕ → PiecePart → EntryBuffers
+enteredIn b count f x = linkedIn (entryBuffers (b .triangles) (storedIn (b .words) count x)) f (linkIn count (lastEntryOf (b .triangles) f)) (suc count)
 
 -- the answer and the buffers: where there is no slot, nothing is written
 unfoldable pub entering : EntryBuffers → ℕ → ℕ → PiecePart → Entered × EntryBuffers
-entering b count f x = cond (ltb count (entryCapacity (length (b .words)))) (Count (suc count), entered b count f x) (Full, b)
+entering b count f x = cond (ltb count (entryCapacity (length (b .words)))) (Count (suc count), enteredIn b count f x) (Full, b)
 
 -- the number in document 01 of an answer; 0 is no refusal
 abbrev pub enteredNumber : Entered → ℕ

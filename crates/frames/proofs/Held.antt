@@ -14,7 +14,7 @@ use Rattle.job_checks.specs.Edge.{vertexAt, lenOf, xhatOf, perpendicularFrom, p
 use Rattle.topology.specs.Edges.{sideVertex, edges, triEdge}
 use Rattle.topology.specs.Frames.{origin, end, len, xhat, yhat}
 use Rattle.topology.proofs.Edges.{tri-edge-there, tri-edge-is}
-use Rattle.frames.specs.Stored.{vectorAt, lengthAt, unitAt, normalAt, unitOf, lengthRow, originAt, endPoint, withLengths, perpendicularAt, normalOf, withNormals}
+use Rattle.frames.specs.Stored.{vectorAt, lengthAt, unitAt, normalAt, unitOf, lengthRow, originAt, edgeEnd, withLengths, perpendicularAt, normalOf, withNormals}
 use Rattle.frames.specs.Held.{HoldsEdges, HoldsSides, HoldsLengths, HoldsNormals}
 use Rattle.frames.proofs.Rows.{rows-at, vectors-at}
 
@@ -23,11 +23,11 @@ module _ (v : List Float) (edgeWords : List ℕ) (n : ℕ) (r : List Float) wher
   unfolding lengthRow
   lengths-at e a l m b = rows-at realsPerEdge (lengthRow v edgeWords) (λ k. refl) n r e a l m b
 
-  length-stored : (e : ℕ) → e < n → realsPerEdge * n ≤ length r → lengthAt (withLengths v edgeWords n r) e ≡ lenOf (originAt v edgeWords e) (endPoint v edgeWords e)
+  length-stored : (e : ℕ) → e < n → realsPerEdge * n ≤ length r → lengthAt (withLengths v edgeWords n r) e ≡ lenOf (originAt v edgeWords e) (edgeEnd v edgeWords e)
   unfolding lengthRow
   length-stored e l m = lengths-at e edgeLen l m (omega arith)
 
-  unit-stored : (e : ℕ) → e < n → realsPerEdge * n ≤ length r → unitAt (withLengths v edgeWords n r) e ≡ xhatOf (originAt v edgeWords e) (endPoint v edgeWords e)
+  unit-stored : (e : ℕ) → e < n → realsPerEdge * n ≤ length r → unitAt (withLengths v edgeWords n r) e ≡ xhatOf (originAt v edgeWords e) (edgeEnd v edgeWords e)
   unfolding lengthRow
   unit-stored e l m = λ i. record { x = lengths-at e edgeUnit l m (omega arith) i; y = lengths-at e (edgeUnit + 1) l m (omega arith) i; z = lengths-at e (edgeUnit + 2) l m (omega arith) i }
 
@@ -42,7 +42,7 @@ module _ (v : List Float) (triangles edgeWords : List ℕ) (held : HoldsEdges tr
     unfolding origin
     origin-held = ap (vertexAt v) (held .low e l)
 
-    pub end-held : endPoint v edgeWords e ≡ end v triangles e
+    pub end-held : edgeEnd v edgeWords e ≡ end v triangles e
     unfolding end
     end-held = ap (vertexAt v) (held .high e l)
 

@@ -13,7 +13,7 @@ use Rattle.vec3.specs.Vec.{scaleOf, axpyOf, subOf, dotOf, normOf}
 use Rattle.job_checks.specs.Edge.{vertexAt, lower, lenOf, xhatOf, perpendicularFrom}
 use Rattle.buffers.specs.Zero.{zeroFrom}
 use Rattle.topology.specs.Edges.{between, sideVertex, sideEdge}
-use Rattle.frames.specs.Stored.{vectorFrom, vectorAt, normalAt, unitAt, unitOf, withRows, row3, unitRow, originAt, endPoint, lengthRow, withLengths, perpendicularAt, perpendicularRow, withNormals}
+use Rattle.frames.specs.Stored.{vectorFrom, vectorAt, normalAt, unitAt, unitOf, withRows, row3, unitRow, originAt, edgeEnd, lengthRow, withLengths, perpendicularAt, perpendicularRow, withNormals}
 use Rattle.frames.proofs.Rows.{rows-same, length-rows, vectors-at, vectors-past, zero-past-rows}
 
 pub vector-of : (r : Vec3) (a b c x y z : Float) → r ≡ record { x = a; y = b; z = c } → a ≡ x → b ≡ y → c ≡ z → r ≡ record { x = x; y = y; z = z }
@@ -37,7 +37,7 @@ perpendicular-steps v reals e a b l t o xhat third w p k first from unit to up a
 
 module _ (v : List Float) (edgeWords : List ℕ) where
   -- an edge's row as it is computed
-  pub length-row : (e : ℕ) (d x : Vec3) (len : Float) → d ≡ subOf (endPoint v edgeWords e) (originAt v edgeWords e) → len ≡ normOf d → x ≡ scaleOf d (one ⊘ len) → len ∷ x .x ∷ x .y ∷ x .z ∷ [] ≡ lengthRow v edgeWords e
+  pub length-row : (e : ℕ) (d x : Vec3) (len : Float) → d ≡ subOf (edgeEnd v edgeWords e) (originAt v edgeWords e) → len ≡ normOf d → x ≡ scaleOf d (one ⊘ len) → len ∷ x .x ∷ x .y ∷ x .z ∷ [] ≡ lengthRow v edgeWords e
   unfolding lengthRow lenOf xhatOf
   length-row e d x len from long unit = rw (← from, ← long, ← unit) refl
 

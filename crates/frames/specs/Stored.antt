@@ -68,12 +68,12 @@ module _ (v : List Float) (edgeWords : List ℕ) where
   abbrev pub originAt : ℕ → Vec3
   originAt e = vertexAt v (lowAt edgeWords e)
 
-  abbrev pub endPoint : ℕ → Vec3
-  endPoint e = vertexAt v (highAt edgeWords e)
+  abbrev pub edgeEnd : ℕ → Vec3
+  edgeEnd e = vertexAt v (highAt edgeWords e)
 
   -- the length and the unit vector of edge e
   unfoldable pub lengthRow : ℕ → List Float
-  lengthRow e = lenOf (originAt e) (endPoint e) ∷ row3 (xhatOf (originAt e) (endPoint e))
+  lengthRow e = lenOf (originAt e) (edgeEnd e) ∷ row3 (xhatOf (originAt e) (edgeEnd e))
 
   abbrev pub withLengths : ℕ → List Float → List Float
   withLengths n reals = withRows realsPerEdge lengthRow n reals

@@ -23,7 +23,7 @@ ghost use Rattle.buffers.specs.Slots.{fill};
 ghost use Rattle.float64.specs.Scalar.{zero64};
 ghost use Rattle.vec3.specs.Vec.{subOf};
 ghost use Rattle.job_checks.specs.Edge.{vertexAt, lower, perpendicularFrom};
-ghost use Rattle.frames.specs.Stored.{vectorFrom, vectorAt, unitAt, fillThree, withRows, unitRow, originAt, endPoint, lengthRow, withLengths, perpendicularRow, withNormals};
+ghost use Rattle.frames.specs.Stored.{vectorFrom, vectorAt, unitAt, fillThree, withRows, unitRow, originAt, edgeEnd, lengthRow, withLengths, perpendicularRow, withNormals};
 ghost use Rattle.buffers.specs.Lent.{given, left};
 
 fn real(reals: &[f64], i: usize) -> f64
@@ -96,14 +96,14 @@ fn origin(vertices: &[f64], edge_words: &[u32], e: u32) -> Vec3
 }
 
 fn end(vertices: &[f64], edge_words: &[u32], e: u32) -> Vec3
-    ensures { λ r. ⌜ r ≡ endPoint (given vertices) (given «edge_words») e ⌝ }
+    ensures { λ r. ⌜ r ≡ edgeEnd (given vertices) (given «edge_words») e ⌝ }
 {
     vertex(vertices, read_u32(edge_words, WORDS_PER_EDGE, e, EDGE_HIGH))
 }
 
 // From the start of edge e to its end.
 fn edge_vector(vertices: &[f64], edge_words: &[u32], e: u32) -> Vec3
-    ensures { λ r. ⌜ r ≡ subOf (endPoint (given vertices) (given «edge_words») e) (originAt (given vertices) (given «edge_words») e) ⌝ }
+    ensures { λ r. ⌜ r ≡ subOf (edgeEnd (given vertices) (given «edge_words») e) (originAt (given vertices) (given «edge_words») e) ⌝ }
 {
     let o = origin(vertices, edge_words, e);
     let b = end(vertices, edge_words, e);

@@ -18,7 +18,7 @@ use Rattle.edge_table.specs.Sides.{HoldsWords}
 use Rattle.edge_table.proofs.Buckets.{scaled-below}
 use Rattle.edge_table.proofs.Holding.{holds-set, words-are}
 use Rattle.piece_ends.specs.Ends.{passing, endPoint, isEnd}
-use Rattle.piece_ends.specs.Table.{mixed, golden, pointBucket, linkTo, slotWord, bucketAt, inBucket, bucketFrom, headLink, nextLink, pieceWords, entered}
+use Rattle.piece_ends.specs.Table.{mixed, golden, pointBucket, linkTo, slotWord, bucketAt, inBucket, bucketFrom, headLink, nextEndLink, pieceWords, entered}
 use Rattle.piece_ends.proofs.Passing.{link-none, link-one, pass-none, pass-here, pass-over}
 
 pub bucket-below : (size : ℕ) (p : Vec3) → 0 < size → pointBucket size p < size
@@ -45,7 +45,7 @@ module _ (kinds : List ℕ) (coords : List Float) where
   headFrom s b = linkTo (bucketFrom kinds coords b s)
 
   abbrev pub linkFrom : ℕ → ℕ → ℕ
-  linkFrom s e = cond (leb s e) (nextLink kinds coords e) 0
+  linkFrom s e = cond (leb s e) (nextEndLink kinds coords e) 0
 
   abbrev pub Partial : ℕ → List ℕ → Type 0
   Partial s words = HoldsWords 3 words (slotWord (headFrom s) (linkFrom s))
@@ -54,12 +54,12 @@ module _ (kinds : List ℕ) (coords : List Float) where
   unfolding isEnd
   past-end e l = rw (le-ltb (e / 2) (length kinds) (omega arith)) refl
 
-  pub no-link : (e : ℕ) → isEnd kinds e ≡ false → nextLink kinds coords e ≡ 0
-  unfolding nextLink
+  pub no-link : (e : ℕ) → isEnd kinds e ≡ false → nextEndLink kinds coords e ≡ 0
+  unfolding nextEndLink
   no-link e h = rw h refl
 
-  pub some-link : (e : ℕ) → isEnd kinds e ≡ true → nextLink kinds coords e ≡ linkTo (bucketFrom kinds coords (bucketAt kinds coords e) (suc e))
-  unfolding nextLink
+  pub some-link : (e : ℕ) → isEnd kinds e ≡ true → nextEndLink kinds coords e ≡ linkTo (bucketFrom kinds coords (bucketAt kinds coords e) (suc e))
+  unfolding nextEndLink
   some-link e h = rw h refl
 
   pub entered-end : (e : ℕ) (words : List ℕ) → isEnd kinds e ≡ true → entered kinds coords e words ≡ set (set words (3 * (e / 2) + (1 + e % 2)) (getD words (3 * bucketAt kinds coords e + 0) 0)) (3 * bucketAt kinds coords e + 0) (e + 1)
@@ -100,8 +100,8 @@ module _ (kinds : List ℕ) (coords : List Float) where
   pub all-entered : (words : List ℕ) (n : ℕ) → length words ≡ n → Partial 0 words → words ≡ pieceWords kinds coords n
   unfolding pieceWords headLink
   all-entered words n l part =
-      words-are n 3 (slotWord (headLink kinds coords) (nextLink kinds coords)) words (omega arith) l (λ i a m.
-      part i a m ∙ slot-same (headFrom 0) (headLink kinds coords) (linkFrom 0) (nextLink kinds coords) i a refl (λ w q. rw (leb·zero (2 * i + w)) refl))
+      words-are n 3 (slotWord (headLink kinds coords) (nextEndLink kinds coords)) words (omega arith) l (λ i a m.
+      part i a m ∙ slot-same (headFrom 0) (headLink kinds coords) (linkFrom 0) (nextEndLink kinds coords) i a refl (λ w q. rw (leb·zero (2 * i + w)) refl))
 
   -- Number e is looked at next.
   module _ (e : ℕ) (there : e < 2 * length kinds) where
@@ -122,7 +122,7 @@ module _ (kinds : List ℕ) (coords : List Float) where
       go (yes l) = rw (le-leb e d l, le-leb (suc e) d (omega (arith, ne))) refl
       go (no l) = rw (lt-leb e d (omega (arith, l)), lt-leb (suc e) d (omega (arith, l))) refl
 
-    own-link : linkFrom e e ≡ nextLink kinds coords e
+    own-link : linkFrom e e ≡ nextEndLink kinds coords e
     own-link = rw (le-leb e e (omega arith)) refl
 
     -- there is no such end

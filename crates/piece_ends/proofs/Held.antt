@@ -16,8 +16,8 @@ use Rattle.job_checks.proofs.Any.{none-below, none-all}
 use Rattle.topology.proofs.Find.{either}
 use Rattle.edge_table.proofs.Holding.{words-at, words-zero}
 use Rattle.piece_ends.specs.Ends.{passing, endPoint, isEnd, sameBits, hasBits, endsWithBits, firstOfBits}
-use Rattle.piece_ends.specs.Table.{mixed, pointBucket, linkTo, slotWord, bucketAt, inBucket, bucketFrom, headLink, nextLink, pieceWords}
-use Rattle.piece_ends.specs.Walk.{linkAt, standsAt, follow, findAlong, firstLinkAt, nextLinkAt, isFirstAt, HoldsTable}
+use Rattle.piece_ends.specs.Table.{mixed, pointBucket, linkTo, slotWord, bucketAt, inBucket, bucketFrom, headLink, nextEndLink, pieceWords}
+use Rattle.piece_ends.specs.Walk.{endLinkAt, standsAt, follow, findAlong, firstLinkAt, nextLinkAt, isFirstAt, HoldsTable}
 use Rattle.piece_ends.proofs.Passing.{both, never, link-none, pass-none, pass-never, pass-same, link-first, first-link}
 use Rattle.piece_ends.proofs.Following.{search-no-steps, follow-left, search-left}
 use Rattle.piece_ends.proofs.Building.{bucket-below, slot-end, past-end, no-link as no-next, some-link}
@@ -54,10 +54,10 @@ module _ (kinds : List ℕ) (coords : List Float) where
   pub built-holds : (n : ℕ) → 3 * length kinds ≤ n → HoldsTable kinds coords (pieceWords kinds coords n)
   unfolding pieceWords slotWord
   built-holds n room = record {
-    heads = λ b l. words-at n 3 (slotWord (headLink kinds coords) (nextLink kinds coords)) b 0 (omega arith) (omega arith);
+    heads = λ b l. words-at n 3 (slotWord (headLink kinds coords) (nextEndLink kinds coords)) b 0 (omega arith) (omega arith);
     links = λ e l.
-        words-at n 3 (slotWord (headLink kinds coords) (nextLink kinds coords)) (e / 2) (1 + e % 2) (omega arith) (omega arith)
-        ∙ slot-end (headLink kinds coords) (nextLink kinds coords) e;
+        words-at n 3 (slotWord (headLink kinds coords) (nextEndLink kinds coords)) (e / 2) (1 + e % 2) (omega arith) (omega arith)
+        ∙ slot-end (headLink kinds coords) (nextEndLink kinds coords) e;
   }
 
   bucket-all : (b : ℕ) → bucketFrom kinds coords b 0 ≡ passing (inBucket kinds coords b) (2 * length kinds) 0
@@ -125,7 +125,7 @@ module _ (kinds : List ℕ) (coords : List Float) where
       (λ q. q)
       (either (inBucket kinds coords b e))
 
-  slot-zero : (i a : ℕ) → length kinds ≤ i → slotWord (headLink kinds coords) (nextLink kinds coords) i a ≡ 0
+  slot-zero : (i a : ℕ) → length kinds ≤ i → slotWord (headLink kinds coords) (nextEndLink kinds coords) i a ≡ 0
   unfolding slotWord
   slot-zero i zero l = head-all i ∙ (ap linkTo (pass-never (inBucket kinds coords i) (never-in i l) (2 * length kinds) 0) ∙ link-none)
   slot-zero i (suc w) l = no-next kinds coords (2 * i + w) (past-end kinds coords (2 * i + w) (omega arith))
@@ -133,11 +133,11 @@ module _ (kinds : List ℕ) (coords : List Float) where
   -- the slots behind the pieces are zero
   pub spare-zero : (n i a : ℕ) → length kinds ≤ i → a < 3 → getD (pieceWords kinds coords n) (3 * i + a) 0 ≡ 0
   unfolding pieceWords
-  spare-zero n i a l m = words-zero n 3 (slotWord (headLink kinds coords) (nextLink kinds coords)) i a m (slot-zero i a l)
+  spare-zero n i a l m = words-zero n 3 (slotWord (headLink kinds coords) (nextEndLink kinds coords)) i a m (slot-zero i a l)
 
 module _ (kinds : List ℕ) (coords : List Float) (words : List ℕ) (held : HoldsTable kinds coords words) where
   -- the link of an end leads to the next of its bucket
-  bucket-leads : (b k e : ℕ) → suc e + k ≡ 2 * length kinds → inBucket kinds coords b e ≡ true → linkAt words e ≡ linkTo (passing (inBucket kinds coords b) k (suc e))
+  bucket-leads : (b k e : ℕ) → suc e + k ≡ 2 * length kinds → inBucket kinds coords b e ≡ true → endLinkAt words e ≡ linkTo (passing (inBucket kinds coords b) k (suc e))
   unfolding bucketFrom
   bucket-leads b k e s h =
       let a = in-end kinds coords b e h in
@@ -145,16 +145,16 @@ module _ (kinds : List ℕ) (coords : List Float) (words : List ℕ) (held : Hol
       held .links e (end-below kinds coords e (a .0)) ∙ (some-link kinds coords e (a .0) ∙ rw (a .1, m) refl)
 
   -- A bucket's chain is exactly its ends, in order; no chain is longer than there are ends.
-  pub chain-held : (b : ℕ) → b < length kinds → follow (linkAt words) (2 * length kinds) (getD words (3 * b + 0) 0) ≡ bucketFrom kinds coords b 0
+  pub chain-held : (b : ℕ) → b < length kinds → follow (endLinkAt words) (2 * length kinds) (getD words (3 * b + 0) 0) ≡ bucketFrom kinds coords b 0
   chain-held b l =
-      ap (follow (linkAt words) (2 * length kinds)) (held .heads b l ∙ head-all kinds coords b)
-      ∙ (follow-left (linkAt words) (inBucket kinds coords b) (2 * length kinds) (bucket-leads b) (2 * length kinds) 0 (2 * length kinds) (omega arith) (omega arith) ∙ sym (bucket-all kinds coords b))
+      ap (follow (endLinkAt words) (2 * length kinds)) (held .heads b l ∙ head-all kinds coords b)
+      ∙ (follow-left (endLinkAt words) (inBucket kinds coords b) (2 * length kinds) (bucket-leads b) (2 * length kinds) 0 (2 * length kinds) (omega arith) (omega arith) ∙ sym (bucket-all kinds coords b))
 
   -- ---- the ends of p's bits
   -- found along the chain of p's bucket
-  found-left : (p : Vec3) (k e : ℕ) → e + k ≡ 2 * length kinds → findAlong (linkAt words) (standsAt coords p) (2 * length kinds) (linkTo (passing (inBucket kinds coords (pointBucket (length kinds) p)) k e)) ≡ linkTo (passing (hasBits kinds coords p) k e)
+  found-left : (p : Vec3) (k e : ℕ) → e + k ≡ 2 * length kinds → findAlong (endLinkAt words) (standsAt coords p) (2 * length kinds) (linkTo (passing (inBucket kinds coords (pointBucket (length kinds) p)) k e)) ≡ linkTo (passing (hasBits kinds coords p) k e)
   found-left p k e s =
-      search-left (linkAt words) (inBucket kinds coords (pointBucket (length kinds) p)) (2 * length kinds) (bucket-leads (pointBucket (length kinds) p)) (standsAt coords p) k e (2 * length kinds) s (omega arith)
+      search-left (endLinkAt words) (inBucket kinds coords (pointBucket (length kinds) p)) (2 * length kinds) (bucket-leads (pointBucket (length kinds) p)) (standsAt coords p) k e (2 * length kinds) s (omega arith)
       ∙ ap linkTo (pass-same (λ (d : ℕ). inBucket kinds coords (pointBucket (length kinds) p) d && standsAt coords p d) (hasBits kinds coords p) (bucket-has kinds coords p) k e)
 
   head-is : (p : Vec3) → 0 < length kinds → getD words (3 * pointBucket (length kinds) p + 0) 0 ≡ linkTo (passing (inBucket kinds coords (pointBucket (length kinds) p)) (2 * length kinds) 0)
@@ -166,10 +166,10 @@ module _ (kinds : List ℕ) (coords : List Float) (words : List ℕ) (held : Hol
   first-held p = elim (decLe (length kinds) 0) [
     | yes z ↦
         let n : 2 * length kinds ≡ 0 = omega arith in
-        ap (λ (k : ℕ). findAlong (linkAt words) (standsAt coords p) k (getD words (3 * pointBucket (length kinds) p + 0) 0)) n
-        ∙ (search-no-steps (linkAt words) (standsAt coords p) (getD words (3 * pointBucket (length kinds) p + 0) 0)
+        ap (λ (k : ℕ). findAlong (endLinkAt words) (standsAt coords p) k (getD words (3 * pointBucket (length kinds) p + 0) 0)) n
+        ∙ (search-no-steps (endLinkAt words) (standsAt coords p) (getD words (3 * pointBucket (length kinds) p + 0) 0)
         ∙ sym (ap (λ (k : ℕ). linkTo (passing (hasBits kinds coords p) k 0)) n ∙ (ap linkTo (pass-none (hasBits kinds coords p) 0) ∙ link-none)))
-    | no z ↦ ap (findAlong (linkAt words) (standsAt coords p) (2 * length kinds)) (head-is p (omega (arith, z))) ∙ found-left p (2 * length kinds) 0 (omega arith)
+    | no z ↦ ap (findAlong (endLinkAt words) (standsAt coords p) (2 * length kinds)) (head-is p (omega (arith, z))) ∙ found-left p (2 * length kinds) 0 (omega arith)
   ]
 
   -- the next of the bits of end e
@@ -177,7 +177,7 @@ module _ (kinds : List ℕ) (coords : List Float) (words : List ℕ) (held : Hol
   unfolding nextLinkAt bucketAt
   next-held e h =
       let l : e < 2 * length kinds = end-below kinds coords e h in
-      ap (findAlong (linkAt words) (standsAt coords (endPoint coords e)) (2 * length kinds)) (bucket-leads (pointBucket (length kinds) (endPoint coords e)) (2 * length kinds - suc e) e (omega arith) (in-both kinds coords (pointBucket (length kinds) (endPoint coords e)) e h refl))
+      ap (findAlong (endLinkAt words) (standsAt coords (endPoint coords e)) (2 * length kinds)) (bucket-leads (pointBucket (length kinds) (endPoint coords e)) (2 * length kinds - suc e) e (omega arith) (in-both kinds coords (pointBucket (length kinds) (endPoint coords e)) e h refl))
       ∙ found-left (endPoint coords e) (2 * length kinds - suc e) (suc e) (omega arith)
 
   -- so one of p's bits leads to the next of them

@@ -9,17 +9,17 @@ use lib.ListN.{getD}
 use Rattle.vec3.specs.declared.Vec3.{Vec3}
 use Rattle.piece_ends.specs.Ends.{endPoint, sameBits}
 use Rattle.piece_ends.specs.Table.{pointBucket}
-use Rattle.piece_ends.specs.Walk.{linkAt, standsAt, findAlong, firstLinkAt, nextLinkAt, isFirstAt}
+use Rattle.piece_ends.specs.Walk.{endLinkAt, standsAt, findAlong, firstLinkAt, nextLinkAt, isFirstAt}
 
 pub stands-said : (coords : List Float) (p q : Vec3) (e : ℕ) (b : Bool) → q ≡ endPoint coords e → b ≡ sameBits q p → b ≡ standsAt coords p e
 stands-said coords p q e b is said = said ∙ ap (λ (r : Vec3). sameBits r p) is
 
 module _ (coords : List Float) (words : List ℕ) (pieces : ℕ) where
-  pub first-done : (p : Vec3) (b head r : ℕ) → b ≡ pointBucket pieces p → head ≡ getD words (3 * b + 0) 0 → r ≡ findAlong (linkAt words) (standsAt coords p) (2 * pieces) head → r ≡ firstLinkAt coords words pieces p
+  pub first-done : (p : Vec3) (b head r : ℕ) → b ≡ pointBucket pieces p → head ≡ getD words (3 * b + 0) 0 → r ≡ findAlong (endLinkAt words) (standsAt coords p) (2 * pieces) head → r ≡ firstLinkAt coords words pieces p
   unfolding firstLinkAt
   first-done p b head r is-b is-head is-r = is-r ∙ rw (is-head, is-b) refl
 
-  pub next-done : (e : ℕ) (q : Vec3) (link r : ℕ) → q ≡ endPoint coords e → link ≡ linkAt words e → r ≡ findAlong (linkAt words) (standsAt coords q) (2 * pieces) link → r ≡ nextLinkAt coords words pieces e
+  pub next-done : (e : ℕ) (q : Vec3) (link r : ℕ) → q ≡ endPoint coords e → link ≡ endLinkAt words e → r ≡ findAlong (endLinkAt words) (standsAt coords q) (2 * pieces) link → r ≡ nextLinkAt coords words pieces e
   unfolding nextLinkAt
   next-done e q link r is-q is-link is-r = is-r ∙ rw (is-link, is-q) refl
 

@@ -50,12 +50,12 @@ module _ (kinds : List ℕ) (coords : List Float) where
   unfoldable pub headLink : ℕ → ℕ
   headLink b = linkTo (bucketFrom b 0)
 
-  unfoldable pub nextLink : ℕ → ℕ
-  nextLink e = cond (isEnd kinds e) (linkTo (bucketFrom (bucketAt e) (suc e))) 0
+  unfoldable pub nextEndLink : ℕ → ℕ
+  nextEndLink e = cond (isEnd kinds e) (linkTo (bucketFrom (bucketAt e) (suc e))) 0
 
   -- the buffer, of n words; behind the pieces' slots they are zeros (`spare-zero` in proofs/Held.antt)
   unfoldable pub pieceWords : ℕ → List ℕ
-  pieceWords n = slotWords n 3 (slotWord headLink nextLink)
+  pieceWords n = slotWords n 3 (slotWord headLink nextEndLink)
 
   -- end e put before the others of its bucket, where there is such an end
   unfoldable pub entered : ℕ → List ℕ → List ℕ

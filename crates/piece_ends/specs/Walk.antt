@@ -8,7 +8,7 @@ use lib.ListN.{length, getD}
 use lib.Ieee.{Float}
 use Rattle.vec3.specs.declared.Vec3.{Vec3}
 use Rattle.piece_ends.specs.Ends.{endPoint, sameBits}
-use Rattle.piece_ends.specs.Table.{pointBucket, headLink, nextLink}
+use Rattle.piece_ends.specs.Table.{pointBucket, headLink, nextEndLink}
 
 -- the ends from a link on, up to k of them, where `next` gives each end's link
 unfoldable pub follow : (ℕ → ℕ) → ℕ → ℕ → List ℕ
@@ -23,8 +23,8 @@ findAlong next test (suc k) zero = 0
 findAlong next test (suc k) (suc e) = cond (test e) (suc e) (findAlong next test k (next e))
 
 -- the link of end e
-abbrev pub linkAt : List ℕ → ℕ → ℕ
-linkAt words e = getD words (3 * (e / 2) + (1 + e % 2)) 0
+abbrev pub endLinkAt : List ℕ → ℕ → ℕ
+endLinkAt words e = getD words (3 * (e / 2) + (1 + e % 2)) 0
 
 -- whether end e has p's bits
 abbrev pub standsAt : List Float → Vec3 → ℕ → Bool
@@ -33,11 +33,11 @@ standsAt coords p e = sameBits (endPoint coords e) p
 module _ (coords : List Float) (words : List ℕ) (pieces : ℕ) where
   -- the link to the first end of p's bits, from the head of p's bucket on
   unfoldable pub firstLinkAt : Vec3 → ℕ
-  firstLinkAt p = findAlong (linkAt words) (standsAt coords p) (2 * pieces) (getD words (3 * pointBucket pieces p + 0) 0)
+  firstLinkAt p = findAlong (endLinkAt words) (standsAt coords p) (2 * pieces) (getD words (3 * pointBucket pieces p + 0) 0)
 
   -- the link to the next end of the bits of end e
   unfoldable pub nextLinkAt : ℕ → ℕ
-  nextLinkAt e = findAlong (linkAt words) (standsAt coords (endPoint coords e)) (2 * pieces) (linkAt words e)
+  nextLinkAt e = findAlong (endLinkAt words) (standsAt coords (endPoint coords e)) (2 * pieces) (endLinkAt words e)
 
   unfoldable pub isFirstAt : ℕ → Bool
   isFirstAt e = eqb (firstLinkAt (endPoint coords e)) (suc e)
@@ -45,4 +45,4 @@ module _ (coords : List Float) (words : List ℕ) (pieces : ℕ) where
 -- Words that hold the table of the pieces.
 pub record HoldsTable (kinds : List ℕ) (coords : List Float) (words : List ℕ) : Type 0 where
   pub heads : (b : ℕ) → b < length kinds → getD words (3 * b + 0) 0 ≡ headLink kinds coords b
-  pub links : (e : ℕ) → e < 2 * length kinds → linkAt words e ≡ nextLink kinds coords e
+  pub links : (e : ℕ) → e < 2 * length kinds → endLinkAt words e ≡ nextEndLink kinds coords e

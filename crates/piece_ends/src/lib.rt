@@ -17,7 +17,7 @@ ghost use Rattle.buffers.specs.Slots.{fill};
 ghost use Rattle.frames.specs.Stored.{row3};
 ghost use Rattle.piece_ends.specs.Ends.{endPoint, isEnd, sameBits};
 ghost use Rattle.piece_ends.specs.Table.{mixed, pointBucket, pieceWords, entered};
-ghost use Rattle.piece_ends.specs.Walk.{linkAt, standsAt, findAlong, firstLinkAt, nextLinkAt, isFirstAt};
+ghost use Rattle.piece_ends.specs.Walk.{endLinkAt, standsAt, findAlong, firstLinkAt, nextLinkAt, isFirstAt};
 ghost use Rattle.piece_ends.specs.Directions.{isLong, directionOf, pieceReals};
 
 fn bits(x: f64) -> u64
@@ -114,14 +114,14 @@ pub fn build(kinds: &[u8], coords: &[f64], words: &mut [u32])
 }
 
 fn next_link(words: &[u32], e: u32) -> u32
-    ensures { λ r. ⌜ r ≡ linkAt (given words) e ⌝ }
+    ensures { λ r. ⌜ r ≡ endLinkAt (given words) e ⌝ }
 {
     read_u32(words, 3, e / 2, 1 + e % 2)
 }
 
 // The link to the first end with p's bits along the links from one on. No chain is longer than there are ends.
 fn seek(coords: &[f64], words: &[u32], pieces: u32, p: Vec3, link: u32) -> u32
-    ensures { λ r. ⌜ r ≡ findAlong (linkAt (given words)) (standsAt (given coords) p) (2 * pieces) link ⌝ }
+    ensures { λ r. ⌜ r ≡ findAlong (endLinkAt (given words)) (standsAt (given coords) p) (2 * pieces) link ⌝ }
 {
     let mut at = link;
     let mut rest = 2 * (pieces as u64);

@@ -210,7 +210,7 @@ module _ (cuts windows : ℕ) (limit : Float) (flags : List ℕ) (e : Edge) (new
 
 -- nothing is changed
 pub unchanged : (counts : Counts) (b : Slices₁) (x : Cuts) → Unchanged counts b x (Went₁ counts) b x
-unchanged counts b x = record { answer = refl; windowSlices = refl; cuts = refl }
+unchanged counts b x = record { answer = refl; slices = refl; cuts = refl }
 
 -- ---- what the parts require
 

@@ -9,34 +9,19 @@ use lib.Ieee.{Float}
 use lib.ListN.{length, getD}
 use Rattle.vec3.specs.declared.Vec3.{Vec3}
 use Rattle.job_checks.specs.Any.{anyBelow}
-use Rattle.job_checks.specs.Sound.{ValidTriangles}
-use Rattle.frames.specs.Held.{HoldsEdges, HoldsFaces, HoldsSides, HoldsLengths, HoldsNormals}
-use Rattle.mesh_readers.specs.Held.{HoldsRound}
 use Rattle.carriers.specs.Carrier.{carrierOf}
 use Rattle.carriers.specs.Nearest.{nearestAt}
 use Rattle.carriers.proofs.Held.{count-held}
 use Rattle.piece_ends.specs.Ends.{endPoint}
-use Rattle.piece_ends.specs.Walk.{HoldsTable}
 use Rattle.piece_ends.proofs.Held.{is-first-held}
 use Rattle.segments_behind.proofs.Held.{any-round-held}
-use Rattle.wedge_refusal.specs.Wedge.{wedgeOf, anyWedge, overTwoAt, wedgeAt, anyWedgeAt}
+use Rattle.wedge_refusal.specs.Held.{HoldsJob}
+use Rattle.wedge_refusal.specs.Wedge.{wedgeMet, anyWedge, overTwoAt, wedgeAt, anyWedgeAt}
 
 any-same : (f g : ℕ → Bool) (n : ℕ) → ((e : ℕ) → e < n → f e ≡ g e) → anyBelow f n ≡ anyBelow g n
 unfolding anyBelow
 any-same f g zero same = refl
 any-same f g (suc n) same = λ i. any-same f g n (λ e l. same e (omega arith)) i || same n (omega arith) i
-
--- What the buffers hold, and that the pieces' faces are the mesh's.
-pub record HoldsJob (v : List Float) (triangles : List ℕ) (n : ℕ) (edgeWords : List ℕ) (edgeReals : List Float) (triangleWords : List ℕ) (triangleReals : List Float) (vertexWords round kinds faces : List ℕ) (coords : List Float) (words : List ℕ) : Type 0 where
-  pub valid : ValidTriangles triangles n
-  pub ends : HoldsEdges triangles edgeWords
-  pub edge-faces : HoldsFaces triangles edgeWords
-  pub lengths : HoldsLengths v triangles edgeReals
-  pub sides : HoldsSides triangles triangleWords
-  pub normals : HoldsNormals v triangles triangleReals
-  pub round-vertex : HoldsRound triangles n vertexWords round
-  pub table : HoldsTable kinds coords words
-  pub face-there : (i : ℕ) → i < length kinds → getD faces i 0 < length triangles / 3
 
 module _ (v : List Float) (triangles : List ℕ) (n : ℕ) (edgeWords : List ℕ) (edgeReals : List Float) (triangleWords : List ℕ) (triangleReals : List Float) (vertexWords round kinds faces : List ℕ) (coords : List Float) (words : List ℕ)
     (held : HoldsJob v triangles n edgeWords edgeReals triangleWords triangleReals vertexWords round kinds faces coords words) where
@@ -45,8 +30,8 @@ module _ (v : List Float) (triangles : List ℕ) (n : ℕ) (edgeWords : List ℕ
   over-held f p l =
       ap (ltb 2) (count-held v triangles n edgeWords edgeReals triangleWords triangleReals vertexWords round (held .valid) (held .ends) (held .edge-faces) (held .lengths) (held .sides) (held .normals) (held .round-vertex) f l p)
 
-  end-held : (e : ℕ) → e < 2 * length kinds → wedgeAt v edgeWords edgeReals triangleWords triangleReals vertexWords triangles kinds faces coords words (length kinds) e ≡ wedgeOf v triangles kinds faces coords e
-  unfolding wedgeAt wedgeOf
+  end-held : (e : ℕ) → e < 2 * length kinds → wedgeAt v edgeWords edgeReals triangleWords triangleReals vertexWords triangles kinds faces coords words (length kinds) e ≡ wedgeMet v triangles kinds faces coords e
+  unfolding wedgeAt wedgeMet
   end-held e l = λ i.
       is-first-held kinds coords words (held .table) e i
       && (over-held (getD faces (e / 2) 0) (endPoint coords e) (held .face-there (e / 2) (omega arith)) i
@@ -55,4 +40,4 @@ module _ (v : List Float) (triangles : List ℕ) (n : ℕ) (edgeWords : List ℕ
   pub wedge-held : anyWedgeAt v edgeWords edgeReals triangleWords triangleReals vertexWords triangles kinds faces coords words ≡ anyWedge v triangles kinds faces coords
   unfolding anyWedgeAt anyWedge
   wedge-held =
-      any-same (wedgeAt v edgeWords edgeReals triangleWords triangleReals vertexWords triangles kinds faces coords words (length kinds)) (wedgeOf v triangles kinds faces coords) (2 * length kinds) end-held
+      any-same (wedgeAt v edgeWords edgeReals triangleWords triangleReals vertexWords triangles kinds faces coords words (length kinds)) (wedgeMet v triangles kinds faces coords) (2 * length kinds) end-held

@@ -1,1 +1,2 @@
 pub mod Wedge
+pub mod Held

@@ -17,15 +17,15 @@ use Rattle.segments_behind.specs.Round.{anyRound, anyRoundAt}
 -- ---- over the topology
 module _ (v : List Float) (triangles kinds faces : List ℕ) (coords : List Float) where
   -- end e is a point to be entered, it has over two carriers, and a segment of computed length above zero in a face round its face's nearest vertex ends at its bits
-  unfoldable pub wedgeOf : ℕ → Bool
-  wedgeOf e =
+  unfoldable pub wedgeMet : ℕ → Bool
+  wedgeMet e =
       let f : ℕ = getD faces (e / 2) 0 in
       let p : Vec3 = endPoint coords e in
       firstOfBits kinds coords e && (ltb 2 (length (carrierOf v triangles f p)) && anyRound kinds faces coords triangles (nearestAt v triangles f p) p)
 
   -- 11: there is such an end
   unfoldable pub anyWedge : Bool
-  anyWedge = anyBelow wedgeOf (2 * length kinds)
+  anyWedge = anyBelow wedgeMet (2 * length kinds)
 
 -- ---- over the buffers
 module _ (v : List Float) (edgeWords : List ℕ) (edgeReals : List Float) (triangleWords : List ℕ) (triangleReals : List Float) (vertexWords : List ℕ) where

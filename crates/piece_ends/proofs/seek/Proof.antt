@@ -2,7 +2,7 @@
 use Prim.Native.Nat.{_*_, _≤_, _<_}
 use mathlib.Core.Path.{_≡_, refl}
 use native.Mathlib.Omega.{arith}
-use Rattle.piece_ends.specs.Walk.{linkAt, standsAt, findAlong}
+use Rattle.piece_ends.specs.Walk.{endLinkAt, standsAt, findAlong}
 use Rattle.piece_ends.proofs.Following.{search-ends, search-spent, search-found, search-next}
 use Rattle.piece_ends.proofs.Seeking.{stands-said}
 use borrow.Author.Needs.{needs}
@@ -11,7 +11,7 @@ use Rattle.piece_ends.proofs.seek.Tie as tie
 
 abbrev Inv-loop : tie.InvT-loop
 Inv-loop coords words pieces p link at₀ rest₀ at rest =
-    (at < 4294967296) × ((rest ≤ 2 * pieces) × (findAlong (linkAt words) (standsAt coords p) (2 * pieces) link ≡ findAlong (linkAt words) (standsAt coords p) rest at))
+    (at < 4294967296) × ((rest ≤ 2 * pieces) × (findAlong (endLinkAt words) (standsAt coords p) (2 * pieces) link ≡ findAlong (endLinkAt words) (standsAt coords p) rest at))
 
 abbrev μ-loop : tie.MeasureT-loop
 μ-loop coords words pieces p link at₀ rest₀ at rest = rest
@@ -26,7 +26,7 @@ returns : tie.Need-returns Inv-loop μ-loop
 returns c =
     let at = c .before .before in
     let a = at .before .before .before .args in
-    search-ends (linkAt (a .words .now)) (standsAt (a .coords .now) (a .p)) _ (at .loop .rest) (at .loop .at) (at .loop .inv .1 .1) (c .if1 .taken)
+    search-ends (endLinkAt (a .words .now)) (standsAt (a .coords .now) (a .p)) _ (at .loop .rest) (at .loop .at) (at .loop .inv .1 .1) (c .if1 .taken)
 
 sub-end-point : tie.Need-sub-end-point Inv-loop μ-loop
 sub-end-point c = search needs
@@ -45,7 +45,7 @@ returns-2 c =
     let test = live .before in
     let at = test .before in
     let a = at .before .before .before .args in
-    search-found (linkAt (a .words .now)) (standsAt (a .coords .now) (a .p)) _ (at .loop .rest) (at .loop .at) (at .loop .inv .1 .1) (test .loop-test .taken) (live .if1 .left) _ (stands-said (a .coords .now) (a .p) _ _ _ (point .end-point .ensures) (same .same-bits .ensures)) (c .if2 .taken)
+    search-found (endLinkAt (a .words .now)) (standsAt (a .coords .now) (a .p)) _ (at .loop .rest) (at .loop .at) (at .loop .inv .1 .1) (test .loop-test .taken) (live .if1 .left) _ (stands-said (a .coords .now) (a .p) _ _ _ (point .end-point .ensures) (same .same-bits .ensures)) (c .if2 .taken)
 
 sub-next-link : tie.Need-sub-next-link Inv-loop μ-loop
 sub-next-link c = search needs
@@ -68,13 +68,13 @@ loop-again c =
     let test = live .before in
     let at = test .before in
     let a = at .before .before .before .args in
-    (search needs, (omega (arith, at .loop .inv .1 .0), search-next (linkAt (a .words .now)) (standsAt (a .coords .now) (a .p)) _ (at .loop .rest) (at .loop .at) (at .loop .inv .1 .1) (test .loop-test .taken) (live .if1 .left) _ (stands-said (a .coords .now) (a .p) _ _ _ (point .end-point .ensures) (same .same-bits .ensures)) _ (c .next-link .ensures) (branch .if2 .left)))
+    (search needs, (omega (arith, at .loop .inv .1 .0), search-next (endLinkAt (a .words .now)) (standsAt (a .coords .now) (a .p)) _ (at .loop .rest) (at .loop .at) (at .loop .inv .1 .1) (test .loop-test .taken) (live .if1 .left) _ (stands-said (a .coords .now) (a .p) _ _ _ (point .end-point .ensures) (same .same-bits .ensures)) _ (c .next-link .ensures) (branch .if2 .left)))
 
 returns-3 : tie.Need-returns-3 Inv-loop μ-loop
 returns-3 c =
     let at = c .before in
     let a = at .before .before .before .args in
-    search-spent (linkAt (a .words .now)) (standsAt (a .coords .now) (a .p)) _ (at .loop .rest) (at .loop .at) (at .loop .inv .1 .1) (c .loop-test .left)
+    search-spent (endLinkAt (a .words .now)) (standsAt (a .coords .now) (a .p)) _ (at .loop .rest) (at .loop .at) (at .loop .inv .1 .1) (c .loop-test .left)
 
 pub seek-spec : {M : Type 1} → statement M
 seek-spec =
