@@ -375,7 +375,7 @@ fn same_meshed(
 }
 
 // The answer to the record at number k, whose lists stand at the fronts of the slices.
-fn answer(
+fn build_record(
     s: &[u8],
     k: usize,
     vertices: &[f64],
@@ -444,7 +444,7 @@ fn build_holds(
 ) -> bool
     requires { ⌜ k < 500_000 ⌝ }
 {
-    let given = answer(
+    let given = build_record(
         s,
         k,
         vertices,
