@@ -7,7 +7,7 @@
 Without an argument: small jobs with every defect that document 01's refusals 1 to 9 name, alone and in pairs, and sound jobs. The refusal of each defect is
 written down here by hand; of two defects document 01 tries the one with the lower number first.
 With a file of the oracle's `vectors topology`: its meshes with the oracle's refusals. 10 is found after these checks, so here it counts as none.
-tests/mesh/make_vectors.py adds the defects of refusal 10 and their pairs with these.
+tests/mesh/make_vectors.py adds the defects of refusal 10 and their pairs with these; it has the format of the records, here of detail 0.
 """
 import copy
 import itertools
@@ -177,12 +177,22 @@ def empty():
     return job
 
 
-def words(refusal, job):
+def numbers(data):
+    return list(struct.unpack("<%dI" % (len(data) // 4), data))
+
+
+def doubles(values):
+    return numbers(struct.pack("<%dd" % len(values), *(NAN if x != x else x for x in values)))
+
+
+def record(refusal, job, detail, answer):
     lists = [job.vertices, job.triangles, job.flags, job.kinds, job.faces, job.coords]
-    out = struct.pack("<7Q", refusal, *map(len, lists)) + struct.pack("<8Q", *job.buffers) + struct.pack("<d", job.limit)
+    row = list(map(len, lists)) + job.buffers + doubles([job.limit])
     for k, values in enumerate(lists):
-        out += b"".join(struct.pack("<d" if k in (0, 5) else "<Q", x) for x in values)
-    return out
+        row += doubles(values) if k in (0, 5) else values
+    row += answer
+    row = [refusal, detail, 3 + len(row)] + row
+    return struct.pack("<%dI" % len(row), *row)
 
 
 def applied(*changes):
@@ -268,7 +278,7 @@ def written_jobs():
 
 def main():
     jobs = list(checked_meshes(sys.argv[1])) if len(sys.argv) > 1 else written_jobs()
-    sys.stdout.buffer.write(b"".join(words(*job) for job in jobs))
+    sys.stdout.buffer.write(b"".join(record(refusal, job, 0, []) for refusal, job in jobs))
     print(len(jobs), "jobs", file=sys.stderr)
 
 

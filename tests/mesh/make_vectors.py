@@ -20,21 +20,13 @@ A check sum s of numbers n1, n2, .. of 4 bytes begins at 0 and becomes (s * 65,5
 """
 import itertools
 import os
-import struct
 import sys
 
 sys.path.insert(0, os.path.join(os.path.dirname(os.path.abspath(__file__)), "..", "jobs"))
 import make_jobs
+from make_jobs import numbers, record
 
 LARGEST = 1_200  # bytes of a small mesh's topology
-
-
-def numbers(data):
-    return list(struct.unpack("<%dI" % (len(data) // 4), data))
-
-
-def doubles(values):
-    return numbers(struct.pack("<%dd" % len(values), *(make_jobs.NAN if x != x else x for x in values)))
 
 
 def check_sum(values):
@@ -67,16 +59,6 @@ def in_full(job, topology):
 def sums(job, topology):
     edges, lists = parts(job, topology)
     return [edges] + [check_sum(one) for one in lists]
-
-
-def record(refusal, job, detail, answer):
-    lists = [job.vertices, job.triangles, job.flags, job.kinds, job.faces, job.coords]
-    row = list(map(len, lists)) + job.buffers + doubles([job.limit])
-    for k, values in enumerate(lists):
-        row += doubles(values) if k in (0, 5) else values
-    row += answer
-    row = [refusal, detail, 3 + len(row)] + row
-    return struct.pack("<%dI" % len(row), *row)
 
 
 def jobs():

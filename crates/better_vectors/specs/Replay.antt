@@ -27,9 +27,9 @@ abbrev pub otherFloats : List Float → List ℕ → ℕ → ℕ → ℕ
 otherFloats out s i n = failing (λ k. agrees (getD out k nan) (wordFrom s (i + 8 * k))) n
 
 -- whether an answer, with its stretches in front of out, is the one that the record at byte i says
-unfoldable pub sameAnswer : Listed → List Float → List ℕ → ℕ → Bool
-sameAnswer Full out s i = eqb (getD s (i + 70) 0) 14
-sameAnswer (Entries m) out s i = eqb (getD s (i + 70) 0) 0 && (eqb m (stretchesOf s i) && eqb (otherFloats out s (i + 75) (2 * m)) 0)
+unfoldable pub sameListed : Listed → List Float → List ℕ → ℕ → Bool
+sameListed Full out s i = eqb (getD s (i + 70) 0) 14
+sameListed (Entries m) out s i = eqb (getD s (i + 70) 0) 0 && (eqb m (stretchesOf s i) && eqb (otherFloats out s (i + 75) (2 * m)) 0)
 
 -- the stretches of an answer are within its buffer
 abbrev pub FitsOut : Listed → List Float → Type 0
@@ -43,7 +43,7 @@ pub record Decides (s : List ℕ) (i size : ℕ) (out : List Float) (b : Bool) :
       Answers answer size out
       (walkOf (srcFrom s i) (srcFrom s (i + 25)) (ptsOf (srcFrom s i) (srcFrom s (i + 25)) (floatFrom s (i + 50)) (floatFrom s (i + 58))))
       (betterOf (srcFrom s i) (srcFrom s (i + 25)) (floatFrom s (i + 50)) (floatFrom s (i + 58)))
-  pub decided : b ≡ sameAnswer answer out s i
+  pub decided : b ≡ sameListed answer out s i
 
 -- the same in lists of the record's capacity, an entry of out two numbers
 pub record Replayed (s : List ℕ) (i : ℕ) (b : Bool) : Type 0 where

@@ -3,13 +3,15 @@
 // the count of stretches (4 bytes), and their ends.
 use better::Listed;
 use source_records::float_from;
+use source_records::read_records;
 use source_records::src_from;
 use source_records::word_from;
+use vectors::Tally;
 ghost use mathlib.Core.Path.{_≡_};
 ghost use Prim.Native.Nat.{_+_, _*_, _≤_, _<_};
 ghost use lib.ListN.{length};
 ghost use Rattle.source_records.specs.Records.{wordFrom, floatFrom, srcFrom};
-ghost use Rattle.better_vectors.specs.Replay.{slotCountOf, stretchesOf, otherFloats, sameAnswer, FitsOut, Decides, Replays};
+ghost use Rattle.better_vectors.specs.Replay.{slotCountOf, stretchesOf, otherFloats, sameListed, FitsOut, Decides, Replays};
 
 // The capacity and the count of stretches of the record at byte i: the low and the high 4 bytes of 8.
 fn capacity(s: &[u8], i: usize) -> usize
@@ -43,9 +45,9 @@ fn other_floats(out: &[f64], s: &[u8], i: usize, n: usize) -> u64
 }
 
 // Whether an answer of `better` is the one that the record at byte i says.
-fn same_answer(listed: Listed, out: &[f64], s: &[u8], i: usize) -> bool
+fn same_listed(listed: Listed, out: &[f64], s: &[u8], i: usize) -> bool
     requires { ⌜ (i + 75 + 16 * stretchesOf (now s) i ≤ length (now s)) × FitsOut listed (now out) ⌝ }
-    ensures { λ b. ⌜ b ≡ sameAnswer listed (now (out .entry)) (now (s .entry)) i ⌝ }
+    ensures { λ b. ⌜ b ≡ sameListed listed (now (out .entry)) (now (s .entry)) i ⌝ }
 {
     let refusal = s[i + 70];
     match listed {
@@ -63,7 +65,7 @@ fn same_answer(listed: Listed, out: &[f64], s: &[u8], i: usize) -> bool
 }
 
 // Whether `better` answers as that record says, in these buffers.
-fn holds(s: &[u8], i: usize, pts: &mut [f64], out: &mut [f64]) -> bool
+fn better_holds(s: &[u8], i: usize, pts: &mut [f64], out: &mut [f64]) -> bool
     requires { ⌜ i + 75 + 16 * stretchesOf (now s) i ≤ length (now s) ⌝ }
     ensures { λ b. ⌜ Decides (now (s .entry)) i (length (now (pts .entry))) (now (out .exit)) b ⌝ }
 {
@@ -72,11 +74,11 @@ fn holds(s: &[u8], i: usize, pts: &mut [f64], out: &mut [f64]) -> bool
     let lo = float_from(s, i + 50);
     let hi = float_from(s, i + 58);
     let listed = better::better(p, q, lo, hi, pts, out);
-    same_answer(listed, out, s, i)
+    same_listed(listed, out, s, i)
 }
 
 // The same, in lists of the record's capacity. A record whose capacity is above the buffers' counts as a difference.
-fn replays(s: &[u8], i: usize, pts: &mut [f64], out: &mut [f64]) -> bool
+fn better_replays(s: &[u8], i: usize, pts: &mut [f64], out: &mut [f64]) -> bool
     requires { ⌜ i + 75 + 16 * stretchesOf (now s) i ≤ length (now s) ⌝ }
     ensures { λ b. ⌜ Replays (now (s .entry)) i (now (pts .entry)) (now (out .entry)) b ⌝ }
 {
@@ -87,12 +89,7 @@ fn replays(s: &[u8], i: usize, pts: &mut [f64], out: &mut [f64]) -> bool
     if out.len() < 2 * most {
         return false;
     }
-    holds(s, i, &mut pts[..most], &mut out[..2 * most])
-}
-
-struct Tally {
-    cases: u64,
-    differences: u64,
+    better_holds(s, i, &mut pts[..most], &mut out[..2 * most])
 }
 
 // The whole records of s.
@@ -105,7 +102,7 @@ fn replay(s: &[u8], pts: &mut [f64], out: &mut [f64]) -> Tally {
         if s.len() - i < 75 + 16 * n {
             break;
         }
-        if !replays(s, i, pts, out) {
+        if !better_replays(s, i, pts, out) {
             differences += 1;
         }
         cases += 1;
@@ -116,17 +113,8 @@ fn replay(s: &[u8], pts: &mut [f64], out: &mut [f64]) -> Tally {
 
 fn main() {
     let name = b"better";
-    let fd = os::open_read(name);
-    if fd < 0 {
-        os::fail(name);
-        return;
-    }
-    // The count, then the records.
-    let mut head = [0u8; 4];
-    io::read_full(fd, &mut head);
     let mut buf = [0u8; 524288];
-    let got = io::read_full(fd, &mut buf);
-    libc::close(fd);
+    let got = read_records(name, &mut buf);
     let mut pts = [0.0f64; 2048];
     let mut out = [0.0f64; 4096];
     let t = replay(&buf[..got], &mut pts, &mut out);

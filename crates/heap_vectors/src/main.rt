@@ -44,7 +44,7 @@ fn event(s: &[u8], k: usize) -> Event
     }
 }
 
-fn same(a: Event, b: Event) -> bool
+fn same_event(a: Event, b: Event) -> bool
     ensures { λ r. ⌜ r ≡ sameEvent a b ⌝ }
 {
     if vectors::pattern(a.key) != vectors::pattern(b.key) {
@@ -96,7 +96,7 @@ fn pop_differs(found: bool, x: Event, e: Event) -> u64
     ensures { λ r. ⌜ r ≡ popDiffers found x e ⌝ }
 {
     if found {
-        return one_if(!same(x, e));
+        return one_if(!same_event(x, e));
     }
     1
 }

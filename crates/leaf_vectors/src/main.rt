@@ -265,22 +265,16 @@ fn differences(f: Leaf, s: &[u8], n: usize) -> u64
 }
 
 // Reports on a file's content: a count, then the records. Numbers past its end read as zeros, so a file that is cut off differs.
-fn report(name: &[u8], f: Leaf, s: &[u8]) {
+fn report_content(name: &[u8], f: Leaf, s: &[u8]) {
     let n = count(s, 0, 10_000);
     vectors::report(name, n as u64, differences(f, s, n));
 }
 
 // Replays the file of the name.
 fn replay(name: &[u8], f: Leaf) {
-    let fd = os::open_read(name);
-    if fd < 0 {
-        os::fail(name);
-        return;
-    }
     let mut buf = [0u8; 524288];
-    let got = io::read_full(fd, &mut buf);
-    libc::close(fd);
-    report(name, f, &buf[..got]);
+    let got = vectors::read_file(name, &mut buf);
+    report_content(name, f, &buf[..got]);
 }
 
 fn main() {

@@ -13,89 +13,89 @@ use layout::WORDS_PER_TRIANGLE;
 use layout::WORDS_PER_VERTEX;
 use mesh::Meshed;
 use mesh::OtherCounts;
+use stored_jobs::list_places;
+use stored_jobs::load_mesh;
+use stored_jobs::load_pieces;
+use stored_numbers::Walk;
 use stored_numbers::all_f64;
 use stored_numbers::all_u32;
 use stored_numbers::at_most;
 use stored_numbers::count;
 use stored_numbers::double;
 use stored_numbers::number;
-use stored_numbers::read_bytes;
-use stored_numbers::read_doubles;
-use stored_numbers::read_numbers;
-ghost use mathlib.Core.Path.{_≡_};
-ghost use Prim.Native.Nat.{_≤_, _<_};
-ghost use lib.ListN.{length};
+use stored_numbers::record_size;
+use stored_numbers::visit;
+use stored_numbers::wrong;
+use vectors::Tally;
+ghost use Prim.Native.Nat.{_<_};
 
-// Where in the file the next expected number is, the check sum so far, and whether all that was compared agrees.
-struct Walk {
-    at: usize,
+// The walk over the stored numbers, and the check sum so far.
+struct SummedWalk {
+    walk: Walk,
     sum: u64,
-    same: bool,
 }
 
 // One more number of the topology, compared at detail 1 and summed at detail 2.
-fn visit(s: &[u8], detail: u32, w: Walk, n: u32) -> Walk {
-    let at = at_most(w.at, 3_000_000);
+fn compare_or_sum(s: &[u8], detail: u32, w: SummedWalk, n: u32) -> SummedWalk {
+    let walk = w.walk;
     if detail == 1 {
-        if number(s, at) == n {
-            return Walk {
-                at: at + 1,
-                sum: 0,
-                same: w.same,
-            };
-        }
-        return Walk {
-            at: at + 1,
+        return SummedWalk {
+            walk: visit(s, walk, n),
             sum: 0,
-            same: false,
         };
     }
-    Walk {
-        at,
+    SummedWalk {
+        walk,
         sum: ((w.sum % 4_294_967_296) * 65_599 + (n as u64)) % 4_294_967_291,
-        same: w.same,
     }
 }
 
 // The end of a list: at detail 2 its check sum is compared.
-fn section(s: &[u8], detail: u32, w: Walk) -> Walk {
+fn section(s: &[u8], detail: u32, w: SummedWalk) -> SummedWalk {
     if detail == 1 {
         return w;
     }
     let sum = (w.sum % 4_294_967_296) as u32;
-    visit(s, 1, w, sum)
+    compare_or_sum(s, 1, w, sum)
 }
 
-fn visit_double(s: &[u8], detail: u32, w: Walk, x: f64) -> Walk {
+fn compare_or_sum_double(s: &[u8], detail: u32, w: SummedWalk, x: f64) -> SummedWalk {
     let bits = vectors::pattern(x);
-    let low = visit(s, detail, w, (bits % 4_294_967_296) as u32);
-    visit(s, detail, low, (bits / 4_294_967_296) as u32)
+    let low = compare_or_sum(s, detail, w, (bits % 4_294_967_296) as u32);
+    compare_or_sum(s, detail, low, (bits / 4_294_967_296) as u32)
 }
 
 // The first fields of a slot.
 fn visit_slot_u32(
     s: &[u8],
     detail: u32,
-    w: Walk,
+    w: SummedWalk,
     words: &[u32],
     stride: u32,
     slot: u32,
     fields: u32,
-) -> Walk {
+) -> SummedWalk {
     let mut now = w;
     let mut k: u32 = 0;
     while k < fields {
-        now = visit(s, detail, now, read_u32(words, stride, slot, k));
+        now = compare_or_sum(s, detail, now, read_u32(words, stride, slot, k));
         k += 1;
     }
     now
 }
 
-fn visit_slot_f64(s: &[u8], detail: u32, w: Walk, reals: &[f64], fields: u32, slot: u32) -> Walk {
+fn visit_slot_f64(
+    s: &[u8],
+    detail: u32,
+    w: SummedWalk,
+    reals: &[f64],
+    fields: u32,
+    slot: u32,
+) -> SummedWalk {
     let mut now = w;
     let mut k: u32 = 0;
     while k < fields {
-        now = visit_double(s, detail, now, read_f64(reals, fields, slot, k));
+        now = compare_or_sum_double(s, detail, now, read_f64(reals, fields, slot, k));
         k += 1;
     }
     now
@@ -105,12 +105,12 @@ fn visit_slot_f64(s: &[u8], detail: u32, w: Walk, reals: &[f64], fields: u32, sl
 fn visit_u32(
     s: &[u8],
     detail: u32,
-    w: Walk,
+    w: SummedWalk,
     words: &[u32],
     stride: u32,
     n: u32,
     fields: u32,
-) -> Walk {
+) -> SummedWalk {
     let mut now = w;
     let mut i: u32 = 0;
     while i < n {
@@ -120,7 +120,14 @@ fn visit_u32(
     section(s, detail, now)
 }
 
-fn visit_f64(s: &[u8], detail: u32, w: Walk, reals: &[f64], fields: u32, n: u32) -> Walk {
+fn visit_f64(
+    s: &[u8],
+    detail: u32,
+    w: SummedWalk,
+    reals: &[f64],
+    fields: u32,
+    n: u32,
+) -> SummedWalk {
     let mut now = w;
     let mut i: u32 = 0;
     while i < n {
@@ -131,18 +138,24 @@ fn visit_f64(s: &[u8], detail: u32, w: Walk, reals: &[f64], fields: u32, n: u32)
 }
 
 // The faces from one place of their list up to another, their count first.
-fn visit_faces(s: &[u8], detail: u32, w: Walk, round: &[u32], start: u32, end: u32) -> Walk {
+fn visit_faces(
+    s: &[u8],
+    detail: u32,
+    w: SummedWalk,
+    round: &[u32],
+    start: u32,
+    end: u32,
+) -> SummedWalk {
     if end < start {
-        return Walk {
-            at: 0,
+        return SummedWalk {
+            walk: wrong(),
             sum: 0,
-            same: false,
         };
     }
-    let mut now = visit(s, detail, w, end - start);
+    let mut now = compare_or_sum(s, detail, w, end - start);
     let mut i = start;
     while i < end {
-        now = visit(
+        now = compare_or_sum(
             s,
             detail,
             now,
@@ -153,7 +166,15 @@ fn visit_faces(s: &[u8], detail: u32, w: Walk, round: &[u32], start: u32, end: u
     now
 }
 
-fn visit_vertices(s: &[u8], detail: u32, w: Walk, words: &[u32], round: &[u32], n: u32) -> Walk {
+// The faces round the first n vertices.
+fn visit_faces_round(
+    s: &[u8],
+    detail: u32,
+    w: SummedWalk,
+    words: &[u32],
+    round: &[u32],
+    n: u32,
+) -> SummedWalk {
     let mut now = w;
     let mut i: u32 = 0;
     while i < n {
@@ -168,67 +189,6 @@ fn visit_vertices(s: &[u8], detail: u32, w: Walk, words: &[u32], round: &[u32], 
         i += 1;
     }
     section(s, detail, now)
-}
-
-// Where the lists of the record at number k stand.
-struct ListPlaces {
-    triangles: usize,
-    flags: usize,
-    kinds: usize,
-    faces: usize,
-    coords: usize,
-    answer: usize,
-}
-
-fn places(s: &[u8], k: usize) -> ListPlaces
-    requires { ⌜ k < 500_000 ⌝ }
-    ensures { λ r. ⌜ (r .triangles < 1_000_000) × ((r .flags < 1_000_000) × ((r .kinds < 1_000_000) × ((r .faces < 1_000_000) × (r .coords < 1_000_000)))) ⌝ }
-{
-    let triangles = k + 19 + 2 * count(s, k + 3, 20_000);
-    let flags = triangles + count(s, k + 4, 40_000);
-    let kinds = flags + count(s, k + 5, 10_000);
-    let faces = kinds + count(s, k + 6, 1_000);
-    let coords = faces + count(s, k + 7, 1_000);
-    let answer = coords + 2 * count(s, k + 8, 1_000);
-    ListPlaces {
-        triangles,
-        flags,
-        kinds,
-        faces,
-        coords,
-        answer,
-    }
-}
-
-// Reads the lists of the record at number k, as many numbers as there is room for, to the fronts of the arrays.
-fn load_mesh(
-    s: &[u8],
-    k: usize,
-    vertices: &mut [f64; 12288],
-    triangles: &mut [u32; 24576],
-    flags: &mut [u8; 4096],
-)
-    requires { ⌜ k < 500_000 ⌝ }
-{
-    let at = places(s, k);
-    read_numbers(s, at.triangles, triangles);
-    read_bytes(s, at.flags, flags);
-    read_doubles(s, k + 19, vertices);
-}
-
-fn load_pieces(
-    s: &[u8],
-    k: usize,
-    kinds: &mut [u8; 64],
-    faces: &mut [u32; 64],
-    coords: &mut [f64; 384],
-)
-    requires { ⌜ k < 500_000 ⌝ }
-{
-    let at = places(s, k);
-    read_bytes(s, at.kinds, kinds);
-    read_numbers(s, at.faces, faces);
-    read_doubles(s, at.coords, coords);
 }
 
 // The slots of the buffers that the topology does not touch, as the record at number k says.
@@ -281,23 +241,21 @@ fn tails_zero(
     triangle_words: &[u32],
     triangle_reals: &[f64],
     edges: u32,
-    sides: usize,
-) -> bool
-    requires { ⌜ sides ≤ 1_000_000 ⌝ }
-{
+    sides: u32,
+) -> bool {
     if !all_u32(edge_words, 6 * (edges as usize), 0) {
         return false;
     }
     if !all_f64(edge_reals, 4 * (edges as usize), 0.0) {
         return false;
     }
-    if !all_u32(round, sides, 0) {
+    if !all_u32(round, sides as usize, 0) {
         return false;
     }
-    if !all_u32(triangle_words, 2 * sides, 0) {
+    if !all_u32(triangle_words, 2 * (sides as usize), 0) {
         return false;
     }
-    all_f64(triangle_reals, 3 * sides, 0.0)
+    all_f64(triangle_reals, 3 * (sides as usize), 0.0)
 }
 
 // Whether the topology in the buffers, of so many edges, is the one that the record at number k has.
@@ -316,14 +274,14 @@ fn same_topology(
 {
     let detail = number(s, k + 1);
     let vertices = (count(s, k + 3, 200_000) / 3) as u32;
-    let sides = count(s, k + 4, 200_000);
-    let triangles = (sides / 3) as u32;
-    let start = Walk {
-        at: places(s, k).answer,
-        sum: 0,
+    let sides = count(s, k + 4, 200_000) as u32;
+    let triangles = sides / 3;
+    let walk = Walk {
+        at: list_places(s, k).answer,
         same: true,
     };
-    let counted = visit(s, 1, start, edges);
+    let start = SummedWalk { walk, sum: 0 };
+    let counted = compare_or_sum(s, 1, start, edges);
     let ends = visit_u32(s, detail, counted, edge_words, WORDS_PER_EDGE, edges, 4);
     let lengths = visit_f64(s, detail, ends, edge_reals, REALS_PER_EDGE, edges);
     let numbered = visit_u32(
@@ -343,8 +301,9 @@ fn same_topology(
         REALS_PER_TRIANGLE,
         triangles,
     );
-    let last = visit_vertices(s, detail, normals, vertex_words, round, vertices);
-    if last.same {
+    let last = visit_faces_round(s, detail, normals, vertex_words, round, vertices);
+    let compared = last.walk;
+    if compared.same {
         return tails_zero(
             edge_words,
             edge_reals,
@@ -359,7 +318,7 @@ fn same_topology(
 }
 
 // Whether an answer and the buffers, all 7 before, are what the record at number k says: 1 to 9 leave the buffers as they were, and 10 leaves them zero.
-fn same_answer(
+fn same_meshed(
     s: &[u8],
     k: usize,
     answer: Meshed,
@@ -416,7 +375,7 @@ fn same_answer(
 }
 
 // The answer to the record at number k, whose lists stand at the fronts of the slices.
-fn answer(
+fn build_record(
     s: &[u8],
     k: usize,
     vertices: &[f64],
@@ -467,7 +426,7 @@ fn answer(
 }
 
 // Whether that is the stored answer, and the buffers are as they must be.
-fn holds(
+fn build_holds(
     s: &[u8],
     k: usize,
     vertices: &[f64],
@@ -485,7 +444,7 @@ fn holds(
 ) -> bool
     requires { ⌜ k < 500_000 ⌝ }
 {
-    let given = answer(
+    let given = build_record(
         s,
         k,
         vertices,
@@ -501,7 +460,7 @@ fn holds(
         triangle_words,
         triangle_reals,
     );
-    same_answer(
+    same_meshed(
         s,
         k,
         given,
@@ -515,7 +474,7 @@ fn holds(
 }
 
 // The same, in buffers of the sizes that the record says, cut from longer ones.
-fn holds_in(
+fn build_holds_in(
     s: &[u8],
     k: usize,
     vertices: &[f64],
@@ -531,19 +490,17 @@ fn holds_in(
     triangle_words: &mut [u32],
     triangle_reals: &mut [f64],
 ) -> bool
-    requires { ⌜ (k < 400_000) × ((length (now «vertex_words») ≡ 12288)
-        × ((length (now «edge_words») ≡ 144000) × ((length (now «edge_reals») ≡ 96000)
-        × ((length (now round) ≡ 24000) × ((length (now «triangle_words») ≡ 48000) × (length (now «triangle_reals») ≡ 72000)))))) ⌝ }
+    requires { ⌜ k < 400_000 ⌝ }
 {
-    let nv = 3 * count(s, k + 9, 4096);
     let edges = count(s, k + 10, 24000);
-    let ne = 6 * edges;
-    let nr = 4 * edges;
-    let nf = count(s, k + 11, 24000);
     let triangles_there = count(s, k + 12, 8000);
-    let nt = 6 * triangles_there;
-    let nn = 9 * triangles_there;
-    holds(
+    let nv = at_most(3 * count(s, k + 9, 4096), vertex_words.len());
+    let ne = at_most(6 * edges, edge_words.len());
+    let nr = at_most(4 * edges, edge_reals.len());
+    let nf = count(s, k + 11, round.len());
+    let nt = at_most(6 * triangles_there, triangle_words.len());
+    let nn = at_most(9 * triangles_there, triangle_reals.len());
+    build_holds(
         s,
         k,
         vertices,
@@ -561,45 +518,8 @@ fn holds_in(
     )
 }
 
-// The same of arrays, whose lengths their types tell.
-fn holds_in_arrays(
-    s: &[u8],
-    k: usize,
-    vertices: &[f64; 12288],
-    triangles: &[u32; 24576],
-    flags: &[u8; 4096],
-    kinds: &[u8; 64],
-    faces: &[u32; 64],
-    coords: &[f64; 384],
-    vertex_words: &mut [u32; 12288],
-    edge_words: &mut [u32; 144000],
-    edge_reals: &mut [f64; 96000],
-    round: &mut [u32; 24000],
-    triangle_words: &mut [u32; 48000],
-    triangle_reals: &mut [f64; 72000],
-) -> bool
-    requires { ⌜ k < 400_000 ⌝ }
-{
-    holds_in(
-        s,
-        k,
-        vertices,
-        triangles,
-        flags,
-        kinds,
-        faces,
-        coords,
-        vertex_words,
-        edge_words,
-        edge_reals,
-        round,
-        triangle_words,
-        triangle_reals,
-    )
-}
-
 // The same of a record that is still to be read. The buffers are all 7 before.
-fn replays(s: &[u8], k: usize) -> bool
+fn mesh_replays(s: &[u8], k: usize) -> bool
     requires { ⌜ k < 400_000 ⌝ }
 {
     let mut vertices = [0.0f64; 12288];
@@ -616,7 +536,7 @@ fn replays(s: &[u8], k: usize) -> bool
     let mut round = [7u32; 24000];
     let mut triangle_words = [7u32; 48000];
     let mut triangle_reals = [7.0f64; 72000];
-    holds_in_arrays(
+    build_holds_in(
         s,
         k,
         &vertices,
@@ -634,45 +554,24 @@ fn replays(s: &[u8], k: usize) -> bool
     )
 }
 
-fn failed(right: bool) -> u64
-    ensures { λ r. ⌜ r ≤ 1 ⌝ }
-{
-    if right { 0 } else { 1 }
-}
-
-struct Tally {
-    cases: u64,
-    differences: u64,
-}
-
-// A record that has no size is the last.
 fn replay(s: &[u8]) -> Tally {
     let end = at_most(s.len() / 4, 400_000);
     let mut cases: u64 = 0;
     let mut differences: u64 = 0;
     let mut k: usize = 0;
     while k < end {
-        let wrong = failed(replays(s, k));
-        differences += wrong;
-        cases += 1;
-        let size = count(s, k + 2, 400_000);
-        if size == 0 {
-            return Tally { cases, differences };
+        if !mesh_replays(s, k) {
+            differences += 1;
         }
-        k += size;
+        cases += 1;
+        k += record_size(s, k + 2);
     }
     Tally { cases, differences }
 }
 
 fn replay_file(name: &[u8]) {
-    let fd = os::open_read(name);
-    if fd < 0 {
-        os::fail(name);
-        return;
-    }
     let mut buf = [0u8; 524288];
-    let got = io::read_full(fd, &mut buf);
-    libc::close(fd);
+    let got = vectors::read_file(name, &mut buf);
     let tally = replay(&buf[..got]);
     vectors::report(name, tally.cases, tally.differences);
 }

@@ -1,5 +1,6 @@
 // Replays files of stored roots. A record is a function's arguments and its answer, each a bit pattern of 8 bytes.
 use libc::STDOUT_FILENO;
+use vectors::Tally;
 ghost use mathlib.Core.Path.{_≡_};
 ghost use Prim.Native.Nat.{_+_, _*_, _≤_, _<_};
 ghost use lib.ListN.{length};
@@ -91,12 +92,6 @@ fn print_differences(f: Function, s: &[u8]) {
         }
         k += 1;
     }
-}
-
-// What a chunk of a file, or a whole file, has.
-pub struct Tally {
-    pub cases: u64,
-    pub differences: u64,
 }
 
 // A chunk of a file is 49,152 bytes: whole records of each function. An empty one is the end.

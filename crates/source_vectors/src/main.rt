@@ -3,6 +3,7 @@
 use source::RealRoots;
 use source::Win;
 use source_records::float_from;
+use source_records::read_records;
 use source_records::src_from;
 use source_records::word_from;
 ghost use mathlib.Core.Path.{_≡_};
@@ -180,17 +181,9 @@ fn differences(f: Leaf, s: &[u8]) -> u64
 
 // Replays the file of the name.
 fn replay(name: &[u8], f: Leaf) {
-    let fd = os::open_read(name);
-    if fd < 0 {
-        os::fail(name);
-        return;
-    }
-    // The count, then the records: the buffer has room for 6,000 of the longest.
-    let mut head = [0u8; 4];
-    io::read_full(fd, &mut head);
+    // Room for 6,000 of the longest records.
     let mut buf = [0u8; 409600];
-    let got = io::read_full(fd, &mut buf);
-    libc::close(fd);
+    let got = read_records(name, &mut buf);
     let n = records(f, &buf[..got]);
     vectors::report(name, n as u64, differences(f, &buf[..got]));
 }

@@ -6,7 +6,7 @@ ghost use lib.Ieee.{binary64, toBits};
 ghost use Rattle.nat_laws.specs.Lists.{listOf};
 ghost use Rattle.stored_numbers.specs.Numbers.{numberAt, doubleAt, allAre};
 
-fn wide(x: u8) -> u32
+pub fn u32_of_byte(x: u8) -> u32
     ensures { λ r. ⌜ (r ≡ x) × (r ≤ 255) ⌝ }
 {
     x as u32
@@ -17,7 +17,7 @@ fn octet(s: &[u8], i: usize) -> u32
     ensures { λ r. ⌜ (r ≡ getD (now (s .entry)) i 0) × (r ≤ 255) ⌝ }
 {
     if i < s.len() {
-        return wide(s[i]);
+        return u32_of_byte(s[i]);
     }
     0
 }
@@ -112,4 +112,44 @@ pub fn all_f64(s: &[f64], n: usize, x: f64) -> bool
         i += 1;
     }
     true
+}
+
+// How many numbers a record has, as number k says. One that says none is the last: it is as long as a file.
+pub fn record_size(s: &[u8], k: usize) -> usize
+    requires { ⌜ k < 4_000_000 ⌝ }
+    ensures { λ r. ⌜ (1 ≤ r) × (r ≤ 400_000) ⌝ }
+{
+    let n = count(s, k, 400_000);
+    if n == 0 {
+        return 400_000;
+    }
+    n
+}
+
+// Where in a file the next expected number is, and whether all that was compared agrees.
+pub struct Walk {
+    pub at: usize,
+    pub same: bool,
+}
+
+pub fn wrong() -> Walk {
+    Walk { at: 0, same: false }
+}
+
+// One more number is compared.
+pub fn visit(s: &[u8], w: Walk, n: u32) -> Walk {
+    let at = at_most(w.at, 3_000_000);
+    if number(s, at) == n {
+        return Walk {
+            at: at + 1,
+            same: w.same,
+        };
+    }
+    wrong()
+}
+
+pub fn visit_double(s: &[u8], w: Walk, x: f64) -> Walk {
+    let bits = vectors::pattern(x);
+    let low = visit(s, w, (bits % 4_294_967_296) as u32);
+    visit(s, low, (bits / 4_294_967_296) as u32)
 }

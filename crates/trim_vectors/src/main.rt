@@ -13,6 +13,7 @@ use layout::WINDOW_LINK;
 use layout::WORDS_PER_EDGE;
 use layout::WORDS_PER_WINDOW;
 use run_operations::Ran;
+use stored_numbers::Walk;
 use stored_numbers::all_f64;
 use stored_numbers::all_u32;
 use stored_numbers::at_most;
@@ -22,34 +23,13 @@ use stored_numbers::number;
 use stored_numbers::read_bytes;
 use stored_numbers::read_doubles;
 use stored_numbers::read_numbers;
+use stored_numbers::record_size;
+use stored_numbers::u32_of_byte;
+use stored_numbers::visit;
+use stored_numbers::visit_double;
+use stored_numbers::wrong;
+use vectors::Tally;
 ghost use Prim.Native.Nat.{_≤_, _<_};
-
-// Where in the file the next expected number is, and whether all that was compared agrees.
-struct Walk {
-    at: usize,
-    same: bool,
-}
-
-fn wrong() -> Walk {
-    Walk { at: 0, same: false }
-}
-
-fn visit(s: &[u8], w: Walk, n: u32) -> Walk {
-    let at = at_most(w.at, 3_000_000);
-    if number(s, at) == n {
-        return Walk {
-            at: at + 1,
-            same: w.same,
-        };
-    }
-    wrong()
-}
-
-fn visit_double(s: &[u8], w: Walk, x: f64) -> Walk {
-    let bits = vectors::pattern(x);
-    let low = visit(s, w, (bits % 4_294_967_296) as u32);
-    visit(s, low, (bits / 4_294_967_296) as u32)
-}
 
 // The first fields of slot i.
 fn visit_reals(s: &[u8], w: Walk, reals: &[f64], stride: u32, i: u32, fields: u32) -> Walk {
@@ -110,7 +90,7 @@ fn visit_chains(s: &[u8], w: Walk, edges: &[u32], words: &[u32], reals: &[f64], 
 }
 
 // The distances of the first n vertices.
-fn visit_vertices(s: &[u8], w: Walk, vertex: &[f64], n: u32) -> Walk {
+fn visit_distances(s: &[u8], w: Walk, vertex: &[f64], n: u32) -> Walk {
     let mut now = w;
     let mut v: u32 = 0;
     while v < n {
@@ -159,7 +139,7 @@ fn visit_events(s: &[u8], w: Walk, keys: &mut [f64], events: &mut [u32], n: u32)
 }
 
 // Where the lists of the record at number k stand.
-struct ListPlaces {
+struct OperationPlaces {
     ends: usize,
     lens: usize,
     ops: usize,
@@ -167,7 +147,7 @@ struct ListPlaces {
     answer: usize,
 }
 
-fn places(s: &[u8], k: usize) -> ListPlaces
+fn operation_places(s: &[u8], k: usize) -> OperationPlaces
     requires { ⌜ k < 400_000 ⌝ }
     ensures { λ r. ⌜ (r .ends < 1_000_000) × ((r .lens < 1_000_000) × ((r .ops < 1_000_000) × (r .args < 1_000_000))) ⌝ }
 {
@@ -178,7 +158,7 @@ fn places(s: &[u8], k: usize) -> ListPlaces
     let ops = lens + 2 * edges;
     let args = ops + 4 * steps;
     let answer = args + 10 * steps;
-    ListPlaces {
+    OperationPlaces {
         ends,
         lens,
         ops,
@@ -191,21 +171,17 @@ fn places(s: &[u8], k: usize) -> ListPlaces
 fn load_edges(s: &[u8], k: usize, flags: &mut [u8; 8], ends: &mut [u32; 16], lens: &mut [f64; 8])
     requires { ⌜ k < 400_000 ⌝ }
 {
-    let at = places(s, k);
+    let at = operation_places(s, k);
     read_bytes(s, k + 10, flags);
     read_numbers(s, at.ends, ends);
     read_doubles(s, at.lens, lens);
-}
-
-fn wide(x: u8) -> u32 {
-    x as u32
 }
 
 // The third of each vertex's three words is its flag.
 fn flag_words(flags: &[u8; 8], vertex_words: &mut [u32; 24]) {
     let mut v: usize = 0;
     while v < 8 {
-        vertex_words[3 * v + 2] = wide(flags[v]);
+        vertex_words[3 * v + 2] = u32_of_byte(flags[v]);
         v += 1;
     }
 }
@@ -213,7 +189,7 @@ fn flag_words(flags: &[u8; 8], vertex_words: &mut [u32; 24]) {
 fn load_steps(s: &[u8], k: usize, ops: &mut [u32; 12288], args: &mut [f64; 15360])
     requires { ⌜ k < 400_000 ⌝ }
 {
-    let at = places(s, k);
+    let at = operation_places(s, k);
     read_numbers(s, at.ops, ops);
     read_doubles(s, at.args, args);
 }
@@ -275,12 +251,12 @@ fn same_state(
     requires { ⌜ k < 400_000 ⌝ }
 {
     let start = Walk {
-        at: places(s, k).answer,
+        at: operation_places(s, k).answer,
         same: true,
     };
     let counted = visit(s, start, made);
     let chained = visit_chains(s, counted, edges, words, reals, number(s, k + 2));
-    let reached = visit_vertices(s, chained, vertex, number(s, k + 1));
+    let reached = visit_distances(s, chained, vertex, number(s, k + 1));
     let last = visit_events(s, reached, keys, events, queued);
     last.same
 }
@@ -300,7 +276,7 @@ fn same_refusal(s: &[u8], k: usize, at: u32, refusal: u32) -> bool
 }
 
 // Whether an answer and the buffers are what the record at number k says.
-fn same_answer(
+fn same_ran(
     s: &[u8],
     k: usize,
     answer: Ran,
@@ -343,7 +319,7 @@ fn same_answer(
 }
 
 // The same of what the list of the record at number k leaves in the buffers.
-fn holds(
+fn run_holds(
     s: &[u8],
     k: usize,
     limit: f64,
@@ -382,7 +358,7 @@ fn holds(
         next,
     );
     if cuts_zero(pts, out, keep, next) {
-        return same_answer(s, k, answer, edges, words, reals, keys, events, vertex);
+        return same_ran(s, k, answer, edges, words, reals, keys, events, vertex);
     }
     false
 }
@@ -407,7 +383,7 @@ fn read_sizes(s: &[u8], k: usize) -> Sizes
 }
 
 // The same, in buffers of the sizes that the record says: of each, one slice is cut, and the others are longer.
-fn holds_in(
+fn run_holds_in(
     s: &[u8],
     k: usize,
     limit: f64,
@@ -432,7 +408,7 @@ fn holds_in(
     let to_words = at_most(4 * (z.windows as usize), words.len());
     let to_keys = at_most(z.events as usize, keys.len());
     let to_pts = at_most(z.cuts as usize, pts.len());
-    holds(
+    run_holds(
         s,
         k,
         limit,
@@ -454,8 +430,8 @@ fn holds_in(
     )
 }
 
-// The same of arrays. The buffers are all 7 before, and no vertex is reached.
-fn holds_in_arrays(
+// The same in new buffers: they are all 7 before, and no vertex is reached.
+fn run_holds_in_new(
     s: &[u8],
     k: usize,
     ops: &[u32; 12288],
@@ -478,7 +454,7 @@ fn holds_in_arrays(
     let mut out = [7.0f64; 2048];
     let mut keep = [7.0f64; 2048];
     let mut next = [7.0f64; 2048];
-    holds_in(
+    run_holds_in(
         s,
         k,
         limit,
@@ -502,7 +478,7 @@ fn holds_in_arrays(
 }
 
 // The same of a record that is still to be read.
-fn replays(s: &[u8], k: usize) -> bool
+fn list_replays(s: &[u8], k: usize) -> bool
     requires { ⌜ k < 400_000 ⌝ }
 {
     let mut ops = [0u32; 12288];
@@ -514,48 +490,27 @@ fn replays(s: &[u8], k: usize) -> bool
     load_edges(s, k, &mut flags, &mut ends, &mut lens);
     flag_words(&flags, &mut vertex_words);
     load_steps(s, k, &mut ops, &mut args);
-    holds_in_arrays(s, k, &ops, &args, &ends, &lens, &vertex_words)
+    run_holds_in_new(s, k, &ops, &args, &ends, &lens, &vertex_words)
 }
 
-fn failed(right: bool) -> u64
-    ensures { λ r. ⌜ r ≤ 1 ⌝ }
-{
-    if right { 0 } else { 1 }
-}
-
-struct Tally {
-    cases: u64,
-    differences: u64,
-}
-
-// A record that has no size is the last.
 fn replay(s: &[u8]) -> Tally {
     let end = at_most(s.len() / 4, 400_000);
     let mut cases: u64 = 0;
     let mut differences: u64 = 0;
     let mut k: usize = 0;
     while k < end {
-        let wrong = failed(replays(s, k));
-        differences += wrong;
-        cases += 1;
-        let size = count(s, k, 400_000);
-        if size == 0 {
-            return Tally { cases, differences };
+        if !list_replays(s, k) {
+            differences += 1;
         }
-        k += size;
+        cases += 1;
+        k += record_size(s, k);
     }
     Tally { cases, differences }
 }
 
 fn replay_file(name: &[u8]) {
-    let fd = os::open_read(name);
-    if fd < 0 {
-        os::fail(name);
-        return;
-    }
     let mut buf = [0u8; 524288];
-    let got = io::read_full(fd, &mut buf);
-    libc::close(fd);
+    let got = vectors::read_file(name, &mut buf);
     let tally = replay(&buf[..got]);
     vectors::report(name, tally.cases, tally.differences);
 }

@@ -1,14 +1,14 @@
-// Reading stored cases and comparing floats with them, for the programs that replay files of cases.
+// Reading stored cases, comparing floats with them and reporting, for the programs that replay files of cases.
 use libc::STDOUT_FILENO;
 ghost use mathlib.Core.Path.{_≡_};
 ghost use Prim.Native.Nat.{_+_, _*_, _≤_};
 ghost use lib.ListN.{length};
 ghost use lib.Ieee.{binary64, ofBits, toBits};
+ghost use Rattle.io.specs.Counts.{Counts};
 ghost use Rattle.vectors.specs.Records.{wordAt, floatAt};
 ghost use Rattle.vectors.specs.Records.{agrees as Records·agrees};
 
-// A byte as a number of 64 bits.
-fn wide(x: u8) -> u64
+fn u64_of_byte(x: u8) -> u64
     ensures { λ r. ⌜ r ≡ x ⌝ }
 {
     x as u64
@@ -24,7 +24,7 @@ pub fn word(s: &[u8], k: usize) -> u64
     let mut j: usize = 8;
     while j > 0 {
         j -= 1;
-        r = 256 * r + wide(s[i + j]);
+        r = 256 * r + u64_of_byte(s[i + j]);
     }
     r
 }
@@ -79,6 +79,26 @@ pub fn print_words(s: &[u8], k: usize, n: usize)
         print_word(word(s, k + i));
         i += 1;
     }
+}
+
+// How many cases were replayed, and how many of them were answered otherwise than stored.
+pub struct Tally {
+    pub cases: u64,
+    pub differences: u64,
+}
+
+// Reads the file of the name, as much as there is room for, and answers how many bytes; of a file that it cannot open it says so and reads none.
+pub fn read_file(name: &[u8], buf: &mut [u8]) -> usize
+    ensures { λ r. ⌜ Counts r (now (buf .exit)) ⌝ }
+{
+    let fd = os::open_read(name);
+    if fd < 0 {
+        os::fail(name);
+        return 0;
+    }
+    let got = io::read_full(fd, buf);
+    libc::close(fd);
+    got
 }
 
 // Prints a line that says how many cases a file has and how many of them differ.

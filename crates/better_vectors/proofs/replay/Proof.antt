@@ -32,8 +32,8 @@ mul-if1 c = search needs
 add-if1 : tie.Need-add-if1 Inv-loop μ-loop
 add-if1 c = search needs
 
-replays-requires : tie.Need-replays-requires Inv-loop μ-loop
-replays-requires c κs = search needs
+better-replays-requires : tie.Need-better-replays-requires Inv-loop μ-loop
+better-replays-requires c κs = search needs
 
 add-differences : tie.Need-add-differences Inv-loop μ-loop
 add-differences c = search needs
@@ -90,7 +90,7 @@ replay-spec =
     sub-if1
     mul-if1
     add-if1
-    replays-requires
+    better-replays-requires
     add-differences
     add-cases
     mul-i

@@ -5,14 +5,11 @@ use borrow.Author.Needs.{needs}
 use Rattle.job_vectors.proofs.refusal_of.Statement.{statement}
 use Rattle.job_vectors.proofs.refusal_of.Tie as tie
 
-add-number : tie.Need-add-number
-add-number c = search needs
+add-double : tie.Need-add-double
+add-double c = search needs
 
-number-requires : tie.Need-number-requires
-number-requires c κs = search needs
-
-float-requires : tie.Need-float-requires
-float-requires c κs = search needs
+double-requires : tie.Need-double-requires
+double-requires c κs = search needs
 
 buffers-requires : tie.Need-buffers-requires
 buffers-requires c κs = search needs
@@ -84,9 +81,8 @@ pub refusal-of-spec : {M : Type 1} → statement M
 refusal-of-spec =
     tie.close
     (tie.spec
-    add-number
-    number-requires
-    float-requires
+    add-double
+    double-requires
     buffers-requires
     add-count
     count-requires

@@ -1,4 +1,4 @@
--- `job_vectors::replay` is safe and ends. The loop's invariant bounds what it counts. Assumes nothing.
+-- `job_vectors::replay` is safe and ends. Assumes nothing.
 use Prim.Native.Nat.{_≤_, _-_}
 use native.Mathlib.Omega.{arith}
 use mathlib.Core.Logic.{⊎-elim}
@@ -7,22 +7,19 @@ use Rattle.job_vectors.proofs.replay.Statement.{statement}
 use Rattle.job_vectors.proofs.replay.Tie as tie
 
 abbrev Inv-loop : tie.InvT-loop
-Inv-loop s end cases₀ differences₀ k₀ cases differences k = (k ≤ 66_200) × ((cases ≤ k) × (differences ≤ cases))
+Inv-loop s end cases₀ differences₀ k₀ cases differences k = (k ≤ 800_000) × ((cases ≤ k) × (differences ≤ cases))
 
 abbrev μ-loop : tie.MeasureT-loop
-μ-loop s end cases₀ differences₀ k₀ cases differences k = 70_000 - k
+μ-loop s end cases₀ differences₀ k₀ cases differences k = 800_001 - k
 
-numbers-requires : tie.Need-numbers-requires Inv-loop μ-loop
-numbers-requires c κs = search needs
+at-most-requires : tie.Need-at-most-requires Inv-loop μ-loop
+at-most-requires c κs = search needs
 
 loop-holds : tie.Need-loop-holds Inv-loop μ-loop
 loop-holds c = search needs
 
 refusal-requires : tie.Need-refusal-requires Inv-loop μ-loop
 refusal-requires c κs = search needs
-
-cast-if1 : tie.Need-cast-if1 Inv-loop μ-loop
-cast-if1 c = search needs
 
 number-requires : tie.Need-number-requires Inv-loop μ-loop
 number-requires c κs = search needs
@@ -33,8 +30,11 @@ add-differences c = search needs
 add-cases : tie.Need-add-cases Inv-loop μ-loop
 add-cases c = search needs
 
-size-requires : tie.Need-size-requires Inv-loop μ-loop
-size-requires c κs = search needs
+add-record-size : tie.Need-add-record-size Inv-loop μ-loop
+add-record-size c = search needs
+
+record-size-requires : tie.Need-record-size-requires Inv-loop μ-loop
+record-size-requires c κs = search needs
 
 add-k : tie.Need-add-k Inv-loop μ-loop
 add-k c = search needs
@@ -54,14 +54,14 @@ replay-spec =
     (tie.spec
     Inv-loop
     μ-loop
-    numbers-requires
+    at-most-requires
     loop-holds
     refusal-requires
-    cast-if1
     number-requires
     add-differences
     add-cases
-    size-requires
+    add-record-size
+    record-size-requires
     add-k
     loop-less
     loop-again

@@ -10,11 +10,14 @@ Inv-loop s detail round start end now₀ i₀ now i = i ≤ end
 abbrev μ-loop : tie.MeasureT-loop
 μ-loop s detail round start end now₀ i₀ now i = end - i
 
+wrong-requires : tie.Need-wrong-requires Inv-loop μ-loop
+wrong-requires c κs = search needs
+
 returns : tie.Need-returns Inv-loop μ-loop
 returns c = search needs
 
-visit-requires : tie.Need-visit-requires Inv-loop μ-loop
-visit-requires c κs = search needs
+compare-or-sum-requires : tie.Need-compare-or-sum-requires Inv-loop μ-loop
+compare-or-sum-requires c κs = search needs
 
 loop-holds : tie.Need-loop-holds Inv-loop μ-loop
 loop-holds c = search needs
@@ -22,8 +25,8 @@ loop-holds c = search needs
 read-u32-requires : tie.Need-read-u32-requires Inv-loop μ-loop
 read-u32-requires c κs = search needs
 
-visit-requires-2 : tie.Need-visit-requires-2 Inv-loop μ-loop
-visit-requires-2 c κs = search needs
+compare-or-sum-requires-2 : tie.Need-compare-or-sum-requires-2 Inv-loop μ-loop
+compare-or-sum-requires-2 c κs = search needs
 
 add-i : tie.Need-add-i Inv-loop μ-loop
 add-i c = search needs
@@ -43,11 +46,12 @@ visit-faces-spec =
     (tie.spec
     Inv-loop
     μ-loop
+    wrong-requires
     returns
-    visit-requires
+    compare-or-sum-requires
     loop-holds
     read-u32-requires
-    visit-requires-2
+    compare-or-sum-requires-2
     add-i
     loop-less
     loop-again

@@ -16,8 +16,8 @@ loop-holds c = search needs
 read-f64-requires : tie.Need-read-f64-requires Inv-loop μ-loop
 read-f64-requires c κs = search needs
 
-visit-double-requires : tie.Need-visit-double-requires Inv-loop μ-loop
-visit-double-requires c κs = search needs
+compare-or-sum-double-requires : tie.Need-compare-or-sum-double-requires Inv-loop μ-loop
+compare-or-sum-double-requires c κs = search needs
 
 add-k : tie.Need-add-k Inv-loop μ-loop
 add-k c = search needs
@@ -39,7 +39,7 @@ visit-slot-f64-spec =
     μ-loop
     loop-holds
     read-f64-requires
-    visit-double-requires
+    compare-or-sum-double-requires
     add-k
     loop-less
     loop-again

@@ -16,8 +16,8 @@ loop-holds c = search needs
 read-u32-requires : tie.Need-read-u32-requires Inv-loop μ-loop
 read-u32-requires c κs = search needs
 
-visit-requires : tie.Need-visit-requires Inv-loop μ-loop
-visit-requires c κs = search needs
+compare-or-sum-requires : tie.Need-compare-or-sum-requires Inv-loop μ-loop
+compare-or-sum-requires c κs = search needs
 
 add-k : tie.Need-add-k Inv-loop μ-loop
 add-k c = search needs
@@ -39,7 +39,7 @@ visit-slot-u32-spec =
     μ-loop
     loop-holds
     read-u32-requires
-    visit-requires
+    compare-or-sum-requires
     add-k
     loop-less
     loop-again

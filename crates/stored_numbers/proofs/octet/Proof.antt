@@ -6,11 +6,11 @@ use borrow.Author.Needs.{needs}
 use Rattle.stored_numbers.proofs.octet.Statement.{statement}
 use Rattle.stored_numbers.proofs.octet.Tie as tie
 
-shared-slice-read-wide : tie.Need-shared-slice-read-wide
-shared-slice-read-wide c = search needs
+shared-slice-read-u32-of-byte : tie.Need-shared-slice-read-u32-of-byte
+shared-slice-read-u32-of-byte c = search needs
 
-wide-requires : tie.Need-wide-requires
-wide-requires c κs = search needs
+u32-of-byte-requires : tie.Need-u32-of-byte-requires
+u32-of-byte-requires c κs = search needs
 
 returns : tie.Need-returns
 returns c = search needs
@@ -19,4 +19,4 @@ returns-2 : tie.Need-returns-2
 returns-2 c = let a = c .before .before .args in (sym (List·getD-eq-default (a .s .now) 0 (c .if1 .left)), omega arith)
 
 pub octet-spec : {M : Type 1} → statement M
-octet-spec = tie.close (tie.spec shared-slice-read-wide wide-requires returns returns-2)
+octet-spec = tie.close (tie.spec shared-slice-read-u32-of-byte u32-of-byte-requires returns returns-2)

@@ -13,11 +13,11 @@ abbrev μ-loop : tie.MeasureT-loop
 loop-holds : tie.Need-loop-holds Inv-loop μ-loop
 loop-holds c = search needs
 
-element-copy-out-wide : tie.Need-element-copy-out-wide Inv-loop μ-loop
-element-copy-out-wide c = search needs
+element-copy-out-u32-of-byte : tie.Need-element-copy-out-u32-of-byte Inv-loop μ-loop
+element-copy-out-u32-of-byte c = search needs
 
-wide-requires : tie.Need-wide-requires Inv-loop μ-loop
-wide-requires c κs = search needs
+u32-of-byte-requires : tie.Need-u32-of-byte-requires Inv-loop μ-loop
+u32-of-byte-requires c κs = search needs
 
 mul-vertex-words : tie.Need-mul-vertex-words Inv-loop μ-loop
 mul-vertex-words c = search needs
@@ -50,8 +50,8 @@ flag-words-spec =
     Inv-loop
     μ-loop
     loop-holds
-    element-copy-out-wide
-    wide-requires
+    element-copy-out-u32-of-byte
+    u32-of-byte-requires
     mul-vertex-words
     add-vertex-words
     mul-vertex-words-2

@@ -29,21 +29,21 @@ sub-j c = omega arith
 mul-r : tie.Need-mul-r Inv-loop μ-loop
 mul-r c = omega (arith, bounded _ _ _ (bounded-step (c .before .loop .r) 0 (c .before .loop .j - 1) (c .before .loop .j) (2 ^ 64) (omega arith) (omega arith) (c .before .loop .inv .2)))
 
-add-wide : tie.Need-add-wide Inv-loop μ-loop
-add-wide c = omega arith
+add-u64-of-byte : tie.Need-add-u64-of-byte Inv-loop μ-loop
+add-u64-of-byte c = omega arith
 
-shared-slice-read-wide : tie.Need-shared-slice-read-wide Inv-loop μ-loop
-shared-slice-read-wide c = omega arith
+shared-slice-read-u64-of-byte : tie.Need-shared-slice-read-u64-of-byte Inv-loop μ-loop
+shared-slice-read-u64-of-byte c = omega arith
 
-wide-requires : tie.Need-wide-requires Inv-loop μ-loop
-wide-requires c κs = tt
+u64-of-byte-requires : tie.Need-u64-of-byte-requires Inv-loop μ-loop
+u64-of-byte-requires c κs = tt
 
 -- the bound once the byte is taken
-fewer : (c : tie.After-wide Inv-loop μ-loop) → (256 * c .before .before .before .loop .r + c .wide .result + 1) * 2 ^ (8 * (c .before .before .before .loop .j - 1)) ≤ 2 ^ 64
+fewer : (c : tie.After-u64-of-byte Inv-loop μ-loop) → (256 * c .before .before .before .loop .r + c .u64-of-byte .result + 1) * 2 ^ (8 * (c .before .before .before .loop .j - 1)) ≤ 2 ^ 64
 fewer c =
     let t = c .before .before .before in
-    let byte : c .wide .result < 256 = omega (arith, c .wide .ensures, c .before .shared-slice-known2 .given (8 * t .before .before .args .k + (t .loop .j - 1))) in
-    bounded-step (t .loop .r) (c .wide .result) (t .loop .j - 1) (t .loop .j) (2 ^ 64) byte (omega arith) (t .loop .inv .2)
+    let byte : c .u64-of-byte .result < 256 = omega (arith, c .u64-of-byte .ensures, c .before .shared-slice-known2 .given (8 * t .before .before .args .k + (t .loop .j - 1))) in
+    bounded-step (t .loop .r) (c .u64-of-byte .result) (t .loop .j - 1) (t .loop .j) (2 ^ 64) byte (omega arith) (t .loop .inv .2)
 
 add-r : tie.Need-add-r Inv-loop μ-loop
 add-r c = omega (arith, bounded _ _ _ (fewer c))
@@ -56,7 +56,7 @@ loop-again c =
     let t = c .before .before .before in
     let j = t .loop .j in
     let i = 8 * t .before .before .args .k in
-    (omega arith, ap (λ (b : ℕ). 256 * t .loop .r + b) (c .wide .ensures) ∙ byte-below _ (i + (j - 1)) (i + j) (8 - j) (8 - (j - 1)) _ (omega arith) (omega arith) (omega arith) (t .loop .inv .1), fewer c)
+    (omega arith, ap (λ (b : ℕ). 256 * t .loop .r + b) (c .u64-of-byte .ensures) ∙ byte-below _ (i + (j - 1)) (i + j) (8 - j) (8 - (j - 1)) _ (omega arith) (omega arith) (omega arith) (t .loop .inv .1), fewer c)
 
 returns : tie.Need-returns Inv-loop μ-loop
 unfolding wordAt
@@ -74,9 +74,9 @@ word-spec =
     loop-holds
     sub-j
     mul-r
-    add-wide
-    shared-slice-read-wide
-    wide-requires
+    add-u64-of-byte
+    shared-slice-read-u64-of-byte
+    u64-of-byte-requires
     add-r
     loop-less
     loop-again

@@ -1,9 +1,9 @@
--- `trim_vectors::holds_in` is safe and ends. A slice's front has as many elements as it is cut to. Assumes nothing.
+-- `trim_vectors::run_holds_in` is safe and ends. A slice's front has as many elements as it is cut to. Assumes nothing.
 use mathlib.Core.Path.{sym}
 use lib.Seq.{length-take-le}
 use borrow.Author.Needs.{needs}
-use Rattle.trim_vectors.proofs.holds_in.Statement.{statement}
-use Rattle.trim_vectors.proofs.holds_in.Tie as tie
+use Rattle.trim_vectors.proofs.run_holds_in.Statement.{statement}
+use Rattle.trim_vectors.proofs.run_holds_in.Tie as tie
 
 cast-at-most : tie.Need-cast-at-most
 cast-at-most c = search needs
@@ -35,29 +35,29 @@ cast-at-most-4 c = search needs
 at-most-requires-4 : tie.Need-at-most-requires-4
 at-most-requires-4 c κs = search needs
 
-slice-aggregate-holds : tie.Need-slice-aggregate-holds
-slice-aggregate-holds c = sym (length-take-le _ _ (search needs))
+slice-aggregate-run-holds : tie.Need-slice-aggregate-run-holds
+slice-aggregate-run-holds c = sym (length-take-le _ _ (search needs))
 
-slice-relend-prefix-holds : tie.Need-slice-relend-prefix-holds
-slice-relend-prefix-holds c = search needs
+slice-relend-prefix-run-holds : tie.Need-slice-relend-prefix-run-holds
+slice-relend-prefix-run-holds c = search needs
 
-slice-aggregate-holds-2 : tie.Need-slice-aggregate-holds-2
-slice-aggregate-holds-2 c = sym (length-take-le _ _ (search needs))
+slice-aggregate-run-holds-2 : tie.Need-slice-aggregate-run-holds-2
+slice-aggregate-run-holds-2 c = sym (length-take-le _ _ (search needs))
 
-slice-relend-prefix-holds-2 : tie.Need-slice-relend-prefix-holds-2
-slice-relend-prefix-holds-2 c = search needs
+slice-relend-prefix-run-holds-2 : tie.Need-slice-relend-prefix-run-holds-2
+slice-relend-prefix-run-holds-2 c = search needs
 
-slice-aggregate-holds-3 : tie.Need-slice-aggregate-holds-3
-slice-aggregate-holds-3 c = sym (length-take-le _ _ (search needs))
+slice-aggregate-run-holds-3 : tie.Need-slice-aggregate-run-holds-3
+slice-aggregate-run-holds-3 c = sym (length-take-le _ _ (search needs))
 
-slice-relend-prefix-holds-3 : tie.Need-slice-relend-prefix-holds-3
-slice-relend-prefix-holds-3 c = search needs
+slice-relend-prefix-run-holds-3 : tie.Need-slice-relend-prefix-run-holds-3
+slice-relend-prefix-run-holds-3 c = search needs
 
-slice-aggregate-holds-4 : tie.Need-slice-aggregate-holds-4
-slice-aggregate-holds-4 c = sym (length-take-le _ _ (search needs))
+slice-aggregate-run-holds-4 : tie.Need-slice-aggregate-run-holds-4
+slice-aggregate-run-holds-4 c = sym (length-take-le _ _ (search needs))
 
-holds-requires : tie.Need-holds-requires
-holds-requires c κs = search needs
+run-holds-requires : tie.Need-run-holds-requires
+run-holds-requires c κs = search needs
 
 same-length : tie.Need-same-length
 same-length c = search needs
@@ -92,8 +92,8 @@ same-length-10 c = search needs
 returns : tie.Need-returns
 returns c = search needs
 
-pub holds-in-spec : {M : Type 1} → statement M
-holds-in-spec =
+pub run-holds-in-spec : {M : Type 1} → statement M
+run-holds-in-spec =
     tie.close
     (tie.spec
     cast-at-most
@@ -106,14 +106,14 @@ holds-in-spec =
     at-most-requires-3
     cast-at-most-4
     at-most-requires-4
-    slice-aggregate-holds
-    slice-relend-prefix-holds
-    slice-aggregate-holds-2
-    slice-relend-prefix-holds-2
-    slice-aggregate-holds-3
-    slice-relend-prefix-holds-3
-    slice-aggregate-holds-4
-    holds-requires
+    slice-aggregate-run-holds
+    slice-relend-prefix-run-holds
+    slice-aggregate-run-holds-2
+    slice-relend-prefix-run-holds-2
+    slice-aggregate-run-holds-3
+    slice-relend-prefix-run-holds-3
+    slice-aggregate-run-holds-4
+    run-holds-requires
     same-length
     same-length-2
     same-length-3

@@ -1,8 +1,8 @@
--- `mesh_vectors::visit_vertices` is safe and ends. Assumes nothing.
+-- `mesh_vectors::visit_faces_round` is safe and ends. Assumes nothing.
 use Prim.Native.Nat.{_≤_, _-_}
 use borrow.Author.Needs.{needs}
-use Rattle.mesh_vectors.proofs.visit_vertices.Statement.{statement}
-use Rattle.mesh_vectors.proofs.visit_vertices.Tie as tie
+use Rattle.mesh_vectors.proofs.visit_faces_round.Statement.{statement}
+use Rattle.mesh_vectors.proofs.visit_faces_round.Tie as tie
 
 abbrev Inv-loop : tie.InvT-loop
 Inv-loop s detail words round n now₀ i₀ now i = i ≤ n
@@ -37,8 +37,8 @@ section-requires c κs = search needs
 returns : tie.Need-returns Inv-loop μ-loop
 returns c = search needs
 
-pub visit-vertices-spec : {M : Type 1} → statement M
-visit-vertices-spec =
+pub visit-faces-round-spec : {M : Type 1} → statement M
+visit-faces-round-spec =
     tie.close
     (tie.spec
     Inv-loop

@@ -1,9 +1,9 @@
--- `mesh_vectors::answer` is safe and ends. A slice's front has as many elements as it is cut to. Assumes nothing.
+-- `mesh_vectors::build_record` is safe and ends. A slice's front has as many elements as it is cut to. Assumes nothing.
 use mathlib.Core.Path.{sym}
 use lib.Seq.{length-take-le}
 use borrow.Author.Needs.{needs}
-use Rattle.mesh_vectors.proofs.answer.Statement.{statement}
-use Rattle.mesh_vectors.proofs.answer.Tie as tie
+use Rattle.mesh_vectors.proofs.build_record.Statement.{statement}
+use Rattle.mesh_vectors.proofs.build_record.Tie as tie
 
 add-double : tie.Need-add-double
 add-double c = search needs
@@ -92,8 +92,8 @@ same-length-6 c = search needs
 returns : tie.Need-returns
 returns c = search needs
 
-pub answer-spec : {M : Type 1} → statement M
-answer-spec =
+pub build-record-spec : {M : Type 1} → statement M
+build-record-spec =
     tie.close
     (tie.spec
     add-double

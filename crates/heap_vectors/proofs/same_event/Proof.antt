@@ -1,7 +1,7 @@
 use Rattle.heap_vectors.proofs.Outcomes.{other-key, other-number, other-kind, one-event}
 use borrow.Author.Needs.{needs}
-use Rattle.heap_vectors.proofs.same.Statement.{statement}
-use Rattle.heap_vectors.proofs.same.Tie as tie
+use Rattle.heap_vectors.proofs.same_event.Statement.{statement}
+use Rattle.heap_vectors.proofs.same_event.Tie as tie
 
 pattern-requires : tie.Need-pattern-requires
 pattern-requires c κs = search needs
@@ -48,8 +48,8 @@ returns-4 c =
     let a = keyed .before .before .args in
     one-event (a .a) (a .b) (keyed .before .pattern .ensures) (keyed .pattern2 .ensures) (numbered .before .before .if1 .left) (numbered .before .number-of .ensures) (numbered .number-of2 .ensures) (c .before .before .before .if2 .left) (c .before .before .kind-of .ensures) (c .before .kind-of2 .ensures) (c .if3 .left)
 
-pub same-spec : {M : Type 1} → statement M
-same-spec =
+pub same-event-spec : {M : Type 1} → statement M
+same-event-spec =
     tie.close
     (tie.spec
     pattern-requires

@@ -1,8 +1,8 @@
--- `trim_vectors::visit_vertices` is safe and ends. Assumes nothing.
+-- `trim_vectors::visit_distances` is safe and ends. Assumes nothing.
 use Prim.Native.Nat.{_≤_, _-_}
 use borrow.Author.Needs.{needs}
-use Rattle.trim_vectors.proofs.visit_vertices.Statement.{statement}
-use Rattle.trim_vectors.proofs.visit_vertices.Tie as tie
+use Rattle.trim_vectors.proofs.visit_distances.Statement.{statement}
+use Rattle.trim_vectors.proofs.visit_distances.Tie as tie
 
 abbrev Inv-loop : tie.InvT-loop
 Inv-loop s vertex n now₀ v₀ now v = v ≤ n
@@ -28,7 +28,7 @@ loop-again c = search needs
 returns : tie.Need-returns Inv-loop μ-loop
 returns c = search needs
 
-pub visit-vertices-spec : {M : Type 1} → statement M
-visit-vertices-spec =
+pub visit-distances-spec : {M : Type 1} → statement M
+visit-distances-spec =
     tie.close
     (tie.spec Inv-loop μ-loop loop-holds visit-reals-requires add-v loop-less loop-again returns)

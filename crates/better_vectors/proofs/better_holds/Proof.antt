@@ -1,11 +1,11 @@
--- `better_vectors::holds` meets its contract. Assumes nothing.
+-- `better_vectors::better_holds` meets its contract. Assumes nothing.
 use lib.ListN.{length}
 use Rattle.better_vectors.proofs.Laws.{answer-within}
 use native.Mathlib.Omega.{arith}
 use borrow.Author.Needs.{needs}
 use Rattle.better.proofs.Stored.{answers-of}
-use Rattle.better_vectors.proofs.holds.Statement.{statement}
-use Rattle.better_vectors.proofs.holds.Tie as tie
+use Rattle.better_vectors.proofs.better_holds.Statement.{statement}
+use Rattle.better_vectors.proofs.better_holds.Tie as tie
 
 src-from-requires : tie.Need-src-from-requires
 src-from-requires c κs = search needs
@@ -31,8 +31,8 @@ float-from-requires-2 c κs = search needs
 better-requires : tie.Need-better-requires
 better-requires c κs = search needs
 
-same-answer-requires : tie.Need-same-answer-requires
-same-answer-requires c κs =
+same-listed-requires : tie.Need-same-listed-requires
+same-listed-requires c κs =
     let b = c .before .before .before .before .before in
     let hi = b .before .before .before in
     let lo = hi .before in
@@ -58,11 +58,11 @@ returns c =
     record {
       answer = b .better .result;
       right = rw (hi .float-from2 .ensures, lo .float-from .ensures, q .src-from2 .ensures, p .src-from .ensures) at (answers-of _ _ _ _ _ _ (b .better .ensures .0));
-      decided = c .same-answer .ensures;
+      decided = c .same-listed .ensures;
     }
 
-pub holds-spec : {M : Type 1} → statement M
-holds-spec =
+pub better-holds-spec : {M : Type 1} → statement M
+better-holds-spec =
     tie.close
     (tie.spec
     src-from-requires
@@ -73,7 +73,7 @@ holds-spec =
     add-float-from-2
     float-from-requires-2
     better-requires
-    same-answer-requires
+    same-listed-requires
     same-length
     same-length-2
     returns)
