@@ -40,7 +40,7 @@ module _ (limit : Float) (v : List Float) (triangles : List ℕ) (f k : ℕ) (lo
   abbrev l : Float
   l = len v triangles e
 
-  from-zero : T (le zero64 l)
+  pub from-zero : T (le zero64 l)
   from-zero = lt-le zero64 l (long .positive)
 
   pub segment-proper : (a b : Vec3) (n : Normal) → All (AdmittedProper limit (len v triangles)) (offerList (segmentOffer v triangles f k a b n))
