@@ -29,7 +29,7 @@ fn flagged(vertex_words: &[u32], v: VertexId) -> bool
 }
 
 // The distance of vertex v, a NaN where its two numbers are not both there: then no distance is less.
-fn distance(vertex: &[f64], v: VertexId) -> f64
+pub fn distance(vertex: &[f64], v: VertexId) -> f64
     ensures { λ r. ⌜ r ≡ distanceOf (given vertex) (v .0) ⌝ }
 {
     let i = (REALS_PER_VERTEX as usize) * (v.0 as usize);

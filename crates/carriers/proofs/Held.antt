@@ -1,14 +1,13 @@
 -- Where the buffers hold a mesh's topology, the carrier is the topology's. Assumes nothing.
 --     carrier-held (its faces are the Rust's list), carrier-there (it is a face, an edge or a vertex of the mesh), count-held (their number is the list's length),
 --     nearest-there (a face's nearest vertex is one of the mesh's)
-use Prim.Native.Nat.{ℕ, _+_, _-_, _*_, _/_, _<_}
+use Prim.Native.Nat.{ℕ, _+_, _*_, _/_, _<_}
 use mathlib.Core.Path.{_≡_, refl, sym, ap, subst, _∙_}
 use mathlib.Core.Bool.{Bool, true, false, cond}
 use mathlib.Core.List.{List, [], _∷_}
 use native.Mathlib.Omega.{arith}
 use lib.Ieee.{Float}
-use lib.ListN.{length, getD}
-use Rattle.layout.specs.Layout.{wordsPerVertex, vertexStart, vertexEnd}
+use lib.ListN.{length}
 use Rattle.vec3.specs.declared.Vec3.{Vec3}
 use Rattle.float64.specs.TotalOrder.{totalLess}
 use Rattle.job_checks.specs.Sound.{ValidTriangles}
@@ -17,12 +16,11 @@ use Rattle.topology.specs.Frames.{len, coordsY}
 use Rattle.topology.proofs.Edges.{tri-edge-there}
 use Rattle.topology.proofs.Checked.{inside}
 use Rattle.topology.proofs.Sides.{two-sides-share}
-use Rattle.vertex_faces.specs.Ranges.{startOf, endOf}
 use Rattle.frames.specs.Stored.{lengthAt}
 use Rattle.frames.specs.Held.{HoldsEdges, HoldsFaces, HoldsSides, HoldsLengths, HoldsNormals}
-use Rattle.mesh_readers.specs.Held.{HoldsRound}
+use Rattle.mesh_readers.specs.Held.{HoldsMesh, HoldsRound}
 use Rattle.mesh_readers.specs.Readers.{sideIn, coordsAt, sharedAt}
-use Rattle.mesh_readers.proofs.Held.{side-held, shared-held, coords-held}
+use Rattle.mesh_readers.proofs.Held.{side-held, shared-held, coords-held, degree-held}
 use Rattle.source_windows.specs.Wedge.{liesOn}
 use Rattle.carriers.specs.declared.CarrierSimplex.{CarrierSimplex}
 use Rattle.carriers.specs.declared.CarrierSimplex.the-variants.{Face, Edge, Vertex}
@@ -103,23 +101,18 @@ module _ (triangles : List ℕ) (n : ℕ) (s : ValidTriangles triangles n) (edge
 
 -- ---- how many
 module _ (triangles : List ℕ) (n : ℕ) (edgeWords vertexWords round : List ℕ) (faces : HoldsFaces triangles edgeWords) (held : HoldsRound triangles n vertexWords round) (f : ℕ) where
-  degree-is : (k : ℕ) → k < n → getD vertexWords (wordsPerVertex * k + vertexEnd) 0 - getD vertexWords (wordsPerVertex * k + vertexStart) 0 ≡ length (vertexFaces triangles k)
-  unfolding endOf
-  degree-is k q = omega (arith, held .start k q, held .end k q)
-
   pub count-is : (c : CarrierSimplex) → InMesh triangles n f c → carrierCountAt edgeWords vertexWords c ≡ length (facesOf triangles f c)
   unfolding InMesh carrierCountAt facesOf
   count-is Face q = refl
   count-is (Edge e) q = λ i. length (present (faces .first (e .0) q i ∷ (faces .second (e .0) q i ∷ [])))
-  count-is (Vertex k) q = degree-is (k .0) q
+  count-is (Vertex k) q = degree-held triangles n vertexWords round held (k .0) q
 
 pub count-held : (v : List Float) (triangles : List ℕ) (n : ℕ) (edgeWords : List ℕ) (edgeReals : List Float) (triangleWords : List ℕ) (triangleReals : List Float) (vertexWords round : List ℕ)
-    → ValidTriangles triangles n → HoldsEdges triangles edgeWords → HoldsFaces triangles edgeWords → HoldsLengths v triangles edgeReals → HoldsSides triangles triangleWords → HoldsNormals v triangles triangleReals
-    → HoldsRound triangles n vertexWords round → (f : ℕ) → f < length triangles / 3 → (p : Vec3)
+    → HoldsMesh v triangles n edgeWords edgeReals triangleWords triangleReals → HoldsRound triangles n vertexWords round → (f : ℕ) → f < length triangles / 3 → (p : Vec3)
     → carrierCountAt edgeWords vertexWords (carrierAt v edgeWords edgeReals triangleWords triangleReals f p) ≡ length (carrierOf v triangles f p)
-count-held v triangles n edgeWords edgeReals triangleWords triangleReals vertexWords round s ends faces long sides normals held f l p =
-    count-is triangles n edgeWords vertexWords round faces held f (carrierAt v edgeWords edgeReals triangleWords triangleReals f p) (carrier-there triangles n s edgeWords triangleWords ends sides f l v edgeReals triangleReals p)
-    ∙ ap length (carrier-held triangles n s edgeWords triangleWords ends sides f l v edgeReals triangleReals long normals p)
+count-held v triangles n edgeWords edgeReals triangleWords triangleReals vertexWords round m held f l p =
+    count-is triangles n edgeWords vertexWords round (m .faces) held f (carrierAt v edgeWords edgeReals triangleWords triangleReals f p) (carrier-there triangles n (m .valid) edgeWords triangleWords (m .ends) (m .sides) f l v edgeReals triangleReals p)
+    ∙ ap length (carrier-held triangles n (m .valid) edgeWords triangleWords (m .ends) (m .sides) f l v edgeReals triangleReals (m .lengths) (m .normals) p)
 
 -- ---- the nearest vertex
 either-below : (t : Bool) (a b n : ℕ) → a < n → b < n → cond t b a < n

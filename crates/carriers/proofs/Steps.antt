@@ -1,27 +1,31 @@
 -- The answers as the code computes them. Assumes nothing.
-use Prim.Native.Nat.{ℕ, _+_, _*_}
+use Prim.Native.Nat.{ℕ, zero, suc, _+_, _*_}
 use mathlib.Core.Path.{_≡_, refl, sym, ap, _∙_}
 use mathlib.Core.Bool.{Bool, true, false, cond}
 use mathlib.Core.List.{List, [], _∷_}
-use borrow.Author.Tests.{eq-eqb, ne-eqb}
+use mathlib.Core.Logic.{⊎-elim}
+use native.Mathlib.Omega.{arith}
+use borrow.Author.Tests.{eq-eqb, ne-eqb, eqb-true}
 use lib.Dec.{eqb}
 use lib.Ieee.{Float}
 use lib.ListN.{length, getD}
-use Rattle.layout.specs.Layout.{verticesPerTriangle}
+use Rattle.layout.specs.Layout.{verticesPerTriangle, wordsPerRound}
 use Rattle.vec3.specs.declared.Vec3.{Vec3}
 use Rattle.vec3.specs.Vec.{subOf, normOf}
 use Rattle.float64.specs.TotalOrder.{totalLess}
 use Rattle.buffers.specs.declared.EdgeId.{EdgeId}
+use Rattle.buffers.specs.declared.FaceId.{FaceId}
 use Rattle.buffers.specs.declared.VertexId.{VertexId}
 use Rattle.job_checks.specs.Edge.{vertexAt}
 use Rattle.topology.specs.Edges.{noFace}
+use Rattle.topology.proofs.Find.{either}
 use Rattle.frames.specs.Stored.{lengthAt}
 use Rattle.mesh_readers.specs.declared.FrameCoords.{FrameCoords}
-use Rattle.mesh_readers.specs.Readers.{sideIn, coordsAt, sharedAt}
+use Rattle.mesh_readers.specs.Readers.{sideIn, coordsAt, sharedAt, roundAt}
 use Rattle.source_windows.specs.Wedge.{liesOn}
 use Rattle.carriers.specs.declared.CarrierSimplex.{CarrierSimplex}
 use Rattle.carriers.specs.declared.CarrierSimplex.the-variants.{Vertex}
-use Rattle.carriers.specs.Carrier.{filtered, present, onSideAt, simplexOf, carrierAt}
+use Rattle.carriers.specs.Carrier.{filtered, present, onSideAt, simplexOf, carrierAt, otherCarrier}
 use Rattle.carriers.specs.Nearest.{distanceTo, nearerOf, nearestAt}
 
 -- ---- what a point lies on
@@ -61,6 +65,63 @@ module _ (n : ℕ) (none : n ≡ noFace) (a b x y : ℕ) (p : a ≡ x) (q : b �
   pub faces-both : (a ≡ n → ⊥) → (b ≡ n → ⊥) → 2 ≡ length (present (x ∷ (y ∷ [])))
   unfolding present
   faces-both r s = rw (ne-eqb x noFace (λ t. r (p ∙ t ∙ sym none)), ne-eqb y noFace (λ t. s (q ∙ t ∙ sym none))) refl
+
+-- ---- the i-th of them
+none-read : (i : ℕ) → getD (noFace ∷ []) i noFace ≡ noFace
+none-read zero = refl
+none-read (suc i) = refl
+
+-- a single face is read alike where it is there and where it is none
+one-read : (y i : ℕ) → getD (present (y ∷ [])) i noFace ≡ getD (y ∷ []) i noFace
+unfolding present
+one-read y i = ⊎-elim (λ z. rw z (sym (ap (λ (x : ℕ). getD (x ∷ []) i noFace) (eqb-true y noFace z) ∙ none-read i))) (λ z. rw z refl) (either (eqb y noFace))
+
+module _ (n : FaceId) (none : n ≡ record { 0 = noFace }) (a b x y i : ℕ) (p : a ≡ x) (q : b ≡ y) where
+  abbrev read : ℕ
+  read = getD (present (x ∷ (y ∷ []))) i noFace
+
+  first-none : a ≡ n .0 → read ≡ getD (y ∷ []) i noFace
+  unfolding present
+  first-none r = rw (eq-eqb x noFace (sym p ∙ r ∙ ap (λ (f : FaceId). f .0) none)) (one-read y i)
+
+  first-some : (a ≡ n .0 → ⊥) → read ≡ getD (x ∷ present (y ∷ [])) i noFace
+  unfolding present
+  first-some r = rw (ne-eqb x noFace (λ t. r (p ∙ t ∙ sym (ap (λ (f : FaceId). f .0) none)))) refl
+
+  pub face-second : a ≡ n .0 → i ≡ 0 → _≡_ {A = FaceId} (record { 0 = b }) (record { 0 = read })
+  face-second r z = let s : b ≡ read = q ∙ sym (first-none r ∙ ap (λ (j : ℕ). getD (y ∷ []) j noFace) z) in λ t. record { 0 = s t }
+
+  pub face-past-second : a ≡ n .0 → (i ≡ 0 → ⊥) → n ≡ record { 0 = read }
+  face-past-second r z = go i refl where
+    go : (j : ℕ) → i ≡ j → n ≡ record { 0 = read }
+    go zero w = absurd (z w)
+    go (suc j) w = none ∙ (λ t. record { 0 = sym (first-none r ∙ ap (λ (k : ℕ). getD (y ∷ []) k noFace) w) t })
+
+  pub face-first : (a ≡ n .0 → ⊥) → i ≡ 0 → _≡_ {A = FaceId} (record { 0 = a }) (record { 0 = read })
+  face-first r z = let s : a ≡ read = p ∙ sym (first-some r ∙ ap (λ (j : ℕ). getD (x ∷ present (y ∷ [])) j noFace) z) in λ t. record { 0 = s t }
+
+  pub face-behind : (a ≡ n .0 → ⊥) → i ≡ 1 → _≡_ {A = FaceId} (record { 0 = b }) (record { 0 = read })
+  face-behind r z = let s : b ≡ read = q ∙ sym (first-some r ∙ (ap (λ (j : ℕ). getD (x ∷ present (y ∷ [])) j noFace) z ∙ one-read y 0)) in λ t. record { 0 = s t }
+
+  pub face-past : (a ≡ n .0 → ⊥) → (i ≡ 0 → ⊥) → (i ≡ 1 → ⊥) → n ≡ record { 0 = read }
+  face-past r z w = go i refl where
+    go : (j : ℕ) → i ≡ j → n ≡ record { 0 = read }
+    go zero u = absurd (z u)
+    go (suc zero) u = absurd (w u)
+    go (suc (suc j)) u = none ∙ (λ t. record { 0 = sym (first-some r ∙ (ap (λ (k : ℕ). getD (x ∷ present (y ∷ [])) k noFace) u ∙ one-read y (suc j))) t })
+
+pub round-face-is : (round : List ℕ) (start s i g : ℕ) → start ≡ s → g ≡ getD round (wordsPerRound * start + i) 0 → _≡_ {A = FaceId} (record { 0 = g }) (record { 0 = roundAt round (s + i) })
+round-face-is round start s i g a b =
+    let z : wordsPerRound * start + i ≡ s + i = omega (arith, a) in
+    let w : g ≡ roundAt round (s + i) = b ∙ ap (λ (k : ℕ). getD round k 0) z in
+    λ t. record { 0 = w t }
+
+module _ (g a b : ℕ) (first : FaceId) (is : first ≡ record { 0 = a }) where
+  pub other-second : first .0 ≡ g → (second : FaceId) → second ≡ record { 0 = b } → second ≡ record { 0 = otherCarrier g a b }
+  other-second z second is-second = is-second ∙ (λ t. record { 0 = cond (sym (eq-eqb a g (sym (ap (λ (f : FaceId). f .0) is) ∙ z)) t) b a })
+
+  pub other-first : (first .0 ≡ g → ⊥) → first ≡ record { 0 = otherCarrier g a b }
+  other-first z = is ∙ (λ t. record { 0 = cond (sym (ne-eqb a g (λ w. z (ap (λ (f : FaceId). f .0) is ∙ w))) t) b a })
 
 -- ---- the nearest vertex
 module _ (v : List Float) (p : Vec3) (a b : VertexId) (A B S T : Vec3) (x y : Float) (t : Bool)

@@ -1,17 +1,17 @@
 -- The Rust's `carrier`: the faces whose closure holds a point of face f, over the buffers and over the topology's lists. Definitions only: `carrier-held` and
--- `count-held` in proofs/Held.antt say that the two agree where the buffers hold the topology.
-use Prim.Native.Nat.{ℕ, _+_, _-_, _*_, _/_, _<_}
+-- `count-held` in proofs/Held.antt and `carrier-face-held` in proofs/Faces.antt say that the two agree where the buffers hold the topology.
+use Prim.Native.Nat.{ℕ, _+_, _*_, _/_, _<_}
 use mathlib.Core.Bool.{Bool, cond}
 use mathlib.Core.List.{List, [], _∷_, _++_}
 use lib.Dec.{eqb}
 use lib.Ieee.{Float}
 use lib.ListN.{length, getD}
-use Rattle.layout.specs.Layout.{wordsPerVertex, vertexStart, vertexEnd}
+use Rattle.layout.specs.Layout.{wordsPerVertex, vertexStart}
 use Rattle.vec3.specs.declared.Vec3.{Vec3}
 use Rattle.topology.specs.Edges.{noFace, edges, triEdge, face, sharedVertex, vertexFaces}
 use Rattle.topology.specs.Frames.{len, coordsY}
 use Rattle.frames.specs.Stored.{faceAt, lengthAt}
-use Rattle.mesh_readers.specs.Readers.{sideIn, coordsAt, sharedAt}
+use Rattle.mesh_readers.specs.Readers.{sideIn, coordsAt, sharedAt, roundAt, degreeAt}
 use Rattle.source_windows.specs.Wedge.{liesOn}
 use Rattle.carriers.specs.declared.CarrierSimplex.{CarrierSimplex}
 use Rattle.carriers.specs.declared.CarrierSimplex.the-variants.{Face, Edge, Vertex}
@@ -45,6 +45,10 @@ carrierOf v triangles f p =
     let on : ℕ → Bool = onSide v triangles f p in
     facesOn triangles f (filtered (on 0) (on 1) (on 2))
 
+-- `source_point`'s `if carriers[0] == g { carriers[1] } else { carriers[0] }`
+abbrev pub otherCarrier : ℕ → ℕ → ℕ → ℕ
+otherCarrier g a b = cond (eqb a g) b a
+
 -- the faces of what the point lies on
 unfoldable pub facesOf : List ℕ → ℕ → CarrierSimplex → List ℕ
 facesOf triangles f Face = f ∷ []
@@ -74,12 +78,14 @@ carrierAt v edgeWords edgeReals triangleWords triangleReals f p =
     let on : ℕ → Bool = onSideAt v edgeWords edgeReals triangleWords triangleReals f p in
     simplexOf edgeWords triangleWords f (filtered (on 0) (on 1) (on 2))
 
--- how many faces there are round vertex k
-abbrev pub degreeAt : List ℕ → ℕ → ℕ
-degreeAt vertexWords k = getD vertexWords (wordsPerVertex * k + vertexEnd) 0 - getD vertexWords (wordsPerVertex * k + vertexStart) 0
-
 -- the Rust's `carrier(..).len()`
 unfoldable pub carrierCountAt : List ℕ → List ℕ → CarrierSimplex → ℕ
 carrierCountAt edgeWords vertexWords Face = 1
 carrierCountAt edgeWords vertexWords (Edge e) = length (present (faceAt edgeWords (e .0) 0 ∷ (faceAt edgeWords (e .0) 1 ∷ [])))
 carrierCountAt edgeWords vertexWords (Vertex k) = degreeAt vertexWords (k .0)
+
+-- the Rust's `carrier(..)[i]`
+unfoldable pub carrierFaceAt : List ℕ → List ℕ → List ℕ → ℕ → CarrierSimplex → ℕ → ℕ
+carrierFaceAt edgeWords vertexWords round f Face i = f
+carrierFaceAt edgeWords vertexWords round f (Edge e) i = getD (present (faceAt edgeWords (e .0) 0 ∷ (faceAt edgeWords (e .0) 1 ∷ []))) i noFace
+carrierFaceAt edgeWords vertexWords round f (Vertex k) i = roundAt round (getD vertexWords (wordsPerVertex * k .0 + vertexStart) 0 + i)

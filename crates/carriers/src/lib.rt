@@ -1,4 +1,4 @@
-// Where a point of a face lies: inside it, on an edge or on a vertex, and so the faces that enter it as a source (the Rust's `carrier`); and the vertex of a
+// Where a point of a face lies: inside it, on an edge or on a vertex, and so the faces that enter it as a source (the Rust's `carrier`), counted and read; and the vertex of a
 // face nearest to a point. Nothing is asked of what the buffers hold; where they hold a mesh's topology, the answers are the topology's (proofs/Held.antt).
 use buffers::EdgeId;
 use buffers::FaceId;
@@ -7,9 +7,9 @@ use buffers::no_face;
 use buffers::read_u32;
 use layout::EDGE_FIRST_FACE;
 use layout::EDGE_SECOND_FACE;
-use layout::VERTEX_END;
 use layout::VERTEX_START;
 use layout::WORDS_PER_EDGE;
+use layout::WORDS_PER_ROUND;
 use layout::WORDS_PER_VERTEX;
 use mesh_readers::coords;
 use mesh_readers::face_vertex;
@@ -17,17 +17,21 @@ use mesh_readers::length;
 use mesh_readers::shared_vertex;
 use mesh_readers::side;
 use mesh_readers::vertex;
+use mesh_readers::vertex_degree;
 use source_windows::lies_on;
 use vec3::Vec3;
 ghost use mathlib.Core.Path.{_≡_};
 ghost use mathlib.Core.List.{[], _∷_};
-ghost use lib.ListN.{length as size};
+ghost use Prim.Native.Nat.{_+_, _*_};
+ghost use lib.ListN.{length as size, getD};
 ghost use Rattle.buffers.specs.Lent.{given};
+ghost use Rattle.layout.specs.Layout.{wordsPerVertex, vertexStart};
+ghost use Rattle.topology.specs.Edges.{noFace};
 ghost use Rattle.frames.specs.Stored.{faceAt};
-ghost use Rattle.mesh_readers.specs.Readers.{sideIn, sharedAt};
-ghost use Rattle.carriers.specs.Carrier.{filtered, onSideAt, simplexOf, carrierAt, present, degreeAt, carrierCountAt};
+ghost use Rattle.mesh_readers.specs.Readers.{sideIn, sharedAt, roundAt};
+ghost use Rattle.carriers.specs.Carrier.{filtered, onSideAt, simplexOf, carrierAt, present, carrierCountAt, carrierFaceAt, otherCarrier};
 ghost use Rattle.carriers.specs.Nearest.{nearerOf, nearestAt};
-ghost use Rattle.carriers.specs.declared.CarrierSimplex.the-variants.{Face as inFace, Edge as onEdge, Vertex as onVertex};
+ghost use Rattle.carriers.specs.declared.CarrierSimplex.the-variants.{Edge as onEdge, Vertex as onVertex};
 
 // What a point of a face lies on: the face itself, an edge of it or a vertex of it.
 pub enum CarrierSimplex {
@@ -181,18 +185,6 @@ fn edge_degree(edge_words: &[u32], e: EdgeId) -> u32
     2
 }
 
-// How many faces there are round a vertex.
-fn vertex_degree(vertex_words: &[u32], k: VertexId) -> u32
-    ensures { λ r. ⌜ r ≡ degreeAt (given «vertex_words») (k .0) ⌝ }
-{
-    let start = read_u32(vertex_words, WORDS_PER_VERTEX, k.0, VERTEX_START);
-    let end = read_u32(vertex_words, WORDS_PER_VERTEX, k.0, VERTEX_END);
-    if end < start {
-        return 0;
-    }
-    end - start
-}
-
 // How many faces have a point that lies on c.
 pub fn carrier_count(edge_words: &[u32], vertex_words: &[u32], c: CarrierSimplex) -> u32
     ensures { λ r. ⌜ r ≡ carrierCountAt (given «edge_words») (given «vertex_words») c ⌝ }
@@ -202,6 +194,75 @@ pub fn carrier_count(edge_words: &[u32], vertex_words: &[u32], c: CarrierSimplex
         CarrierSimplex::Edge(e) => edge_degree(edge_words, e),
         CarrierSimplex::Vertex(k) => vertex_degree(vertex_words, k),
     }
+}
+
+// The i-th face that an edge has, `no_face` past the last.
+fn edge_face(edge_words: &[u32], e: EdgeId, i: u32) -> FaceId
+    ensures { λ r. ⌜ r ≡ record { 0 = getD (present (faceAt (given «edge_words») (e .0) 0 ∷ (faceAt (given «edge_words») (e .0) 1 ∷ []))) i noFace } ⌝ }
+{
+    let none = no_face();
+    let first = read_u32(edge_words, WORDS_PER_EDGE, e.0, EDGE_FIRST_FACE);
+    let second = read_u32(edge_words, WORDS_PER_EDGE, e.0, EDGE_SECOND_FACE);
+    if first == none.0 {
+        if i == 0 {
+            return FaceId(second);
+        }
+        return none;
+    }
+    if i == 0 {
+        return FaceId(first);
+    }
+    if i == 1 {
+        return FaceId(second);
+    }
+    none
+}
+
+// The i-th face round a vertex: the list of them has one word for each.
+fn vertex_face(vertex_words: &[u32], round: &[u32], k: VertexId, i: u32) -> FaceId
+    ensures { λ r. ⌜ r ≡ record { 0 = roundAt (given round) (getD (given «vertex_words») (wordsPerVertex * k .0 + vertexStart) 0 + i) } ⌝ }
+{
+    let start = read_u32(vertex_words, WORDS_PER_VERTEX, k.0, VERTEX_START);
+    FaceId(read_u32(round, WORDS_PER_ROUND, start, i))
+}
+
+// The i-th of the faces that have a point of face f that lies on c.
+pub fn carrier_face(
+    edge_words: &[u32],
+    vertex_words: &[u32],
+    round: &[u32],
+    f: FaceId,
+    c: CarrierSimplex,
+    i: u32,
+) -> FaceId
+    ensures { λ r. ⌜ r ≡ record { 0 = carrierFaceAt (given «edge_words») (given «vertex_words») (given round) (f .0) c i } ⌝ }
+{
+    match c {
+        CarrierSimplex::Face => f,
+        CarrierSimplex::Edge(e) => edge_face(edge_words, e, i),
+        CarrierSimplex::Vertex(k) => vertex_face(vertex_words, round, k, i),
+    }
+}
+
+// Of two such faces the one that is not g.
+pub fn other_carrier(
+    edge_words: &[u32],
+    vertex_words: &[u32],
+    round: &[u32],
+    f: FaceId,
+    c: CarrierSimplex,
+    g: FaceId,
+) -> FaceId
+    ensures { λ r. ⌜ r ≡ record {
+      0 = otherCarrier (g .0) (carrierFaceAt (given «edge_words») (given «vertex_words») (given round) (f .0) c 0)
+          (carrierFaceAt (given «edge_words») (given «vertex_words») (given round) (f .0) c 1);
+    } ⌝ }
+{
+    let first = carrier_face(edge_words, vertex_words, round, f, c, 0);
+    if first.0 == g.0 {
+        return carrier_face(edge_words, vertex_words, round, f, c, 1);
+    }
+    first
 }
 
 // The vertex nearer to p, the first on a tie.

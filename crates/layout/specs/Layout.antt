@@ -246,6 +246,22 @@ endsHigh = 1
 abbrev pub realsPerLen : ℕ
 realsPerLen = 1
 
+-- 01's pieces, u32: words of each
+abbrev pub wordsPerPiece : ℕ
+wordsPerPiece = 3
+
+-- the head of a bucket of ends
+abbrev pub pieceHead : ℕ
+pieceHead = 0
+
+-- the links of its two ends
+abbrev pub pieceLinks : ℕ
+pieceLinks = 1
+
+-- 01's pieces, f64: reals of each, its unit direction
+abbrev pub realsPerPiece : ℕ
+realsPerPiece = 3
+
 -- 01's face entries: words of each
 abbrev pub wordsPerEntry : ℕ
 wordsPerEntry = 3

@@ -138,6 +138,16 @@ pub const ENDS_HIGH: u32 = 1;
 
 pub const REALS_PER_LEN: u32 = 1;
 
+// 01's pieces, u32.
+pub const WORDS_PER_PIECE: u32 = 3;
+
+pub const PIECE_HEAD: u32 = 0;
+
+pub const PIECE_LINKS: u32 = 1;
+
+// 01's pieces, f64.
+pub const REALS_PER_PIECE: u32 = 3;
+
 // 01's face entries.
 pub const WORDS_PER_ENTRY: u32 = 3;
 

@@ -25,14 +25,14 @@ use Rattle.live_windows.proofs.Standing.{at-edge, around}
 
 -- ---- lists
 -- a window by its number
-record Found (us : List Window) (i : ℕ) : Type 0 where
-  front : List Window
-  it : Window
-  rest : List Window
-  is : us ≡ front ++ it ∷ rest
-  number : it .num ≡ i
+pub record Found (us : List Window) (i : ℕ) : Type 0 where
+  pub front : List Window
+  pub it : Window
+  pub rest : List Window
+  pub is : us ≡ front ++ it ∷ rest
+  pub number : it .num ≡ i
 
-find : (us : List Window) (i : ℕ) → Among i (nums us) → Found us i
+pub find : (us : List Window) (i : ℕ) → Among i (nums us) → Found us i
 unfolding nums
 find [] i h = absurd (h tt)
 find (u ∷ us) i h = go (ℕ-discrete (u .num) i) (find us i) where

@@ -1,8 +1,8 @@
 -- Where the buffers hold a mesh's topology, the readers' answers are the topology's. Assumes nothing.
 --     of an edge      edge-held, ends-held, trim-edge-held, faces-held, other-held, shared-held; its length and unit vector are the fields of `HoldsLengths`
 --     of a face       side-held, normal-held, local-held, third-held, between-held, coords-held
---     of a vertex     range-held, round-held
-use Prim.Native.Nat.{ℕ, _+_, _*_, _/_, _%_, _<_, _≤_}
+--     of a vertex     range-held, degree-held, round-held
+use Prim.Native.Nat.{ℕ, _+_, _-_, _*_, _/_, _%_, _<_, _≤_}
 use mathlib.Core.Path.{_≡_, refl, sym, ap, _∙_}
 use mathlib.Core.Bool.{cond}
 use mathlib.Core.List.{List}
@@ -26,7 +26,7 @@ use Rattle.mesh_readers.specs.declared.FacePair.{FacePair}
 use Rattle.mesh_readers.specs.declared.FrameCoords.{FrameCoords}
 use Rattle.mesh_readers.specs.declared.RoundRange.{RoundRange}
 use Rattle.mesh_readers.specs.Held.{HoldsRound}
-use Rattle.mesh_readers.specs.Readers.{edgeAt, endsAt, trimEdgeAt, facesAt, otherAt, sharedAt, sideIn, normalIn, localAt, thirdAt, edgeBetweenAt, coordsAt, rangeAt, roundAt}
+use Rattle.mesh_readers.specs.Readers.{edgeAt, endsAt, trimEdgeAt, facesAt, otherAt, sharedAt, sideIn, normalIn, localAt, thirdAt, edgeBetweenAt, coordsAt, rangeAt, degreeAt, roundAt}
 
 -- ---- an edge
 module _ (triangles edgeWords : List ℕ) where
@@ -107,6 +107,10 @@ coords-held v triangles edgeWords edgeReals triangleWords triangleReals held lon
 module _ (triangles : List ℕ) (n : ℕ) (vertexWords round : List ℕ) (held : HoldsRound triangles n vertexWords round) (k : ℕ) (l : k < n) where
   pub range-held : rangeAt vertexWords k ≡ record { start = startOf triangles k; end = endOf triangles k }
   range-held i = record { start = held .start k l i; end = held .end k l i }
+
+  pub degree-held : degreeAt vertexWords k ≡ length (vertexFaces triangles k)
+  unfolding endOf
+  degree-held = omega (arith, held .start k l, held .end k l)
 
   pub round-held : (i : ℕ) → i < length (vertexFaces triangles k) → roundAt round (startOf triangles k + i) ≡ getD (vertexFaces triangles k) i 0
   round-held i m = held .faces-round k i l m

@@ -1,5 +1,5 @@
 -- What the readers answer, from what the buffers hold. Definitions only: `*-held` in proofs/Held.antt say that it is the topology's where they hold one.
-use Prim.Native.Nat.{ℕ, _+_, _*_}
+use Prim.Native.Nat.{ℕ, _+_, _-_, _*_}
 use mathlib.Core.Bool.{Bool, cond, _||_}
 use mathlib.Core.List.{List}
 use lib.Dec.{eqb}
@@ -82,9 +82,12 @@ coordsAt v edgeWords edgeReals triangleWords triangleReals e f p =
     let w : Vec3 = subOf p (originAt v edgeWords e) in
     record { x = dotOf w (unitAt edgeReals e); y = dotOf w (normalIn triangleReals f (localAt triangleWords f e)) }
 
--- ---- of a vertex: where its faces stand in the list of the faces round the vertices, and an entry of that list
+-- ---- of a vertex: where its faces stand in the list of the faces round the vertices, how many they are, and an entry of that list
 abbrev pub rangeAt : List ℕ → ℕ → RoundRange
 rangeAt vertexWords k = record { start = getD vertexWords (wordsPerVertex * k + vertexStart) 0; end = getD vertexWords (wordsPerVertex * k + vertexEnd) 0 }
+
+abbrev pub degreeAt : List ℕ → ℕ → ℕ
+degreeAt vertexWords k = getD vertexWords (wordsPerVertex * k + vertexEnd) 0 - getD vertexWords (wordsPerVertex * k + vertexStart) 0
 
 abbrev pub roundAt : List ℕ → ℕ → ℕ
 roundAt round i = getD round i 0

@@ -31,7 +31,7 @@ ghost use Rattle.layout.specs.Layout.{verticesPerTriangle};
 ghost use Rattle.job_checks.specs.Edge.{vertexAt};
 ghost use Rattle.topology.specs.Edges.{offEnds, joins};
 ghost use Rattle.frames.specs.Stored.{lengthAt, unitAt};
-ghost use Rattle.mesh_readers.specs.Readers.{edgeAt, endsAt, trimEdgeAt, facesAt, otherAt, sideIn, localAt, thirdAt, normalIn, coordsAt, rangeAt, roundAt, sharedAt, edgeBetweenAt, faceOf, sideToAt};
+ghost use Rattle.mesh_readers.specs.Readers.{edgeAt, endsAt, trimEdgeAt, facesAt, otherAt, sideIn, localAt, thirdAt, normalIn, coordsAt, rangeAt, degreeAt, roundAt, sharedAt, edgeBetweenAt, faceOf, sideToAt};
 ghost use Rattle.buffers.specs.Lent.{given};
 
 // The two vertices of an edge, the lower-numbered one first.
@@ -226,6 +226,18 @@ pub fn faces_round(vertex_words: &[u32], k: VertexId) -> RoundRange
         start: read_u32(vertex_words, WORDS_PER_VERTEX, k.0, VERTEX_START),
         end: read_u32(vertex_words, WORDS_PER_VERTEX, k.0, VERTEX_END),
     }
+}
+
+// How many faces there are round a vertex.
+pub fn vertex_degree(vertex_words: &[u32], k: VertexId) -> u32
+    ensures { λ r. ⌜ r ≡ degreeAt (given «vertex_words») (k .0) ⌝ }
+{
+    let start = read_u32(vertex_words, WORDS_PER_VERTEX, k.0, VERTEX_START);
+    let end = read_u32(vertex_words, WORDS_PER_VERTEX, k.0, VERTEX_END);
+    if end < start {
+        return 0;
+    }
+    end - start
 }
 
 // Entry i of the list of the faces round the vertices.

@@ -1,10 +1,8 @@
 -- Lists of candidates are added piece by piece: none, one by what `trim::add` ensures, and one list behind another. Assumes nothing.
 use Prim.Native.Nat.{ℕ}
-use native.Mathlib.Omega.{arith}
 use mathlib.Core.List.{List, [], _∷_, _++_, append-nil, append-assoc}
 use mathlib.Core.Path.{_≡_, refl, sym, ap, _∙_, subst}
 use lib.Ieee.{Float}
-use Rattle.better.specs.Claim.{All}
 use Rattle.windows.specs.declared.Edge.{Edge}
 use Rattle.windows.specs.declared.NewWindow.{NewWindow}
 use Rattle.trim_model.specs.Model.{Candidate}
@@ -16,8 +14,8 @@ use Rattle.trim_state.proofs.Made.{follows-step}
 use Rattle.trim_split.specs.Running as running
 use Rattle.trim_split.specs.Running.{Snapshot, stockOf, End, Untouched}
 use Rattle.trim_split.proofs.Untouched.{untouched-same, untouched-then, untouched-wider}
-use Rattle.trim.specs.Adding.{candidateOf, Given, AddsFrom, SaysResult}
-use Rattle.offers.specs.Offers.{andNext, addAll, StandsFor, ComesTo, OfferEnds, Offers}
+use Rattle.trim.specs.Adding.{candidateOf, Given, AddsFrom}
+use Rattle.offers.specs.Offers.{andNext, addAll, StandsFor, Offers}
 
 -- a result that is one more step, or the last
 next-went : (r : Result) → andNext r went ≡ r
@@ -77,7 +75,7 @@ module _ (cuts windows : ℕ) (limit : Float) (flags : List ℕ) (mesh : EdgeDat
     abbrev c : Candidate
     c = candidateOf e w
 
-    given : (past : List Candidate) (s : State) (p : Snapshot) → StandsFor cuts windows limit flags mesh past s p → AdmittedProper limit (mesh .len) c → Given cuts windows limit flags e w mesh s p
+    given : (past : List Candidate) (s : State) (p : Snapshot) → StandsFor limit mesh past s p → AdmittedProper limit (mesh .len) c → Given cuts windows limit flags e w mesh s p
     given past s p S a = record { edge = there; holds = S .holds; same = S .stock; candidates = past; follows = S .follows; proper = a }
 
     pub offers-one : (p : Snapshot) (end : End) → AddsFrom cuts windows limit flags e w p end → Does (c ∷ []) p end
@@ -108,6 +106,6 @@ module _ (cuts windows : ℕ) (limit : Float) (flags : List ℕ) (mesh : EdgeDat
           record {
             state = o .state;
             is = add-append cs ds s ∙ next-state (all cs s) (r .state) (all ds) (r .is) ∙ o .is;
-            stands = subst (λ (l : List Candidate). StandsFor cuts windows limit flags mesh l (o .state) q) (append-assoc past cs ds) (o .stands);
+            stands = subst (λ (l : List Candidate). StandsFor limit mesh l (o .state) q) (append-assoc past cs ds) (o .stands);
             untouched = untouched-then (λ e. Unit {0}) p p′ q (r .untouched) (o .untouched);
           }

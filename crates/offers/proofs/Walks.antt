@@ -10,31 +10,28 @@ use Rattle.layout.specs.Layout.{wordsPerEdge, edgeHead, edgeScratch}
 use Rattle.buffers.specs.Slots.{slotsOf}
 use Rattle.topology.specs.Edges.{edges}
 use Rattle.windows.specs.Windows.{capacityOf}
+use Rattle.mesh_readers.specs.Readers.{trimEdgeAt}
+use Rattle.mesh_readers.proofs.Held.{trim-edge-held}
+use Rattle.mesh_readers.proofs.Mesh.{mesh-stays}
 use Rattle.cut_lists.specs.Buffers.{Cuts}
 use Rattle.cut_lists.specs.Cut.{Sizes}
+use Rattle.trim_state.specs.State.{edgeIn}
 use Rattle.trim.specs.Buffers.{Slices}
-use Rattle.trim_split.specs.declared.Counts.{Counts}
-use Rattle.trim.specs.declared.Added.{Added}
-use Rattle.offers.specs.declared.Offered.{Offered}
-use Rattle.offers.specs.Offers.{OffersTo}
-use Rattle.offers.specs.Walks.{MeshIn}
+use Rattle.offers.specs.Walks.{MeshIn, edgeData}
 
 -- what no addition touches holds the mesh still
 module _ (v : List Float) (triangles : List ℕ) (n : ℕ) (er : List Float) (tw : List ℕ) (tr : List Float) (ew ew′ : List ℕ) (long : length ew′ ≡ length ew)
     (kept : (i : ℕ) → ((e : ℕ) → Unit {0} → (i ≢ wordsPerEdge * e + edgeHead) × (i ≢ wordsPerEdge * e + edgeScratch)) → getD ew′ i 0 ≡ getD ew i 0) where
-  field-kept : (e a : ℕ) → a < 4 → getD ew′ (wordsPerEdge * e + a) 0 ≡ getD ew (wordsPerEdge * e + a) 0
-  field-kept e a l = kept (wordsPerEdge * e + a) (λ k u. (λ z. omega arith, λ z. omega arith))
-
   pub mesh-kept : MeshIn v triangles n ew er tw tr → MeshIn v triangles n ew′ er tw tr
   mesh-kept m = record {
-    valid = m .valid;
-    ends = record { low = λ e l. field-kept e 0 (omega arith) ∙ m .ends .low e l; high = λ e l. field-kept e 1 (omega arith) ∙ m .ends .high e l };
-    faces = record { first = λ e l. field-kept e 2 (omega arith) ∙ m .faces .first e l; second = λ e l. field-kept e 3 (omega arith) ∙ m .faces .second e l };
-    long = m .long;
-    sides = m .sides;
-    normals = m .normals;
+    mesh = mesh-stays v triangles n er tr (λ e. Unit {0}) tw ew ew′ kept (m .mesh);
     slots = subst (λ (z : ℕ). length (edges triangles) ≤ slotsOf z wordsPerEdge) (sym long) (m .slots);
   }
+
+-- an edge of the mesh has a slot and stands there
+pub edge-there : (v : List Float) (triangles : List ℕ) (n : ℕ) (ew : List ℕ) (er : List Float) (tw : List ℕ) (tr : List Float) → MeshIn v triangles n ew er tw tr → (e : ℕ) → e < length (edges triangles)
+    → (e < slotsOf (length ew) wordsPerEdge) × (edgeIn (edgeData v triangles) e ≡ trimEdgeAt ew er e)
+edge-there v triangles n ew er tw tr m e l = (omega (arith, l, m .slots), sym (trim-edge-held triangles ew (m .mesh .ends) v er (m .mesh .lengths) e l))
 
 -- buffers of the same lengths
 pub record SameSizes (B B′ : Slices) (c c′ : Cuts) : Type 0 where
@@ -78,7 +75,3 @@ windowsIn B = capacityOf (length (B .words)) (length (B .reals))
 
 pub windows-same : (B B′ : Slices) (c c′ : Cuts) → SameSizes B B′ c c′ → windowsIn B′ ≡ windowsIn B
 windows-same B B′ c c′ h = (λ i. capacityOf (h .words i) (h .reals i))
-
--- what was read is offered
-pub offers-read : (limit : Float) (vw : List ℕ) (er : List Float) (o o′ : Offered) → o ≡ o′ → (counts : Counts) (B : Slices) (c : Cuts) (r : Added) (B′ : Slices) (c′ : Cuts) → OffersTo limit vw er o counts B c r B′ c′ → OffersTo limit vw er o′ counts B c r B′ c′
-offers-read limit vw er o o′ h counts B c r B′ c′ = subst (λ (z : Offered). OffersTo limit vw er z counts B c r B′ c′) h

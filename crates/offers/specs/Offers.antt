@@ -33,14 +33,8 @@ unfoldable pub andNext : Result → (State → Result) → Result
 andNext (stopped n) next = stopped n
 andNext (went s) next = next s
 
--- the counts of the cut buffer and the window buffer, the limit, the flags of the vertices, and the edges
-module _ (cuts windows : ℕ) (limit : Float) (flags : List ℕ) (mesh : EdgeData) where
-  -- the first that there is no slot for stops them
-  unfoldable pub addAll : List Candidate → State → Result
-  unfolding andNext
-  addAll [] s = went s
-  addAll (c ∷ cs) s = andNext (addOf cuts windows limit flags mesh c s) (addAll cs)
-
+-- the limit and the edges
+module _ (limit : Float) (mesh : EdgeData) where
   -- the buffers at p hold state s, which follows the reference model with the candidates so far
   pub record StandsFor (past : List Candidate) (s : State) (p : Snapshot) : Type 0 where
     pub holds : HoldsWindows (p .made) (s .wins) (p .links) (p .reals) (s .live)
@@ -58,10 +52,18 @@ module _ (cuts windows : ℕ) (limit : Float) (flags : List ℕ) (mesh : EdgeDat
   OfferEnds past p₀ (running.stopped n) r = r ≡ stopped n
   OfferEnds past p₀ (running.at p) r = ComesTo past p₀ p r
 
+-- the counts of the cut buffer and the window buffer, the limit, the flags of the vertices, and the edges
+module _ (cuts windows : ℕ) (limit : Float) (flags : List ℕ) (mesh : EdgeData) where
+  -- the first that there is no slot for stops them
+  unfoldable pub addAll : List Candidate → State → Result
+  unfolding andNext
+  addAll [] s = went s
+  addAll (c ∷ cs) s = andNext (addOf cuts windows limit flags mesh c s) (addAll cs)
+
   -- from p on the candidates are added, whatever state the buffers hold that follows the model; one must be proper only if it is admitted
   abbrev pub Offers : List Candidate → Snapshot → End → Type 0
   Offers cs p end =
-      (past : List Candidate) (s : State) → StandsFor past s p → All (AdmittedProper limit (mesh .len)) cs → OfferEnds (past ++ cs) p end (addAll cs s)
+      (past : List Candidate) (s : State) → StandsFor limit mesh past s p → All (AdmittedProper limit (mesh .len)) cs → OfferEnds limit mesh (past ++ cs) p end (addAll cs s)
 
 -- ---- the contract of `offer`
 -- the candidates that there are

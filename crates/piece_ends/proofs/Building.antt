@@ -5,12 +5,12 @@ use mathlib.Core.Bool.{true, false, cond}
 use mathlib.Core.List.{List}
 use mathlib.Core.Logic.{⊎-elim, _≢_}
 use native.Mathlib.Decide.{ℕ-discrete, decLe}
-use native.Mathlib.Nat.{mod-lt}
 use native.Mathlib.Omega.{arith}
 use borrow.Author.Tests.{eq-eqb, ne-eqb, le-ltb, le-leb, lt-leb}
 use lib.Dec.{leb, leb·zero}
 use lib.Ieee.{Float}
 use lib.ListN.{length, getD, set, replicate, length-set}
+use Rattle.layout.specs.Layout.{wordsPerPiece, pieceHead, pieceLinks}
 use Rattle.vec3.specs.declared.Vec3.{Vec3}
 use Rattle.buffers.proofs.Zeroing.{zero-at}
 use Rattle.topology.proofs.Find.{either}
@@ -18,7 +18,7 @@ use Rattle.edge_table.specs.Sides.{HoldsWords}
 use Rattle.edge_table.proofs.Buckets.{scaled-below}
 use Rattle.edge_table.proofs.Holding.{holds-set, words-are}
 use Rattle.piece_ends.specs.Ends.{passing, endPoint, isEnd}
-use Rattle.piece_ends.specs.Table.{mixed, golden, pointBucket, linkTo, slotWord, bucketAt, inBucket, bucketFrom, headLink, nextEndLink, pieceWords, entered}
+use Rattle.piece_ends.specs.Table.{mixed, pointBucket, linkTo, slotWord, bucketAt, inBucket, bucketFrom, headLink, nextEndLink, pieceWords, entered}
 use Rattle.piece_ends.proofs.Passing.{link-none, link-one, pass-none, pass-here, pass-over}
 
 pub bucket-below : (size : ℕ) (p : Vec3) → 0 < size → pointBucket size p < size
@@ -26,11 +26,11 @@ unfolding pointBucket mixed
 bucket-below size p l = scaled-below _ size l
 
 -- a link of a slot, as code writes its field
-pub slot-link : (head link : ℕ → ℕ) (i w : ℕ) → slotWord head link i (1 + w) ≡ link (2 * i + w)
+pub slot-link : (head link : ℕ → ℕ) (i w : ℕ) → slotWord head link i (pieceLinks + w) ≡ link (2 * i + w)
 unfolding slotWord
-slot-link head link i w = let e : 1 + w ≡ suc w = omega arith in rw e refl
+slot-link head link i w = let e : pieceLinks + w ≡ suc w = omega arith in rw e refl
 
-pub slot-end : (head link : ℕ → ℕ) (e : ℕ) → slotWord head link (e / 2) (1 + e % 2) ≡ link e
+pub slot-end : (head link : ℕ → ℕ) (e : ℕ) → slotWord head link (e / 2) (pieceLinks + e % 2) ≡ link e
 slot-end head link e = let q : 2 * (e / 2) + e % 2 ≡ e = omega arith in slot-link head link (e / 2) (e % 2) ∙ ap link q
 
 -- words of slots whose heads and links agree
@@ -48,7 +48,7 @@ module _ (kinds : List ℕ) (coords : List Float) where
   linkFrom s e = cond (leb s e) (nextEndLink kinds coords e) 0
 
   abbrev pub Partial : ℕ → List ℕ → Type 0
-  Partial s words = HoldsWords 3 words (slotWord (headFrom s) (linkFrom s))
+  Partial s words = HoldsWords wordsPerPiece words (slotWord (headFrom s) (linkFrom s))
 
   pub past-end : (e : ℕ) → 2 * length kinds ≤ e → isEnd kinds e ≡ false
   unfolding isEnd
@@ -62,7 +62,7 @@ module _ (kinds : List ℕ) (coords : List Float) where
   unfolding nextEndLink
   some-link e h = rw h refl
 
-  pub entered-end : (e : ℕ) (words : List ℕ) → isEnd kinds e ≡ true → entered kinds coords e words ≡ set (set words (3 * (e / 2) + (1 + e % 2)) (getD words (3 * bucketAt kinds coords e + 0) 0)) (3 * bucketAt kinds coords e + 0) (e + 1)
+  pub entered-end : (e : ℕ) (words : List ℕ) → isEnd kinds e ≡ true → entered kinds coords e words ≡ set (set words (wordsPerPiece * (e / 2) + (pieceLinks + e % 2)) (getD words (wordsPerPiece * bucketAt kinds coords e + pieceHead) 0)) (wordsPerPiece * bucketAt kinds coords e + pieceHead) (e + 1)
   unfolding entered
   entered-end e words q = rw q refl
 
@@ -71,7 +71,7 @@ module _ (kinds : List ℕ) (coords : List Float) where
   entered-none e words q = rw q refl
 
   -- as code enters it
-  pub enter-done : (words w₁ w₂ : List ℕ) (e b head : ℕ) (q : Vec3) → isEnd kinds e ≡ true → q ≡ endPoint coords e → b ≡ pointBucket (length kinds) q → head ≡ getD words (3 * b + 0) 0 → w₁ ≡ set words (3 * (e / 2) + (1 + e % 2)) head → w₂ ≡ set w₁ (3 * b + 0) (e + 1) → w₂ ≡ entered kinds coords e words
+  pub enter-done : (words w₁ w₂ : List ℕ) (e b head : ℕ) (q : Vec3) → isEnd kinds e ≡ true → q ≡ endPoint coords e → b ≡ pointBucket (length kinds) q → head ≡ getD words (wordsPerPiece * b + pieceHead) 0 → w₁ ≡ set words (wordsPerPiece * (e / 2) + (pieceLinks + e % 2)) head → w₂ ≡ set w₁ (wordsPerPiece * b + pieceHead) (e + 1) → w₂ ≡ entered kinds coords e words
   unfolding bucketAt
   enter-done words w₁ w₂ e b head q end is-q is-b is-head one two = two ∙ (rw (one, is-head, is-b, is-q) refl ∙ sym (entered-end e words end))
 
@@ -94,13 +94,13 @@ module _ (kinds : List ℕ) (coords : List Float) where
   none-slot i (suc w) = none-link (2 * i + w)
 
   pub none-entered : (n : ℕ) → Partial (2 * length kinds) (replicate n 0)
-  none-entered n i a l = zero-at 0 n (3 * i + a) ∙ sym (none-slot i a)
+  none-entered n i a l = zero-at 0 n (wordsPerPiece * i + a) ∙ sym (none-slot i a)
 
   -- all are
   pub all-entered : (words : List ℕ) (n : ℕ) → length words ≡ n → Partial 0 words → words ≡ pieceWords kinds coords n
   unfolding pieceWords headLink
   all-entered words n l part =
-      words-are n 3 (slotWord (headLink kinds coords) (nextEndLink kinds coords)) words (omega arith) l (λ i a m.
+      words-are n wordsPerPiece (slotWord (headLink kinds coords) (nextEndLink kinds coords)) words (omega arith) l (λ i a m.
       part i a m ∙ slot-same (headFrom 0) (headLink kinds coords) (linkFrom 0) (nextEndLink kinds coords) i a refl (λ w q. rw (leb·zero (2 * i + w)) refl))
 
   -- Number e is looked at next.
@@ -142,7 +142,7 @@ module _ (kinds : List ℕ) (coords : List Float) where
           part i a l ∙ sym (slot-same (headFrom e) (headFrom (suc e)) (linkFrom e) (linkFrom (suc e)) i a (off-bucket i (not-in i)) (λ w q. same-link (2 * i + w)))
 
     -- there is one
-    module _ (end : isEnd kinds e ≡ true) (words : List ℕ) (part : Partial (suc e) words) (room : 3 * length kinds ≤ length words) where
+    module _ (end : isEnd kinds e ≡ true) (words : List ℕ) (part : Partial (suc e) words) (room : wordsPerPiece * length kinds ≤ length words) where
       abbrev b : ℕ
       b = bucketAt kinds coords e
 
@@ -158,16 +158,16 @@ module _ (kinds : List ℕ) (coords : List Float) where
       unfolding inBucket
       in-other i ne = rw (end, ne-eqb b i (λ q. ne (sym q))) refl
 
-      head-read : getD words (3 * b + 0) 0 ≡ headFrom (suc e) b
+      head-read : getD words (wordsPerPiece * b + pieceHead) 0 ≡ headFrom (suc e) b
       unfolding slotWord
       head-read = part b 0 (omega arith)
 
       abbrev linked : List ℕ
-      linked = set words (3 * (e / 2) + (1 + e % 2)) (getD words (3 * b + 0) 0)
+      linked = set words (wordsPerPiece * (e / 2) + (pieceLinks + e % 2)) (getD words (wordsPerPiece * b + pieceHead) 0)
 
-      halfway : HoldsWords 3 linked (slotWord (headFrom (suc e)) (linkFrom e))
+      halfway : HoldsWords wordsPerPiece linked (slotWord (headFrom (suc e)) (linkFrom e))
       halfway =
-          holds-set 3 words (slotWord (headFrom (suc e)) (linkFrom (suc e))) (slotWord (headFrom (suc e)) (linkFrom e)) part (e / 2) (1 + e % 2) (getD words (3 * b + 0) 0) (omega arith) (omega arith)
+          holds-set wordsPerPiece words (slotWord (headFrom (suc e)) (linkFrom (suc e))) (slotWord (headFrom (suc e)) (linkFrom e)) part (e / 2) (pieceLinks + e % 2) (getD words (wordsPerPiece * b + pieceHead) 0) (omega arith) (omega arith)
           (slot-end (headFrom (suc e)) (linkFrom e) e ∙ (own-link ∙ (some-link e end ∙ sym head-read)))
           (λ j a m ne. slot-same (headFrom (suc e)) (headFrom (suc e)) (linkFrom e) (linkFrom (suc e)) j a refl (λ w q. other-link (2 * j + w) (λ z. ne (omega (arith, z, q, m)) (omega (arith, z, q, m)))))
 
@@ -177,15 +177,15 @@ module _ (kinds : List ℕ) (coords : List Float) where
       other-slot j zero ne (no q) = off-bucket j (in-other j q)
       other-slot j (suc w) ne q = refl
 
-      pub put-first : Partial e (set linked (3 * b + 0) (e + 1))
+      pub put-first : Partial e (set linked (wordsPerPiece * b + pieceHead) (e + 1))
       unfolding slotWord
       put-first =
-          holds-set 3 linked (slotWord (headFrom (suc e)) (linkFrom e)) (slotWord (headFrom e) (linkFrom e)) halfway b 0 (e + 1) (omega arith) (simp length-set (omega (arith, b-below)))
+          holds-set wordsPerPiece linked (slotWord (headFrom (suc e)) (linkFrom e)) (slotWord (headFrom e) (linkFrom e)) halfway b pieceHead (e + 1) (omega arith) (simp length-set (omega (arith, b-below)))
           (on-bucket b in-own ∙ omega arith)
           (λ j a m ne. other-slot j a ne (ℕ-discrete j b))
 
     -- either way
-    pub enter-turn : (words words′ : List ℕ) → 3 * length kinds ≤ length words → Partial (suc e) words → words′ ≡ entered kinds coords e words → Partial e words′
+    pub enter-turn : (words words′ : List ℕ) → wordsPerPiece * length kinds ≤ length words → Partial (suc e) words → words′ ≡ entered kinds coords e words → Partial e words′
     enter-turn words words′ room part is = ⊎-elim
         (λ q. subst (Partial e) (sym (is ∙ entered-end e words q)) (put-first q words part room))
         (λ q. subst (Partial e) (sym (is ∙ entered-none e words q)) (passed-over q words part))

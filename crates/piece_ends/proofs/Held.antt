@@ -10,6 +10,7 @@ use borrow.Author.Tests.{eq-eqb, ne-eqb, eqb-true, ltb-true}
 use lib.Dec.{eqb, ltb}
 use lib.Ieee.{Float, binary64, toBits}
 use lib.ListN.{length, getD}
+use Rattle.layout.specs.Layout.{wordsPerPiece, pieceHead, pieceLinks}
 use Rattle.vec3.specs.declared.Vec3.{Vec3}
 use Rattle.job_checks.specs.Any.{anyBelow}
 use Rattle.job_checks.proofs.Any.{none-below, none-all}
@@ -17,7 +18,7 @@ use Rattle.topology.proofs.Find.{either}
 use Rattle.edge_table.proofs.Holding.{words-at, words-zero}
 use Rattle.piece_ends.specs.Ends.{passing, endPoint, isEnd, sameBits, hasBits, endsWithBits, firstOfBits}
 use Rattle.piece_ends.specs.Table.{mixed, pointBucket, linkTo, slotWord, bucketAt, inBucket, bucketFrom, headLink, nextEndLink, pieceWords}
-use Rattle.piece_ends.specs.Walk.{endLinkAt, standsAt, follow, findAlong, firstLinkAt, nextLinkAt, isFirstAt, HoldsTable}
+use Rattle.piece_ends.specs.Walk.{endLinkAt, standsAt, follow, findAlong, firstLinkAt, nextLinkAt, leadsAt, isFirstAt, HoldsTable}
 use Rattle.piece_ends.proofs.Passing.{both, never, link-none, pass-none, pass-never, pass-same, link-first, first-link}
 use Rattle.piece_ends.proofs.Following.{search-no-steps, follow-left, search-left}
 use Rattle.piece_ends.proofs.Building.{bucket-below, slot-end, past-end, no-link as no-next, some-link}
@@ -50,13 +51,17 @@ unfolding pointBucket mixed
 same-bucket size p q s = rw (s .x-bits, s .y-bits, s .z-bits) refl
 
 -- ---- the table that `build` leaves
+and-twice : (a b : Bool) → (a && (a && b)) ≡ (a && b)
+and-twice true b = refl
+and-twice false b = refl
+
 module _ (kinds : List ℕ) (coords : List Float) where
-  pub built-holds : (n : ℕ) → 3 * length kinds ≤ n → HoldsTable kinds coords (pieceWords kinds coords n)
+  pub built-holds : (n : ℕ) → wordsPerPiece * length kinds ≤ n → HoldsTable kinds coords (pieceWords kinds coords n)
   unfolding pieceWords slotWord
   built-holds n room = record {
-    heads = λ b l. words-at n 3 (slotWord (headLink kinds coords) (nextEndLink kinds coords)) b 0 (omega arith) (omega arith);
+    heads = λ b l. words-at n wordsPerPiece (slotWord (headLink kinds coords) (nextEndLink kinds coords)) b pieceHead (omega arith) (omega arith);
     links = λ e l.
-        words-at n 3 (slotWord (headLink kinds coords) (nextEndLink kinds coords)) (e / 2) (1 + e % 2) (omega arith) (omega arith)
+        words-at n wordsPerPiece (slotWord (headLink kinds coords) (nextEndLink kinds coords)) (e / 2) (pieceLinks + e % 2) (omega arith) (omega arith)
         ∙ slot-end (headLink kinds coords) (nextEndLink kinds coords) e;
   }
 
@@ -131,9 +136,9 @@ module _ (kinds : List ℕ) (coords : List Float) where
   slot-zero i (suc w) l = no-next kinds coords (2 * i + w) (past-end kinds coords (2 * i + w) (omega arith))
 
   -- the slots behind the pieces are zero
-  pub spare-zero : (n i a : ℕ) → length kinds ≤ i → a < 3 → getD (pieceWords kinds coords n) (3 * i + a) 0 ≡ 0
+  pub spare-zero : (n i a : ℕ) → length kinds ≤ i → a < wordsPerPiece → getD (pieceWords kinds coords n) (wordsPerPiece * i + a) 0 ≡ 0
   unfolding pieceWords
-  spare-zero n i a l m = words-zero n 3 (slotWord (headLink kinds coords) (nextEndLink kinds coords)) i a m (slot-zero i a l)
+  spare-zero n i a l m = words-zero n wordsPerPiece (slotWord (headLink kinds coords) (nextEndLink kinds coords)) i a m (slot-zero i a l)
 
 module _ (kinds : List ℕ) (coords : List Float) (words : List ℕ) (held : HoldsTable kinds coords words) where
   -- the link of an end leads to the next of its bucket
@@ -145,7 +150,7 @@ module _ (kinds : List ℕ) (coords : List Float) (words : List ℕ) (held : Hol
       held .links e (end-below kinds coords e (a .0)) ∙ (some-link kinds coords e (a .0) ∙ rw (a .1, m) refl)
 
   -- A bucket's chain is exactly its ends, in order; no chain is longer than there are ends.
-  pub chain-held : (b : ℕ) → b < length kinds → follow (endLinkAt words) (2 * length kinds) (getD words (3 * b + 0) 0) ≡ bucketFrom kinds coords b 0
+  pub chain-held : (b : ℕ) → b < length kinds → follow (endLinkAt words) (2 * length kinds) (getD words (wordsPerPiece * b + pieceHead) 0) ≡ bucketFrom kinds coords b 0
   chain-held b l =
       ap (follow (endLinkAt words) (2 * length kinds)) (held .heads b l ∙ head-all kinds coords b)
       ∙ (follow-left (endLinkAt words) (inBucket kinds coords b) (2 * length kinds) (bucket-leads b) (2 * length kinds) 0 (2 * length kinds) (omega arith) (omega arith) ∙ sym (bucket-all kinds coords b))
@@ -157,7 +162,7 @@ module _ (kinds : List ℕ) (coords : List Float) (words : List ℕ) (held : Hol
       search-left (endLinkAt words) (inBucket kinds coords (pointBucket (length kinds) p)) (2 * length kinds) (bucket-leads (pointBucket (length kinds) p)) (standsAt coords p) k e (2 * length kinds) s (omega arith)
       ∙ ap linkTo (pass-same (λ (d : ℕ). inBucket kinds coords (pointBucket (length kinds) p) d && standsAt coords p d) (hasBits kinds coords p) (bucket-has kinds coords p) k e)
 
-  head-is : (p : Vec3) → 0 < length kinds → getD words (3 * pointBucket (length kinds) p + 0) 0 ≡ linkTo (passing (inBucket kinds coords (pointBucket (length kinds) p)) (2 * length kinds) 0)
+  head-is : (p : Vec3) → 0 < length kinds → getD words (wordsPerPiece * pointBucket (length kinds) p + pieceHead) 0 ≡ linkTo (passing (inBucket kinds coords (pointBucket (length kinds) p)) (2 * length kinds) 0)
   head-is p l = held .heads (pointBucket (length kinds) p) (bucket-below (length kinds) p l) ∙ head-all kinds coords (pointBucket (length kinds) p)
 
   -- the first
@@ -166,8 +171,8 @@ module _ (kinds : List ℕ) (coords : List Float) (words : List ℕ) (held : Hol
   first-held p = elim (decLe (length kinds) 0) [
     | yes z ↦
         let n : 2 * length kinds ≡ 0 = omega arith in
-        ap (λ (k : ℕ). findAlong (endLinkAt words) (standsAt coords p) k (getD words (3 * pointBucket (length kinds) p + 0) 0)) n
-        ∙ (search-no-steps (endLinkAt words) (standsAt coords p) (getD words (3 * pointBucket (length kinds) p + 0) 0)
+        ap (λ (k : ℕ). findAlong (endLinkAt words) (standsAt coords p) k (getD words (wordsPerPiece * pointBucket (length kinds) p + pieceHead) 0)) n
+        ∙ (search-no-steps (endLinkAt words) (standsAt coords p) (getD words (wordsPerPiece * pointBucket (length kinds) p + pieceHead) 0)
         ∙ sym (ap (λ (k : ℕ). linkTo (passing (hasBits kinds coords p) k 0)) n ∙ (ap linkTo (pass-none (hasBits kinds coords p) 0) ∙ link-none)))
     | no z ↦ ap (findAlong (endLinkAt words) (standsAt coords p) (2 * length kinds)) (head-is p (omega (arith, z))) ∙ found-left p (2 * length kinds) 0 (omega arith)
   ]
@@ -221,7 +226,11 @@ module _ (kinds : List ℕ) (coords : List Float) (words : List ℕ) (held : Hol
     decided true true h n = rw (h, n) (no-link (λ z. never n (first-means z .1)))
     decided false b h n = rw h (no-link (λ z. never (first-means z .0) h))
 
+    leads-held : leadsAt coords words (length kinds) e ≡ firstOfBits kinds coords e
+    unfolding leadsAt firstOfBits
+    leads-held = ap (λ (k : ℕ). eqb k (suc e)) (first-held (endPoint coords e)) ∙ decided (isEnd kinds e) (anyBelow met e) refl refl
+
     -- `is_first` is the Rust's `points.insert(..)`
-    pub is-first-held : isFirstAt coords words (length kinds) e ≡ firstOfBits kinds coords e
+    pub is-first-held : isFirstAt kinds coords words (length kinds) e ≡ firstOfBits kinds coords e
     unfolding isFirstAt firstOfBits
-    is-first-held = ap (λ (k : ℕ). eqb k (suc e)) (first-held (endPoint coords e)) ∙ decided (isEnd kinds e) (anyBelow met e) refl refl
+    is-first-held = ap (λ (b : Bool). isEnd kinds e && b) leads-held ∙ and-twice (isEnd kinds e) (not (anyBelow met e))

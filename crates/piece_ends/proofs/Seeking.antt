@@ -6,16 +6,17 @@ use mathlib.Core.List.{List}
 use borrow.Author.Tests.{eq-eqb, ne-eqb}
 use lib.Ieee.{Float}
 use lib.ListN.{getD}
+use Rattle.layout.specs.Layout.{wordsPerPiece, pieceHead}
 use Rattle.vec3.specs.declared.Vec3.{Vec3}
-use Rattle.piece_ends.specs.Ends.{endPoint, sameBits}
+use Rattle.piece_ends.specs.Ends.{endPoint, sameBits, isEnd}
 use Rattle.piece_ends.specs.Table.{pointBucket}
-use Rattle.piece_ends.specs.Walk.{endLinkAt, standsAt, findAlong, firstLinkAt, nextLinkAt, isFirstAt}
+use Rattle.piece_ends.specs.Walk.{endLinkAt, standsAt, findAlong, firstLinkAt, nextLinkAt, leadsAt, isFirstAt}
 
 pub stands-said : (coords : List Float) (p q : Vec3) (e : ℕ) (b : Bool) → q ≡ endPoint coords e → b ≡ sameBits q p → b ≡ standsAt coords p e
 stands-said coords p q e b is said = said ∙ ap (λ (r : Vec3). sameBits r p) is
 
 module _ (coords : List Float) (words : List ℕ) (pieces : ℕ) where
-  pub first-done : (p : Vec3) (b head r : ℕ) → b ≡ pointBucket pieces p → head ≡ getD words (3 * b + 0) 0 → r ≡ findAlong (endLinkAt words) (standsAt coords p) (2 * pieces) head → r ≡ firstLinkAt coords words pieces p
+  pub first-done : (p : Vec3) (b head r : ℕ) → b ≡ pointBucket pieces p → head ≡ getD words (wordsPerPiece * b + pieceHead) 0 → r ≡ findAlong (endLinkAt words) (standsAt coords p) (2 * pieces) head → r ≡ firstLinkAt coords words pieces p
   unfolding firstLinkAt
   first-done p b head r is-b is-head is-r = is-r ∙ rw (is-head, is-b) refl
 
@@ -27,10 +28,20 @@ module _ (coords : List Float) (words : List ℕ) (pieces : ℕ) where
     link-is : link ≡ firstLinkAt coords words pieces (endPoint coords e)
     link-is = is-link ∙ ap (firstLinkAt coords words pieces) is-q
 
-    pub first-is : link ≡ suc e → true ≡ isFirstAt coords words pieces e
-    unfolding isFirstAt
+    pub first-is : link ≡ suc e → true ≡ leadsAt coords words pieces e
+    unfolding leadsAt
     first-is h = sym (eq-eqb (firstLinkAt coords words pieces (endPoint coords e)) (suc e) (sym link-is ∙ h))
 
-    pub first-is-not : (link ≡ suc e → ⊥) → false ≡ isFirstAt coords words pieces e
-    unfolding isFirstAt
+    pub first-is-not : (link ≡ suc e → ⊥) → false ≡ leadsAt coords words pieces e
+    unfolding leadsAt
     first-is-not h = sym (ne-eqb (firstLinkAt coords words pieces (endPoint coords e)) (suc e) (λ z. h (link-is ∙ z)))
+
+-- ---- `is_first`
+module _ (kinds : List ℕ) (coords : List Float) (words : List ℕ) (pieces e : ℕ) where
+  pub no-end : isEnd kinds e ≡ false → false ≡ isFirstAt kinds coords words pieces e
+  unfolding isFirstAt
+  no-end h = sym (rw h refl)
+
+  pub end-leads : (r : Bool) → isEnd kinds e ≡ true → r ≡ leadsAt coords words pieces e → r ≡ isFirstAt kinds coords words pieces e
+  unfolding isFirstAt
+  end-leads r h is = is ∙ sym (rw h refl)

@@ -6,6 +6,7 @@ use mathlib.Core.List.{List}
 use lib.Ieee.{Float, lt}
 use lib.ListN.{length, set, replicate, length-replicate}
 use native.Mathlib.Omega.{arith}
+use Rattle.layout.specs.Layout.{realsPerPiece}
 use Rattle.float64.specs.Scalar.{zero64, one}
 use Rattle.float64.specs.Notation.{_⊘_}
 use Rattle.vec3.specs.declared.Vec3.{Vec3}
@@ -13,7 +14,7 @@ use Rattle.vec3.specs.Vec.{scaleOf, subOf, normOf}
 use Rattle.buffers.specs.Slots.{fill}
 use Rattle.buffers.specs.Zero.{zeroFrom}
 use Rattle.job_checks.specs.Edge.{lenOf, xhatOf}
-use Rattle.frames.specs.Stored.{normalAt, withRows, row3}
+use Rattle.frames.specs.Stored.{vectorAt, withRows, row3}
 use Rattle.frames.proofs.Rows.{vectors-at, zero-past-rows}
 use Rattle.piece_ends.specs.Ends.{endPoint, isEnd}
 use Rattle.piece_ends.specs.Directions.{isLong, directionOf, pieceReals}
@@ -56,19 +57,19 @@ module _ (kinds : List ℕ) (coords : List Float) (i : ℕ) where
     direction-is r end h e = e ∙ (scaled-is ∙ sym (long-direction (long-is end h)))
 
   -- one written
-  pub stored-is : (u : Vec3) (r r₁ r₂ r₃ : List Float) → u ≡ directionOf kinds coords i → r₁ ≡ set r (3 * i + 0) (u .x) → r₂ ≡ set r₁ (3 * i + 1) (u .y) → r₃ ≡ set r₂ (3 * i + 2) (u .z) → r₃ ≡ fill 3 r i 0 (row3 (directionOf kinds coords i))
+  pub stored-is : (u : Vec3) (r r₁ r₂ r₃ : List Float) → u ≡ directionOf kinds coords i → r₁ ≡ set r (realsPerPiece * i + 0) (u .x) → r₂ ≡ set r₁ (realsPerPiece * i + 1) (u .y) → r₃ ≡ set r₂ (realsPerPiece * i + 2) (u .z) → r₃ ≡ fill realsPerPiece r i 0 (row3 (directionOf kinds coords i))
   unfolding fill
   stored-is u r r₁ r₂ r₃ is-u one two three =
-      three ∙ ((λ j. set ((two ∙ (λ k. set (one k) (3 * i + 1) (u .y))) j) (3 * i + 2) (u .z)) ∙ ap (λ (v : Vec3). fill 3 r i 0 (row3 v)) is-u)
+      three ∙ ((λ j. set ((two ∙ (λ k. set (one k) (realsPerPiece * i + 1) (u .y))) j) (realsPerPiece * i + 2) (u .z)) ∙ ap (λ (v : Vec3). fill realsPerPiece r i 0 (row3 v)) is-u)
 
 module _ (kinds : List ℕ) (coords : List Float) where
   -- all written, and the rest zeroed
-  pub directions-made : (r₀ r out : List Float) → r ≡ withRows 3 (λ (i : ℕ). row3 (directionOf kinds coords i)) (length kinds) r₀ → out ≡ zeroFrom zero64 (3 * length kinds) r → out ≡ pieceReals kinds coords (length r₀)
+  pub directions-made : (r₀ r out : List Float) → r ≡ withRows realsPerPiece (λ (i : ℕ). row3 (directionOf kinds coords i)) (length kinds) r₀ → out ≡ zeroFrom zero64 (realsPerPiece * length kinds) r → out ≡ pieceReals kinds coords (length r₀)
   unfolding pieceReals
   directions-made r₀ r out written zeroed =
-      zeroed ∙ (ap (zeroFrom zero64 (3 * length kinds)) written ∙ zero-past-rows zero64 3 (λ (i : ℕ). row3 (directionOf kinds coords i)) (λ k. refl) (length kinds) r₀)
+      zeroed ∙ (ap (zeroFrom zero64 (realsPerPiece * length kinds)) written ∙ zero-past-rows zero64 realsPerPiece (λ (i : ℕ). row3 (directionOf kinds coords i)) (λ k. refl) (length kinds) r₀)
 
   -- the direction of a piece, read from the buffer
-  pub direction-held : (n i : ℕ) → i < length kinds → 3 * length kinds ≤ n → normalAt (pieceReals kinds coords n) i ≡ directionOf kinds coords i
+  pub direction-held : (n i : ℕ) → i < length kinds → realsPerPiece * length kinds ≤ n → vectorAt realsPerPiece (pieceReals kinds coords n) i 0 ≡ directionOf kinds coords i
   unfolding pieceReals
   direction-held n i l room = vectors-at (directionOf kinds coords) (length kinds) (replicate n zero64) i l (omega (arith, length-replicate n zero64))

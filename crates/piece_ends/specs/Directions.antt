@@ -4,6 +4,7 @@ use mathlib.Core.Bool.{Bool, _&&_}
 use mathlib.Core.List.{List}
 use lib.Ieee.{Float, lt}
 use lib.ListN.{length, replicate}
+use Rattle.layout.specs.Layout.{realsPerPiece}
 use Rattle.float64.specs.Scalar.{zero64}
 use Rattle.float64.specs.Notation.{if_then_else_}
 use Rattle.vec3.specs.declared.Vec3.{Vec3}
@@ -24,4 +25,4 @@ module _ (kinds : List ℕ) (coords : List Float) where
 
   -- the buffer, of n reals: the pieces' directions, and zeros behind them
   unfoldable pub pieceReals : ℕ → List Float
-  pieceReals n = withRows 3 (λ (i : ℕ). row3 (directionOf i)) (length kinds) (replicate n zero64)
+  pieceReals n = withRows realsPerPiece (λ (i : ℕ). row3 (directionOf i)) (length kinds) (replicate n zero64)

@@ -6,6 +6,7 @@ use mathlib.Core.List.{List, [], _∷_}
 use lib.Dec.{eqb}
 use lib.ListN.{length, getD, set}
 use lib.Ieee.{Float, binary64, toBits}
+use Rattle.layout.specs.Layout.{wordsPerPiece, pieceHead, pieceLinks}
 use Rattle.vec3.specs.declared.Vec3.{Vec3}
 use Rattle.edge_table.specs.Words.{slotWords}
 use Rattle.piece_ends.specs.Ends.{passing, endPoint, isEnd}
@@ -55,10 +56,10 @@ module _ (kinds : List ℕ) (coords : List Float) where
 
   -- the buffer, of n words; behind the pieces' slots they are zeros (`spare-zero` in proofs/Held.antt)
   unfoldable pub pieceWords : ℕ → List ℕ
-  pieceWords n = slotWords n 3 (slotWord headLink nextEndLink)
+  pieceWords n = slotWords n wordsPerPiece (slotWord headLink nextEndLink)
 
   -- end e put before the others of its bucket, where there is such an end
   unfoldable pub entered : ℕ → List ℕ → List ℕ
   entered e words =
       let b : ℕ = bucketAt e in
-      cond (isEnd kinds e) (set (set words (3 * (e / 2) + (1 + e % 2)) (getD words (3 * b + 0) 0)) (3 * b + 0) (e + 1)) words
+      cond (isEnd kinds e) (set (set words (wordsPerPiece * (e / 2) + (pieceLinks + e % 2)) (getD words (wordsPerPiece * b + pieceHead) 0)) (wordsPerPiece * b + pieceHead) (e + 1)) words

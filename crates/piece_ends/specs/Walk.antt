@@ -1,13 +1,14 @@
 -- The pieces' buffer read: what is found along its links, whatever words it holds. Definitions only.
 use Prim.Native.Nat.{ℕ, zero, suc, _+_, _*_, _/_, _%_, _<_}
 use mathlib.Core.Path.{_≡_}
-use mathlib.Core.Bool.{Bool, cond}
+use mathlib.Core.Bool.{Bool, cond, _&&_}
 use mathlib.Core.List.{List, [], _∷_}
 use lib.Dec.{eqb}
 use lib.ListN.{length, getD}
 use lib.Ieee.{Float}
+use Rattle.layout.specs.Layout.{wordsPerPiece, pieceHead, pieceLinks}
 use Rattle.vec3.specs.declared.Vec3.{Vec3}
-use Rattle.piece_ends.specs.Ends.{endPoint, sameBits}
+use Rattle.piece_ends.specs.Ends.{endPoint, isEnd, sameBits}
 use Rattle.piece_ends.specs.Table.{pointBucket, headLink, nextEndLink}
 
 -- the ends from a link on, up to k of them, where `next` gives each end's link
@@ -24,7 +25,7 @@ findAlong next test (suc k) (suc e) = cond (test e) (suc e) (findAlong next test
 
 -- the link of end e
 abbrev pub endLinkAt : List ℕ → ℕ → ℕ
-endLinkAt words e = getD words (3 * (e / 2) + (1 + e % 2)) 0
+endLinkAt words e = getD words (wordsPerPiece * (e / 2) + (pieceLinks + e % 2)) 0
 
 -- whether end e has p's bits
 abbrev pub standsAt : List Float → Vec3 → ℕ → Bool
@@ -33,16 +34,21 @@ standsAt coords p e = sameBits (endPoint coords e) p
 module _ (coords : List Float) (words : List ℕ) (pieces : ℕ) where
   -- the link to the first end of p's bits, from the head of p's bucket on
   unfoldable pub firstLinkAt : Vec3 → ℕ
-  firstLinkAt p = findAlong (endLinkAt words) (standsAt coords p) (2 * pieces) (getD words (3 * pointBucket pieces p + 0) 0)
+  firstLinkAt p = findAlong (endLinkAt words) (standsAt coords p) (2 * pieces) (getD words (wordsPerPiece * pointBucket pieces p + pieceHead) 0)
 
   -- the link to the next end of the bits of end e
   unfoldable pub nextLinkAt : ℕ → ℕ
   nextLinkAt e = findAlong (endLinkAt words) (standsAt coords (endPoint coords e)) (2 * pieces) (endLinkAt words e)
 
-  unfoldable pub isFirstAt : ℕ → Bool
-  isFirstAt e = eqb (firstLinkAt (endPoint coords e)) (suc e)
+  -- end e is the first of its bits that the links lead to
+  unfoldable pub leadsAt : ℕ → Bool
+  leadsAt e = eqb (firstLinkAt (endPoint coords e)) (suc e)
+
+-- end e is there, and none before it has its bits
+unfoldable pub isFirstAt : List ℕ → List Float → List ℕ → ℕ → ℕ → Bool
+isFirstAt kinds coords words pieces e = isEnd kinds e && leadsAt coords words pieces e
 
 -- Words that hold the table of the pieces.
 pub record HoldsTable (kinds : List ℕ) (coords : List Float) (words : List ℕ) : Type 0 where
-  pub heads : (b : ℕ) → b < length kinds → getD words (3 * b + 0) 0 ≡ headLink kinds coords b
+  pub heads : (b : ℕ) → b < length kinds → getD words (wordsPerPiece * b + pieceHead) 0 ≡ headLink kinds coords b
   pub links : (e : ℕ) → e < 2 * length kinds → endLinkAt words e ≡ nextEndLink kinds coords e

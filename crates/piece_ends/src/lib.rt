@@ -7,17 +7,22 @@ use buffers::write_u32;
 use buffers::zero_f64_from;
 use buffers::zero_u32;
 use frames::vector_from;
+use layout::PIECE_HEAD;
+use layout::PIECE_LINKS;
+use layout::REALS_PER_PIECE;
+use layout::WORDS_PER_PIECE;
 use vec3::Vec3;
 ghost use mathlib.Core.Path.{_≡_};
 ghost use Prim.Native.Nat.{_*_, _≤_, _<_};
 ghost use lib.Ieee.{binary64, toBits};
 ghost use lib.ListN.{length};
+ghost use Rattle.layout.specs.Layout.{wordsPerPiece, realsPerPiece};
 ghost use Rattle.buffers.specs.Lent.{given, left};
 ghost use Rattle.buffers.specs.Slots.{fill};
 ghost use Rattle.frames.specs.Stored.{row3};
 ghost use Rattle.piece_ends.specs.Ends.{endPoint, isEnd, sameBits};
 ghost use Rattle.piece_ends.specs.Table.{mixed, pointBucket, pieceWords, entered};
-ghost use Rattle.piece_ends.specs.Walk.{endLinkAt, standsAt, findAlong, firstLinkAt, nextLinkAt, isFirstAt};
+ghost use Rattle.piece_ends.specs.Walk.{endLinkAt, standsAt, findAlong, firstLinkAt, nextLinkAt, leadsAt, isFirstAt};
 ghost use Rattle.piece_ends.specs.Directions.{isLong, directionOf, pieceReals};
 
 fn bits(x: f64) -> u64
@@ -95,14 +100,14 @@ fn enter(kinds: &[u8], coords: &[f64], words: &mut [u32], e: u32)
         return;
     }
     let b = bucket_of(end_point(coords, e), kinds.len() as u32);
-    let head = read_u32(words, 3, b, 0);
-    write_u32(words, 3, e / 2, 1 + e % 2, head);
-    write_u32(words, 3, b, 0, e + 1);
+    let head = read_u32(words, WORDS_PER_PIECE, b, PIECE_HEAD);
+    write_u32(words, WORDS_PER_PIECE, e / 2, PIECE_LINKS + e % 2, head);
+    write_u32(words, WORDS_PER_PIECE, b, PIECE_HEAD, e + 1);
 }
 
 // The table of all ends. They are entered from the last to the first, so that each bucket has them in the Rust's order.
 pub fn build(kinds: &[u8], coords: &[f64], words: &mut [u32])
-    requires { ⌜ (length (now kinds) ≤ 65535) × (3 * length (now kinds) ≤ length (now words)) ⌝ }
+    requires { ⌜ (length (now kinds) ≤ 65535) × (wordsPerPiece * length (now kinds) ≤ length (now words)) ⌝ }
     ensures { λ r. ⌜ left words ≡ pieceWords (given kinds) (given coords) (length (given words)) ⌝ }
 {
     zero_u32(words);
@@ -116,7 +121,7 @@ pub fn build(kinds: &[u8], coords: &[f64], words: &mut [u32])
 fn next_link(words: &[u32], e: u32) -> u32
     ensures { λ r. ⌜ r ≡ endLinkAt (given words) e ⌝ }
 {
-    read_u32(words, 3, e / 2, 1 + e % 2)
+    read_u32(words, WORDS_PER_PIECE, e / 2, PIECE_LINKS + e % 2)
 }
 
 // The link to the first end with p's bits along the links from one on. No chain is longer than there are ends.
@@ -142,7 +147,7 @@ fn seek(coords: &[f64], words: &[u32], pieces: u32, p: Vec3, link: u32) -> u32
 pub fn first_at(coords: &[f64], words: &[u32], pieces: u32, p: Vec3) -> u32
     ensures { λ r. ⌜ r ≡ firstLinkAt (given coords) (given words) pieces p ⌝ }
 {
-    let head = read_u32(words, 3, bucket_of(p, pieces), 0);
+    let head = read_u32(words, WORDS_PER_PIECE, bucket_of(p, pieces), PIECE_HEAD);
     seek(coords, words, pieces, p, head)
 }
 
@@ -159,9 +164,9 @@ pub fn next_at(coords: &[f64], words: &[u32], pieces: u32, e: u32) -> u32
     )
 }
 
-// Whether end e is there and none before it has its bits.
-pub fn is_first(coords: &[f64], words: &[u32], pieces: u32, e: u32) -> bool
-    ensures { λ r. ⌜ r ≡ isFirstAt (given coords) (given words) pieces e ⌝ }
+// Whether end e is the first of its bits that the links lead to.
+fn leads(coords: &[f64], words: &[u32], pieces: u32, e: u32) -> bool
+    ensures { λ r. ⌜ r ≡ leadsAt (given coords) (given words) pieces e ⌝ }
 {
     let link = first_at(coords, words, pieces, end_point(coords, e));
     if link == 0 {
@@ -171,6 +176,16 @@ pub fn is_first(coords: &[f64], words: &[u32], pieces: u32, e: u32) -> bool
         return true;
     }
     false
+}
+
+// Whether end e is there and none before it has its bits. A point's second end is not looked for: what stands in its place may lead through a whole bucket.
+pub fn is_first(kinds: &[u8], coords: &[f64], words: &[u32], pieces: u32, e: u32) -> bool
+    ensures { λ r. ⌜ r ≡ isFirstAt (given kinds) (given coords) (given words) pieces e ⌝ }
+{
+    if !is_end(kinds, e) {
+        return false;
+    }
+    leads(coords, words, pieces, e)
 }
 
 // Whether piece i is a segment of computed length above zero.
@@ -212,12 +227,12 @@ fn direction(kinds: &[u8], coords: &[f64], i: u32) -> Vec3
 
 fn store_direction(kinds: &[u8], coords: &[f64], i: u32, reals: &mut [f64])
     requires { ⌜ i < 2147483648 ⌝ }
-    ensures { λ r. ⌜ left reals ≡ fill 3 (given reals) i 0 (row3 (directionOf (given kinds) (given coords) i)) ⌝ }
+    ensures { λ r. ⌜ left reals ≡ fill realsPerPiece (given reals) i 0 (row3 (directionOf (given kinds) (given coords) i)) ⌝ }
 {
     let u = direction(kinds, coords, i);
-    write_f64(reals, 3, i, 0, u.x);
-    write_f64(reals, 3, i, 1, u.y);
-    write_f64(reals, 3, i, 2, u.z);
+    write_f64(reals, REALS_PER_PIECE, i, 0, u.x);
+    write_f64(reals, REALS_PER_PIECE, i, 1, u.y);
+    write_f64(reals, REALS_PER_PIECE, i, 2, u.z);
 }
 
 // The directions of all pieces; the slots behind them are zeroed.
@@ -231,5 +246,5 @@ pub fn directions(kinds: &[u8], coords: &[f64], reals: &mut [f64])
         store_direction(kinds, coords, i, reals);
         i += 1;
     }
-    zero_f64_from(reals, 3 * kinds.len());
+    zero_f64_from(reals, (REALS_PER_PIECE as usize) * kinds.len());
 }

@@ -9,8 +9,8 @@ use borrow.Author.Tests.{ne-eqb, eqb-false}
 use lib.Dec.{eqb}
 use lib.Ieee.{Float}
 use lib.ListN.{length}
+use Rattle.layout.specs.Layout.{realsPerPiece}
 use Rattle.vec3.specs.declared.Vec3.{Vec3}
-use Rattle.job_checks.specs.Sound.{ValidTriangles}
 use Rattle.topology.specs.Edges.{edges, triEdge, local}
 use Rattle.topology.specs.Frames.{xhat, yhat}
 use Rattle.topology.proofs.Find.{either}
@@ -18,20 +18,21 @@ use Rattle.topology.proofs.Edges.{tri-edge-there}
 use Rattle.topology.proofs.Checked.{inside}
 use Rattle.topology.proofs.Sides.{local-below}
 use Rattle.frames.specs.Stored.{lengthAt, unitAt, originAt}
-use Rattle.frames.specs.Held.{HoldsEdges, HoldsFaces, HoldsSides, HoldsLengths, HoldsNormals}
 use Rattle.frames.proofs.Held.{origin-held}
-use Rattle.mesh_readers.specs.Readers.{sideIn, normalIn, localAt, sideToAt}
+use Rattle.mesh_readers.specs.Held.{HoldsMesh}
+use Rattle.mesh_readers.specs.Readers.{sideIn, normalIn, localAt}
 use Rattle.mesh_readers.specs.Sides.{hasFace, sideTo}
 use Rattle.mesh_readers.proofs.Held.{side-held, local-held, normal-held}
 use Rattle.mesh_readers.proofs.Sides.{side-to-held}
 use Rattle.source_windows.specs.Wedge.{wholeOf, wedgeOf}
+use Rattle.carriers.specs.Carrier.{otherCarrier}
 use Rattle.piece_ends.specs.Walk.{HoldsTable}
 use Rattle.piece_ends.specs.Directions.{pieceReals}
 use Rattle.segments_behind.specs.Behind.{behindIn}
 use Rattle.segments_behind.proofs.Held.{behind-held}
 use Rattle.point_wedge.specs.declared.Plane.{Plane}
 use Rattle.point_wedge.specs.declared.Plane.the-variants.{Across}
-use Rattle.point_wedge.specs.Wedge.{otherCarrier, pairAcross, directionsIn, boundsIn, laidOf, acrossAt, behindAt, pairAt, directionsAt, boundsAt}
+use Rattle.point_wedge.specs.Wedge.{pairAcross, directionsIn, boundsIn, laidOf, acrossAt, behindAt, pairAt, directionsAt, boundsAt}
 
 at-most-three : (a b c : Bool) → cond a 0 (cond b 1 (cond c 2 3)) ≤ 3
 at-most-three true b c = omega arith
@@ -43,9 +44,8 @@ side-to-three : (triangles : List ℕ) (g h : ℕ) → sideTo triangles g h ≤ 
 unfolding sideTo
 side-to-three triangles g h = at-most-three (hasFace triangles (triEdge triangles (3 * g)) h) (hasFace triangles (triEdge triangles (3 * g + 1)) h) (hasFace triangles (triEdge triangles (3 * g + 2)) h)
 
-module _ (v : List Float) (triangles : List ℕ) (n : ℕ) (valid : ValidTriangles triangles n) (edgeWords : List ℕ) (edgeReals : List Float) (triangleWords : List ℕ) (triangleReals : List Float)
-    (ends : HoldsEdges triangles edgeWords) (of : HoldsFaces triangles edgeWords) (long : HoldsLengths v triangles edgeReals) (sides : HoldsSides triangles triangleWords) (normals : HoldsNormals v triangles triangleReals)
-    (kinds faces : List ℕ) (coords : List Float) (words : List ℕ) (held : HoldsTable kinds coords words) (m : ℕ) (room : 3 * length kinds ≤ m) (p : Vec3) where
+module _ (v : List Float) (triangles : List ℕ) (n : ℕ) (edgeWords : List ℕ) (edgeReals : List Float) (triangleWords : List ℕ) (triangleReals : List Float)
+    (mesh : HoldsMesh v triangles n edgeWords edgeReals triangleWords triangleReals) (kinds faces : List ℕ) (coords : List Float) (words : List ℕ) (held : HoldsTable kinds coords words) (m : ℕ) (room : realsPerPiece * length kinds ≤ m) (p : Vec3) where
   abbrev behind : ℕ → List Vec3
   behind f = behindAt kinds faces coords words (pieceReals kinds coords m) (length kinds) f p
 
@@ -55,19 +55,19 @@ module _ (v : List Float) (triangles : List ℕ) (n : ℕ) (valid : ValidTriangl
 
   normal-is : (f : ℕ) → f < length triangles / 3 → (e : ℕ) → normalIn triangleReals f (localAt triangleWords f e) ≡ yhat v triangles (3 * f + local triangles f e)
   normal-is f l e =
-      let last : 3 * f + 2 < length triangles = inside triangles n valid f l in
-      ap (normalIn triangleReals f) (local-held triangles triangleWords sides f last e)
-      ∙ normal-held v triangles triangleReals normals f (local triangles f e) (omega (arith, last, local-below triangles f e))
+      let last : 3 * f + 2 < length triangles = inside triangles n (mesh .valid) f l in
+      ap (normalIn triangleReals f) (local-held triangles triangleWords (mesh .sides) f last e)
+      ∙ normal-held v triangles triangleReals (mesh .normals) f (local triangles f e) (omega (arith, last, local-below triangles f e))
 
   module _ (g : ℕ) (l : g < length triangles / 3) where
     last : 3 * g + 2 < length triangles
-    last = inside triangles n valid g l
+    last = inside triangles n (mesh .valid) g l
 
     there : (k : ℕ) → k < 3 → triEdge triangles (3 * g + k) < length (edges triangles)
     there k q = tri-edge-there triangles (3 * g + k) (omega (arith, last))
 
     side-is : (k : ℕ) → k < 3 → sideIn triangleWords g k ≡ triEdge triangles (3 * g + k)
-    side-is k q = side-held triangles triangleWords sides g last k q
+    side-is k q = side-held triangles triangleWords (mesh .sides) g last k q
 
     module _ (h : ℕ) (m′ : h < length triangles / 3) where
       abbrev plane : ℕ → Plane
@@ -77,7 +77,7 @@ module _ (v : List Float) (triangles : List ℕ) (n : ℕ) (valid : ValidTriangl
       unfolding acrossAt
       across-held k q =
           let e : ℕ = triEdge triangles (3 * g + k) in
-          ap (acrossAt edgeReals triangleWords triangleReals g h) (side-is k q) ∙ (λ t. Across (long .unit-is e (there k q) t) (normal-is g l e t) (normal-is h m′ e t))
+          ap (acrossAt edgeReals triangleWords triangleReals g h) (side-is k q) ∙ (λ t. Across (mesh .lengths .unit-is e (there k q) t) (normal-is g l e t) (normal-is h m′ e t))
 
       pair-from : (i : ℕ) → i ≤ 3
           → cond (eqb i 3) [] (behind g ++ map (laidOf (acrossAt edgeReals triangleWords triangleReals g h (sideIn triangleWords g i))) (behind h)) ≡ pairAcross v triangles kinds faces coords g h i p
@@ -91,7 +91,7 @@ module _ (v : List Float) (triangles : List ℕ) (n : ℕ) (valid : ValidTriangl
       unfolding pairAt
       pair-held =
           ap (λ (i : ℕ). cond (eqb i 3) [] (behind g ++ map (laidOf (acrossAt edgeReals triangleWords triangleReals g h (sideIn triangleWords g i))) (behind h)))
-          (side-to-held triangles edgeWords triangleWords of sides g h last)
+          (side-to-held triangles edgeWords triangleWords (mesh .faces) (mesh .sides) g h last)
           ∙ pair-from (sideTo triangles g h) (side-to-three triangles g h)
 
     -- h is the carrier that is not g, where there are two, and it is a face of the mesh
@@ -117,4 +117,4 @@ module _ (v : List Float) (triangles : List ℕ) (n : ℕ) (valid : ValidTriangl
     bounds-held k q carriers h is =
         let e : ℕ = triEdge triangles (3 * g + k) in
         (λ t. let z = side-is k q t in wedgeOf (originAt v edgeWords z) p (unitAt edgeReals z) (wholeOf (lengthAt edgeReals z)) (directions (length carriers) h))
-        ∙ (λ t. wedgeOf (origin-held v triangles edgeWords ends e (there k q) t) p (long .unit-is e (there k q) t) (wholeOf (long .length-is e (there k q) t)) (directions-held carriers h is t))
+        ∙ (λ t. wedgeOf (origin-held v triangles edgeWords (mesh .ends) e (there k q) t) p (mesh .lengths .unit-is e (there k q) t) (wholeOf (mesh .lengths .length-is e (there k q) t)) (directions-held carriers h is t))

@@ -13,6 +13,7 @@ use Rattle.mesh_readers.specs.Readers.{sideIn, normalIn, localAt, sideToAt}
 use Rattle.mesh_readers.specs.Sides.{sideTo}
 use Rattle.source_windows.specs.declared.Bounds.{Bounds}
 use Rattle.source_windows.specs.Wedge.{unfoldedOf, wholeOf, wedgeOf}
+use Rattle.carriers.specs.Carrier.{otherCarrier}
 use Rattle.piece_ends.specs.Walk.{follow}
 use Rattle.segments_behind.specs.Behind.{behindIn, firstBehindAt, nextBehindAt, leavingAt}
 use Rattle.point_wedge.specs.declared.Plane.{Plane}
@@ -23,10 +24,6 @@ abbrev pub wedgeBounds : Vec3 → Vec3 → Vec3 → Float → List Vec3 → Boun
 wedgeBounds o p xhat l dirs = wedgeOf o p xhat (wholeOf l) dirs
 
 -- ---- of a mesh and its pieces
--- the Rust's `if carriers[0] == g { carriers[1] } else { carriers[0] }`
-abbrev pub otherCarrier : ℕ → ℕ → ℕ → ℕ
-otherCarrier g a b = cond (eqb a g) b a
-
 module _ (v : List Float) (triangles kinds faces : List ℕ) (coords : List Float) where
   -- `own`, and the directions of h unfolded across side i of g into g's plane; none at all where i is 3, for no side
   unfoldable pub pairAcross : ℕ → ℕ → ℕ → Vec3 → List Vec3

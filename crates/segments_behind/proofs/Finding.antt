@@ -8,11 +8,12 @@ use borrow.Author.Tests.{eq-eqb, ne-eqb}
 use lib.Dec.{eqb}
 use lib.Ieee.{Float, nan, neg}
 use lib.ListN.{getD}
+use Rattle.layout.specs.Layout.{realsPerPiece}
 use Rattle.float64.specs.Scalar.{one}
 use Rattle.vec3.specs.declared.Vec3.{Vec3}
 use Rattle.vec3.specs.Vec.{scaleOf}
 use Rattle.buffers.specs.declared.FaceId.{FaceId}
-use Rattle.frames.specs.Stored.{vectorFrom, normalAt}
+use Rattle.frames.specs.Stored.{vectorFrom, vectorAt}
 use Rattle.piece_ends.specs.Directions.{isLong}
 use Rattle.piece_ends.specs.Walk.{findAlong, firstLinkAt, nextLinkAt}
 use Rattle.segments_behind.specs.Behind.{turnedAt, inFace, firstBehindAt, nextBehindAt}
@@ -64,14 +65,14 @@ module _ (triangles : List ℕ) (g k a : ℕ) (is-a : a ≡ getD triangles (3 * 
       no-vertex nc = sym (not-first ∙ rw (ne-eqb (getD triangles (3 * g + 1) 0) k (λ z. nb (is-b ∙ z)), ne-eqb (getD triangles (3 * g + 2) 0) k (λ z. nc (is-c ∙ z))) refl)
 
 -- ---- a direction
-module _ (reals : List Float) (e : ℕ) (d : Vec3) (is-d : d ≡ vectorFrom reals (3 * (e / 2))) where
-  slot-is : d ≡ normalAt reals (e / 2)
-  slot-is = let z : 3 * (e / 2) ≡ 3 * (e / 2) + 0 = omega arith in is-d ∙ (λ i. record { x = getD reals (z i) nan; y = getD reals (3 * (e / 2) + 1) nan; z = getD reals (3 * (e / 2) + 2) nan })
+module _ (reals : List Float) (e : ℕ) (d : Vec3) (is-d : d ≡ vectorFrom reals (realsPerPiece * (e / 2))) where
+  slot-is : d ≡ vectorAt realsPerPiece reals (e / 2) 0
+  slot-is = let z : realsPerPiece * (e / 2) ≡ realsPerPiece * (e / 2) + 0 = omega arith in is-d ∙ (λ i. record { x = getD reals (z i) nan; y = getD reals (realsPerPiece * (e / 2) + 1) nan; z = getD reals (realsPerPiece * (e / 2) + 2) nan })
 
-  pub leaves-first : e % 2 ≡ 0 → d ≡ turnedAt e (normalAt reals (e / 2))
+  pub leaves-first : e % 2 ≡ 0 → d ≡ turnedAt e (vectorAt realsPerPiece reals (e / 2) 0)
   leaves-first q = rw (eq-eqb (e % 2) 0 q) slot-is
 
-  pub leaves-second : (r : Vec3) → (e % 2 ≡ 0 → ⊥) → r ≡ scaleOf d (neg one) → r ≡ turnedAt e (normalAt reals (e / 2))
+  pub leaves-second : (r : Vec3) → (e % 2 ≡ 0 → ⊥) → r ≡ scaleOf d (neg one) → r ≡ turnedAt e (vectorAt realsPerPiece reals (e / 2) 0)
   leaves-second r q is-r = rw (ne-eqb (e % 2) 0 q) (is-r ∙ ap (λ (u : Vec3). scaleOf u (neg one)) slot-is)
 
 -- ---- searches

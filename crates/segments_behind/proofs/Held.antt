@@ -9,6 +9,7 @@ use borrow.Author.Tests.{ne-eqb, eqb-true, eqb-false}
 use lib.Dec.{eqb}
 use lib.Ieee.{Float}
 use lib.ListN.{length}
+use Rattle.layout.specs.Layout.{realsPerPiece}
 use Rattle.vec3.specs.declared.Vec3.{Vec3}
 use Rattle.job_checks.specs.Any.{anyBelow}
 use Rattle.job_checks.proofs.Any.{found, none-all}
@@ -83,12 +84,12 @@ module _ (kinds faces : List ℕ) (coords : List Float) (words : List ℕ) (held
         ∙ follow-left (nextBehindAt kinds faces coords words (length kinds) g) test (2 * length kinds) next-behind-held (2 * length kinds) 0 (2 * length kinds) (omega arith) (omega arith)
 
     -- and the directions read at them are the Rust's
-    leaving-held : (n : ℕ) → 3 * length kinds ≤ n → (e : ℕ) → test e ≡ true → leavingAt (pieceReals kinds coords n) e ≡ turnedAt e (directionOf kinds coords (e / 2))
+    leaving-held : (n : ℕ) → realsPerPiece * length kinds ≤ n → (e : ℕ) → test e ≡ true → leavingAt (pieceReals kinds coords n) e ≡ turnedAt e (directionOf kinds coords (e / 2))
     leaving-held n room e h =
         let l : e < 2 * length kinds = end-below kinds coords e (has-end kinds coords p e (both (hasBits kinds coords p e) (inFace kinds faces coords g e) h .0) .0) in
         ap (turnedAt e) (direction-held kinds coords n (e / 2) (omega arith) room)
 
-    pub behind-held : (n : ℕ) → 3 * length kinds ≤ n → map (leavingAt (pieceReals kinds coords n)) (follow (nextBehindAt kinds faces coords words (length kinds) g) (2 * length kinds) (firstBehindAt kinds faces coords words (length kinds) g p)) ≡ behindIn kinds faces coords g p
+    pub behind-held : (n : ℕ) → realsPerPiece * length kinds ≤ n → map (leavingAt (pieceReals kinds coords n)) (follow (nextBehindAt kinds faces coords words (length kinds) g) (2 * length kinds) (firstBehindAt kinds faces coords words (length kinds) g p)) ≡ behindIn kinds faces coords g p
     unfolding behindIn endsBehind
     behind-held n room =
         ap (map (leavingAt (pieceReals kinds coords n))) behind-walk-held

@@ -5,11 +5,12 @@ use mathlib.Core.List.{List, map}
 use lib.Dec.{eqb}
 use lib.ListN.{length, getD}
 use lib.Ieee.{Float, neg}
+use Rattle.layout.specs.Layout.{realsPerPiece}
 use Rattle.float64.specs.Scalar.{one}
 use Rattle.float64.specs.Notation.{if_then_else_}
 use Rattle.vec3.specs.declared.Vec3.{Vec3}
 use Rattle.vec3.specs.Vec.{scaleOf}
-use Rattle.frames.specs.Stored.{normalAt}
+use Rattle.frames.specs.Stored.{vectorAt}
 use Rattle.piece_ends.specs.Ends.{passing, hasBits}
 use Rattle.piece_ends.specs.Directions.{isLong, directionOf}
 use Rattle.piece_ends.specs.Walk.{findAlong, firstLinkAt, nextLinkAt}
@@ -42,4 +43,4 @@ module _ (kinds faces : List ℕ) (coords : List Float) where
 
 -- the direction in which the segment of end e leaves it
 abbrev pub leavingAt : List Float → ℕ → Vec3
-leavingAt reals e = turnedAt e (normalAt reals (e / 2))
+leavingAt reals e = turnedAt e (vectorAt realsPerPiece reals (e / 2) 0)

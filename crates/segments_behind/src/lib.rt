@@ -4,6 +4,7 @@ use buffers::FaceId;
 use buffers::VertexId;
 use buffers::read_u32;
 use frames::vector_from;
+use layout::REALS_PER_PIECE;
 use piece_ends::first_at;
 use piece_ends::is_long;
 use piece_ends::next_at;
@@ -96,7 +97,7 @@ pub fn next_behind(
 pub fn leaving(reals: &[f64], e: u32) -> Vec3
     ensures { λ r. ⌜ r ≡ leavingAt (given reals) e ⌝ }
 {
-    let d = vector_from(reals, 3 * ((e / 2) as usize));
+    let d = vector_from(reals, (REALS_PER_PIECE as usize) * ((e / 2) as usize));
     if e % 2 == 0 {
         return d;
     }

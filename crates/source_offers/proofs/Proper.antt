@@ -1,4 +1,4 @@
--- What a source offers is proper where it is admitted, as demand 3 asks, in a mesh whose edges have the lengths of a checked one: segment-proper, point-proper. Assumes nothing.
+-- What a source offers is proper where it is admitted, as demand 3 asks, in a mesh whose edges have the lengths of a checked one: segment-proper, point-proper; range-proper, of any range that lies on its edge. Assumes nothing.
 use Prim.Native.Nat.{ℕ, _+_, _*_}
 use mathlib.Core.Bool.{Bool, true, cond, not}
 use mathlib.Core.List.{List}
@@ -26,7 +26,7 @@ use Rattle.offers.specs.Offers.{offerList}
 use Rattle.source_offers.specs.Offering.{offered, segmentOn, pointOn, segmentOffer, pointOffer}
 
 module _ (limit : Float) (length : ℕ → Float) (e into : ℕ) (queued : Bool) (long : EdgeLength (length e)) where
-  range-proper : (r : CandidateRange) → EndsOn (length e) r → All (AdmittedProper limit length) (offerList (offered e into queued r))
+  pub range-proper : (r : CandidateRange) → EndsOn (length e) r → All (AdmittedProper limit length) (offerList (offered e into queued r))
   unfolding offered
   range-proper NoRange on = tt
   range-proper (Range b0 b1 src) on =

@@ -1,11 +1,9 @@
 -- What a source segment and a source point offer to a side of a face: the Rust's `source_segment` and `source_point` for one edge. Definitions only.
 -- First as the Rust has it, of a mesh's topology; then as the mesh's buffers are read.
 use Prim.Native.Nat.{ℕ, _+_, _*_}
-use mathlib.Core.Bool.{Bool, true, false, cond, not}
+use mathlib.Core.Bool.{Bool, true, cond, not}
 use mathlib.Core.List.{List}
 use lib.Ieee.{Float}
-use Rattle.buffers.specs.declared.EdgeId.{EdgeId}
-use Rattle.buffers.specs.declared.FaceId.{FaceId}
 use Rattle.vec3.specs.declared.Vec3.{Vec3}
 use Rattle.topology.specs.Edges.{noFace, triEdge, other}
 use Rattle.topology.specs.Frames.{len, coordsX, coordsY}

@@ -22,7 +22,8 @@ ghost use Rattle.buffers.specs.Lent.{given};
 ghost use Rattle.source_offers.specs.Offering.{segmentOfferAt, pointOfferAt};
 ghost use Rattle.source_offers.specs.Offering.{offered as offeredOf};
 
-fn offered(e: EdgeId, into: FaceId, queued: bool, w: CandidateRange) -> Offered
+// A range of edge e as it is offered: it goes on into a face, and is queued or not.
+pub fn offered(e: EdgeId, into: FaceId, queued: bool, w: CandidateRange) -> Offered
     ensures { λ r. ⌜ r ≡ offeredOf (e .0) (into .0) queued w ⌝ }
 {
     match w {

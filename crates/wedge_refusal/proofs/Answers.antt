@@ -32,11 +32,11 @@ module _ (v : List Float) (edgeWords : List ℕ) (edgeReals : List Float) (trian
     at-most-two l = sym (le-ltb 2 count l) ∙ ap (ltb 2) count-is
 
   module _ (triangles kinds faces : List ℕ) (coords : List Float) (words : List ℕ) (pieces e : ℕ) where
-    pub met-before : isFirstAt coords words pieces e ≡ false → false ≡ wedgeAt v edgeWords edgeReals triangleWords triangleReals vertexWords triangles kinds faces coords words pieces e
+    pub met-before : isFirstAt kinds coords words pieces e ≡ false → false ≡ wedgeAt v edgeWords edgeReals triangleWords triangleReals vertexWords triangles kinds faces coords words pieces e
     unfolding wedgeAt
     met-before h = sym (rw h refl)
 
-    module _ (first : isFirstAt coords words pieces e ≡ true) (f : FaceId) (p : Vec3) (over : Bool) (is-f : f ≡ record { 0 = getD faces (e / 2) 0 }) (is-p : p ≡ endPoint coords e) (is-over : over ≡ overTwoAt v edgeWords edgeReals triangleWords triangleReals vertexWords (f .0) p) where
+    module _ (first : isFirstAt kinds coords words pieces e ≡ true) (f : FaceId) (p : Vec3) (over : Bool) (is-f : f ≡ record { 0 = getD faces (e / 2) 0 }) (is-p : p ≡ endPoint coords e) (is-over : over ≡ overTwoAt v edgeWords edgeReals triangleWords triangleReals vertexWords (f .0) p) where
       over-is : over ≡ overTwoAt v edgeWords edgeReals triangleWords triangleReals vertexWords (getD faces (e / 2) 0) (endPoint coords e)
       over-is = is-over ∙ (λ i. overTwoAt v edgeWords edgeReals triangleWords triangleReals vertexWords (is-f i .0) (is-p i))
 

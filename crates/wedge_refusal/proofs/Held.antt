@@ -28,7 +28,7 @@ module _ (v : List Float) (triangles : List ℕ) (n : ℕ) (edgeWords : List ℕ
   over-held : (f : ℕ) (p : Vec3) → f < length triangles / 3 → overTwoAt v edgeWords edgeReals triangleWords triangleReals vertexWords f p ≡ ltb 2 (length (carrierOf v triangles f p))
   unfolding overTwoAt
   over-held f p l =
-      ap (ltb 2) (count-held v triangles n edgeWords edgeReals triangleWords triangleReals vertexWords round (held .valid) (held .ends) (held .edge-faces) (held .lengths) (held .sides) (held .normals) (held .round-vertex) f l p)
+      ap (ltb 2) (count-held v triangles n edgeWords edgeReals triangleWords triangleReals vertexWords round (held .mesh) (held .round-vertex) f l p)
 
   end-held : (e : ℕ) → e < 2 * length kinds → wedgeAt v edgeWords edgeReals triangleWords triangleReals vertexWords triangles kinds faces coords words (length kinds) e ≡ wedgeMet v triangles kinds faces coords e
   unfolding wedgeAt wedgeMet

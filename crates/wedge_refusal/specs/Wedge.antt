@@ -37,7 +37,7 @@ module _ (v : List Float) (edgeWords : List ℕ) (edgeReals : List Float) (trian
     wedgeAt pieces e =
         let f : ℕ = getD faces (e / 2) 0 in
         let p : Vec3 = endPoint coords e in
-        isFirstAt coords words pieces e && (overTwoAt f p && anyRoundAt kinds faces coords triangles words pieces (nearestAt v triangles f p) p)
+        isFirstAt kinds coords words pieces e && (overTwoAt f p && anyRoundAt kinds faces coords triangles words pieces (nearestAt v triangles f p) p)
 
     unfoldable pub anyWedgeAt : Bool
     anyWedgeAt = anyBelow (wedgeAt (length kinds)) (2 * length kinds)

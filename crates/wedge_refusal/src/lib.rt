@@ -65,7 +65,7 @@ fn wedge_at(
         (given «triangle_words») (given «triangle_reals») (given «vertex_words»)
         (given triangles) (given kinds) (given faces) (given coords) (given words) pieces e ⌝ }
 {
-    if !is_first(coords, words, pieces, e) {
+    if !is_first(kinds, coords, words, pieces, e) {
         return false;
     }
     let f = face_of(faces, e);

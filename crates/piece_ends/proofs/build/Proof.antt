@@ -5,6 +5,7 @@ use mathlib.Core.List.{List}
 use native.Mathlib.Omega.{arith}
 use lib.Ieee.{Float}
 use lib.ListN.{length, replicate, length-replicate}
+use Rattle.layout.specs.Layout.{wordsPerPiece}
 use Rattle.piece_ends.specs.Table.{entered}
 use Rattle.piece_ends.proofs.Building.{Partial, none-entered, enter-turn, all-entered}
 use borrow.Author.Needs.{needs}
@@ -17,7 +18,7 @@ length-of l m e = ap length e ∙ length-replicate (length m) 0
 zero-start : (kinds : List ℕ) (coords : List Float) (words words₀ : List ℕ) → words ≡ replicate (length words₀) 0 → Partial kinds coords (2 * length kinds) words
 zero-start kinds coords words words₀ e = subst (Partial kinds coords (2 * length kinds)) (sym e) (none-entered kinds coords (length words₀))
 
-entered-next : (kinds : List ℕ) (coords : List Float) (e : ℕ) (words words′ : List ℕ) → e ≤ 2 * length kinds → 0 < e → 3 * length kinds ≤ length words → Partial kinds coords e words → words′ ≡ entered kinds coords (e - 1) words → Partial kinds coords (e - 1) words′
+entered-next : (kinds : List ℕ) (coords : List Float) (e : ℕ) (words words′ : List ℕ) → e ≤ 2 * length kinds → 0 < e → wordsPerPiece * length kinds ≤ length words → Partial kinds coords e words → words′ ≡ entered kinds coords (e - 1) words → Partial kinds coords (e - 1) words′
 entered-next kinds coords e words words′ l more room part is =
     let n : e ≡ suc (e - 1) = omega arith in
     enter-turn kinds coords (e - 1) (omega arith) words words′ room (subst (λ (k : ℕ). Partial kinds coords k words) n part) is

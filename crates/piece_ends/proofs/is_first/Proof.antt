@@ -1,41 +1,29 @@
 -- `piece_ends::is_first` meets its contract. Assumes nothing.
-use native.Mathlib.Omega.{arith}
+use mathlib.Core.Path.{sym, _∙_}
+use borrow.Author.Tests.{not-true, not-false}
 use borrow.Author.Needs.{needs}
-use Rattle.piece_ends.proofs.Seeking.{first-is, first-is-not}
+use Rattle.piece_ends.proofs.Seeking.{no-end, end-leads}
 use Rattle.piece_ends.proofs.is_first.Statement.{statement}
 use Rattle.piece_ends.proofs.is_first.Tie as tie
 
-end-point-requires : tie.Need-end-point-requires
-end-point-requires c κs = search needs
-
-first-at-requires : tie.Need-first-at-requires
-first-at-requires c κs = search needs
+is-end-requires : tie.Need-is-end-requires
+is-end-requires c κs = search needs
 
 returns : tie.Need-returns
 returns c =
-    let link = c .before in
-    let point = link .before in
-    let a = point .before .before .before .args in
-    first-is-not (a .coords .now) (a .words .now) (a .pieces) (a .e) _ _ (point .end-point .ensures) (link .first-at .ensures) (λ z. omega (arith, z, c .if1 .taken))
+    let test = c .before in
+    let a = test .before .before .before .before .args in
+    no-end (a .kinds .now) (a .coords .now) (a .words .now) (a .pieces) (a .e) (sym (test .is-end .ensures) ∙ not-true _ (c .if1 .taken))
 
-sub-if2 : tie.Need-sub-if2
-sub-if2 c = search needs
+leads-requires : tie.Need-leads-requires
+leads-requires c κs = search needs
 
 returns-2 : tie.Need-returns-2
 returns-2 c =
-    let live = c .before in
-    let link = live .before in
-    let point = link .before in
-    let a = point .before .before .before .args in
-    first-is (a .coords .now) (a .words .now) (a .pieces) (a .e) _ _ (point .end-point .ensures) (link .first-at .ensures) (omega (arith, live .if1 .left, c .if2 .taken))
-
-returns-3 : tie.Need-returns-3
-returns-3 c =
-    let live = c .before in
-    let link = live .before in
-    let point = link .before in
-    let a = point .before .before .before .args in
-    first-is-not (a .coords .now) (a .words .now) (a .pieces) (a .e) _ _ (point .end-point .ensures) (link .first-at .ensures) (λ z. omega (arith, z, live .if1 .left, c .if2 .left))
+    let branch = c .before in
+    let test = branch .before in
+    let a = test .before .before .before .before .args in
+    end-leads (a .kinds .now) (a .coords .now) (a .words .now) (a .pieces) (a .e) (c .leads .result) (sym (test .is-end .ensures) ∙ not-false _ (branch .if1 .left)) (c .leads .ensures)
 
 pub is-first-spec : {M : Type 1} → statement M
-is-first-spec = tie.close (tie.spec end-point-requires first-at-requires returns sub-if2 returns-2 returns-3)
+is-first-spec = tie.close (tie.spec is-end-requires returns leads-requires returns-2)

@@ -7,6 +7,9 @@ use Rattle.segments_behind.proofs.leaving.Tie as tie
 cast-vector-from : tie.Need-cast-vector-from
 cast-vector-from c = search needs
 
+cast-vector-from-2 : tie.Need-cast-vector-from-2
+cast-vector-from-2 c = search needs
+
 mul-vector-from : tie.Need-mul-vector-from
 mul-vector-from c = search needs
 
@@ -34,6 +37,7 @@ leaving-spec =
     tie.close
     (tie.spec
     cast-vector-from
+    cast-vector-from-2
     mul-vector-from
     vector-from-requires
     returns

@@ -1,0 +1,3 @@
+pub mod Lowered
+pub mod Buffers
+pub mod Finished

@@ -1,0 +1,84 @@
+// The end of the Rust's `compute`: every vertex at the least of its edges' windows there. What else the Rust does then changes nothing (proofs/Finished.antt).
+use buffers::EdgeId;
+use buffers::VertexId;
+use buffers::WindowId;
+use buffers::write_f64;
+use layout::REALS_PER_VERTEX;
+use layout::VERTEX_DISTANCE;
+use source::Win;
+use windows::Edge;
+ghost use mathlib.Core.Path.{_≡_};
+ghost use Prim.Native.Nat.{_≤_, _<_};
+ghost use lib.ListN.{length};
+ghost use Rattle.layout.specs.Layout.{wordsPerEdge};
+ghost use Rattle.buffers.specs.Slots.{slotsOf};
+ghost use Rattle.buffers.specs.Lent.{given, left};
+ghost use Rattle.windows.specs.Windows.{capacityOf};
+ghost use Rattle.chains.specs.Chains.{links};
+ghost use Rattle.last_pass.specs.Lowered.{lowered, loweredBy, loweredEdge};
+ghost use Rattle.last_pass.specs.Buffers.{chainBehind, winsOn, loweredAllAt};
+
+// A vertex's distance is lowered to d where d is less.
+fn lower(vertex: &mut [f64], v: VertexId, d: f64)
+    ensures { λ r. ⌜ left vertex ≡ lowered (given vertex) (v .0) d ⌝ }
+{
+    let least = float64::min(actions::distance(vertex, v), d);
+    write_f64(vertex, REALS_PER_VERTEX, v.0, VERTEX_DISTANCE, least);
+}
+
+// Those of both ends of an edge to what a window of it gives there.
+fn lower_ends(vertex: &mut [f64], e: Edge, w: Win)
+    ensures { λ r. ⌜ left vertex ≡ loweredBy e w (given vertex) ⌝ }
+{
+    let da = source::eval(w, 0.0, 0.0);
+    let db = source::eval(w, e.len, 0.0);
+    lower(vertex, e.a, da);
+    lower(vertex, e.b, db);
+}
+
+// By all windows on the chain of an edge.
+fn lower_edge(
+    edge_words: &[u32],
+    words: &[u32],
+    reals: &[f64],
+    vertex: &mut [f64],
+    e: Edge,
+    made: u32,
+)
+    requires { ⌜ (made ≤ capacityOf (length (now words)) (length (now reals))) × (e .id .0 < slotsOf (length (now «edge_words»)) wordsPerEdge) ⌝ }
+    ensures { λ r. ⌜ left vertex ≡ loweredEdge e (winsOn (given words) (given reals) (chainBehind made (links (given «edge_words») (given words)) (e .id .0) made 0)) (given vertex) ⌝ }
+{
+    let mut before = 0;
+    let mut left = made;
+    while 0 < left {
+        let at = chains::link_at(edge_words, words, reals, made, e.id, before);
+        if at == 0 {
+            return;
+        }
+        let x = windows::load(words, reals, WindowId(at - 1));
+        lower_ends(vertex, e, x.win);
+        before = at;
+        left -= 1;
+    }
+}
+
+// The last pass over so many edges, where so many windows are made.
+pub fn lower_all(
+    edge_words: &[u32],
+    edge_reals: &[f64],
+    words: &[u32],
+    reals: &[f64],
+    vertex: &mut [f64],
+    edges: u32,
+    made: u32,
+)
+    requires { ⌜ (made ≤ capacityOf (length (now words)) (length (now reals))) × (edges ≤ slotsOf (length (now «edge_words»)) wordsPerEdge) ⌝ }
+    ensures { λ r. ⌜ left vertex ≡ loweredAllAt made (given «edge_reals») (links (given «edge_words») (given words)) (given reals) edges (given vertex) ⌝ }
+{
+    let mut e = 0;
+    while e < edges {
+        let edge = mesh_readers::edge(edge_words, edge_reals, EdgeId(e));
+        lower_edge(edge_words, words, reals, vertex, edge, made);
+        e += 1;
+    }
+}

@@ -1,0 +1,6 @@
+pub mod Steps
+pub mod Job
+pub mod Held
+pub mod Each
+pub mod There
+pub mod Proper
