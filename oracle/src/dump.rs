@@ -1,5 +1,5 @@
-//! All that a finished field holds, as values to compare and as text.
-use crate::exact::{Field, Piece, Src, Win};
+//! All that a field holds, as values to compare and as text.
+use crate::exact::{FaceEntry, Field, Piece, Src, Win};
 use crate::job::Mesh;
 use crate::reading::Reading;
 use crate::upstream::State;
@@ -102,49 +102,81 @@ fn hex(list: impl IntoIterator<Item = f64>) -> String {
         .collect()
 }
 
-/// One line for each edge, face, vertex, window and chain; doubles as bits.
-pub fn text<R: Reading>(mesh: &Mesh, field: &Field<R>) -> String {
+/// All that a field holds, after insertion alone or when it is done: what a
+/// port's buffers must hold. Windows have `low` as the last pass sets it.
+#[derive(Clone, Debug)]
+pub struct Contents {
+    pub wins: Vec<Win>,
+    pub on_edge: Vec<Vec<u32>>,
+    pub vertex: Vec<f64>,
+    pub emitted: Vec<f64>,
+    /// Key, number and whether it is a vertex, in the order of pops: the
+    /// queue as a sorted multiset.
+    pub events: Vec<(f64, u32, bool)>,
+    /// In the order of entry, whatever the face.
+    pub entries: Vec<FaceEntry>,
+    pub steps: u64,
+}
+
+pub fn contents<R: Reading>(field: Field<R>) -> Contents {
+    let events = field.queue.into_sorted_vec();
+    let low = |w: &Win| Win {
+        low: w.src.lowest::<R>(w.b0, w.b1),
+        ..*w
+    };
+    Contents {
+        wins: field.wins.iter().map(low).collect(),
+        on_edge: field.on_edge,
+        vertex: field.vertex,
+        emitted: field.emitted,
+        events: events.iter().rev().map(|e| (e.0, e.1, e.2)).collect(),
+        entries: field.entries,
+        steps: field.steps,
+    }
+}
+
+/// One line for the counts, each edge, face, vertex, window, chain, event
+/// and entry; doubles as bits.
+pub fn text(mesh: &Mesh, held: &Contents) -> String {
     let (topo, mut out) = (&mesh.topo, String::new());
-    let _ = writeln!(out, "steps {}", field.steps);
+    let _ = writeln!(
+        out,
+        "windows {} events {} entries {} steps {}",
+        held.wins.len(),
+        held.events.len(),
+        held.entries.len(),
+        held.steps
+    );
     for (e, [a, b]) in topo.edges.iter().enumerate() {
         let frame = hex([topo.len[e]].into_iter().chain(topo.xhat[e]));
         let [f, g] = topo.faces[e].map(|f| f as i32);
         let _ = writeln!(out, "edge {e} {a} {b} {f} {g}{frame}");
     }
     for (f, [a, b, c]) in topo.tri_edges.iter().enumerate() {
-        let _ = writeln!(
-            out,
-            "face {f} {a} {b} {c}{}",
-            hex(topo.yhat[f].into_iter().flatten())
-        );
+        let yhat = hex(topo.yhat[f].into_iter().flatten());
+        let _ = writeln!(out, "face {f} {a} {b} {c}{yhat}");
     }
-    for (k, &d) in field.vertex.iter().enumerate() {
+    for (k, &d) in held.vertex.iter().enumerate() {
         let flag = u8::from(topo.pseudo[k]);
-        let _ = writeln!(out, "vertex {k} {flag}{}", hex([d, field.emitted[k]]));
+        let _ = writeln!(out, "vertex {k} {flag}{}", hex([d, held.emitted[k]]));
     }
-    for (i, w) in field.wins.iter().enumerate() {
+    for (i, w) in held.wins.iter().enumerate() {
         let (kind, s) = src_parts(&w.src);
         let ends = hex([w.b0, w.b1, w.low].into_iter().chain(s));
-        let state = (u8::from(w.alive), u8::from(w.queued));
+        let (alive, queued) = (u8::from(w.alive), u8::from(w.queued));
         let (e, into) = (w.edge, w.into as i32);
-        let _ = writeln!(
-            out,
-            "window {i} {e} {into} {} {} {kind}{ends}",
-            state.0, state.1
-        );
+        let _ = writeln!(out, "window {i} {e} {into} {alive} {queued} {kind}{ends}");
     }
-    for (e, list) in field.on_edge.iter().enumerate() {
+    for (e, list) in held.on_edge.iter().enumerate() {
         let list: String = list.iter().map(|i| format!(" {i}")).collect();
         let _ = writeln!(out, "chain {e}{list}");
     }
-    for (f, list) in view(field).in_face {
-        for piece in list {
-            let (kind, ends) = match *piece {
-                Piece::Point(_, a) => (0, hex(a)),
-                Piece::Segment(_, a, b) => (1, hex(a.into_iter().chain(b))),
-            };
-            let _ = writeln!(out, "entry {f} {kind}{ends}");
-        }
+    for &(key, number, vertex) in &held.events {
+        let _ = writeln!(out, "event{} {number} {}", hex([key]), u8::from(vertex));
+    }
+    for entry in &held.entries {
+        let (f, piece, part) = (entry.face, entry.piece, entry.part as u8);
+        let _ = writeln!(out, "entry {f} {piece} {part}");
     }
     out
 }

@@ -1,4 +1,5 @@
 //! Deterministic jobs from a seed.
+pub mod insertion;
 pub mod rng;
 pub mod small;
 pub mod walk;

@@ -157,6 +157,13 @@ impl Mesh {
         Field::empty(&self.v, &self.t, &self.topo, self.limit, self.buffers)
     }
 
+    /// The state before the first pop; refusals 11 to 14 and 17.
+    pub fn inserted<R: Reading>(&self) -> Result<Field<'_, R>, Refusal> {
+        let mut field = self.empty();
+        field.start(&self.pieces)?;
+        Ok(field)
+    }
+
     /// Refusals 11 to 15 and 17.
     pub fn field<R: Reading>(&self) -> Result<Field<'_, R>, Refusal> {
         let mut field = self.empty();

@@ -1,12 +1,15 @@
 //! Commands of the oracle; README.md lists them.
 use oracle::compare::{self, Readings, Tally};
-use oracle::exact::{Buffers, judge_pseudo};
+use oracle::dump::{self, Contents, contents};
+use oracle::exact::{Buffers, Refusal, judge_pseudo};
+use oracle::generate::insertion::{self, Stage};
 use oracle::generate::small;
 use oracle::generate::workshop::{self, Shape};
 use oracle::job::{Job, Mesh};
 use oracle::reading::{AllButHypot, OnlyHypot, Patched, Published};
 use oracle::slip::{self, Sizes};
-use oracle::{dump, vectors};
+use oracle::vectors;
+use std::collections::BTreeMap;
 use std::io::{Read, Write};
 use std::time::Instant;
 
@@ -25,8 +28,17 @@ fn run(args: &[&str]) -> Result<(), String> {
         ["slip", "published"] => {
             print(slip::program::<Published>(&stdin()?, &Sizes::FIELDSLIP).as_bytes())
         }
-        ["dump", reading] => print(dump_slip(reading, &Sizes::UNBOUNDED)?.as_bytes()),
-        ["dump", reading, sizes @ ..] => print(dump_slip(reading, &bounded(sizes)?)?.as_bytes()),
+        ["insert", sizes @ ..] => {
+            print_answer(sizes, |mesh| Ok(contents(mesh.inserted::<Patched>()?)))
+        }
+        ["field", "published", sizes @ ..] => {
+            print_answer(sizes, |mesh| Ok(contents(mesh.field::<Published>()?)))
+        }
+        ["field", sizes @ ..] => print_answer(sizes, |mesh| Ok(contents(mesh.field::<Patched>()?))),
+        ["make-slip", "insertion", seed] => {
+            let job = insertion::job(number(seed)?, Stage::Insert);
+            print(&slip::write(&job))
+        }
         ["make-slip", "small", seed] => print(&slip::write(&small::job(number(seed)?))),
         ["make-slip", shape, triangles, lines, limit, seed] => print(&slip::write(&workshop_job(
             shape, triangles, lines, limit, seed,
@@ -43,6 +55,22 @@ fn run(args: &[&str]) -> Result<(), String> {
             let job = workshop_job(shape, triangles, lines, limit, seed)?;
             print(&vectors::stream(&job).map_err(slip::refused)?)
         }
+        ["stored", stage, "small", first, count] => print(&vectors::stored_small(
+            parse_stage(stage)?,
+            number(first)?,
+            number(count)?,
+        )),
+        ["stored", stage, shape, triangles, lines, limit, seed] => {
+            let job = workshop_job(shape, triangles, lines, limit, seed)?;
+            print(&vectors::stored_fitted(
+                parse_stage(stage)?,
+                job,
+                number(seed)?,
+            ))
+        }
+        ["refusals", stage, first, count] => {
+            refusals(parse_stage(stage)?, number(first)?, number(count)?)
+        }
         ["pairs", seed, count] => vectors::hypot_pairs(number(seed)?, number(count)?),
         ["time", shape, triangles, lines, limit] => {
             time(&workshop_job(shape, triangles, lines, limit, "1")?)
@@ -53,6 +81,14 @@ fn run(args: &[&str]) -> Result<(), String> {
 
 fn number(text: &str) -> Result<u64, String> {
     text.parse().map_err(|_| format!("not a number: {text}"))
+}
+
+fn parse_stage(text: &str) -> Result<Stage, String> {
+    match text {
+        "insert" => Ok(Stage::Insert),
+        "field" => Ok(Stage::Field),
+        _ => Err("a job is run to insert or to field".into()),
+    }
 }
 
 fn stdin() -> Result<Vec<u8>, String> {
@@ -82,43 +118,49 @@ fn workshop_job(
     Ok(workshop::job(shape, triangles, lines, limit, number(seed)?))
 }
 
-/// Windows, events, cuts, face entries and steps.
+/// Windows, events, cuts, face entries and steps; without them, no bounds.
 fn bounded(counts: &[&str]) -> Result<Sizes, String> {
     let counts: Result<Vec<u64>, String> = counts.iter().map(|n| number(n)).collect();
-    let &[windows, events, cuts, face_entries, max_steps] = &counts?[..] else {
-        return Err("dump takes a reading and none or five counts".into());
-    };
-    Ok(Sizes {
-        buffers: Buffers {
-            windows: windows as u32,
-            events: events as u32,
-            cuts: cuts as u32,
-            face_entries: face_entries as u32,
-        },
-        max_steps: max_steps as u32,
-        ..Sizes::UNBOUNDED
-    })
+    match counts?[..] {
+        [] => Ok(Sizes::UNBOUNDED),
+        [windows, events, cuts, face_entries, max_steps] => Ok(Sizes {
+            buffers: Buffers {
+                windows: windows as u32,
+                events: events as u32,
+                cuts: cuts as u32,
+                face_entries: face_entries as u32,
+            },
+            max_steps: max_steps as u32,
+            ..Sizes::UNBOUNDED
+        }),
+        _ => Err("there are none or five counts".into()),
+    }
 }
 
-fn dump_slip(reading: &str, sizes: &Sizes) -> Result<String, String> {
-    let refused = |r| slip::refused(r);
-    let job = match slip::read(&stdin()?, sizes) {
-        Ok(job) => job,
-        Err(r) => return Ok(refused(r)),
-    };
-    let mesh = match Mesh::new(&job) {
-        Ok(mesh) => mesh,
-        Err(r) => return Ok(refused(r)),
-    };
-    match reading {
-        "patched" => Ok(mesh
-            .field::<Patched>()
-            .map_or_else(refused, |f| dump::text(&mesh, &f))),
-        "published" => Ok(mesh
-            .field::<Published>()
-            .map_or_else(refused, |f| dump::text(&mesh, &f))),
-        _ => Err("the reading is published or patched".into()),
+/// What a field holds for the slip that is read, or its refusal.
+fn print_answer(
+    counts: &[&str],
+    answer: impl Fn(&Mesh) -> Result<Contents, Refusal>,
+) -> Result<(), String> {
+    let text = slip::read(&stdin()?, &bounded(counts)?).and_then(|job| {
+        let mesh = Mesh::new(&job)?;
+        Ok(dump::text(&mesh, &answer(&mesh)?))
+    });
+    print(text.unwrap_or_else(slip::refused).as_bytes())
+}
+
+/// By which numbers the jobs of `generate::insertion` are refused.
+fn refusals(stage: Stage, first: u64, count: u64) -> Result<(), String> {
+    let mut tally = BTreeMap::new();
+    for seed in first..first + count {
+        let job = insertion::job(seed, stage);
+        let answer = Mesh::new(&job).and_then(|mesh| stage.run(&mesh).map(|_| ()));
+        *tally.entry(answer.err().map_or(0, |r| r.0)).or_insert(0u64) += 1;
     }
+    for (number, jobs) in tally {
+        println!("refusal {number}: {jobs} jobs");
+    }
+    Ok(())
 }
 
 fn faithful(first: u64, count: u64) -> Result<(), String> {
@@ -233,7 +275,7 @@ fn count_workshop() -> Result<(), String> {
 }
 
 fn time(job: &Job) -> Result<(), String> {
-    let refused = |r: oracle::exact::Refusal| format!("refused {}", r.0);
+    let refused = |r: Refusal| format!("refused {}", r.0);
     let mesh = Mesh::new(job).map_err(refused)?;
     let start = Instant::now();
     let field = mesh.field::<Published>().map_err(refused)?;
@@ -246,11 +288,12 @@ fn time(job: &Job) -> Result<(), String> {
     let start = Instant::now();
     let field = mesh.field::<Patched>().map_err(refused)?;
     println!(
-        "patched {:?} triangles {} pieces {} windows {} steps {} {:?}",
+        "patched {:?} triangles {} pieces {} windows {} entries {} steps {} {:?}",
         start.elapsed(),
         mesh.t.len(),
         mesh.pieces.len(),
         field.wins.len(),
+        field.entries.len(),
         field.steps,
         field.peaks
     );

@@ -5,6 +5,7 @@ mod events;
 mod jobs;
 mod leaves;
 mod pairs;
+mod stored;
 mod topology;
 mod values;
 
@@ -12,6 +13,7 @@ pub use pairs::hypot_pairs;
 
 use crate::dump::{bits, src_parts};
 use crate::exact::{Refusal, Src, Win};
+use crate::generate::insertion::{self, Stage};
 use crate::generate::rng::Rng;
 use crate::job::Job;
 
@@ -56,6 +58,24 @@ pub fn stream(job: &Job) -> Result<Vec<u8>, Refusal> {
     out.u32(1);
     candidates::stream(job, &mut out)?;
     Ok(out.0)
+}
+
+/// The small jobs of so many seeds, as stored records.
+pub fn stored_small(stage: Stage, first: u64, count: u64) -> Vec<u8> {
+    let mut out = Out::default();
+    for seed in first..first + count {
+        stored::record(&insertion::job(seed, stage), stage, &mut out);
+    }
+    out.0
+}
+
+/// A job with buffers that are fitted to it, as a stored record.
+pub fn stored_fitted(stage: Stage, mut job: Job, seed: u64) -> Vec<u8> {
+    let mut out = Out::default();
+    // A job that is refused whatever is lent is stored all the same.
+    let _ = insertion::fit(&mut Rng::new(seed), &mut job, stage);
+    stored::record(&job, stage, &mut out);
+    out.0
 }
 
 /// A count, then as many records.

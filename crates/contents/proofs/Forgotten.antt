@@ -38,7 +38,7 @@ unfolding forgotten
 forget-none l = refl
 
 -- the links are gone, and nothing else
-forgot : (n : ℕ) (l : List ℕ) (e : ℕ) → e < n → getD (forgotten n l) (wordsPerEdge * e + edgeScratch) 0 ≡ 0
+pub forgot : (n : ℕ) (l : List ℕ) (e : ℕ) → e < n → getD (forgotten n l) (wordsPerEdge * e + edgeScratch) 0 ≡ 0
 unfolding forgotten
 forgot zero l e h = absurd (omega arith)
 forgot (suc n) l e h = go (ℕ-discrete n e) (decLe (length (forgotten n l)) (wordsPerEdge * n + edgeScratch)) (forgot n l e) where

@@ -95,6 +95,12 @@ unfolding realsFrom
 reals-snoc [] y = append-nil (sixReals y)
 reals-snoc (z ∷ l) y = ap (λ (r : List Float). sixReals z ++ r) (reals-snoc l y) ∙ sym (append-assoc (sixReals z) (realsFrom l) (sixReals y))
 
+-- zeros from an element on
+pub drop-zeros : {A : Type 0} (z : A) (n m : ℕ) → drop n (replicate m z) ≡ replicate (m - n) z
+drop-zeros z zero m = let e : m ≡ m - zero = omega arith in ap (λ (k : ℕ). replicate k z) e
+drop-zeros z (suc n) zero = let e : zero ≡ zero - suc n = omega arith in ap (λ (k : ℕ). replicate k z) e
+drop-zeros z (suc n) (suc m) = let e : m - n ≡ suc m - suc n = omega arith in drop-zeros z n m ∙ ap (λ (k : ℕ). replicate k z) e
+
 -- a list of which the first n elements are known, and zeros behind
 filled : {A : Type 0} (z : A) (l k : List A) (n : ℕ) → n ≤ length l → take n l ≡ k → drop n l ≡ replicate (length l - n) z → l ≡ padded z (length l) k
 filled z l k n h d g =

@@ -25,22 +25,22 @@ use Rattle.insertion.specs.declared.InsertCounts.{InsertCounts}
 use Rattle.insertion.specs.declared.InsertAnswer.{InsertAnswer}
 use Rattle.insertion.specs.declared.InsertAnswer.the-variants.{Stopped, Went}
 use Rattle.insertion.specs.Places as place
-use Rattle.insertion.specs.Places.{Place, InsertEnd, SidesKept, placeAt, insertEnd, Inserts}
+use Rattle.insertion.specs.Places.{Place, InsertEnd, SidesKept, placeAt, insertEnd, InsertsFrom}
 use Rattle.insertion.proofs.Inserts.{inserts-none, inserts-stop, inserts-then}
 use Rattle.insert_sources.specs.Job.{JobSlices, JobIn, InsertsAll}
 use Rattle.offers.proofs.Each.{each-more}
 use Rattle.insert_sources.proofs.Lists.{each-next}
 
 -- ---- lengths
-pub record SameLengths (B B′ : Slices) (T T′ : EntryBuffers) (c c′ : Cuts) : Type 0 where
+pub record LengthsKept (B B′ : Slices) (T T′ : EntryBuffers) (c c′ : Cuts) : Type 0 where
   pub trim : SameSizes B B′ c c′
   pub triangles : length (T′ .triangles) ≡ length (T .triangles)
   pub entries : length (T′ .words) ≡ length (T .words)
 
-lengths-refl : (B : Slices) (T : EntryBuffers) (c : Cuts) → SameLengths B B T T c c
+lengths-refl : (B : Slices) (T : EntryBuffers) (c : Cuts) → LengthsKept B B T T c c
 lengths-refl B T c = record { trim = same-refl B c; triangles = refl; entries = refl }
 
-lengths-trans : (B B′ B″ : Slices) (T T′ T″ : EntryBuffers) (c c′ c″ : Cuts) → SameLengths B B′ T T′ c c′ → SameLengths B′ B″ T′ T″ c′ c″ → SameLengths B B″ T T″ c c″
+lengths-trans : (B B′ B″ : Slices) (T T′ T″ : EntryBuffers) (c c′ c″ : Cuts) → LengthsKept B B′ T T′ c c′ → LengthsKept B′ B″ T′ T″ c′ c″ → LengthsKept B B″ T T″ c c″
 lengths-trans B B′ B″ T T′ T″ c c′ c″ h g =
     record { trim = same-trans B B′ B″ c c′ c″ (h .trim) (g .trim); triangles = g .triangles ∙ h .triangles; entries = g .entries ∙ h .entries }
 
@@ -67,70 +67,70 @@ job-kept k triangles n ew ew′ tw tw′ p p′ long wide is is′ u kept J = re
 -- ---- the loop: f i is what turn i inserts
 module _ (limit : Float) (k : JobSlices) (f : List ℕ → ℕ → List Insert) (counts : InsertCounts) (B : Slices) (T : EntryBuffers) (c : Cuts) where
   abbrev Does : List ℕ → List Insert → Place → InsertEnd → Type 0
-  Does triangles = Inserts (length (c .pts)) (windowsIn B) (slotsIn T) limit (k .vertex-words) (edgeData (k .vertices) triangles)
+  Does triangles = InsertsFrom (length (c .pts)) (windowsIn B) (slotsIn T) limit (k .vertex-words) (edgeData (k .vertices) triangles)
 
   -- of every job that the buffers hold at first
   abbrev pub Done : ℕ → InsertEnd → Type 0
   Done i end = (triangles : List ℕ) (n : ℕ) → JobIn k triangles n (B .edges) (T .triangles) → Does triangles (eachOf (f triangles) i) (placeAt counts B T) end
 
-  pub record LoopInv (turns : ℕ) (B′ : Slices) (T′ : EntryBuffers) (c′ : Cuts) (now : InsertCounts) (i : ℕ) : Type 0 where
-    pub same : SameLengths B B′ T T′ c c′
+  pub record InsertInv (turns : ℕ) (B′ : Slices) (T′ : EntryBuffers) (c′ : Cuts) (now : InsertCounts) (i : ℕ) : Type 0 where
+    pub same : LengthsKept B B′ T T′ c c′
     pub fits : now .trim .made ≤ windowsIn B
     pub few : i ≤ turns
     pub done : Done i (place.at (placeAt now B′ T′))
 
-  pub loop-start : (turns : ℕ) → counts .trim .made ≤ windowsIn B → LoopInv turns B T c counts 0
+  pub insert-start : (turns : ℕ) → counts .trim .made ≤ windowsIn B → InsertInv turns B T c counts 0
   unfolding eachOf
-  loop-start turns fits = record {
+  insert-start turns fits = record {
     same = lengths-refl B T c;
     fits = fits;
     few = omega arith;
     done = λ triangles n J. inserts-none (length (c .pts)) (windowsIn B) (slotsIn T) limit (k .vertex-words) (edgeData (k .vertices) triangles) (placeAt counts B T);
   }
 
-  pub loop-over : (turns : ℕ) (B′ : Slices) (T′ : EntryBuffers) (c′ : Cuts) (now : InsertCounts) (i : ℕ) → LoopInv turns B′ T′ c′ now i → turns ≤ i → Done turns (place.at (placeAt now B′ T′))
-  loop-over turns B′ T′ c′ now i inv end = let z : i ≡ turns = omega (arith, end, inv .few) in subst (λ (j : ℕ). Done j (place.at (placeAt now B′ T′))) z (inv .done)
+  pub insert-over : (turns : ℕ) (B′ : Slices) (T′ : EntryBuffers) (c′ : Cuts) (now : InsertCounts) (i : ℕ) → InsertInv turns B′ T′ c′ now i → turns ≤ i → Done turns (place.at (placeAt now B′ T′))
+  insert-over turns B′ T′ c′ now i inv end = let z : i ≡ turns = omega (arith, end, inv .few) in subst (λ (j : ℕ). Done j (place.at (placeAt now B′ T′))) z (inv .done)
 
   -- a turn
-  module _ (turns : ℕ) (B₁ : Slices) (T₁ : EntryBuffers) (c₁ : Cuts) (now : InsertCounts) (i : ℕ) (inv : LoopInv turns B₁ T₁ c₁ now i) (q : i < turns) where
+  module _ (turns : ℕ) (B₁ : Slices) (T₁ : EntryBuffers) (c₁ : Cuts) (now : InsertCounts) (i : ℕ) (inv : InsertInv turns B₁ T₁ c₁ now i) (q : i < turns) where
     windows₁ : windowsIn B₁ ≡ windowsIn B
     windows₁ = windows-same B B₁ c c₁ (inv .same .trim)
 
     slots₁ : slotsIn T₁ ≡ slotsIn T
     slots₁ = ap entryCapacity (inv .same .entries)
 
-    pub loop-fits : now .trim .made ≤ windowsIn B₁
-    loop-fits = subst (λ (z : ℕ). now .trim .made ≤ z) (sym windows₁) (inv .fits)
+    pub insert-fits : now .trim .made ≤ windowsIn B₁
+    insert-fits = subst (λ (z : ℕ). now .trim .made ≤ z) (sym windows₁) (inv .fits)
 
-    pub loop-sizes : Sizes (length (c .pts)) (c .out) (c .keep) (c .next) → Sizes (length (c₁ .pts)) (c₁ .out) (c₁ .keep) (c₁ .next)
-    loop-sizes = sizes-same B B₁ c c₁ (inv .same .trim)
+    pub insert-sizes : Sizes (length (c .pts)) (c .out) (c .keep) (c .next) → Sizes (length (c₁ .pts)) (c₁ .out) (c₁ .keep) (c₁ .next)
+    insert-sizes = sizes-same B B₁ c c₁ (inv .same .trim)
 
     -- what it does, of a job that the buffers held at first and hold now
     abbrev pub Turn : InsertEnd → Type 0
     Turn end = (triangles : List ℕ) (n : ℕ) → JobIn k triangles n (B .edges) (T .triangles) → JobIn k triangles n (B₁ .edges) (T₁ .triangles)
-        → Inserts (length (c₁ .pts)) (windowsIn B₁) (slotsIn T₁) limit (k .vertex-words) (edgeData (k .vertices) triangles) (f triangles i) (placeAt now B₁ T₁) end
+        → InsertsFrom (length (c₁ .pts)) (windowsIn B₁) (slotsIn T₁) limit (k .vertex-words) (edgeData (k .vertices) triangles) (f triangles i) (placeAt now B₁ T₁) end
 
     turn : (end : InsertEnd) → Turn end → Done (suc i) end
     turn end h triangles n J =
         subst (λ (l : List Insert). Does triangles l (placeAt counts B T) end) (sym (each-next (f triangles) i))
         (inserts-then (length (c .pts)) (windowsIn B) (slotsIn T) limit (k .vertex-words) (edgeData (k .vertices) triangles) (eachOf (f triangles) i) (f triangles i) (placeAt counts B T) (placeAt now B₁ T₁)
         (inv .done triangles n J) end
-        (λ u kept. subst (λ (z : ℕ). Inserts z (windowsIn B) (slotsIn T) limit (k .vertex-words) (edgeData (k .vertices) triangles) (f triangles i) (placeAt now B₁ T₁) end) (inv .same .trim .pts)
-        (subst (λ (z : ℕ). Inserts (length (c₁ .pts)) z (slotsIn T) limit (k .vertex-words) (edgeData (k .vertices) triangles) (f triangles i) (placeAt now B₁ T₁) end) windows₁
-        (subst (λ (z : ℕ). Inserts (length (c₁ .pts)) (windowsIn B₁) z limit (k .vertex-words) (edgeData (k .vertices) triangles) (f triangles i) (placeAt now B₁ T₁) end) slots₁
+        (λ u kept. subst (λ (z : ℕ). InsertsFrom z (windowsIn B) (slotsIn T) limit (k .vertex-words) (edgeData (k .vertices) triangles) (f triangles i) (placeAt now B₁ T₁) end) (inv .same .trim .pts)
+        (subst (λ (z : ℕ). InsertsFrom (length (c₁ .pts)) z (slotsIn T) limit (k .vertex-words) (edgeData (k .vertices) triangles) (f triangles i) (placeAt now B₁ T₁) end) windows₁
+        (subst (λ (z : ℕ). InsertsFrom (length (c₁ .pts)) (windowsIn B₁) z limit (k .vertex-words) (edgeData (k .vertices) triangles) (f triangles i) (placeAt now B₁ T₁) end) slots₁
         (h triangles n J
         (job-kept k triangles n (B .edges) (B₁ .edges) (T .triangles) (T₁ .triangles) (placeAt counts B T) (placeAt now B₁ T₁) (inv .same .trim .edges) (inv .same .triangles) refl refl u kept J))))))
 
-    pub loop-stopped : (lack : Lack) → Turn (place.stopped (lackNumber lack)) → Done turns (place.stopped (lackNumber lack))
-    loop-stopped lack h triangles n J =
+    pub insert-stopped : (lack : Lack) → Turn (place.stopped (lackNumber lack)) → Done turns (place.stopped (lackNumber lack))
+    insert-stopped lack h triangles n J =
         let z : suc i + (turns - suc i) ≡ turns = omega (arith, q) in
         subst (λ (j : ℕ). Does triangles (eachOf (f triangles) j) (placeAt counts B T) (place.stopped (lackNumber lack))) z
         (subst (λ (l : List Insert). Does triangles l (placeAt counts B T) (place.stopped (lackNumber lack))) (sym (each-more (f triangles) (suc i) (turns - suc i)))
         (inserts-stop (length (c .pts)) (windowsIn B) (slotsIn T) limit (k .vertex-words) (edgeData (k .vertices) triangles) (eachOf (f triangles) (suc i)) (eachOf (λ (a : ℕ). f triangles (suc i + a)) (turns - suc i)) (placeAt counts B T) (lackNumber lack)
         (turn (place.stopped (lackNumber lack)) h triangles n J)))
 
-    pub loop-next : (now₂ : InsertCounts) (B₂ : Slices) (T₂ : EntryBuffers) (c₂ : Cuts) → SameLengths B₁ B₂ T₁ T₂ c₁ c₂ → now₂ .trim .made ≤ windowsIn B₁ → Turn (place.at (placeAt now₂ B₂ T₂)) → LoopInv turns B₂ T₂ c₂ now₂ (i + 1)
-    loop-next now₂ B₂ T₂ c₂ same fits h = record {
+    pub insert-next : (now₂ : InsertCounts) (B₂ : Slices) (T₂ : EntryBuffers) (c₂ : Cuts) → LengthsKept B₁ B₂ T₁ T₂ c₁ c₂ → now₂ .trim .made ≤ windowsIn B₁ → Turn (place.at (placeAt now₂ B₂ T₂)) → InsertInv turns B₂ T₂ c₂ now₂ (i + 1)
+    insert-next now₂ B₂ T₂ c₂ same fits h = record {
       same = lengths-trans B B₁ B₂ T T₁ T₂ c c₁ c₂ (inv .same) same;
       fits = subst (λ (z : ℕ). now₂ .trim .made ≤ z) windows₁ fits;
       few = omega (arith, q);

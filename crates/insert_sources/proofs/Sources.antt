@@ -25,7 +25,7 @@ use Rattle.source_inserts.specs.declared.Insert.the-variants.{Entry, Offer}
 use Rattle.source_inserts.specs.declared.Source.{Source}
 use Rattle.offers.specs.Each.{eachOf}
 use Rattle.source_inserts.specs.Inserts.{sourceInserts, jobInserts, IsSource, There, OfferThere}
-use Rattle.source_inserts.specs.Read.{sourceAt, insertAt, insertCountAt}
+use Rattle.source_inserts.specs.Read.{jobSourceAt, insertAt, insertCountAt}
 use Rattle.source_inserts.proofs.Held.{source-is, source-inserts-held}
 use Rattle.source_inserts.proofs.Job.{job-inserts}
 use Rattle.source_inserts.proofs.There.{source-there}
@@ -33,10 +33,10 @@ use Rattle.insertion.specs.declared.InsertCounts.{InsertCounts}
 use Rattle.insertion.specs.declared.InsertAnswer.{InsertAnswer}
 use Rattle.insertion.specs.declared.InsertAnswer.the-variants.{Stopped, Went}
 use Rattle.insertion.specs.Places as place
-use Rattle.insertion.specs.Places.{placeAt, insertEnd, Inserts, InsertThere, InsertsTo}
+use Rattle.insertion.specs.Places.{placeAt, insertEnd, InsertsFrom, InsertThere, InsertsTo}
 use Rattle.insert_sources.specs.Job.{JobSlices, JobIn, InsertsAll}
 use Rattle.insert_sources.proofs.Lists.{made-length, made-at, made-again, all-at}
-use Rattle.insert_sources.proofs.Loop.{slotsIn, Done, LoopInv, SameLengths, Turn, loop-stopped, loop-next, loop-over}
+use Rattle.insert_sources.proofs.Loop.{slotsIn, Done, InsertInv, LengthsKept, Turn, insert-stopped, insert-next, insert-over}
 
 -- ---- what is inserted is there in the buffers
 module _ (k : JobSlices) (triangles : List ℕ) (n : ℕ) (ew tw : List ℕ) (J : JobIn k triangles n ew tw) where
@@ -68,7 +68,7 @@ abbrev pub readAt : JobSlices → ℕ → Source → List ℕ → List ℕ → �
 readAt k pieces s ew tw i = insertAt (k .vertices) ew (k .edge-reals) tw (k .triangle-reals) (k .vertex-words) (k .round) (k .kinds) (k .faces) (k .coords) (k .piece-words) (k .piece-reals) pieces s i
 
 module _ (limit : Float) (k : JobSlices) (pieces : ℕ) (few : pieces ≡ length (k .kinds)) (j : ℕ) (l : j < 3 * length (k .kinds)) (counts : InsertCounts) (B : Slices) (T : EntryBuffers) (c : Cuts) (s : Source)
-    (is : s ≡ sourceAt (k .vertices) (B .edges) (k .edge-reals) (T .triangles) (k .triangle-reals) (k .kinds) (k .faces) (k .coords) (k .piece-words) pieces j)
+    (is : s ≡ jobSourceAt (k .vertices) (B .edges) (k .edge-reals) (T .triangles) (k .triangle-reals) (k .kinds) (k .faces) (k .coords) (k .piece-words) pieces j)
     (turns : ℕ) (counted : turns ≡ insertCountAt (B .edges) (k .vertex-words) s) where
   abbrev turnsAt : List ℕ → ℕ
   turnsAt ew = insertCountAt ew (k .vertex-words) s
@@ -78,7 +78,7 @@ module _ (limit : Float) (k : JobSlices) (pieces : ℕ) (few : pieces ≡ length
     a-source : IsSource (k .vertices) triangles (k .kinds) (k .faces) (k .coords) n j s
     a-source =
         subst (IsSource (k .vertices) triangles (k .kinds) (k .faces) (k .coords) n j)
-        (ap (λ (z : ℕ). sourceAt (k .vertices) (B .edges) (k .edge-reals) (T .triangles) (k .triangle-reals) (k .kinds) (k .faces) (k .coords) (k .piece-words) z j) (sym few) ∙ sym is)
+        (ap (λ (z : ℕ). jobSourceAt (k .vertices) (B .edges) (k .edge-reals) (T .triangles) (k .triangle-reals) (k .kinds) (k .faces) (k .coords) (k .piece-words) z j) (sym few) ∙ sym is)
         (source-is (k .vertices) triangles n (B .edges) (k .edge-reals) (T .triangles) (k .triangle-reals) (k .vertex-words) (k .round) (k .kinds) (k .faces) (k .coords) (k .piece-words) (J .job) j l)
 
     -- the pieces and their directions as they are read
@@ -108,13 +108,13 @@ module _ (limit : Float) (k : JobSlices) (pieces : ℕ) (few : pieces ≡ length
   turns-same triangles n J = counted ∙ turns-are triangles n J (B .edges) (T .triangles) J
 
   -- a turn, by what is inserted in it
-  module _ (B₁ : Slices) (T₁ : EntryBuffers) (c₁ : Cuts) (now : InsertCounts) (i : ℕ) (inv : LoopInv limit k (oneOf k j) counts B T c turns B₁ T₁ c₁ now i) (q : i < turns) (r : InsertAnswer) (B₂ : Slices) (T₂ : EntryBuffers)
+  module _ (B₁ : Slices) (T₁ : EntryBuffers) (c₁ : Cuts) (now : InsertCounts) (i : ℕ) (inv : InsertInv limit k (oneOf k j) counts B T c turns B₁ T₁ c₁ now i) (q : i < turns) (r : InsertAnswer) (B₂ : Slices) (T₂ : EntryBuffers)
       (h : InsertsTo limit (k .vertex-words) (k .edge-reals) (readAt k pieces s (B₁ .edges) (T₁ .triangles) i) now B₁ T₁ c₁ r B₂ T₂) where
     turn-does : Turn limit k (oneOf k j) counts B T c turns B₁ T₁ c₁ now i inv q (insertEnd r B₂ T₂)
     turn-does triangles n J J₁ =
         let short : i < length (ofSource k j triangles) = omega (arith, q, turns-same triangles n J) in
         let x = read-is triangles n J (B₁ .edges) (T₁ .triangles) J₁ i short in
-        subst (λ (z : Insert). Inserts (length (c₁ .pts)) (windowsIn B₁) (slotsIn T₁) limit (k .vertex-words) (edgeData (k .vertices) triangles) (z ∷ []) (placeAt now B₁ T₁) (insertEnd r B₂ T₂)) x
+        subst (λ (z : Insert). InsertsFrom (length (c₁ .pts)) (windowsIn B₁) (slotsIn T₁) limit (k .vertex-words) (edgeData (k .vertices) triangles) (z ∷ []) (placeAt now B₁ T₁) (insertEnd r B₂ T₂)) x
         (h .inserts (edgeData (k .vertices) triangles)
         (subst (λ (z : Insert). InsertThere (edgeData (k .vertices) triangles) (B₁ .edges) (k .edge-reals) (T₁ .triangles) z) (sym x) (there triangles n J (B₁ .edges) (T₁ .triangles) J₁ i short)))
 
@@ -122,26 +122,26 @@ module _ (limit : Float) (k : JobSlices) (pieces : ℕ) (few : pieces ≡ length
   OfAll r B′ T′ = InsertsAll limit k (ofSource k j) counts B T c r B′ T′
 
   whole : (r : InsertAnswer) (B′ : Slices) (T′ : EntryBuffers) → Done limit k (oneOf k j) counts B T c turns (insertEnd r B′ T′) → (triangles : List ℕ) (n : ℕ) → JobIn k triangles n (B .edges) (T .triangles)
-      → Inserts (length (c .pts)) (windowsIn B) (slotsIn T) limit (k .vertex-words) (edgeData (k .vertices) triangles) (ofSource k j triangles) (placeAt counts B T) (insertEnd r B′ T′)
+      → InsertsFrom (length (c .pts)) (windowsIn B) (slotsIn T) limit (k .vertex-words) (edgeData (k .vertices) triangles) (ofSource k j triangles) (placeAt counts B T) (insertEnd r B′ T′)
   whole r B′ T′ d triangles n J =
-      subst (λ (z : List Insert). Inserts (length (c .pts)) (windowsIn B) (slotsIn T) limit (k .vertex-words) (edgeData (k .vertices) triangles) z (placeAt counts B T) (insertEnd r B′ T′)) (ap (eachOf (oneOf k j triangles)) counted ∙ again triangles n J (B .edges) (T .triangles) J) (d triangles n J)
+      subst (λ (z : List Insert). InsertsFrom (length (c .pts)) (windowsIn B) (slotsIn T) limit (k .vertex-words) (edgeData (k .vertices) triangles) z (placeAt counts B T) (insertEnd r B′ T′)) (ap (eachOf (oneOf k j triangles)) counted ∙ again triangles n J (B .edges) (T .triangles) J) (d triangles n J)
 
-  module _ (B₁ : Slices) (T₁ : EntryBuffers) (c₁ : Cuts) (now : InsertCounts) (i : ℕ) (inv : LoopInv limit k (oneOf k j) counts B T c turns B₁ T₁ c₁ now i) where
+  module _ (B₁ : Slices) (T₁ : EntryBuffers) (c₁ : Cuts) (now : InsertCounts) (i : ℕ) (inv : InsertInv limit k (oneOf k j) counts B T c turns B₁ T₁ c₁ now i) where
     pub source-over : turns ≤ i → OfAll (Went now) B₁ T₁
-    source-over end = record { bounded = inv .fits; inserts = whole (Went now) B₁ T₁ (loop-over limit k (oneOf k j) counts B T c turns B₁ T₁ c₁ now i inv end) }
+    source-over end = record { bounded = inv .fits; inserts = whole (Went now) B₁ T₁ (insert-over limit k (oneOf k j) counts B T c turns B₁ T₁ c₁ now i inv end) }
 
     module _ (q : i < turns) (B₂ : Slices) (T₂ : EntryBuffers) where
       pub source-stopped : (lack : Lack) → InsertsTo limit (k .vertex-words) (k .edge-reals) (readAt k pieces s (B₁ .edges) (T₁ .triangles) i) now B₁ T₁ c₁ (Stopped lack) B₂ T₂ → OfAll (Stopped lack) B₂ T₂
       source-stopped lack h = record {
         bounded = tt;
         inserts = whole (Stopped lack) B₂ T₂
-            (loop-stopped limit k (oneOf k j) counts B T c turns B₁ T₁ c₁ now i inv q lack (turn-does B₁ T₁ c₁ now i inv q (Stopped lack) B₂ T₂ h));
+            (insert-stopped limit k (oneOf k j) counts B T c turns B₁ T₁ c₁ now i inv q lack (turn-does B₁ T₁ c₁ now i inv q (Stopped lack) B₂ T₂ h));
       }
 
-      pub source-next : (now₂ : InsertCounts) (c₂ : Cuts) → SameLengths B₁ B₂ T₁ T₂ c₁ c₂ → InsertsTo limit (k .vertex-words) (k .edge-reals) (readAt k pieces s (B₁ .edges) (T₁ .triangles) i) now B₁ T₁ c₁ (Went now₂) B₂ T₂
-          → LoopInv limit k (oneOf k j) counts B T c turns B₂ T₂ c₂ now₂ (i + 1)
+      pub source-next : (now₂ : InsertCounts) (c₂ : Cuts) → LengthsKept B₁ B₂ T₁ T₂ c₁ c₂ → InsertsTo limit (k .vertex-words) (k .edge-reals) (readAt k pieces s (B₁ .edges) (T₁ .triangles) i) now B₁ T₁ c₁ (Went now₂) B₂ T₂
+          → InsertInv limit k (oneOf k j) counts B T c turns B₂ T₂ c₂ now₂ (i + 1)
       source-next now₂ c₂ same h =
-          loop-next limit k (oneOf k j) counts B T c turns B₁ T₁ c₁ now i inv q now₂ B₂ T₂ c₂ same (h .bounded) (turn-does B₁ T₁ c₁ now i inv q (Went now₂) B₂ T₂ h)
+          insert-next limit k (oneOf k j) counts B T c turns B₁ T₁ c₁ now i inv q now₂ B₂ T₂ c₂ same (h .bounded) (turn-does B₁ T₁ c₁ now i inv q (Went now₂) B₂ T₂ h)
 
 -- ---- all sources
 module _ (limit : Float) (k : JobSlices) (counts : InsertCounts) (B : Slices) (T : EntryBuffers) (c : Cuts) where
@@ -155,21 +155,21 @@ module _ (limit : Float) (k : JobSlices) (counts : InsertCounts) (B : Slices) (T
   OfJob r B′ T′ = InsertsAll limit k (λ triangles. jobInserts (k .vertices) triangles (k .kinds) (k .faces) (k .coords)) counts B T c r B′ T′
 
   whole-job : (r : InsertAnswer) (B′ : Slices) (T′ : EntryBuffers) → Done limit k sourceOf counts B T c sources (insertEnd r B′ T′) → (triangles : List ℕ) (n : ℕ) → JobIn k triangles n (B .edges) (T .triangles)
-      → Inserts (length (c .pts)) (windowsIn B) (slotsIn T) limit (k .vertex-words) (edgeData (k .vertices) triangles) (jobInserts (k .vertices) triangles (k .kinds) (k .faces) (k .coords)) (placeAt counts B T) (insertEnd r B′ T′)
+      → InsertsFrom (length (c .pts)) (windowsIn B) (slotsIn T) limit (k .vertex-words) (edgeData (k .vertices) triangles) (jobInserts (k .vertices) triangles (k .kinds) (k .faces) (k .coords)) (placeAt counts B T) (insertEnd r B′ T′)
   whole-job r B′ T′ d triangles n J =
-      subst (λ (z : List Insert). Inserts (length (c .pts)) (windowsIn B) (slotsIn T) limit (k .vertex-words) (edgeData (k .vertices) triangles) z (placeAt counts B T) (insertEnd r B′ T′)) (job-inserts (k .vertices) triangles (k .kinds) (k .faces) (k .coords)) (d triangles n J)
+      subst (λ (z : List Insert). InsertsFrom (length (c .pts)) (windowsIn B) (slotsIn T) limit (k .vertex-words) (edgeData (k .vertices) triangles) z (placeAt counts B T) (insertEnd r B′ T′)) (job-inserts (k .vertices) triangles (k .kinds) (k .faces) (k .coords)) (d triangles n J)
 
-  module _ (B₁ : Slices) (T₁ : EntryBuffers) (c₁ : Cuts) (now : InsertCounts) (j : ℕ) (inv : LoopInv limit k sourceOf counts B T c sources B₁ T₁ c₁ now j) where
+  module _ (B₁ : Slices) (T₁ : EntryBuffers) (c₁ : Cuts) (now : InsertCounts) (j : ℕ) (inv : InsertInv limit k sourceOf counts B T c sources B₁ T₁ c₁ now j) where
     pub job-over : sources ≤ j → OfJob (Went now) B₁ T₁
-    job-over end = record { bounded = inv .fits; inserts = whole-job (Went now) B₁ T₁ (loop-over limit k sourceOf counts B T c sources B₁ T₁ c₁ now j inv end) }
+    job-over end = record { bounded = inv .fits; inserts = whole-job (Went now) B₁ T₁ (insert-over limit k sourceOf counts B T c sources B₁ T₁ c₁ now j inv end) }
 
     module _ (q : j < sources) (B₂ : Slices) (T₂ : EntryBuffers) where
       pub job-stopped : (lack : Lack) → InsertsAll limit k (λ triangles. sourceOf triangles j) now B₁ T₁ c₁ (Stopped lack) B₂ T₂ → OfJob (Stopped lack) B₂ T₂
       job-stopped lack h = record {
         bounded = tt;
-        inserts = whole-job (Stopped lack) B₂ T₂ (loop-stopped limit k sourceOf counts B T c sources B₁ T₁ c₁ now j inv q lack (λ triangles n J J₁. h .inserts triangles n J₁));
+        inserts = whole-job (Stopped lack) B₂ T₂ (insert-stopped limit k sourceOf counts B T c sources B₁ T₁ c₁ now j inv q lack (λ triangles n J J₁. h .inserts triangles n J₁));
       }
 
-      pub job-next : (now₂ : InsertCounts) (c₂ : Cuts) → SameLengths B₁ B₂ T₁ T₂ c₁ c₂ → InsertsAll limit k (λ triangles. sourceOf triangles j) now B₁ T₁ c₁ (Went now₂) B₂ T₂
-          → LoopInv limit k sourceOf counts B T c sources B₂ T₂ c₂ now₂ (j + 1)
-      job-next now₂ c₂ same h = loop-next limit k sourceOf counts B T c sources B₁ T₁ c₁ now j inv q now₂ B₂ T₂ c₂ same (h .bounded) (λ triangles n J J₁. h .inserts triangles n J₁)
+      pub job-next : (now₂ : InsertCounts) (c₂ : Cuts) → LengthsKept B₁ B₂ T₁ T₂ c₁ c₂ → InsertsAll limit k (λ triangles. sourceOf triangles j) now B₁ T₁ c₁ (Went now₂) B₂ T₂
+          → InsertInv limit k sourceOf counts B T c sources B₂ T₂ c₂ now₂ (j + 1)
+      job-next now₂ c₂ same h = insert-next limit k sourceOf counts B T c sources B₁ T₁ c₁ now j inv q now₂ B₂ T₂ c₂ same (h .bounded) (λ triangles n J J₁. h .inserts triangles n J₁)

@@ -17,7 +17,7 @@ use Rattle.wedge_refusal.specs.Held.{HoldsJob}
 use Rattle.source_inserts.specs.declared.Insert.{Insert}
 use Rattle.insertion.specs.declared.InsertCounts.{InsertCounts}
 use Rattle.insertion.specs.declared.InsertAnswer.{InsertAnswer}
-use Rattle.insertion.specs.Places.{placeAt, insertEnd, Inserts, InsertedWithin}
+use Rattle.insertion.specs.Places.{placeAt, insertEnd, InsertsFrom, InsertedWithin}
 
 -- the slices that insertion only reads
 pub record JobSlices : Type 0 where
@@ -59,4 +59,4 @@ pub record InsertsAll (limit : Float) (k : JobSlices) (xs : List ℕ → List In
   -- no more windows are made than the buffer has slots for
   pub bounded : InsertedWithin (capacityOf (length (b .words)) (length (b .reals))) r
   pub inserts : (triangles : List ℕ) (n : ℕ) → JobIn k triangles n (b .edges) (t .triangles)
-      → Inserts (length (c .pts)) (capacityOf (length (b .words)) (length (b .reals))) (entryCapacity (length (t .words))) limit (k .vertex-words) (edgeData (k .vertices) triangles) (xs triangles) (placeAt counts b t) (insertEnd r b′ t′)
+      → InsertsFrom (length (c .pts)) (capacityOf (length (b .words)) (length (b .reals))) (entryCapacity (length (t .words))) limit (k .vertex-words) (edgeData (k .vertices) triangles) (xs triangles) (placeAt counts b t) (insertEnd r b′ t′)

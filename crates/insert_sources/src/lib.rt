@@ -128,7 +128,7 @@ fn insert_source(
         counts (before «edge_words» words reals keys events vertex) (entriesBefore «triangle_words» «entry_words») (cutsBefore pts out keep next)
         r (after «edge_words» words reals keys events vertex) (entriesAfter «triangle_words» «entry_words») ⌝ }
 {
-    let s = source_inserts::source_at(
+    let s = source_inserts::job_source(
         vertices,
         edge_words,
         edge_reals,

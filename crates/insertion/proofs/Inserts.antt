@@ -33,9 +33,9 @@ use Rattle.face_entries.proofs.Keeping.{enter-others}
 use Rattle.source_inserts.specs.declared.Insert.{Insert}
 use Rattle.source_inserts.specs.declared.Insert.the-variants.{Entry, Offer}
 use Rattle.source_inserts.specs.Inserts.{candidatesAt, candidatesIn}
-use Rattle.insertion.specs.Insertion.{Inserted, InsertResult, stopped, went, andInsert, withEntries, insertOne, insertAll}
+use Rattle.insertion.specs.Insertion.{Inserted, InsertResult, stopped, went, andInsert, withEntries, insertOne, insertEach}
 use Rattle.insertion.specs.Places as place
-use Rattle.insertion.specs.Places.{Place, InsertEnd, SidesKept, StandsIn, ComesIn, Inserts}
+use Rattle.insertion.specs.Places.{Place, InsertEnd, SidesKept, HoldsInserted, ComesIn, InsertsFrom}
 
 -- ---- results
 next-went : (r : InsertResult) → andInsert r went ≡ r
@@ -78,7 +78,7 @@ sides-then t t′ t″ p q i ne = q i ne ∙ p i ne
 
 module _ (cuts windows slots : ℕ) (limit : Float) (flags : List ℕ) (mesh : EdgeData) where
   abbrev all : List Insert → Inserted → InsertResult
-  all = insertAll cuts windows slots limit flags mesh
+  all = insertEach cuts windows slots limit flags mesh
 
   abbrev one : Insert → Inserted → InsertResult
   one = insertOne cuts windows slots limit flags mesh
@@ -87,26 +87,26 @@ module _ (cuts windows slots : ℕ) (limit : Float) (flags : List ℕ) (mesh : E
   Proper = All (AdmittedProper limit (mesh .len))
 
   insert-append : (xs ys : List Insert) (s : Inserted) → all (xs ++ ys) s ≡ andInsert (all xs s) (all ys)
-  unfolding insertAll andInsert
+  unfolding insertEach andInsert
   insert-append [] ys s = refl
   insert-append (x ∷ xs) ys s =
       next-same (one x s) (all (xs ++ ys)) (λ t. andInsert (all xs t) (all ys)) (insert-append xs ys)
       ∙ sym (next-next (one x s) (all xs) (all ys))
 
   insert-one : (x : Insert) (s : Inserted) → all (x ∷ []) s ≡ one x s
-  unfolding insertAll
+  unfolding insertEach
   insert-one x s = next-went (one x s)
 
   abbrev Does : List Insert → Place → InsertEnd → Type 0
-  Does = Inserts cuts windows slots limit flags mesh
+  Does = InsertsFrom cuts windows slots limit flags mesh
 
   -- nothing is inserted
   pub inserts-none : (p : Place) → Does [] p (place.at p)
-  unfolding insertAll candidatesIn
+  unfolding insertEach candidatesIn
   inserts-none p t₀ past s S a = record {
     inserted = s;
     is = refl;
-    stands = subst (λ (l : List Candidate). StandsIn limit mesh t₀ l s p) (sym (append-nil past)) S;
+    stands = subst (λ (l : List Candidate). HoldsInserted limit mesh t₀ l s p) (sym (append-nil past)) S;
     untouched = untouched-same (λ e. Unit {0}) (p .trim) (p .trim .queued) (p .trim .last) (p .trim .queue) (p .trim .vertex);
     kept = sides-same (p .entries .triangles);
   }
@@ -135,7 +135,7 @@ module _ (cuts windows slots : ℕ) (limit : Float) (flags : List ℕ) (mesh : E
         record {
           inserted = u;
           is = insert-one (Offer o) s ∙ offer-went s (r .state) (r .is);
-          stands = subst (λ (l : List Candidate). StandsIn limit mesh t₀ (past ++ l) u (record { trim = q; entered = p .entered; entries = p .entries })) (sym (candidates-one (Offer o)))
+          stands = subst (λ (l : List Candidate). HoldsInserted limit mesh t₀ (past ++ l) u (record { trim = q; entered = p .entered; entries = p .entries })) (sym (candidates-one (Offer o)))
               (record { trim = r .stands; entries = S .entries });
           untouched = r .untouched;
           kept = sides-same (p .entries .triangles);
@@ -168,7 +168,7 @@ module _ (cuts windows slots : ℕ) (limit : Float) (flags : List ℕ) (mesh : E
           inserted = record { state = s .state; entries = s .entries ++ (new ∷ []) };
           is = insert-one (Entry f x) s ∙ entry-free s (S .entries .holds .counted) (subst (λ (z : ℕ). p .entered < z) (sym fits) (w .1 .1));
           stands = record {
-            trim = subst (λ (l : List Candidate). place.StandsIn limit mesh t₀ l s p) (sym (append-nil past)) S .trim;
+            trim = subst (λ (l : List Candidate). HoldsInserted limit mesh t₀ l s p) (sym (append-nil past)) S .trim;
             entries = call-only (p .entries .triangles) (p .entries .words) (t′ .triangles) (t′ .words) (p .entered) (f .0) x (Count n) said n refl there (s .entries) t₀ (S .entries);
           };
           untouched = untouched-same (λ e. Unit {0}) (p .trim) (p .trim .queued) (p .trim .last) (p .trim .queue) (p .trim .vertex);
@@ -200,7 +200,7 @@ module _ (cuts windows slots : ℕ) (limit : Float) (flags : List ℕ) (mesh : E
           record {
             inserted = o .inserted;
             is = insert-append xs ys s ∙ next-inserted (all xs s) (r .inserted) (all ys) (r .is) ∙ o .is;
-            stands = subst (λ (l : List Candidate). StandsIn limit mesh t₀ l (o .inserted) q) (past-is past) (o .stands);
+            stands = subst (λ (l : List Candidate). HoldsInserted limit mesh t₀ l (o .inserted) q) (past-is past) (o .stands);
             untouched = untouched-then (λ e. Unit {0}) (p .trim) (p′ .trim) (q .trim) (r .untouched) (o .untouched);
             kept = sides-then (p .entries .triangles) (p′ .entries .triangles) (q .entries .triangles) (r .kept) (o .kept);
           }

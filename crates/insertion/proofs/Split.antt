@@ -20,7 +20,7 @@ use Rattle.face_entries.specs.Entries.{FaceEntry}
 use Rattle.source_inserts.specs.declared.Insert.{Insert}
 use Rattle.source_inserts.specs.declared.Insert.the-variants.{Entry, Offer}
 use Rattle.source_inserts.specs.Inserts.{candidatesIn}
-use Rattle.insertion.specs.Insertion.{Inserted, InsertResult, stopped, went, andInsert, withEntries, entriesIn, insertOne, insertAll}
+use Rattle.insertion.specs.Insertion.{Inserted, InsertResult, stopped, went, andInsert, withEntries, entriesIn, insertOne, insertEach}
 
 abbrev isStopped : InsertResult → ℕ
 isStopped (stopped n) = 1
@@ -39,7 +39,7 @@ inside {s} {t} h = ap (held s) h
 
 module _ (cuts windows slots : ℕ) (limit : Float) (flags : List ℕ) (mesh : EdgeData) where
   abbrev all : List Insert → Inserted → InsertResult
-  all = insertAll cuts windows slots limit flags mesh
+  all = insertEach cuts windows slots limit flags mesh
 
   pub record Splits (xs : List Insert) (s t : Inserted) : Type 0 where
     pub windows-are : addAll cuts windows limit flags mesh (candidatesIn xs) (s .state) ≡ state.went (t .state)
@@ -75,7 +75,7 @@ module _ (cuts windows slots : ℕ) (limit : Float) (flags : List ℕ) (mesh : E
       offer-so (state.went u) is h = offer-more u is (rest (record { state = u; entries = s .entries }) t h)
 
   pub inserted-splits : (xs : List Insert) (s t : Inserted) → all xs s ≡ went t → Splits xs s t
-  unfolding insertAll insertOne candidatesIn entriesIn addAll
+  unfolding insertEach insertOne candidatesIn entriesIn addAll
   inserted-splits [] s t h =
       let same : s ≡ t = inside h in
       record { windows-are = ap (λ (z : Inserted). state.went (z .state)) same; entries-are = ap (λ (z : Inserted). z .entries) (sym same) ∙ sym (append-nil (s .entries)) }

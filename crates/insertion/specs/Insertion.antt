@@ -51,7 +51,7 @@ module _ (cuts windows slots : ℕ) (limit : Float) (flags : List ℕ) (mesh : E
   insertOne (Offer o) s = withEntries (s .entries) (addAll cuts windows limit flags mesh (offerList o) (s .state))
 
   -- the first that there is no slot for stops them
-  unfoldable pub insertAll : List Insert → Inserted → InsertResult
+  unfoldable pub insertEach : List Insert → Inserted → InsertResult
   unfolding andInsert
-  insertAll [] s = went s
-  insertAll (x ∷ xs) s = andInsert (insertOne x s) (insertAll xs)
+  insertEach [] s = went s
+  insertEach (x ∷ xs) s = andInsert (insertOne x s) (insertEach xs)

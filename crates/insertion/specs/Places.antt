@@ -34,7 +34,7 @@ use Rattle.insertion.specs.declared.InsertCounts.{InsertCounts}
 use Rattle.insertion.specs.declared.InsertAnswer.{InsertAnswer}
 use Rattle.insertion.specs.declared.InsertAnswer.the-variants.{Stopped, Went}
 use Rattle.source_inserts.specs.Inserts.{candidatesIn}
-use Rattle.insertion.specs.Insertion.{Inserted, InsertResult, insertAll}
+use Rattle.insertion.specs.Insertion.{Inserted, InsertResult, insertEach}
 use Rattle.insertion.specs.Insertion as insertion
 
 -- what the buffers hold, and how many windows, events and entries there are
@@ -60,8 +60,8 @@ abbrev pub SidesKept : List ℕ → List ℕ → Type 0
 SidesKept t t′ = (i : ℕ) → ((f : ℕ) → (i ≢ wordsPerTriangle * f + triangleFirstEntry) × (i ≢ wordsPerTriangle * f + triangleLastEntry)) → getD t′ i 0 ≡ getD t i 0
 
 module _ (limit : Float) (mesh : EdgeData) where
-  -- the buffers at p hold s, whose state follows the reference model with the candidates so far; t₀ are the triangles' words without entries
-  pub record StandsIn (t₀ : List ℕ) (past : List Candidate) (s : Inserted) (p : Place) : Type 0 where
+  -- the buffers at p hold s, whose state follows the reference model with the candidates so far; t₀ are the triangles' words before the first entry
+  pub record HoldsInserted (t₀ : List ℕ) (past : List Candidate) (s : Inserted) (p : Place) : Type 0 where
     pub trim : StandsFor limit mesh past (s .state) (p .trim)
     pub entries : HoldsOnly t₀ (p .entered) (p .entries .triangles) (p .entries .words) (s .entries)
 
@@ -69,7 +69,7 @@ module _ (limit : Float) (mesh : EdgeData) where
   pub record ComesIn (t₀ : List ℕ) (past : List Candidate) (p₀ p : Place) (r : InsertResult) : Type 0 where
     pub inserted : Inserted
     pub is : r ≡ insertion.went inserted
-    pub stands : StandsIn t₀ past inserted p
+    pub stands : HoldsInserted t₀ past inserted p
     pub untouched : Untouched (λ e. Unit {0}) (p₀ .trim) (p .trim)
     pub kept : SidesKept (p₀ .entries .triangles) (p .entries .triangles)
 
@@ -79,10 +79,10 @@ module _ (limit : Float) (mesh : EdgeData) where
 
 -- from p on all of xs are inserted, whatever the buffers hold that follows the model; a candidate must be proper only if it is admitted
 module _ (cuts windows slots : ℕ) (limit : Float) (flags : List ℕ) (mesh : EdgeData) where
-  abbrev pub Inserts : List Insert → Place → InsertEnd → Type 0
-  Inserts xs p end =
-      (t₀ : List ℕ) (past : List Candidate) (s : Inserted) → StandsIn limit mesh t₀ past s p → All (AdmittedProper limit (mesh .len)) (candidatesIn xs)
-      → InsertEnds limit mesh t₀ (past ++ candidatesIn xs) p end (insertAll cuts windows slots limit flags mesh xs s)
+  abbrev pub InsertsFrom : List Insert → Place → InsertEnd → Type 0
+  InsertsFrom xs p end =
+      (t₀ : List ℕ) (past : List Candidate) (s : Inserted) → HoldsInserted limit mesh t₀ past s p → All (AdmittedProper limit (mesh .len)) (candidatesIn xs)
+      → InsertEnds limit mesh t₀ (past ++ candidatesIn xs) p end (insertEach cuts windows slots limit flags mesh xs s)
 
 -- ---- the contracts
 -- of `enter`, with what `face_entries::enter` answers
@@ -119,7 +119,7 @@ InsertedWithin windows (Went n) = n .trim .made ≤ windows
 pub record InsertsTo (limit : Float) (vertexWords : List ℕ) (edgeReals : List Float) (x : Insert) (counts : InsertCounts) (b : Slices) (t : EntryBuffers) (c : Cuts) (r : InsertAnswer) (b′ : Slices) (t′ : EntryBuffers) : Type 0 where
   pub bounded : InsertedWithin (capacityOf (length (b .words)) (length (b .reals))) r
   pub inserts : (mesh : EdgeData) → InsertThere mesh (b .edges) edgeReals (t .triangles) x
-      → Inserts (length (c .pts)) (capacityOf (length (b .words)) (length (b .reals))) (entryCapacity (length (t .words))) limit vertexWords mesh (x ∷ []) (placeAt counts b t) (insertEnd r b′ t′)
+      → InsertsFrom (length (c .pts)) (capacityOf (length (b .words)) (length (b .reals))) (entryCapacity (length (t .words))) limit vertexWords mesh (x ∷ []) (placeAt counts b t) (insertEnd r b′ t′)
 
 -- of lent slices, at the call and at the return
 abbrev pub entriesBefore : Lent ℕ → Lent ℕ → EntryBuffers

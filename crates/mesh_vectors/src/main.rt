@@ -1,6 +1,5 @@
 // Replays stored meshes through the checks and the topology: how many there are, and how many are answered otherwise. Compared are the refusal, every number
 // of the topology, and what is left in the buffers. tests/mesh/make_vectors.py has the format and makes the files.
-use buffers::read_f64;
 use buffers::read_u32;
 use layout::REALS_PER_EDGE;
 use layout::REALS_PER_TRIANGLE;
@@ -16,7 +15,6 @@ use mesh::OtherCounts;
 use stored_jobs::list_places;
 use stored_jobs::load_mesh;
 use stored_jobs::load_pieces;
-use stored_numbers::Walk;
 use stored_numbers::all_f64;
 use stored_numbers::all_u32;
 use stored_numbers::at_most;
@@ -24,118 +22,15 @@ use stored_numbers::count;
 use stored_numbers::double;
 use stored_numbers::number;
 use stored_numbers::record_size;
-use stored_numbers::visit;
-use stored_numbers::wrong;
+use stored_slots::SummedWalk;
+use stored_slots::broken;
+use stored_slots::compare_or_sum;
+use stored_slots::section;
+use stored_slots::start_at;
+use stored_slots::visit_f64;
+use stored_slots::visit_u32;
 use vectors::Tally;
 ghost use Prim.Native.Nat.{_<_};
-
-// The walk over the stored numbers, and the check sum so far.
-struct SummedWalk {
-    walk: Walk,
-    sum: u64,
-}
-
-// One more number of the topology, compared at detail 1 and summed at detail 2.
-fn compare_or_sum(s: &[u8], detail: u32, w: SummedWalk, n: u32) -> SummedWalk {
-    let walk = w.walk;
-    if detail == 1 {
-        return SummedWalk {
-            walk: visit(s, walk, n),
-            sum: 0,
-        };
-    }
-    SummedWalk {
-        walk,
-        sum: ((w.sum % 4_294_967_296) * 65_599 + (n as u64)) % 4_294_967_291,
-    }
-}
-
-// The end of a list: at detail 2 its check sum is compared.
-fn section(s: &[u8], detail: u32, w: SummedWalk) -> SummedWalk {
-    if detail == 1 {
-        return w;
-    }
-    let sum = (w.sum % 4_294_967_296) as u32;
-    compare_or_sum(s, 1, w, sum)
-}
-
-fn compare_or_sum_double(s: &[u8], detail: u32, w: SummedWalk, x: f64) -> SummedWalk {
-    let bits = vectors::pattern(x);
-    let low = compare_or_sum(s, detail, w, (bits % 4_294_967_296) as u32);
-    compare_or_sum(s, detail, low, (bits / 4_294_967_296) as u32)
-}
-
-// The first fields of a slot.
-fn visit_slot_u32(
-    s: &[u8],
-    detail: u32,
-    w: SummedWalk,
-    words: &[u32],
-    stride: u32,
-    slot: u32,
-    fields: u32,
-) -> SummedWalk {
-    let mut now = w;
-    let mut k: u32 = 0;
-    while k < fields {
-        now = compare_or_sum(s, detail, now, read_u32(words, stride, slot, k));
-        k += 1;
-    }
-    now
-}
-
-fn visit_slot_f64(
-    s: &[u8],
-    detail: u32,
-    w: SummedWalk,
-    reals: &[f64],
-    fields: u32,
-    slot: u32,
-) -> SummedWalk {
-    let mut now = w;
-    let mut k: u32 = 0;
-    while k < fields {
-        now = compare_or_sum_double(s, detail, now, read_f64(reals, fields, slot, k));
-        k += 1;
-    }
-    now
-}
-
-// The same of the first n slots.
-fn visit_u32(
-    s: &[u8],
-    detail: u32,
-    w: SummedWalk,
-    words: &[u32],
-    stride: u32,
-    n: u32,
-    fields: u32,
-) -> SummedWalk {
-    let mut now = w;
-    let mut i: u32 = 0;
-    while i < n {
-        now = visit_slot_u32(s, detail, now, words, stride, i, fields);
-        i += 1;
-    }
-    section(s, detail, now)
-}
-
-fn visit_f64(
-    s: &[u8],
-    detail: u32,
-    w: SummedWalk,
-    reals: &[f64],
-    fields: u32,
-    n: u32,
-) -> SummedWalk {
-    let mut now = w;
-    let mut i: u32 = 0;
-    while i < n {
-        now = visit_slot_f64(s, detail, now, reals, fields, i);
-        i += 1;
-    }
-    section(s, detail, now)
-}
 
 // The faces from one place of their list up to another, their count first.
 fn visit_faces(
@@ -147,10 +42,7 @@ fn visit_faces(
     end: u32,
 ) -> SummedWalk {
     if end < start {
-        return SummedWalk {
-            walk: wrong(),
-            sum: 0,
-        };
+        return broken();
     }
     let mut now = compare_or_sum(s, detail, w, end - start);
     let mut i = start;
@@ -276,11 +168,7 @@ fn same_topology(
     let vertices = (count(s, k + 3, 200_000) / 3) as u32;
     let sides = count(s, k + 4, 200_000) as u32;
     let triangles = sides / 3;
-    let walk = Walk {
-        at: list_places(s, k).answer,
-        same: true,
-    };
-    let start = SummedWalk { walk, sum: 0 };
+    let start = start_at(list_places(s, k).answer);
     let counted = compare_or_sum(s, 1, start, edges);
     let ends = visit_u32(s, detail, counted, edge_words, WORDS_PER_EDGE, edges, 4);
     let lengths = visit_f64(s, detail, ends, edge_reals, REALS_PER_EDGE, edges);

@@ -1,3 +1,4 @@
 pub mod Claimed
 pub mod Calls
 pub mod Pending
+pub mod Answers

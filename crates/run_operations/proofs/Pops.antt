@@ -1,9 +1,8 @@
 -- A pop, by its answer, leaves buffers that stand for the state after it. Assumes nothing.
-use Prim.Native.Nat.{ℕ, _*_, _-_, _≤_}
-use mathlib.Core.Bool.{Bool, true, false, cond, _&&_}
+use Prim.Native.Nat.{ℕ, _*_, _≤_}
+use mathlib.Core.Bool.{Bool}
 use mathlib.Core.List.{List}
 use mathlib.Core.Path.{_≡_, refl, sym, ap, subst, _∙_}
-use lib.Dec.{leb, ltb}
 use lib.ListN.{length, drop}
 use lib.Ieee.{Float}
 use Rattle.layout.specs.Layout.{wordsPerWindow}
@@ -11,53 +10,29 @@ use Rattle.windows.specs.Windows.{capacityOf}
 use Rattle.heap.specs.declared.Event.{Event}
 use Rattle.heap.specs.declared.Popped.{Popped}
 use Rattle.heap.specs.declared.Popped.the-variants.{Empty, First}
-use Rattle.heap.specs.Queue.{Queue, queue, at, slots, popping}
-use Rattle.heap.specs.Queue.{popped as Queue·popped}
+use Rattle.heap.specs.Queue.{Queue, queue, popping}
 use Rattle.chains.specs.Chains.{links}
 use Rattle.actions.specs.Actions as actions
 use Rattle.actions.specs.Actions.{Stock}
 use Rattle.trim_state.specs.State.{State}
 use Rattle.live_windows.specs.Live.{HoldsWindows}
-use Rattle.pop.specs.declared.Taken.{Taken}
 use Rattle.pop.specs.declared.Taken.the-variants.{Empty as Taken·Empty, First as Taken·First}
 use Rattle.pop.specs.Words.{takenOf, wordsAfter}
 use Rattle.pop.specs.State.{winsClaimed, liveClaimed, afterPop}
 use Rattle.pop.proofs.Claimed.{item-holds, item-words}
+use Rattle.pop.proofs.Answers.{taken-none, taken-one, empty-queue}
 use Rattle.trim_operations.specs.Represents.{Represents}
 use Rattle.run_operations.specs.Lists.{leftOf, PopsFirst}
 
--- ---- an empty answer changes no queue
-IsEmpty : Popped → Type 0
-IsEmpty Empty = Unit {0}
-IsEmpty (First x n) = ⊥
-
-empty-same : (b : Bool) (x : Event) (n : ℕ) (p q : Queue) → (cond {A = Popped × Queue} b (First x n, p) (Empty, q)) .0 ≡ Empty → (cond {A = Popped × Queue} b (First x n, p) (Empty, q)) .1 ≡ q
-unfolding IsEmpty
-empty-same true x n p q h = absurd (subst IsEmpty (sym h) tt)
-empty-same false x n p q h = refl
-
-empty-queue : (q : Queue) (n : ℕ) → popping q n .0 ≡ Empty → popping q n .1 ≡ q
-empty-queue q n = empty-same (ltb 0 n && leb n (slots q)) (at q 0) (n - 1) (Queue·popped q (n - 1)) q
-
 -- ---- the answer tells how many are left
-NoneTaken : Taken → Type 0
-NoneTaken Taken·Empty = Unit {0}
-NoneTaken (Taken·First x n b) = ⊥
-
-numberOf : Taken → ℕ
-numberOf Taken·Empty = 0
-numberOf (Taken·First x n b) = n
-
 module _ (made : ℕ) (words : List ℕ) (queued : ℕ) where
   pub left-none : (p : Popped) → Taken·Empty ≡ takenOf made words p → queued ≡ leftOf queued p
-  unfolding takenOf NoneTaken leftOf
-  left-none Empty h = refl
-  left-none (First x n) h = absurd (subst NoneTaken h tt)
+  unfolding leftOf
+  left-none p h = ap (leftOf queued) (sym (taken-none made words p h))
 
   pub left-one : (p : Popped) (x : Event) (n : ℕ) (b : Bool) → Taken·First x n b ≡ takenOf made words p → n ≡ leftOf queued p
-  unfolding takenOf NoneTaken numberOf leftOf
-  left-one Empty x n b h = absurd (subst NoneTaken (sym h) tt)
-  left-one (First y m) x n b h = ap numberOf h
+  unfolding leftOf
+  left-one p x n b h = ap (leftOf queued) (sym (taken-one made words p x n b h .0))
 
 -- ---- the buffers after it
 module _ (made queued : ℕ) (edges words : List ℕ) (reals keys : List Float) (events : List ℕ) (vertex : List Float) (words′ : List ℕ) (keys′ : List Float) (events′ : List ℕ)

@@ -1,9 +1,9 @@
 -- Whole slices as they are lent: their counts, the parts that are used, and zeros. Assumes nothing.
-use Prim.Native.Nat.{ℕ, zero, suc, _+_, _*_, _-_, _≤_, _<_, min}
+use Prim.Native.Nat.{ℕ, _+_, _*_, _-_, _/_, _≤_, _<_, min}
 use native.Mathlib.Omega.{arith}
-use mathlib.Core.List.{List, [], _∷_}
+use mathlib.Core.List.{List}
 use mathlib.Core.Path.{_≡_, refl, sym, ap, subst, _∙_}
-use lib.ListN.{length, getD, take, drop, replicate, length-replicate}
+use lib.ListN.{length, take, replicate, length-replicate}
 use lib.Seq.{length-take-le}
 use lib.Ieee.{Float}
 use Rattle.layout.specs.Layout.{realsPerVertex, wordsPerEdge, edgeHead, wordsPerWindow, realsPerWindow, wordsPerEnds, realsPerLen}
@@ -14,7 +14,7 @@ use Rattle.buffers.proofs.Zeroing.{zero-at}
 use Rattle.chains.specs.Chains.{headOf}
 use Rattle.trim_split.specs.Running.{Snapshot}
 use Rattle.contents.specs.Contents.{headsIn, wordsOf, realsOfAll, forgotten}
-use Rattle.contents.proofs.Held.{words-are, reals-are-all}
+use Rattle.contents.proofs.Held.{drop-zeros, words-are, reals-are-all}
 use Rattle.contents.proofs.Forgotten.{heads-only}
 use Rattle.run_operations.specs.declared.Ran.{Ran}
 use Rattle.run_operations.specs.declared.Ran.the-variants.{Done, Ended}
@@ -125,12 +125,6 @@ zeroed-slices b b₁ b′ s z = record {
 pub zeros-stay : (edges zeroed : List ℕ) → zeroed ≡ replicate (length edges) 0 → zeroed ≡ replicate (length zeroed) 0
 zeros-stay edges zeroed h = h ∙ ap (λ (n : ℕ). replicate n 0) (sym (ap (λ (l : List ℕ). length l) h ∙ length-replicate (length edges) 0))
 
--- zeros from an element on
-drop-zeros : {A : Type 0} (z : A) (n m : ℕ) → drop n (replicate m z) ≡ replicate (m - n) z
-drop-zeros z zero m = let e : m ≡ m - zero = omega arith in ap (λ (k : ℕ). replicate k z) e
-drop-zeros z (suc n) zero = let e : zero ≡ zero - suc n = omega arith in ap (λ (k : ℕ). replicate k z) e
-drop-zeros z (suc n) (suc m) = let e : m - n ≡ suc m - suc n = omega arith in drop-zeros z n m ∙ ap (λ (k : ℕ). replicate k z) e
-
 -- windows that fit have their slots
 counted : (made m n : ℕ) → made ≤ capacityOf m n → (wordsPerWindow * made ≤ m) × (realsPerWindow * made ≤ n)
 counted made m n h = (omega (arith, h), omega (arith, h))
@@ -158,7 +152,7 @@ module _ (limit : Float) (flags ends : List ℕ) (lens : List Float) (ops : List
         (subst (λ (z : Slices). WholeRuns (lentSetting c z limit flags ends lens) z r b₂) (λ t. with (isEdges t) (isWords t) (isReals t)) runs)
 
     -- the slices keep their lengths, and the edges forget their links
-    pub whole-done : (made queued : ℕ) → r ≡ Done made queued → SameLengths b₂ b → (edges′ : List ℕ) → edges′ ≡ forgotten (slotsOf (length (b₂ .edges)) wordsPerEdge) (b₂ .edges)
+    pub whole-done : (made queued : ℕ) → r ≡ Done made queued → SameLengths b₂ b → (edges′ : List ℕ) → edges′ ≡ forgotten (length (b₂ .edges) / wordsPerEdge) (b₂ .edges)
         → RunWhole limit flags ends lens ops args b c (Done made queued) (slices edges′ (b₂ .words) (b₂ .reals) (b₂ .keys) (b₂ .events) (b₂ .vertex)) c′
     whole-done made queued h s edges′ forget =
         let F : Finishes (lentSetting c b limit flags ends lens) ops args (operationCount ops args) (snapshotIn 0 0 (cleared b)) made queued b₂ = subst (λ (z : Ran). WholeRuns (lentSetting c b limit flags ends lens) (cleared b) z b₂) h whole-runs in
@@ -172,8 +166,8 @@ module _ (limit : Float) (flags ends : List ℕ) (lens : List Float) (ops : List
             state = F .state;
             is = F .is;
             demand3 = F .demand3;
-            edges = forget ∙ heads-only m (slotsOf (length (b₂ .edges)) wordsPerEdge) made wins (b₂ .edges) (b₂ .words) (b₂ .reals) live H
-                (rw (s .edges) (least-last (min (slotsOf (length ends) wordsPerEnds) (slotsOf (length lens) realsPerLen)) (slotsOf (length (b .edges)) wordsPerEdge) m refl))
+            edges = forget ∙ heads-only m (length (b₂ .edges) / wordsPerEdge) made wins (b₂ .edges) (b₂ .words) (b₂ .reals) live H
+                (rw (s .edges) (let h = least-last (min (slotsOf (length ends) wordsPerEnds) (slotsOf (length lens) realsPerLen)) (slotsOf (length (b .edges)) wordsPerEdge) m refl in omega (arith, h)))
                 (λ p q. F .untouched .edges p q ∙ zero-at 0 (length (b .edges)) p)
                 ∙ ap (headsIn live) (s .edges);
             words = words-are made wins (b₂ .edges) (b₂ .words) (b₂ .reals) live H (room .0) (room .1)

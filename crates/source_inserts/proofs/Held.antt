@@ -1,4 +1,4 @@
--- Where the buffers hold a job, its sources are read as the Rust has them, and each makes what the Rust's does: source-is, source-inserts-held, source-at-held.
+-- Where the buffers hold a job, its sources are read as the Rust has them, and each makes what the Rust's does: source-is, source-inserts-held.
 -- Other buffers that hold the job may be read for each one that a source makes. Assumes nothing.
 use Prim.Native.Nat.{ℕ, zero, suc, _+_, _-_, _*_, _/_, _%_, _<_, _≤_}
 use mathlib.Core.Path.{_≡_, refl, sym, ap, subst, _∙_}
@@ -34,8 +34,8 @@ use Rattle.source_inserts.specs.declared.Insert.{Insert}
 use Rattle.source_inserts.specs.declared.Insert.the-variants.{Offer}
 use Rattle.source_inserts.specs.declared.Source.{Source}
 use Rattle.source_inserts.specs.declared.Source.the-variants.{Absent, Point, Segment}
-use Rattle.source_inserts.specs.Inserts.{entryOf, carrierInserts, pointInserts, segmentInserts, endInserts, wholeInserts, partInserts, sourceInserts, Makes, IsSource}
-use Rattle.source_inserts.specs.Read.{segmentSourceAt, normalOfNumber, pointSourceAt, sourceAt, segmentInsertAt, pointSideAt, pointInsertAt, insertAt, insertCountAt}
+use Rattle.source_inserts.specs.Inserts.{entryOf, carrierInserts, pointInserts, segmentInserts, endInserts, wholeInserts, partInserts, sourceInserts, SourceMakes, IsSource}
+use Rattle.source_inserts.specs.Read.{segmentSourceAt, normalOfNumber, endSourceAt, jobSourceAt, segmentInsertAt, pointSideAt, pointInsertAt, insertAt, insertCountAt}
 use Rattle.offers.specs.Each.{eachOf}
 use Rattle.offers.proofs.Each.{each-same, by-blocks}
 
@@ -51,11 +51,11 @@ module _ (v : List Float) (triangles : List ℕ) (n : ℕ) (edgeWords : List ℕ
     (held : HoldsJob v triangles n edgeWords edgeReals triangleWords triangleReals vertexWords round kinds faces coords words) where
   -- ---- a source
   abbrev Made : List Insert → Source → Type 0
-  Made xs s = Makes v triangles kinds faces coords n xs s
+  Made xs s = SourceMakes v triangles kinds faces coords n xs s
 
   end-made : (i e : ℕ) (part : Part) → i < length kinds → e / 2 ≡ i → (b : Bool) → firstOfBits kinds coords e ≡ b
-      → Made (endInserts v triangles kinds faces coords i e part) (pointSourceAt v edgeWords edgeReals triangleWords triangleReals kinds faces coords words (length kinds) e part)
-  unfolding endInserts pointSourceAt Makes
+      → Made (endInserts v triangles kinds faces coords i e part) (endSourceAt v edgeWords edgeReals triangleWords triangleReals kinds faces coords words (length kinds) e part)
+  unfolding endInserts endSourceAt SourceMakes
   end-made i e part l q false h = rw (is-first-held kinds coords words (held .table) e, h) refl
   end-made i e part l q true h =
       let there : getD faces (e / 2) 0 < length triangles / 3 = held .face-there (e / 2) (omega (arith, l, q)) in
@@ -73,13 +73,13 @@ module _ (v : List Float) (triangles : List ℕ) (n : ℕ) (edgeWords : List ℕ
       )
 
   whole-made : (i : ℕ) → i < length kinds → (b : Bool) → eqb (getD kinds i 0) 0 ≡ b → Made (wholeInserts v triangles kinds faces coords i) (segmentSourceAt kinds faces coords i)
-  unfolding wholeInserts segmentSourceAt Makes
+  unfolding wholeInserts segmentSourceAt SourceMakes
   whole-made i l true h = rw (second-end kinds i l, h) refl
   whole-made i l false h = rw (second-end kinds i l, h) (refl, held .face-there i l)
 
   part-made : (j k : ℕ) → j % 3 ≡ k → j / 3 < length kinds
-      → Made (partInserts v triangles kinds faces coords (j / 3) k) (sourceAt v edgeWords edgeReals triangleWords triangleReals kinds faces coords words (length kinds) j)
-  unfolding sourceAt partInserts partOfNumber
+      → Made (partInserts v triangles kinds faces coords (j / 3) k) (jobSourceAt v edgeWords edgeReals triangleWords triangleReals kinds faces coords words (length kinds) j)
+  unfolding jobSourceAt partInserts partOfNumber
   part-made j zero q l =
       let z : 2 * (j / 3) + 0 ≡ 2 * (j / 3) = omega arith in
       rw q (rw z (end-made (j / 3) (2 * (j / 3)) EndA l (omega arith) (firstOfBits kinds coords (2 * (j / 3))) refl))
@@ -87,7 +87,7 @@ module _ (v : List Float) (triangles : List ℕ) (n : ℕ) (edgeWords : List ℕ
   part-made j (suc (suc zero)) q l = rw q (whole-made (j / 3) l (eqb (getD kinds (j / 3) 0) 0) refl)
   part-made j (suc (suc (suc k))) q l = absurd (omega (arith, q))
 
-  pub source-is : (j : ℕ) → j < 3 * length kinds → IsSource v triangles kinds faces coords n j (sourceAt v edgeWords edgeReals triangleWords triangleReals kinds faces coords words (length kinds) j)
+  pub source-is : (j : ℕ) → j < 3 * length kinds → IsSource v triangles kinds faces coords n j (jobSourceAt v edgeWords edgeReals triangleWords triangleReals kinds faces coords words (length kinds) j)
   unfolding sourceInserts
   source-is j l = part-made j (j % 3) refl (omega (arith, l))
 
@@ -166,11 +166,7 @@ module _ (v : List Float) (triangles : List ℕ) (n : ℕ) (edgeWords : List ℕ
         ∷ (Offer (side 2 (omega arith) a b Left t) ∷ (Offer (side 2 (omega arith) a b Right t) ∷ []))))))
 
     pub source-inserts-held : (j : ℕ) (s : Source) → IsSource v triangles kinds faces coords n j s → eachOf (λ (i : ℕ). made s i ∷ []) (insertCountAt edgeWords vertexWords s) ≡ sourceInserts v triangles kinds faces coords j
-    unfolding Makes eachOf insertCountAt
+    unfolding SourceMakes eachOf insertCountAt
     source-inserts-held j Absent h = sym h
     source-inserts-held j (Point f p piece part c) h = point-made f p piece part c (h .1 .0) (h .1 .1 .0) (h .1 .1 .1) ∙ sym (h .0)
     source-inserts-held j (Segment f a b piece) h = segment-made f a b piece (h .1) ∙ sym (h .0)
-
-    pub source-at-held : (j : ℕ) → j < 3 * length kinds → (s : Source) → s ≡ sourceAt v edgeWords edgeReals triangleWords triangleReals kinds faces coords words (length kinds) j
-        → eachOf (λ (i : ℕ). made s i ∷ []) (insertCountAt edgeWords vertexWords s) ≡ sourceInserts v triangles kinds faces coords j
-    source-at-held j l s q = source-inserts-held j s (subst (λ (z : Source). IsSource v triangles kinds faces coords n j z) (sym q) (source-is j l))

@@ -23,11 +23,11 @@ use Rattle.source_offers.proofs.Proper.{from-zero, segment-proper, point-proper
 use Rattle.point_wedge.specs.Wedge.{directionsIn, boundsIn}
 use Rattle.source_inserts.specs.declared.Insert.{Insert}
 use Rattle.source_inserts.specs.declared.Insert.the-variants.{Offer}
-use Rattle.source_inserts.specs.Inserts.{jobInserts, sourceInserts, candidatesAt, candidatesIn}
-use Rattle.source_inserts.proofs.Each.{source-all, job-all}
+use Rattle.source_inserts.specs.Inserts.{jobInserts, candidatesAt, candidatesIn}
+use Rattle.source_inserts.proofs.Each.{job-all}
 
 -- what holds of the candidates of each holds of those of all
-candidates-all : (Q : Candidate → Type 0) (xs : List Insert) → All (λ (x : Insert). All Q (candidatesAt x)) xs → All Q (candidatesIn xs)
+pub candidates-all : (Q : Candidate → Type 0) (xs : List Insert) → All (λ (x : Insert). All Q (candidatesAt x)) xs → All Q (candidatesIn xs)
 unfolding candidatesIn
 candidates-all Q [] h = tt
 candidates-all Q (x ∷ xs) h = all-append Q (candidatesAt x) (candidatesIn xs) (h .0) (candidates-all Q xs (h .1))
@@ -55,11 +55,6 @@ module _ (limit : Float) (v : List Float) (triangles : List ℕ) (n : ℕ) (vali
 
   segment-fine : (f k : ℕ) → f < length triangles / 3 → k < 3 → (a b : Vec3) (side : Normal) → Fine (Offer (segmentOffer v triangles f k a b side))
   segment-fine f k l q a b side = segment-proper limit v triangles f k (side-long f k l q) a b side
-
-  pub source-proper : (j : ℕ) → j < 3 * length kinds → All (AdmittedProper limit (len v triangles)) (candidatesIn (sourceInserts v triangles kinds faces coords j))
-  source-proper j l =
-      candidates-all (AdmittedProper limit (len v triangles)) (sourceInserts v triangles kinds faces coords j)
-      (source-all Fine v triangles n valid kinds faces coords face-there (λ g piece part q. tt) point-fine segment-fine j l)
 
   pub job-proper : All (AdmittedProper limit (len v triangles)) (candidatesIn (jobInserts v triangles kinds faces coords))
   job-proper =

@@ -24,7 +24,7 @@ use Rattle.point_wedge.specs.Wedge.{boundsAt}
 use Rattle.source_inserts.specs.declared.Insert.the-variants.{Entry, Offer}
 use Rattle.source_inserts.specs.declared.Source.{Source}
 use Rattle.source_inserts.specs.declared.Source.the-variants.{Absent, Point, Segment}
-use Rattle.source_inserts.specs.Read.{segmentSourceAt, normalOfNumber, pointSourceAt, sourceAt, segmentInsertAt, pointSideAt, pointInsertAt}
+use Rattle.source_inserts.specs.Read.{segmentSourceAt, normalOfNumber, endSourceAt, jobSourceAt, segmentInsertAt, pointSideAt, pointInsertAt}
 
 -- ---- a segment
 module _ (kinds faces : List ℕ) (coords : List Float) (i : ℕ) where
@@ -43,28 +43,28 @@ module _ (kinds faces : List ℕ) (coords : List Float) (i : ℕ) where
 module _ (v : List Float) (ew : List ℕ) (er : List Float) (tw : List ℕ) (tr : List Float) where
   -- ---- a point
   module _ (kinds faces : List ℕ) (coords : List Float) (words : List ℕ) (pieces e : ℕ) (part : Part) where
-    pub no-point : isFirstAt kinds coords words pieces e ≡ false → Absent ≡ pointSourceAt v ew er tw tr kinds faces coords words pieces e part
-    unfolding pointSourceAt
+    pub no-point : isFirstAt kinds coords words pieces e ≡ false → Absent ≡ endSourceAt v ew er tw tr kinds faces coords words pieces e part
+    unfolding endSourceAt
     no-point h = rw h refl
 
     pub point-is : isFirstAt kinds coords words pieces e ≡ true → (f : FaceId) (p : Vec3) (on : CarrierSimplex) → f ≡ record { 0 = getD faces (e / 2) 0 } → p ≡ endPoint coords e → on ≡ carrierAt v ew er tw tr (f .0) p
-        → Point f p (e / 2) part on ≡ pointSourceAt v ew er tw tr kinds faces coords words pieces e part
-    unfolding pointSourceAt
+        → Point f p (e / 2) part on ≡ endSourceAt v ew er tw tr kinds faces coords words pieces e part
+    unfolding endSourceAt
     point-is h f p on is-f is-p is-on =
         let C : on ≡ carrierAt v ew er tw tr (getD faces (e / 2) 0) (endPoint coords e) = is-on ∙ (λ t. carrierAt v ew er tw tr (is-f t .0) (is-p t)) in
         rw h (λ t. Point (is-f t) (is-p t) (e / 2) part (C t))
 
   -- ---- either
   module _ (kinds faces : List ℕ) (coords : List Float) (words : List ℕ) (pieces j : ℕ) where
-    pub source-whole : j % 3 ≡ 2 → (r : Source) → r ≡ segmentSourceAt kinds faces coords (j / 3) → r ≡ sourceAt v ew er tw tr kinds faces coords words pieces j
-    unfolding sourceAt
+    pub source-whole : j % 3 ≡ 2 → (r : Source) → r ≡ segmentSourceAt kinds faces coords (j / 3) → r ≡ jobSourceAt v ew er tw tr kinds faces coords words pieces j
+    unfolding jobSourceAt
     source-whole h r is-r = rw (eq-eqb (j % 3) 2 h) is-r
 
-    pub source-end : (j % 3 ≡ 2 → ⊥) → (part : Part) → part ≡ partOfNumber (j % 3) → (r : Source) → r ≡ pointSourceAt v ew er tw tr kinds faces coords words pieces (2 * (j / 3) + j % 3) part
-        → r ≡ sourceAt v ew er tw tr kinds faces coords words pieces j
-    unfolding sourceAt
+    pub source-end : (j % 3 ≡ 2 → ⊥) → (part : Part) → part ≡ partOfNumber (j % 3) → (r : Source) → r ≡ endSourceAt v ew er tw tr kinds faces coords words pieces (2 * (j / 3) + j % 3) part
+        → r ≡ jobSourceAt v ew er tw tr kinds faces coords words pieces j
+    unfolding jobSourceAt
     source-end h part is-part r is-r =
-        rw (ne-eqb (j % 3) 2 h) (is-r ∙ ap (pointSourceAt v ew er tw tr kinds faces coords words pieces (2 * (j / 3) + j % 3)) is-part)
+        rw (ne-eqb (j % 3) 2 h) (is-r ∙ ap (endSourceAt v ew er tw tr kinds faces coords words pieces (2 * (j / 3) + j % 3)) is-part)
 
   -- ---- what a segment does
   module _ (f : FaceId) (a b : Vec3) (piece i : ℕ) where

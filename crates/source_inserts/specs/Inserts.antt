@@ -26,7 +26,7 @@ use Rattle.source_inserts.specs.declared.Insert.the-variants.{Entry, Off
 use Rattle.source_inserts.specs.declared.Source.{Source}
 use Rattle.source_inserts.specs.declared.Source.the-variants.{Absent, Point, Segment}
 
--- the Rust's `in_face.entry(g).or_default().push(..)` and `add(..)`
+-- the Rust's `in_face.entry(g).or_default().push(..)`
 abbrev pub entryOf : ℕ → ℕ → Part → Insert
 entryOf g piece part = Entry (record { 0 = g }) (record { piece = piece; part = part })
 
@@ -74,15 +74,15 @@ module _ (v : List Float) (triangles kinds faces : List ℕ) (coords : List Floa
   sourceInserts j = partInserts (j / 3) (j % 3)
 
   -- source s makes these, in a mesh of n vertices, and names what is there
-  unfoldable pub Makes : ℕ → List Insert → Source → Type 0
-  Makes n xs Absent = xs ≡ []
-  Makes n xs (Point f p piece part on) =
+  unfoldable pub SourceMakes : ℕ → List Insert → Source → Type 0
+  SourceMakes n xs Absent = xs ≡ []
+  SourceMakes n xs (Point f p piece part on) =
       (xs ≡ pointInserts (f .0) p piece part) × ((f .0 < length triangles / 3) × ((facesOf triangles (f .0) on ≡ carrierOf v triangles (f .0) p) × InMesh triangles n (f .0) on))
-  Makes n xs (Segment f a b piece) = (xs ≡ segmentInserts (f .0) a b piece) × (f .0 < length triangles / 3)
+  SourceMakes n xs (Segment f a b piece) = (xs ≡ segmentInserts (f .0) a b piece) × (f .0 < length triangles / 3)
 
   -- s is source j
   abbrev pub IsSource : ℕ → ℕ → Source → Type 0
-  IsSource n j s = Makes n (sourceInserts j) s
+  IsSource n j s = SourceMakes n (sourceInserts j) s
 
 -- ---- of a list of them
 -- the candidates

@@ -35,16 +35,16 @@ normalOfNumber i = cond (eqb i 0) Left Right
 
 module _ (v : List Float) (edgeWords : List ℕ) (edgeReals : List Float) (triangleWords : List ℕ) (triangleReals : List Float) where
   -- end e as a point
-  unfoldable pub pointSourceAt : List ℕ → List ℕ → List Float → List ℕ → ℕ → ℕ → Part → Source
-  pointSourceAt kinds faces coords words pieces e part =
+  unfoldable pub endSourceAt : List ℕ → List ℕ → List Float → List ℕ → ℕ → ℕ → Part → Source
+  endSourceAt kinds faces coords words pieces e part =
       let f : ℕ = getD faces (e / 2) 0 in
       let p : Vec3 = endPoint coords e in
       cond (isFirstAt kinds coords words pieces e) (Point (record { 0 = f }) p (e / 2) part (carrierAt v edgeWords edgeReals triangleWords triangleReals f p)) Absent
 
   -- source j, of three for each piece: its end a, its end b, and the whole segment
-  unfoldable pub sourceAt : List ℕ → List ℕ → List Float → List ℕ → ℕ → ℕ → Source
-  sourceAt kinds faces coords words pieces j =
-      cond (eqb (j % 3) 2) (segmentSourceAt kinds faces coords (j / 3)) (pointSourceAt kinds faces coords words pieces (2 * (j / 3) + j % 3) (partOfNumber (j % 3)))
+  unfoldable pub jobSourceAt : List ℕ → List ℕ → List Float → List ℕ → ℕ → ℕ → Source
+  jobSourceAt kinds faces coords words pieces j =
+      cond (eqb (j % 3) 2) (segmentSourceAt kinds faces coords (j / 3)) (endSourceAt kinds faces coords words pieces (2 * (j / 3) + j % 3) (partOfNumber (j % 3)))
 
   -- the i-th of a segment: its entry, then two for each side
   unfoldable pub segmentInsertAt : ℕ → Vec3 → Vec3 → ℕ → ℕ → Insert

@@ -21,7 +21,7 @@ use vec3::Vec3;
 ghost use mathlib.Core.Path.{_≡_};
 ghost use Prim.Native.Nat.{_<_};
 ghost use Rattle.buffers.specs.Lent.{given};
-ghost use Rattle.source_inserts.specs.Read.{pointSourceAt, segmentSourceAt, sourceAt, insertCountAt, pointSideAt, pointInsertAt, segmentInsertAt, normalOfNumber, insertAt};
+ghost use Rattle.source_inserts.specs.Read.{endSourceAt, segmentSourceAt, jobSourceAt, insertCountAt, pointSideAt, pointInsertAt, segmentInsertAt, normalOfNumber, insertAt};
 
 // A part of a piece is entered in a face, or a window is offered to an edge.
 pub enum Insert {
@@ -48,7 +48,7 @@ pub enum Source {
 }
 
 // End e as a point, where no end before it has its bits.
-fn point_source(
+fn end_source(
     vertices: &[f64],
     edge_words: &[u32],
     edge_reals: &[f64],
@@ -62,7 +62,7 @@ fn point_source(
     e: u32,
     part: Part,
 ) -> Source
-    ensures { λ r. ⌜ r ≡ pointSourceAt (given vertices) (given «edge_words») (given «edge_reals») (given «triangle_words») (given «triangle_reals»)
+    ensures { λ r. ⌜ r ≡ endSourceAt (given vertices) (given «edge_words») (given «edge_reals») (given «triangle_words») (given «triangle_reals»)
         (given kinds) (given faces) (given coords) (given «piece_words») pieces e part ⌝ }
 {
     if !is_first(kinds, coords, piece_words, pieces, e) {
@@ -109,7 +109,7 @@ fn segment_source(kinds: &[u8], faces: &[u32], coords: &[f64], i: u32) -> Source
 }
 
 // Source j of a job of so many pieces: three for each piece, its end a, its end b, and the whole segment.
-pub fn source_at(
+pub fn job_source(
     vertices: &[f64],
     edge_words: &[u32],
     edge_reals: &[f64],
@@ -122,7 +122,7 @@ pub fn source_at(
     pieces: u32,
     j: u32,
 ) -> Source
-    ensures { λ r. ⌜ r ≡ sourceAt (given vertices) (given «edge_words») (given «edge_reals») (given «triangle_words») (given «triangle_reals»)
+    ensures { λ r. ⌜ r ≡ jobSourceAt (given vertices) (given «edge_words») (given «edge_reals») (given «triangle_words») (given «triangle_reals»)
         (given kinds) (given faces) (given coords) (given «piece_words») pieces j ⌝ }
 {
     let i = j / 3;
@@ -131,7 +131,7 @@ pub fn source_at(
         return segment_source(kinds, faces, coords, i);
     }
     let part = part_of(k);
-    point_source(
+    end_source(
         vertices,
         edge_words,
         edge_reals,

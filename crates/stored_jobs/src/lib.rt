@@ -23,9 +23,9 @@ pub fn list_places(s: &[u8], k: usize) -> ListPlaces
     let triangles = k + 19 + 2 * count(s, k + 3, 20_000);
     let flags = triangles + count(s, k + 4, 40_000);
     let kinds = flags + count(s, k + 5, 10_000);
-    let faces = kinds + count(s, k + 6, 1_000);
-    let coords = faces + count(s, k + 7, 1_000);
-    let answer = coords + 2 * count(s, k + 8, 1_000);
+    let faces = kinds + count(s, k + 6, 4_000);
+    let coords = faces + count(s, k + 7, 4_000);
+    let answer = coords + 2 * count(s, k + 8, 24_000);
     ListPlaces {
         triangles,
         flags,

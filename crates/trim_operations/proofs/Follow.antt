@@ -1,24 +1,22 @@
 -- Each operation keeps the live lists those of the reference model. Assumes nothing.
 use Prim.Native.Nat.{ℕ}
 use mathlib.Core.Bool.{Bool, cond, _&&_}
-use mathlib.Core.List.{List, [], _∷_, _++_, map, append-nil}
-use mathlib.Core.Path.{_≡_, refl, sym, ap, subst}
+use mathlib.Core.List.{List, [], _∷_, _++_, append-nil}
+use mathlib.Core.Path.{_≡_, sym, subst}
 use native.Mathlib.Omega.{arith}
-use lib.Dec.{T, eqb, ltb}
+use lib.Dec.{T, ltb}
 use lib.Ieee.{Float, binary64, fits, lt, le}
 use lib.Ieee.Fits.{and-l, and-r}
 use lib.Ieee.Scale.{finite}
 use Rattle.float64.specs.Scalar.{zero64}
 use Rattle.float_laws.proofs.Order.{finite-between, zero-finite}
-use Rattle.heap.specs.declared.Item.{Item}
-use Rattle.heap.specs.declared.Item.the-variants.{Window as Item·Window, Vertex as Item·Vertex}
 use Rattle.heap.specs.declared.Popped.{Popped}
 use Rattle.heap.specs.declared.Popped.the-variants.{Empty, First}
 use Rattle.heap.specs.Queue.{Queue, popping}
 use Rattle.actions.specs.Actions as actions
 use Rattle.actions.specs.Actions.{act}
 use Rattle.better.specs.Claim.{Point}
-use Rattle.trim_model.specs.Windows.{Window, unqueued}
+use Rattle.trim_model.specs.Windows.{Window}
 use Rattle.trim_model.specs.Model.{Candidate}
 use Rattle.trim_model.specs.Claim.{Proper}
 use Rattle.trim_model.proofs.Ranks.{by-cases}
@@ -27,8 +25,8 @@ use Rattle.trim_state.specs.State.{State, Result, finish, EdgeData}
 use Rattle.trim_state.specs.Follows.{Follows}
 use Rattle.trim_state.proofs.Follows.{follows-unqueue, follows-demand3}
 use Rattle.trim_state.proofs.Made.{Made, act-made, After, finish-after, add-after}
-use Rattle.live_windows.specs.Live.{unqueuedIn}
 use Rattle.pop.specs.State.{winsClaimed, liveClaimed, afterPop}
+use Rattle.pop.proofs.Answers.{live-claimed}
 use Rattle.trim_operations.specs.Operations.{Operation, add, pop, touch, unknown, candidatesOf, candidates, Doubles, DoublesOf}
 use Rattle.trim_operations.specs.Run.{hasLength, isOnEdge, tryAdd, operate}
 use Rattle.trim_operations.specs.Demand3.{Demand3}
@@ -47,17 +45,6 @@ proper len c d h i j =
   where
     on : (x : Float) → T (fits binary64 x) → T (isOnEdge (len (c .edge)) x) → T (finite (len (c .edge))) → Point x
     on x f k fl = record { number = finite-between zero64 x (len (c .edge)) zero-finite fl (and-l (le zero64 x) (le x (len (c .edge))) k) (and-r (le zero64 x) (le x (len (c .edge))) k); double = f }
-
--- ---- a pop clears flags alone
-unqueued-in : (n : ℕ) (us : List Window) → map unqueued (unqueuedIn n us) ≡ map unqueued us
-unfolding unqueuedIn
-unqueued-in n [] = refl
-unqueued-in n (u ∷ us) = by-cases (λ (b : Bool). unqueued (cond b (unqueued u) u) ∷ map unqueued (unqueuedIn n us) ≡ unqueued u ∷ map unqueued us) (eqb (u .num) n) (λ y. ap (λ (l : List Window). unqueued u ∷ l) (unqueued-in n us)) (λ z. ap (λ (l : List Window). unqueued u ∷ l) (unqueued-in n us))
-
-live-claimed : (i : Item) (us : List Window) → map unqueued (liveClaimed i us) ≡ map unqueued us
-unfolding liveClaimed
-live-claimed (Item·Window w) us = unqueued-in (w .0) us
-live-claimed (Item·Vertex v) us = refl
 
 module _ (cuts windows : ℕ) (limit : Float) (flags : List ℕ) (mesh : EdgeData) (edges vertices : ℕ) (cs : List Candidate) (s : State) (F : Follows limit (mesh .len) cs (s .stock .made) (s .live)) where
   -- the state follows the model with more candidates

@@ -1,5 +1,5 @@
-// Document 01's refusal 11, over a whole job: a point to be entered lies on a vertex of more than two faces, and a segment ends there whose face is round the nearest vertex of the
-// point's face. Such a point needs the Rust's `vertex_wedge`, which is not ported.
+// Document 01's refusal 11, over a whole job: a point to be entered lies on a vertex of more than two faces, and a segment of computed length above zero ends there whose face is
+// round the nearest vertex of the point's face. There the Rust asks `vertex_wedge`, which is not ported.
 use buffers::FaceId;
 use carriers::carrier;
 use carriers::carrier_count;

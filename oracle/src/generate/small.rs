@@ -7,7 +7,7 @@ use crate::exact::{Buffers, judge_pseudo};
 use crate::job::Job;
 use crate::vector::{Vec3, axpy, dot, norm, scale, sub};
 
-type Soup = (Vec<Vec3>, Vec<[u32; 3]>);
+pub type Soup = (Vec<Vec3>, Vec<[u32; 3]>);
 
 fn lattice(rng: &mut Rng, n: usize, size: i64) -> Vec<Vec3> {
     let mut at = || (rng.below(2 * size as usize + 1) as i64 - size) as f64;
@@ -175,7 +175,7 @@ fn long(rng: &mut Rng) -> Soup {
     (v, t)
 }
 
-fn mesh(rng: &mut Rng) -> Soup {
+pub fn mesh(rng: &mut Rng) -> Soup {
     match rng.below(13) {
         0 | 1 => random_grid(rng),
         12 => noisy_grid(rng),
@@ -222,7 +222,7 @@ fn mesh(rng: &mut Rng) -> Soup {
 }
 
 /// A place in, on, near or far outside the triangle.
-fn place(rng: &mut Rng, tri: [Vec3; 3]) -> Vec3 {
+pub fn place(rng: &mut Rng, tri: [Vec3; 3]) -> Vec3 {
     let k = rng.below(3);
     let (a, b, c) = (tri[k], tri[(k + 1) % 3], tri[(k + 2) % 3]);
     let (s, r) = (
@@ -242,7 +242,7 @@ fn place(rng: &mut Rng, tri: [Vec3; 3]) -> Vec3 {
     }
 }
 
-fn nudge(rng: &mut Rng, p: Vec3) -> Vec3 {
+pub fn nudge(rng: &mut Rng, p: Vec3) -> Vec3 {
     let k = rng.below(3);
     let mut q = p;
     let by = rng.pick(&[1e-10, 1e-7, 1e-4, -1e-9, 1e-16]) * (1. + p[k].abs());
@@ -325,7 +325,7 @@ fn far_twins(rng: &mut Rng, v: &[Vec3], t: &[[u32; 3]], job: &mut Job) {
     }
 }
 
-fn flags(rng: &mut Rng, v: &[Vec3], t: &[[u32; 3]]) -> Vec<u8> {
+pub fn flags(rng: &mut Rng, v: &[Vec3], t: &[[u32; 3]]) -> Vec<u8> {
     match rng.below(5) {
         0 => vec![0; v.len()],
         1 => vec![1; v.len()],

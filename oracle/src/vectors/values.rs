@@ -4,7 +4,7 @@
 //! those of real triangles and often any doubles at all.
 use super::Out;
 use super::leaves::{likely, modest, number, src};
-use crate::exact::{Buffers, Field, NONE, Op, Piece, Src, Topology, Win};
+use crate::exact::{Buffers, Field, NONE, Op, Part, Piece, Src, Topology, Win};
 use crate::generate::rng::Rng;
 use crate::reading::Patched;
 use crate::vector::{Vec3, axpy, norm, scale, sub};
@@ -325,7 +325,7 @@ fn try_point(rng: &mut Rng, out: &mut Out) -> bool {
     let (own, other) = (&behind[g as usize], &behind[h as usize]);
     let other = if g == h { &vec![] } else { other };
     field
-        .source_point(0, p)
+        .source_point(0, p, 0, Part::EndA)
         .expect("the buffers have no bounds");
     let e = topo.tri_edges[g as usize][rng.below(3)];
     let windows = offered(&field, e);
@@ -377,7 +377,7 @@ pub fn segment(rng: &mut Rng, out: &mut Out) {
     let a = place(rng, &pair);
     let b = second_end(rng, &pair, a);
     field
-        .source_segment(0, a, b)
+        .source_segment(0, a, b, 0)
         .expect("the buffers have no bounds");
     let e = pair.topo.tri_edges[0][rng.below(3)];
     let ((ax, ay), (bx, by)) = (field.coords(e, 0, a), field.coords(e, 0, b));

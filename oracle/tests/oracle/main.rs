@@ -1,5 +1,6 @@
 mod faithful;
 mod fuzz;
+mod insertion;
 mod readings;
 mod refusals;
 mod scope;

@@ -1,7 +1,8 @@
 //! Vectors begin with their count, have the record sizes that README.md
 //! gives, and are the same for the same seed.
+use oracle::generate::insertion::Stage;
 use oracle::generate::workshop::{Shape, job};
-use oracle::vectors::{make, stream};
+use oracle::vectors::{make, stored_fitted, stored_small, stream};
 
 const FIXED: [(&str, usize); 14] = [
     ("sqrt", 16),
@@ -59,4 +60,35 @@ fn same_seed_same_bytes() {
 fn the_stream_of_a_field() {
     let small = job(Shape::Noisy, 200, 3, 1e7, 1);
     assert!(stream(&small).is_ok_and(|bytes| bytes.len() > 100_000));
+}
+
+/// Refusals and details of stored records, each as long as it says.
+fn records(bytes: &[u8]) -> Vec<(u32, u32)> {
+    let row: Vec<u32> = bytes
+        .chunks_exact(4)
+        .map(|b| u32::from_le_bytes([b[0], b[1], b[2], b[3]]))
+        .collect();
+    let (mut at, mut out) = (0, vec![]);
+    while at < row.len() {
+        out.push((row[at], row[at + 1]));
+        at += row[at + 2] as usize;
+    }
+    assert_eq!((at, bytes.len() % 4), (row.len(), 0));
+    out
+}
+
+#[test]
+fn stored_records() {
+    for stage in [Stage::Insert, Stage::Field] {
+        let bytes = stored_small(stage, 1, 300);
+        assert_eq!(stored_small(stage, 1, 300), bytes);
+        let met = records(&bytes);
+        assert_eq!(met.len(), 300);
+        assert!(met.iter().all(|r| (r.0 == 0) == (r.1 > 0)));
+        for detail in 0..3 {
+            assert!(met.iter().filter(|r| r.1 == detail).count() > 10);
+        }
+        let large = stored_fitted(stage, job(Shape::Terrain, 200, 3, 1e7, 2), 2);
+        assert_eq!(records(&large).len(), 1);
+    }
 }

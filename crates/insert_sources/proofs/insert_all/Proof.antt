@@ -7,7 +7,7 @@ use Rattle.cut_lists.specs.Buffers.{cutBuffers}
 use Rattle.trim.specs.Buffers.{slices}
 use Rattle.face_entries.specs.Buffers.{entryBuffers}
 use Rattle.insert_sources.specs.Job.{jobSlices}
-use Rattle.insert_sources.proofs.Loop.{LoopInv, loop-start, loop-fits, loop-sizes}
+use Rattle.insert_sources.proofs.Loop.{InsertInv, insert-start, insert-fits, insert-sizes}
 use Rattle.insert_sources.proofs.Sources.{sourceOf, job-over, job-stopped, job-next}
 use borrow.Author.Needs.{needs}
 use Rattle.insert_sources.proofs.insert_all.Statement.{statement}
@@ -15,7 +15,7 @@ use Rattle.insert_sources.proofs.insert_all.Tie as tie
 
 abbrev Inv-loop : tie.InvT-loop
 Inv-loop vertices edge-words₀ words₀ reals₀ keys₀ events₀ vertex₀ vertex-words edge-reals triangle-reals round kinds faces coords piece-words piece-reals pts₀ out₀ keep₀ next₀ triangle-words₀ entry-words₀ limit pieces sources now₀ j₀ edge-words words reals keys events vertex pts out keep next triangle-words entry-words now j =
-    LoopInv limit (jobSlices vertices vertex-words edge-reals triangle-reals round kinds faces coords piece-words piece-reals)
+    InsertInv limit (jobSlices vertices vertex-words edge-reals triangle-reals round kinds faces coords piece-words piece-reals)
     (sourceOf limit (jobSlices vertices vertex-words edge-reals triangle-reals round kinds faces coords piece-words piece-reals) now₀ (slices edge-words₀ words₀ reals₀ keys₀ events₀ vertex₀) (entryBuffers triangle-words₀ entry-words₀) (cutBuffers pts₀ out₀ keep₀ next₀))
     now₀ (slices edge-words₀ words₀ reals₀ keys₀ events₀ vertex₀) (entryBuffers triangle-words₀ entry-words₀) (cutBuffers pts₀ out₀ keep₀ next₀) (3 * length kinds)
     (slices edge-words words reals keys events vertex) (entryBuffers triangle-words entry-words) (cutBuffers pts out keep next) now j
@@ -35,7 +35,7 @@ loop-holds c =
     let start = c .before .before .before .before .before .before .before .before .before .before .before .before .before .before .before .before .before .before .before .before .before .before in
     let a = start .args in
     let k = (jobSlices (a .vertices .now) (a .vertex-words .now) (a .edge-reals .now) (a .triangle-reals .now) (a .round .now) (a .kinds .now) (a .faces .now) (a .coords .now) (a .piece-words .now) (a .piece-reals .now)) in
-    loop-start (a .limit) k
+    insert-start (a .limit) k
     (sourceOf (a .limit) k (a .counts) (slices (a .edge-words .now) (a .words .now) (a .reals .now) (a .keys .now) (a .events .now) (a .vertex .now)) (entryBuffers (a .triangle-words .now) (a .entry-words .now)) (cutBuffers (a .pts .now) (a .out .now) (a .keep .now) (a .next .now)))
     (a .counts) (slices (a .edge-words .now) (a .words .now) (a .reals .now) (a .keys .now) (a .events .now) (a .vertex .now)) (entryBuffers (a .triangle-words .now) (a .entry-words .now))
     (cutBuffers (a .pts .now) (a .out .now) (a .keep .now) (a .next .now)) (3 * length (a .kinds .now)) (start .pre .0)
@@ -49,12 +49,12 @@ insert-source-requires c κs =
     let l = loop .loop in
     let k = (jobSlices (a .vertices .now) (a .vertex-words .now) (a .edge-reals .now) (a .triangle-reals .now) (a .round .now) (a .kinds .now) (a .faces .now) (a .coords .now) (a .piece-words .now) (a .piece-reals .now)) in
     let q : l .j < 3 * length (a .kinds .now) = omega (arith, tested .loop-test .taken) in (
-      loop-fits (a .limit) k
+      insert-fits (a .limit) k
           (sourceOf (a .limit) k (a .counts) (slices (a .edge-words .now) (a .words .now) (a .reals .now) (a .keys .now) (a .events .now) (a .vertex .now)) (entryBuffers (a .triangle-words .now) (a .entry-words .now)) (cutBuffers (a .pts .now) (a .out .now) (a .keep .now) (a .next .now)))
           (a .counts) (slices (a .edge-words .now) (a .words .now) (a .reals .now) (a .keys .now) (a .events .now) (a .vertex .now)) (entryBuffers (a .triangle-words .now) (a .entry-words .now))
           (cutBuffers (a .pts .now) (a .out .now) (a .keep .now) (a .next .now)) (3 * length (a .kinds .now)) (slices (l .edge-words) (l .words) (l .reals) (l .keys) (l .events) (l .vertex)) (entryBuffers (l .triangle-words) (l .entry-words)) (cutBuffers (l .pts) (l .out) (l .keep) (l .next)) (l .now) (l .j) (l .inv) q,
       (
-        loop-sizes (a .limit) k
+        insert-sizes (a .limit) k
             (sourceOf (a .limit) k (a .counts) (slices (a .edge-words .now) (a .words .now) (a .reals .now) (a .keys .now) (a .events .now) (a .vertex .now)) (entryBuffers (a .triangle-words .now) (a .entry-words .now)) (cutBuffers (a .pts .now) (a .out .now) (a .keep .now) (a .next .now)))
             (a .counts) (slices (a .edge-words .now) (a .words .now) (a .reals .now) (a .keys .now) (a .events .now) (a .vertex .now)) (entryBuffers (a .triangle-words .now) (a .entry-words .now))
             (cutBuffers (a .pts .now) (a .out .now) (a .keep .now) (a .next .now)) (3 * length (a .kinds .now)) (slices (l .edge-words) (l .words) (l .reals) (l .keys) (l .events) (l .vertex)) (entryBuffers (l .triangle-words) (l .entry-words)) (cutBuffers (l .pts) (l .out) (l .keep) (l .next)) (l .now) (l .j) (l .inv) q

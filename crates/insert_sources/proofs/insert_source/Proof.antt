@@ -6,7 +6,7 @@ use Rattle.cut_lists.specs.Buffers.{cutBuffers}
 use Rattle.trim.specs.Buffers.{slices}
 use Rattle.face_entries.specs.Buffers.{entryBuffers}
 use Rattle.insert_sources.specs.Job.{jobSlices}
-use Rattle.insert_sources.proofs.Loop.{LoopInv, loop-start, loop-fits, loop-sizes}
+use Rattle.insert_sources.proofs.Loop.{InsertInv, insert-start, insert-fits, insert-sizes}
 use Rattle.insert_sources.proofs.Sources.{oneOf, source-over, source-stopped, source-next}
 use borrow.Author.Needs.{needs}
 use Rattle.insert_sources.proofs.insert_source.Statement.{statement}
@@ -14,7 +14,7 @@ use Rattle.insert_sources.proofs.insert_source.Tie as tie
 
 abbrev Inv-loop : tie.InvT-loop
 Inv-loop vertices edge-words₀ words₀ reals₀ keys₀ events₀ vertex₀ vertex-words edge-reals triangle-reals round kinds faces coords piece-words piece-reals pts₀ out₀ keep₀ next₀ triangle-words₀ entry-words₀ pieces j limit s count now₀ i₀ edge-words words reals keys events vertex pts out keep next triangle-words entry-words now i =
-    LoopInv limit (jobSlices vertices vertex-words edge-reals triangle-reals round kinds faces coords piece-words piece-reals) (oneOf (jobSlices vertices vertex-words edge-reals triangle-reals round kinds faces coords piece-words piece-reals) j)
+    InsertInv limit (jobSlices vertices vertex-words edge-reals triangle-reals round kinds faces coords piece-words piece-reals) (oneOf (jobSlices vertices vertex-words edge-reals triangle-reals round kinds faces coords piece-words piece-reals) j)
     now₀ (slices edge-words₀ words₀ reals₀ keys₀ events₀ vertex₀) (entryBuffers triangle-words₀ entry-words₀) (cutBuffers pts₀ out₀ keep₀ next₀) count
     (slices edge-words words reals keys events vertex) (entryBuffers triangle-words entry-words) (cutBuffers pts out keep next) now i
 
@@ -22,8 +22,8 @@ abbrev μ-loop : tie.MeasureT-loop
 μ-loop vertices edge-words₀ words₀ reals₀ keys₀ events₀ vertex₀ vertex-words edge-reals triangle-reals round kinds faces coords piece-words piece-reals pts₀ out₀ keep₀ next₀ triangle-words₀ entry-words₀ pieces j limit s count now₀ i₀ edge-words words reals keys events vertex pts out keep next triangle-words entry-words now i =
     count - i
 
-source-at-requires : tie.Need-source-at-requires Inv-loop μ-loop
-source-at-requires c κs = search needs
+job-source-requires : tie.Need-job-source-requires Inv-loop μ-loop
+job-source-requires c κs = search needs
 
 insert-count-requires : tie.Need-insert-count-requires Inv-loop μ-loop
 insert-count-requires c κs = search needs
@@ -33,7 +33,7 @@ loop-holds c =
     let start = c .before .before .before .before .before .before .before .before .before .before .before .before .before .before .before .before .before .before .before .before .before .before .before .before .before .before .before in
     let a = start .args in
     let k = (jobSlices (a .vertices .now) (a .vertex-words .now) (a .edge-reals .now) (a .triangle-reals .now) (a .round .now) (a .kinds .now) (a .faces .now) (a .coords .now) (a .piece-words .now) (a .piece-reals .now)) in
-    loop-start (a .limit) k (oneOf k (a .j)) (a .counts) (slices (a .edge-words .now) (a .words .now) (a .reals .now) (a .keys .now) (a .events .now) (a .vertex .now)) (entryBuffers (a .triangle-words .now) (a .entry-words .now))
+    insert-start (a .limit) k (oneOf k (a .j)) (a .counts) (slices (a .edge-words .now) (a .words .now) (a .reals .now) (a .keys .now) (a .events .now) (a .vertex .now)) (entryBuffers (a .triangle-words .now) (a .entry-words .now))
     (cutBuffers (a .pts .now) (a .out .now) (a .keep .now) (a .next .now)) (c .insert-count .result) (start .pre .0)
 
 insert-number-requires : tie.Need-insert-number-requires Inv-loop μ-loop
@@ -45,9 +45,9 @@ insert-number-requires c κs =
     let l = loop .loop in
     let k = (jobSlices (a .vertices .now) (a .vertex-words .now) (a .edge-reals .now) (a .triangle-reals .now) (a .round .now) (a .kinds .now) (a .faces .now) (a .coords .now) (a .piece-words .now) (a .piece-reals .now)) in
     let n = loop .before .insert-count .result in (
-      loop-fits (a .limit) k (oneOf k (a .j)) (a .counts) (slices (a .edge-words .now) (a .words .now) (a .reals .now) (a .keys .now) (a .events .now) (a .vertex .now)) (entryBuffers (a .triangle-words .now) (a .entry-words .now))
+      insert-fits (a .limit) k (oneOf k (a .j)) (a .counts) (slices (a .edge-words .now) (a .words .now) (a .reals .now) (a .keys .now) (a .events .now) (a .vertex .now)) (entryBuffers (a .triangle-words .now) (a .entry-words .now))
           (cutBuffers (a .pts .now) (a .out .now) (a .keep .now) (a .next .now)) n (slices (l .edge-words) (l .words) (l .reals) (l .keys) (l .events) (l .vertex)) (entryBuffers (l .triangle-words) (l .entry-words)) (cutBuffers (l .pts) (l .out) (l .keep) (l .next)) (l .now) (l .i) (l .inv) (tested .loop-test .taken),
-      loop-sizes (a .limit) k (oneOf k (a .j)) (a .counts) (slices (a .edge-words .now) (a .words .now) (a .reals .now) (a .keys .now) (a .events .now) (a .vertex .now)) (entryBuffers (a .triangle-words .now) (a .entry-words .now))
+      insert-sizes (a .limit) k (oneOf k (a .j)) (a .counts) (slices (a .edge-words .now) (a .words .now) (a .reals .now) (a .keys .now) (a .events .now) (a .vertex .now)) (entryBuffers (a .triangle-words .now) (a .entry-words .now))
           (cutBuffers (a .pts .now) (a .out .now) (a .keep .now) (a .next .now)) n (slices (l .edge-words) (l .words) (l .reals) (l .keys) (l .events) (l .vertex)) (entryBuffers (l .triangle-words) (l .entry-words)) (cutBuffers (l .pts) (l .out) (l .keep) (l .next)) (l .now) (l .i) (l .inv) (tested .loop-test .taken)
           (start .pre .1 .0),
     )
@@ -141,7 +141,7 @@ returns c =
     let k = (jobSlices (a .vertices .now) (a .vertex-words .now) (a .edge-reals .now) (a .triangle-reals .now) (a .round .now) (a .kinds .now) (a .faces .now) (a .coords .now) (a .piece-words .now) (a .piece-reals .now)) in
     let e = c .before .one .given in
     source-stopped (a .limit) k (a .pieces) (start .pre .1 .1 .0) (a .j) (start .pre .1 .1 .1) (a .counts) (slices (a .edge-words .now) (a .words .now) (a .reals .now) (a .keys .now) (a .events .now) (a .vertex .now)) (entryBuffers (a .triangle-words .now) (a .entry-words .now))
-    (cutBuffers (a .pts .now) (a .out .now) (a .keep .now) (a .next .now)) (read .source-at .result) (read .source-at .ensures) (counted .insert-count .result) (counted .insert-count .ensures)
+    (cutBuffers (a .pts .now) (a .out .now) (a .keep .now) (a .next .now)) (read .job-source .result) (read .job-source .ensures) (counted .insert-count .result) (counted .insert-count .ensures)
     (slices (l .edge-words) (l .words) (l .reals) (l .keys) (l .events) (l .vertex)) (entryBuffers (l .triangle-words) (l .entry-words)) (cutBuffers (l .pts) (l .out) (l .keep) (l .next)) (l .now) (l .i) (l .inv) (tested .loop-test .taken)
     (slices (r .last .1 .0) (r .last .1 .1 .0) (r .last .1 .1 .1 .0) (r .last .1 .1 .1 .1 .0) (r .last .1 .1 .1 .1 .1 .0) (r .last .1 .1 .1 .1 .1 .1 .0)) (entryBuffers (r .last .1 .1 .1 .1 .1 .1 .1 .1 .1 .1 .1 .1 .1 .1 .1 .1 .1 .1 .1 .1 .0) (r .last .1 .1 .1 .1 .1 .1 .1 .1 .1 .1 .1 .1 .1 .1 .1 .1 .1 .1 .1 .1 .1 .0)) (e .0 .0) (rw (e .1) at (r .ensures))
 
@@ -172,7 +172,7 @@ loop-again c =
     let k = (jobSlices (a .vertices .now) (a .vertex-words .now) (a .edge-reals .now) (a .triangle-reals .now) (a .round .now) (a .kinds .now) (a .faces .now) (a .coords .now) (a .piece-words .now) (a .piece-reals .now)) in
     let e = c .before .one2 .given in
     source-next (a .limit) k (a .pieces) (start .pre .1 .1 .0) (a .j) (start .pre .1 .1 .1) (a .counts) (slices (a .edge-words .now) (a .words .now) (a .reals .now) (a .keys .now) (a .events .now) (a .vertex .now)) (entryBuffers (a .triangle-words .now) (a .entry-words .now))
-    (cutBuffers (a .pts .now) (a .out .now) (a .keep .now) (a .next .now)) (read .source-at .result) (read .source-at .ensures) (counted .insert-count .result) (counted .insert-count .ensures)
+    (cutBuffers (a .pts .now) (a .out .now) (a .keep .now) (a .next .now)) (read .job-source .result) (read .job-source .ensures) (counted .insert-count .result) (counted .insert-count .ensures)
     (slices (l .edge-words) (l .words) (l .reals) (l .keys) (l .events) (l .vertex)) (entryBuffers (l .triangle-words) (l .entry-words)) (cutBuffers (l .pts) (l .out) (l .keep) (l .next)) (l .now) (l .i) (l .inv) (tested .loop-test .taken)
     (slices (r .last .1 .0) (r .last .1 .1 .0) (r .last .1 .1 .1 .0) (r .last .1 .1 .1 .1 .0) (r .last .1 .1 .1 .1 .1 .0) (r .last .1 .1 .1 .1 .1 .1 .0)) (entryBuffers (r .last .1 .1 .1 .1 .1 .1 .1 .1 .1 .1 .1 .1 .1 .1 .1 .1 .1 .1 .1 .1 .0) (r .last .1 .1 .1 .1 .1 .1 .1 .1 .1 .1 .1 .1 .1 .1 .1 .1 .1 .1 .1 .1 .1 .0)) (e .0 .0)
     (cutBuffers (r .last .1 .1 .1 .1 .1 .1 .1 .1 .1 .1 .1 .1 .1 .1 .1 .1 .0) (r .last .1 .1 .1 .1 .1 .1 .1 .1 .1 .1 .1 .1 .1 .1 .1 .1 .1 .0) (r .last .1 .1 .1 .1 .1 .1 .1 .1 .1 .1 .1 .1 .1 .1 .1 .1 .1 .1 .0) (r .last .1 .1 .1 .1 .1 .1 .1 .1 .1 .1 .1 .1 .1 .1 .1 .1 .1 .1 .1 .0))
@@ -239,7 +239,7 @@ returns-2 c =
     let l = loop .loop in
     let k = (jobSlices (a .vertices .now) (a .vertex-words .now) (a .edge-reals .now) (a .triangle-reals .now) (a .round .now) (a .kinds .now) (a .faces .now) (a .coords .now) (a .piece-words .now) (a .piece-reals .now)) in
     source-over (a .limit) k (a .pieces) (start .pre .1 .1 .0) (a .j) (start .pre .1 .1 .1) (a .counts) (slices (a .edge-words .now) (a .words .now) (a .reals .now) (a .keys .now) (a .events .now) (a .vertex .now)) (entryBuffers (a .triangle-words .now) (a .entry-words .now))
-    (cutBuffers (a .pts .now) (a .out .now) (a .keep .now) (a .next .now)) (read .source-at .result) (read .source-at .ensures) (counted .insert-count .result) (counted .insert-count .ensures)
+    (cutBuffers (a .pts .now) (a .out .now) (a .keep .now) (a .next .now)) (read .job-source .result) (read .job-source .ensures) (counted .insert-count .result) (counted .insert-count .ensures)
     (slices (l .edge-words) (l .words) (l .reals) (l .keys) (l .events) (l .vertex)) (entryBuffers (l .triangle-words) (l .entry-words)) (cutBuffers (l .pts) (l .out) (l .keep) (l .next)) (l .now) (l .i) (l .inv) (omega (arith, c .loop-test .left))
 
 pub insert-source-spec : {M : Type 1} → statement M
@@ -248,7 +248,7 @@ insert-source-spec =
     (tie.spec
     Inv-loop
     μ-loop
-    source-at-requires
+    job-source-requires
     insert-count-requires
     loop-holds
     insert-number-requires

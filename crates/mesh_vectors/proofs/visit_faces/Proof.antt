@@ -10,8 +10,8 @@ Inv-loop s detail round start end now₀ i₀ now i = i ≤ end
 abbrev μ-loop : tie.MeasureT-loop
 μ-loop s detail round start end now₀ i₀ now i = end - i
 
-wrong-requires : tie.Need-wrong-requires Inv-loop μ-loop
-wrong-requires c κs = search needs
+broken-requires : tie.Need-broken-requires Inv-loop μ-loop
+broken-requires c κs = search needs
 
 returns : tie.Need-returns Inv-loop μ-loop
 returns c = search needs
@@ -46,7 +46,7 @@ visit-faces-spec =
     (tie.spec
     Inv-loop
     μ-loop
-    wrong-requires
+    broken-requires
     returns
     compare-or-sum-requires
     loop-holds

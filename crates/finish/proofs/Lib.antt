@@ -1,0 +1,4 @@
+pub mod Edges
+pub mod Contents
+pub mod Spare
+pub mod Refused

@@ -1,0 +1,3 @@
+pub mod Finish
+pub mod Contents
+pub mod Refused

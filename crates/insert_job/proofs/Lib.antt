@@ -1,0 +1,3 @@
+pub mod Begun
+pub mod Kept
+pub mod Answers

@@ -1,0 +1,5 @@
+pub mod Added
+pub mod Kept
+pub mod Sides
+pub mod Inserted
+pub mod Passed
