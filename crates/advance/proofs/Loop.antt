@@ -30,22 +30,22 @@ use Rattle.advance.specs.Contract.{AdvancesTo}
 use Rattle.advance.proofs.More.{step-idle, no-candidates, advance-idle, candidates-idle, steps-idle, advance-one, candidates-one, steps-one, advance-more, candidates-more, steps-more}
 
 -- ---- on the state: i turns went to t, and what is next
-module _ (cuts windows : ℕ) (limit : Float) (flags : List ℕ) (v : List Float) (triangles : List ℕ) (n : ℕ) (i j : ℕ) (s t : State) (h : advanceOf cuts windows limit flags v triangles n i s ≡ went t) where
-  advance-then : advanceOf cuts windows limit flags v triangles n (i + j) s ≡ advanceOf cuts windows limit flags v triangles n j t
+module _ (cuts windows : ℕ) (limit : Float) (flags : List ℕ) (v : List Float) (triangles : List ℕ) (i j : ℕ) (s t : State) (h : advanceOf cuts windows limit flags v triangles i s ≡ went t) where
+  advance-then : advanceOf cuts windows limit flags v triangles (i + j) s ≡ advanceOf cuts windows limit flags v triangles j t
   unfolding andNext
-  advance-then = advance-more cuts windows limit flags v triangles n i j s ∙ ap (λ (r : Result). andNext r (advanceOf cuts windows limit flags v triangles n j)) h
+  advance-then = advance-more cuts windows limit flags v triangles i j s ∙ ap (λ (r : Result). andNext r (advanceOf cuts windows limit flags v triangles j)) h
 
-  candidates-then : advanceCandidates cuts windows limit flags v triangles n (i + j) s ≡ advanceCandidates cuts windows limit flags v triangles n i s ++ advanceCandidates cuts windows limit flags v triangles n j t
+  candidates-then : advanceCandidates cuts windows limit flags v triangles (i + j) s ≡ advanceCandidates cuts windows limit flags v triangles i s ++ advanceCandidates cuts windows limit flags v triangles j t
   unfolding ofState
   candidates-then =
-      candidates-more cuts windows limit flags v triangles n i j s
-      ∙ ap (λ (r : Result). advanceCandidates cuts windows limit flags v triangles n i s ++ ofState [] (advanceCandidates cuts windows limit flags v triangles n j) r) h
+      candidates-more cuts windows limit flags v triangles i j s
+      ∙ ap (λ (r : Result). advanceCandidates cuts windows limit flags v triangles i s ++ ofState [] (advanceCandidates cuts windows limit flags v triangles j) r) h
 
-  steps-then : stepsOf cuts windows limit flags v triangles n i s ≡ i → stepsOf cuts windows limit flags v triangles n (i + j) s ≡ i + stepsOf cuts windows limit flags v triangles n j t
+  steps-then : stepsOf cuts windows limit flags v triangles i s ≡ i → stepsOf cuts windows limit flags v triangles (i + j) s ≡ i + stepsOf cuts windows limit flags v triangles j t
   unfolding ofState
   steps-then c =
-      steps-more cuts windows limit flags v triangles n i j s
-      ∙ (λ k. c k + ofState 0 (stepsOf cuts windows limit flags v triangles n j) (h k))
+      steps-more cuts windows limit flags v triangles i j s
+      ∙ (λ k. c k + ofState 0 (stepsOf cuts windows limit flags v triangles j) (h k))
 
 -- ---- the loop
 module _ (limit : Float) (n most : ℕ) (v : List Float) (buffer vw round : List ℕ) (er : List Float) (tw : List ℕ) (tr : List Float) (counts : Counts) (B : Slices) (c : Cuts) where
@@ -58,14 +58,14 @@ module _ (limit : Float) (n most : ℕ) (v : List Float) (buffer vw round : List
   -- i turns went, and that many events were popped
   abbrev Did : List ℕ → List Candidate → State → ℕ → Snapshot → Type 0
   Did triangles past s i p =
-      FieldEnds limit v triangles (past ++ advanceCandidates cuts (windowsIn B) limit vw v triangles n i s) (snapshotAt counts B) (running.at p) (advanceOf cuts (windowsIn B) limit vw v triangles n i s)
-      × (stepsOf cuts (windowsIn B) limit vw v triangles n i s ≡ i)
+      FieldEnds limit v triangles n (past ++ advanceCandidates cuts (windowsIn B) limit vw v triangles i s) (snapshotAt counts B) (running.at p) (advanceOf cuts (windowsIn B) limit vw v triangles i s)
+      × (stepsOf cuts (windowsIn B) limit vw v triangles i s ≡ i)
 
   pub record LoopInv (B′ : Slices) (c′ : Cuts) (now : Counts) (i : ℕ) : Type 0 where
     pub same : SameSizes B B′ c c′
     pub fits : now .made ≤ windowsIn B
     pub few : i ≤ most
-    pub done : (triangles : List ℕ) → Mesh triangles (B .edges) → (past : List Candidate) (s : State) → FieldStands limit v triangles past s (snapshotAt counts B) → Did triangles past s i (snapshotAt now B′)
+    pub done : (triangles : List ℕ) → Mesh triangles (B .edges) → (past : List Candidate) (s : State) → FieldStands limit v triangles n past s (snapshotAt counts B) → Did triangles past s i (snapshotAt now B′)
 
   pub loop-start : counts .made ≤ windowsIn B → LoopInv B c counts 0
   unfolding advanceOf advanceCandidates stepsOf
@@ -77,7 +77,7 @@ module _ (limit : Float) (n most : ℕ) (v : List Float) (buffer vw round : List
       record {
         state = s;
         is = refl;
-        field = subst (λ (l : List Candidate). FieldStands limit v triangles l s (snapshotAt counts B)) (sym (append-nil past)) S;
+        field = subst (λ (l : List Candidate). FieldStands limit v triangles n l s (snapshotAt counts B)) (sym (append-nil past)) S;
         untouched = untouched-same (λ e. Unit {0}) (snapshotAt counts B) (counts .queued) 0 (queue (B .keys) (B .events)) (B .vertex);
       },
       refl,
@@ -90,7 +90,7 @@ module _ (limit : Float) (n most : ℕ) (v : List Float) (buffer vw round : List
       record {
         bounded = inv .fits;
         advances = λ triangles F past s S.
-            let d = subst (λ (k : ℕ). FieldEnds limit v triangles (past ++ advanceCandidates cuts (windowsIn B) limit vw v triangles n k s) (snapshotAt counts B) (running.at (snapshotAt now B′)) (advanceOf cuts (windowsIn B) limit vw v triangles n k s) × (stepsOf cuts (windowsIn B) limit vw v triangles n k s ≡ i)) z (inv .done triangles F past s S) in
+            let d = subst (λ (k : ℕ). FieldEnds limit v triangles n (past ++ advanceCandidates cuts (windowsIn B) limit vw v triangles k s) (snapshotAt counts B) (running.at (snapshotAt now B′)) (advanceOf cuts (windowsIn B) limit vw v triangles k s) × (stepsOf cuts (windowsIn B) limit vw v triangles k s ≡ i)) z (inv .done triangles F past s S) in
             (d .0, sym (d .1));
       }
 
@@ -103,7 +103,7 @@ module _ (limit : Float) (n most : ℕ) (v : List Float) (buffer vw round : List
     loop-fits = subst (λ (z : ℕ). now .made ≤ z) (sym windows₁) (inv .fits)
 
     -- what the turn did
-    module _ (r : Stepped) (B₂ : Slices) (h : StepsOnce limit n v buffer vw round er tw tr now B₁ c₁ r B₂) (triangles : List ℕ) (F : Mesh triangles (B .edges)) (past : List Candidate) (s : State) (S : FieldStands limit v triangles past s (snapshotAt counts B)) where
+    module _ (r : Stepped) (B₂ : Slices) (h : StepsOnce limit n v buffer vw round er tw tr now B₁ c₁ r B₂) (triangles : List ℕ) (F : Mesh triangles (B .edges)) (past : List Candidate) (s : State) (S : FieldStands limit v triangles n past s (snapshotAt counts B)) where
       abbrev D : Did triangles past s i (snapshotAt now B₁)
       D = inv .done triangles F past s S
 
@@ -111,26 +111,26 @@ module _ (limit : Float) (n most : ℕ) (v : List Float) (buffer vw round : List
       t = D .0 .state
 
       abbrev sofar : List Candidate
-      sofar = advanceCandidates cuts (windowsIn B) limit vw v triangles n i s
+      sofar = advanceCandidates cuts (windowsIn B) limit vw v triangles i s
 
       mesh-now : Mesh triangles (B₁ .edges)
       mesh-now = record { mesh = mesh-kept v triangles n er tw tr (B .edges) (B₁ .edges) (inv .same .edges) (D .0 .untouched .edges) (F .mesh); same = F .same; rounds = F .rounds; long = F .long }
 
-      turned : FieldEnds limit v triangles ((past ++ sofar) ++ stepCandidates limit v triangles n t) (snapshotAt now B₁) (steppedEnd now r B₂) (stepOf cuts (windowsIn B) limit vw v triangles n t)
+      turned : FieldEnds limit v triangles n ((past ++ sofar) ++ stepCandidates limit v triangles t) (snapshotAt now B₁) (steppedEnd now r B₂) (stepOf cuts (windowsIn B) limit vw v triangles t)
       turned =
-          subst (λ (z : ℕ). FieldEnds limit v triangles ((past ++ sofar) ++ stepCandidates limit v triangles n t) (snapshotAt now B₁) (steppedEnd now r B₂) (stepOf z (windowsIn B) limit vw v triangles n t)) (inv .same .pts)
-          (subst (λ (z : ℕ). FieldEnds limit v triangles ((past ++ sofar) ++ stepCandidates limit v triangles n t) (snapshotAt now B₁) (steppedEnd now r B₂) (stepOf (length (c₁ .pts)) z limit vw v triangles n t)) windows₁
+          subst (λ (z : ℕ). FieldEnds limit v triangles n ((past ++ sofar) ++ stepCandidates limit v triangles t) (snapshotAt now B₁) (steppedEnd now r B₂) (stepOf z (windowsIn B) limit vw v triangles t)) (inv .same .pts)
+          (subst (λ (z : ℕ). FieldEnds limit v triangles n ((past ++ sofar) ++ stepCandidates limit v triangles t) (snapshotAt now B₁) (steppedEnd now r B₂) (stepOf (length (c₁ .pts)) z limit vw v triangles t)) windows₁
           (h .steps triangles mesh-now (past ++ sofar) t (D .0 .field)))
 
       idle-is : idleOf t ≡ isIdle r
       idle-is = ap (λ (k : Stock). isEmpty (popping (k .queue) (k .queued) .0)) (D .0 .field .stands .stock) ∙ sym (h .idle)
 
       -- the candidates of the turn and of j turns from then on are the same
-      candidates-on : (j : ℕ) → stepCandidates limit v triangles n t ≡ advanceCandidates cuts (windowsIn B) limit vw v triangles n j t
-          → (past ++ sofar) ++ stepCandidates limit v triangles n t ≡ past ++ advanceCandidates cuts (windowsIn B) limit vw v triangles n (i + j) s
+      candidates-on : (j : ℕ) → stepCandidates limit v triangles t ≡ advanceCandidates cuts (windowsIn B) limit vw v triangles j t
+          → (past ++ sofar) ++ stepCandidates limit v triangles t ≡ past ++ advanceCandidates cuts (windowsIn B) limit vw v triangles (i + j) s
       candidates-on j e =
-          append-assoc past sofar (stepCandidates limit v triangles n t)
-          ∙ ap (λ (l : List Candidate). past ++ l) (ap (λ (l : List Candidate). sofar ++ l) e ∙ sym (candidates-then cuts (windowsIn B) limit vw v triangles n i j s t (D .0 .is)))
+          append-assoc past sofar (stepCandidates limit v triangles t)
+          ∙ ap (λ (l : List Candidate). past ++ l) (ap (λ (l : List Candidate). sofar ++ l) e ∙ sym (candidates-then cuts (windowsIn B) limit vw v triangles i j s t (D .0 .is)))
 
     pub loop-next : (now₂ : Counts) (B₂ : Slices) (c₂ : Cuts) → SameSizes B₁ B₂ c₁ c₂ → StepsOnce limit n v buffer vw round er tw tr now B₁ c₁ (Went now₂) B₂ → LoopInv B₂ c₂ now₂ (i + 1)
     loop-next now₂ B₂ c₂ same h = record {
@@ -143,12 +143,12 @@ module _ (limit : Float) (n most : ℕ) (v : List Float) (buffer vw round : List
           let t = d .0 .state in (
             record {
               state = u .state;
-              is = advance-then cuts (windowsIn B) limit vw v triangles n i 1 s t (d .0 .is) ∙ advance-one cuts (windowsIn B) limit vw v triangles n t ∙ u .is;
-              field = subst (λ (l : List Candidate). FieldStands limit v triangles l (u .state) (snapshotAt now₂ B₂))
-                  (candidates-on (Went now₂) B₂ h triangles F past s S 1 (sym (candidates-one cuts (windowsIn B) limit vw v triangles n t))) (u .field);
+              is = advance-then cuts (windowsIn B) limit vw v triangles i 1 s t (d .0 .is) ∙ advance-one cuts (windowsIn B) limit vw v triangles t ∙ u .is;
+              field = subst (λ (l : List Candidate). FieldStands limit v triangles n l (u .state) (snapshotAt now₂ B₂))
+                  (candidates-on (Went now₂) B₂ h triangles F past s S 1 (sym (candidates-one cuts (windowsIn B) limit vw v triangles t))) (u .field);
               untouched = untouched-then (λ e. Unit {0}) (snapshotAt counts B) (snapshotAt now B₁) (snapshotAt now₂ B₂) (d .0 .untouched) (u .untouched);
             },
-            steps-then cuts (windowsIn B) limit vw v triangles n i 1 s t (d .0 .is) (d .1) ∙ ap (λ (k : ℕ). i + k) (steps-one cuts (windowsIn B) limit vw v triangles n t (idle-is (Went now₂) B₂ h triangles F past s S)),
+            steps-then cuts (windowsIn B) limit vw v triangles i 1 s t (d .0 .is) (d .1) ∙ ap (λ (k : ℕ). i + k) (steps-one cuts (windowsIn B) limit vw v triangles t (idle-is (Went now₂) B₂ h triangles F past s S)),
           );
     }
 
@@ -161,9 +161,9 @@ module _ (limit : Float) (n most : ℕ) (v : List Float) (buffer vw round : List
           let d = inv .done triangles F past s S in
           let j = most - suc i in
           let z : i + suc j ≡ most = omega (arith, q) in (
-            subst (λ (k : ℕ). advanceOf cuts (windowsIn B) limit vw v triangles n k s ≡ stopped (lackNumber lack)) z
-                (advance-then cuts (windowsIn B) limit vw v triangles n i (suc j) s (d .0 .state) (d .0 .is)
-                ∙ ap (λ (x : Result). andNext x (advanceOf cuts (windowsIn B) limit vw v triangles n j)) (turned (Stopped lack) B₂ h triangles F past s S)),
+            subst (λ (k : ℕ). advanceOf cuts (windowsIn B) limit vw v triangles k s ≡ stopped (lackNumber lack)) z
+                (advance-then cuts (windowsIn B) limit vw v triangles i (suc j) s (d .0 .state) (d .0 .is)
+                ∙ ap (λ (x : Result). andNext x (advanceOf cuts (windowsIn B) limit vw v triangles j)) (turned (Stopped lack) B₂ h triangles F past s S)),
             tt,
           );
     }
@@ -179,16 +179,16 @@ module _ (limit : Float) (n most : ℕ) (v : List Float) (buffer vw round : List
           let idle = idle-is Idle B₂ h triangles F past s S in
           let j = most - i in
           let z : i + j ≡ most = omega (arith, q) in
-          subst (λ (k : ℕ). FieldEnds limit v triangles (past ++ advanceCandidates cuts (windowsIn B) limit vw v triangles n k s) (snapshotAt counts B) (running.at (snapshotAt now B₂)) (advanceOf cuts (windowsIn B) limit vw v triangles n k s) × (i ≡ stepsOf cuts (windowsIn B) limit vw v triangles n k s)) z (
+          subst (λ (k : ℕ). FieldEnds limit v triangles n (past ++ advanceCandidates cuts (windowsIn B) limit vw v triangles k s) (snapshotAt counts B) (running.at (snapshotAt now B₂)) (advanceOf cuts (windowsIn B) limit vw v triangles k s) × (i ≡ stepsOf cuts (windowsIn B) limit vw v triangles k s)) z (
             record {
               state = u .state;
-              is = advance-then cuts (windowsIn B) limit vw v triangles n i j s t (d .0 .is) ∙ advance-idle cuts (windowsIn B) limit vw v triangles n t idle j ∙ sym (step-idle cuts (windowsIn B) limit vw v triangles n t idle) ∙ u .is;
-              field = subst (λ (l : List Candidate). FieldStands limit v triangles l (u .state) (snapshotAt now B₂))
-                  (candidates-on Idle B₂ h triangles F past s S j (no-candidates cuts (windowsIn B) limit vw v triangles n t idle ∙ sym (candidates-idle cuts (windowsIn B) limit vw v triangles n t idle j))) (u .field);
+              is = advance-then cuts (windowsIn B) limit vw v triangles i j s t (d .0 .is) ∙ advance-idle cuts (windowsIn B) limit vw v triangles t idle j ∙ sym (step-idle cuts (windowsIn B) limit vw v triangles t idle) ∙ u .is;
+              field = subst (λ (l : List Candidate). FieldStands limit v triangles n l (u .state) (snapshotAt now B₂))
+                  (candidates-on Idle B₂ h triangles F past s S j (no-candidates cuts (windowsIn B) limit vw v triangles t idle ∙ sym (candidates-idle cuts (windowsIn B) limit vw v triangles t idle j))) (u .field);
               untouched = untouched-then (λ e. Unit {0}) (snapshotAt counts B) (snapshotAt now B₁) (snapshotAt now B₂) (d .0 .untouched) (u .untouched);
             },
-            let k = steps-idle cuts (windowsIn B) limit vw v triangles n t idle j in
-                let m = steps-then cuts (windowsIn B) limit vw v triangles n i j s t (d .0 .is) (d .1) in
+            let k = steps-idle cuts (windowsIn B) limit vw v triangles t idle j in
+                let m = steps-then cuts (windowsIn B) limit vw v triangles i j s t (d .0 .is) (d .1) in
                 omega (arith, k, m),
           );
     }

@@ -15,26 +15,26 @@ use Rattle.offers.specs.Offers.{andNext}
 use Rattle.field_step.specs.Step.{stepWith, stepOf, isEmpty, idleOf, candidatesWith, stepCandidates}
 use Rattle.advance.specs.Advance.{ofState, advanceOf, stepsOf, advanceCandidates}
 
-module _ (cuts windows : ℕ) (limit : Float) (flags : List ℕ) (v : List Float) (triangles : List ℕ) (n : ℕ) where
+module _ (cuts windows : ℕ) (limit : Float) (flags : List ℕ) (v : List Float) (triangles : List ℕ) where
   abbrev step : State → Result
-  step = stepOf cuts windows limit flags v triangles n
+  step = stepOf cuts windows limit flags v triangles
 
   abbrev advance : ℕ → State → Result
-  advance = advanceOf cuts windows limit flags v triangles n
+  advance = advanceOf cuts windows limit flags v triangles
 
   abbrev taken : ℕ → State → ℕ
-  taken = stepsOf cuts windows limit flags v triangles n
+  taken = stepsOf cuts windows limit flags v triangles
 
   abbrev candidates : ℕ → State → List Candidate
-  candidates = advanceCandidates cuts windows limit flags v triangles n
+  candidates = advanceCandidates cuts windows limit flags v triangles
 
   -- ---- the queue is empty
-  empty-step : (s : State) (p : Popped × Queue) → isEmpty (p .0) ≡ true → stepWith cuts windows limit flags v triangles n s p ≡ went s
+  empty-step : (s : State) (p : Popped × Queue) → isEmpty (p .0) ≡ true → stepWith cuts windows limit flags v triangles s p ≡ went s
   unfolding stepWith isEmpty
   empty-step s (Empty, q) h = refl
   empty-step s (First x k, q) h = absurd (subst T (sym h) tt)
 
-  empty-candidates : (s : State) (p : Popped) → isEmpty p ≡ true → candidatesWith limit v triangles n s p ≡ []
+  empty-candidates : (s : State) (p : Popped) → isEmpty p ≡ true → candidatesWith limit v triangles s p ≡ []
   unfolding candidatesWith isEmpty
   empty-candidates s Empty h = refl
   empty-candidates s (First x k) h = absurd (subst T (sym h) tt)
@@ -43,7 +43,7 @@ module _ (cuts windows : ℕ) (limit : Float) (flags : List ℕ) (v : List Float
     pub step-idle : step s ≡ went s
     step-idle = empty-step s (popping (s .stock .queue) (s .stock .queued)) idle
 
-    pub no-candidates : stepCandidates limit v triangles n s ≡ []
+    pub no-candidates : stepCandidates limit v triangles s ≡ []
     no-candidates = empty-candidates s (popping (s .stock .queue) (s .stock .queued) .0) idle
 
     pub advance-idle : (k : ℕ) → advance k s ≡ went s
@@ -69,12 +69,12 @@ module _ (cuts windows : ℕ) (limit : Float) (flags : List ℕ) (v : List Float
     go (stopped k) = refl
     go (went t) = refl
 
-  pub candidates-one : (s : State) → candidates 1 s ≡ stepCandidates limit v triangles n s
+  pub candidates-one : (s : State) → candidates 1 s ≡ stepCandidates limit v triangles s
   unfolding advanceCandidates ofState
   candidates-one s = go (step s) where
-    go : (r : Result) → stepCandidates limit v triangles n s ++ ofState [] (candidates 0) r ≡ stepCandidates limit v triangles n s
-    go (stopped k) = append-nil (stepCandidates limit v triangles n s)
-    go (went t) = append-nil (stepCandidates limit v triangles n s)
+    go : (r : Result) → stepCandidates limit v triangles s ++ ofState [] (candidates 0) r ≡ stepCandidates limit v triangles s
+    go (stopped k) = append-nil (stepCandidates limit v triangles s)
+    go (went t) = append-nil (stepCandidates limit v triangles s)
 
   pub steps-one : (s : State) → idleOf s ≡ false → taken 1 s ≡ 1
   unfolding stepsOf ofState
@@ -97,7 +97,7 @@ module _ (cuts windows : ℕ) (limit : Float) (flags : List ℕ) (v : List Float
   candidates-more zero j s = let z : 0 + j ≡ j = omega arith in ap (λ (k : ℕ). candidates k s) z
   candidates-more (suc i) j s = let z : suc i + j ≡ suc (i + j) = omega arith in ap (λ (k : ℕ). candidates k s) z ∙ go (candidates-more i j) (step s) where
     first : List Candidate
-    first = stepCandidates limit v triangles n s
+    first = stepCandidates limit v triangles s
 
     go : ((t : State) → candidates (i + j) t ≡ candidates i t ++ ofState [] (candidates j) (advance i t))
         → (r : Result) → first ++ ofState [] (candidates (i + j)) r ≡ (first ++ ofState [] (candidates i) r) ++ ofState [] (candidates j) (andNext r (advance i))

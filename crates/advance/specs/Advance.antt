@@ -13,21 +13,21 @@ unfoldable pub ofState : {A : Type 0} → A → (State → A) → Result → A
 ofState d f (stopped k) = d
 ofState d f (went s) = f s
 
-module _ (cuts windows : ℕ) (limit : Float) (flags : List ℕ) (v : List Float) (triangles : List ℕ) (n : ℕ) where
+module _ (cuts windows : ℕ) (limit : Float) (flags : List ℕ) (v : List Float) (triangles : List ℕ) where
   -- the first turn that there is no slot for stops them; where the queue is empty a turn does nothing
   unfoldable pub advanceOf : ℕ → State → Result
   unfolding andNext
   advanceOf zero s = went s
-  advanceOf (suc k) s = andNext (stepOf cuts windows limit flags v triangles n s) (advanceOf k)
+  advanceOf (suc k) s = andNext (stepOf cuts windows limit flags v triangles s) (advanceOf k)
 
   -- how many events are popped: the Rust's `steps`
   unfoldable pub stepsOf : ℕ → State → ℕ
   unfolding ofState
   stepsOf zero s = 0
-  stepsOf (suc k) s = if idleOf s then 0 else suc (ofState 0 (stepsOf k) (stepOf cuts windows limit flags v triangles n s))
+  stepsOf (suc k) s = if idleOf s then 0 else suc (ofState 0 (stepsOf k) (stepOf cuts windows limit flags v triangles s))
 
   -- the candidates, which demand 3 follows
   unfoldable pub advanceCandidates : ℕ → State → List Candidate
   unfolding ofState
   advanceCandidates zero s = []
-  advanceCandidates (suc k) s = stepCandidates limit v triangles n s ++ ofState [] (advanceCandidates k) (stepOf cuts windows limit flags v triangles n s)
+  advanceCandidates (suc k) s = stepCandidates limit v triangles s ++ ofState [] (advanceCandidates k) (stepOf cuts windows limit flags v triangles s)

@@ -39,8 +39,8 @@ pub record AdvancesTo (limit : Float) (n most : ℕ) (v : List Float) (buffer ve
   pub bounded : AdvancedWithin (capacityOf (length (b .words)) (length (b .reals))) r
   -- the buffers come to hold the state after the turns, of every mesh and state that they hold; or what there is no slot for is told
   pub advances : (triangles : List ℕ) → FieldMesh v triangles n buffer (b .edges) edgeReals triangleWords triangleReals vertexWords round
-      → (past : List Candidate) (s : State) → FieldStands limit v triangles past s (snapshotAt counts b)
+      → (past : List Candidate) (s : State) → FieldStands limit v triangles n past s (snapshotAt counts b)
       → let cuts = length (c .pts) in
       let windows = capacityOf (length (b .words)) (length (b .reals)) in
-      FieldEnds limit v triangles (past ++ advanceCandidates cuts windows limit vertexWords v triangles n most s) (snapshotAt counts b) (advancedEnd r b′) (advanceOf cuts windows limit vertexWords v triangles n most s)
-      × StepsTold r (stepsOf cuts windows limit vertexWords v triangles n most s)
+      FieldEnds limit v triangles n (past ++ advanceCandidates cuts windows limit vertexWords v triangles most s) (snapshotAt counts b) (advancedEnd r b′) (advanceOf cuts windows limit vertexWords v triangles most s)
+      × StepsTold r (stepsOf cuts windows limit vertexWords v triangles most s)

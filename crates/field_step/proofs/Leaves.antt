@@ -1,9 +1,10 @@
 -- The turn of an event as the code computes it. Assumes nothing.
 use Prim.Native.Nat.{ℕ, _≤_, _<_}
-use mathlib.Core.Bool.{Bool, true, false}
+use mathlib.Core.Bool.{Bool, true, false, cond}
 use mathlib.Core.List.{List}
 use mathlib.Core.Path.{_≡_, refl, sym, ap, subst, _∙_}
 use borrow.Author.Tests.{lt-ltb, le-ltb}
+use lib.Dec.{ltb}
 use lib.Ieee.{Float}
 use Rattle.buffers.specs.declared.VertexId.{VertexId}
 use Rattle.buffers.specs.declared.WindowId.{WindowId}
@@ -21,7 +22,7 @@ use Rattle.field_step.specs.Contract.{turnAt, SlotFor}
 
 -- ---- of a vertex
 module _ (n : ℕ) (vertex : List Float) (k : VertexId) (key : Float) where
-  pub vertex-far : n ≤ k .0 → Skip ≡ vertexTurn n vertex (k .0) key
+  pub vertex-far : n ≤ k .0 → Skip ≡ cond (ltb (k .0) n) (vertexTurn vertex (k .0) key) Skip
   unfolding vertexTurn
   vertex-far h = rw (le-ltb (k .0) n h) refl
 
@@ -29,11 +30,11 @@ module _ (n : ℕ) (vertex : List Float) (k : VertexId) (key : Float) where
     emits-is : (c : Bool) → b ≡ c → emitsOf (distanceOf vertex (k .0)) key (emittedOf vertex (k .0)) ≡ c
     emits-is c h = (λ i. emitsOf (sym isD i) key (sym isM i)) ∙ sym is ∙ h
 
-    pub vertex-emits : b ≡ true → Pass (Vertex k d) ≡ vertexTurn n vertex (k .0) key
+    pub vertex-emits : b ≡ true → Pass (Vertex k d) ≡ cond (ltb (k .0) n) (vertexTurn vertex (k .0) key) Skip
     unfolding vertexTurn
     vertex-emits h = rw (lt-ltb (k .0) n l, emits-is true h) (ap (λ (x : Float). Pass (Vertex k x)) isD)
 
-    pub vertex-rests : b ≡ false → Skip ≡ vertexTurn n vertex (k .0) key
+    pub vertex-rests : b ≡ false → Skip ≡ cond (ltb (k .0) n) (vertexTurn vertex (k .0) key) Skip
     unfolding vertexTurn
     vertex-rests h = rw (lt-ltb (k .0) n l, emits-is false h) refl
 
@@ -62,6 +63,6 @@ module _ (limit : Float) (n : ℕ) (words : List ℕ) (reals vertex : List Float
     unfolding turnAt
     turn-past p = rw (h, p) refl
 
-  pub turn-vertex : (k : VertexId) → item ≡ Item·Vertex k → (r : Turn) → r ≡ vertexTurn n vertex (k .0) key → r ≡ turnAt limit n words reals vertex item key pending
+  pub turn-vertex : (k : VertexId) → item ≡ Item·Vertex k → (r : Turn) → r ≡ cond (ltb (k .0) n) (vertexTurn vertex (k .0) key) Skip → r ≡ turnAt limit n words reals vertex item key pending
   unfolding turnAt
   turn-vertex k h r e = rw h e

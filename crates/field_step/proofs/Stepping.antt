@@ -1,5 +1,5 @@
 -- The ways that a turn can go: step-idle, step-skip, step-pass. Assumes nothing.
-use Prim.Native.Nat.{ℕ, _*_, _≤_}
+use Prim.Native.Nat.{ℕ, _*_, _≤_, _<_}
 use native.Mathlib.Omega.{arith}
 use mathlib.Core.Bool.{Bool, false}
 use mathlib.Core.List.{List, _++_, append-nil}
@@ -16,6 +16,7 @@ use Rattle.chains.specs.Chains.{links}
 use Rattle.actions.specs.Actions as actions
 use Rattle.actions.specs.Actions.{Stock}
 use Rattle.trim_model.specs.Model.{Candidate}
+use Rattle.trim_model.proofs.Lists.{all-map}
 use Rattle.trim_state.specs.State.{State}
 use Rattle.trim_state.specs.Follows.{Follows}
 use Rattle.trim_state.proofs.Follows.{follows-unqueue}
@@ -41,8 +42,10 @@ use Rattle.spread_offers.specs.declared.Spread.{Spread}
 use Rattle.spread_offers.specs.Spreading.{spreadCandidates, SpreadOf}
 use Rattle.spread_offers.proofs.Proper.{spread-proper}
 use Rattle.spread.specs.Walk.{SpreadIn}
-use Rattle.windows_there.specs.There.{GoesInto, WindowsThere}
+use Rattle.windows_there.specs.There.{GoesInto, CandidateThere, WindowsThere, EndsThere, ItemThere, EventsThere}
 use Rattle.windows_there.proofs.Kept.{there-stock, there-all, there-pop}
+use Rattle.windows_there.proofs.Events.{events-all, events-pop, popped-there}
+use Rattle.windows_there.proofs.Sides.{into-ends}
 use Rattle.windows_there.proofs.Passed.{spread-into}
 use Rattle.field_step.specs.declared.Turn.{Turn}
 use Rattle.field_step.specs.declared.Turn.the-variants.{Skip, Pass}
@@ -79,15 +82,15 @@ module _ (limit : Float) (n : ℕ) (v : List Float) (buffer vw round : List ℕ)
       queue-same : queue (b .keys) (b .events) ≡ queue keys′ events′
       queue-same = sym (isQ ∙ empty-queue (queue (b .keys) (b .events)) (counts .queued) none)
 
-      idle-steps : (triangles : List ℕ) (past : List Candidate) (s : State) → FieldStands limit v triangles past s p₀
-          → FieldEnds limit v triangles (past ++ stepCandidates limit v triangles n s) p₀ (running.at (snapshotAt counts b₁)) (stepOf (length (c .pts)) windows limit vw v triangles n s)
+      idle-steps : (triangles : List ℕ) (past : List Candidate) (s : State) → FieldStands limit v triangles n past s p₀
+          → FieldEnds limit v triangles n (past ++ stepCandidates limit v triangles s) p₀ (running.at (snapshotAt counts b₁)) (stepOf (length (c .pts)) windows limit vw v triangles s)
       unfolding stepWith candidatesWith
       idle-steps triangles past s S =
           let same : popping (s .stock .queue) (s .stock .queued) ≡ (Empty, P .1) = ap (λ (k : Stock). popping (k .queue) (k .queued)) (S .stands .stock) ∙ (λ i. (none i, P .1)) in
-          let cs : past ≡ past ++ stepCandidates limit v triangles n s = sym (append-nil past) ∙ ap (λ (z : Popped × Queue). past ++ candidatesWith limit v triangles n s (z .0)) (sym same) in
+          let cs : past ≡ past ++ stepCandidates limit v triangles s = sym (append-nil past) ∙ ap (λ (z : Popped × Queue). past ++ candidatesWith limit v triangles s (z .0)) (sym same) in
           record {
             state = s;
-            is = ap (stepWith (length (c .pts)) windows limit vw v triangles n s) same;
+            is = ap (stepWith (length (c .pts)) windows limit vw v triangles s) same;
             field = record {
               stands = record {
                 holds = subst (λ (w : List ℕ). HoldsWindows (counts .made) (s .wins) (links (b .edges) w) (b .reals) (s .live)) (sym words-same) (S .stands .holds);
@@ -95,6 +98,7 @@ module _ (limit : Float) (n : ℕ) (v : List Float) (buffer vw round : List ℕ)
                 follows = subst (λ (l : List Candidate). Follows limit (edgeData v triangles .len) l (s .stock .made) (s .live)) cs (S .stands .follows);
               };
               there = S .there;
+              events = S .events;
             };
             untouched = record { more = omega arith; edges = λ i z. refl; words = ap (drop (wordsPerWindow * counts .made)) words-same; reals = refl };
           }
@@ -132,26 +136,32 @@ module _ (limit : Float) (n : ℕ) (v : List Float) (buffer vw round : List ℕ)
       popped-untouched = record { more = omega arith; edges = λ i z. refl; words = ap (drop (wordsPerWindow * counts .made)) words-are ∙ item-words (counts .made) (b .words) (x .item); reals = refl }
 
       module _ (turn : Turn) (isTurn : turn ≡ turnAt limit n words′ (b .reals) (b .vertex) (x .item) (x .key) pending) where
-        module _ (triangles : List ℕ) (past : List Candidate) (s : State) (S : FieldStands limit v triangles past s p₀) where
+        module _ (triangles : List ℕ) (past : List Candidate) (s : State) (S : FieldStands limit v triangles n past s p₀) where
           abbrev s₁ : State
           s₁ = afterPop s (First x k, P .1)
-
-          turn-is : turn ≡ turnOf limit n (x .item) (x .key) s
-          turn-is =
-              isTurn
-              ∙ (λ i. turnAt limit n (words-are i) (b .reals) (b .vertex) (x .item) (x .key) (pending-is i))
-              ∙ turn-held limit n (counts .made) (b .words) (b .reals) (b .vertex) (b .edges) s (S .stands .holds) (ap (λ (z : Stock). z .vertex) (S .stands .stock)) fits (x .item) (x .key)
 
           same-pop : popping (s .stock .queue) (s .stock .queued) ≡ (First x k, P .1)
           same-pop = ap (λ (z : Stock). popping (z .queue) (z .queued)) (S .stands .stock) ∙ (λ i. (first i, P .1))
 
-          step-is : stepOf (length (c .pts)) windows limit vw v triangles n s ≡ afterTurn (length (c .pts)) windows limit vw v triangles n turn s₁
-          unfolding stepWith
-          step-is = ap (stepWith (length (c .pts)) windows limit vw v triangles n s) same-pop ∙ ap (λ (z : Turn). afterTurn (length (c .pts)) windows limit vw v triangles n z s₁) (sym turn-is)
+          item-there : ItemThere (λ i. i < n) (x .item)
+          item-there = popped-there n s (S .events) x k (P .1) (sym same-pop)
 
-          candidates-are : stepCandidates limit v triangles n s ≡ turnCandidates limit v triangles n turn
+          popped-events : EventsThere n s₁
+          popped-events = events-pop n s (S .events) (First x k, P .1) (sym same-pop)
+
+          turn-is : turn ≡ turnOf limit (x .item) (x .key) s
+          turn-is =
+              isTurn
+              ∙ (λ i. turnAt limit n (words-are i) (b .reals) (b .vertex) (x .item) (x .key) (pending-is i))
+              ∙ turn-held limit n (counts .made) (b .words) (b .reals) (b .vertex) (b .edges) s (S .stands .holds) (ap (λ (z : Stock). z .vertex) (S .stands .stock)) fits (x .item) item-there (x .key)
+
+          step-is : stepOf (length (c .pts)) windows limit vw v triangles s ≡ afterTurn (length (c .pts)) windows limit vw v triangles turn s₁
+          unfolding stepWith
+          step-is = ap (stepWith (length (c .pts)) windows limit vw v triangles s) same-pop ∙ ap (λ (z : Turn). afterTurn (length (c .pts)) windows limit vw v triangles z s₁) (sym turn-is)
+
+          candidates-are : stepCandidates limit v triangles s ≡ turnCandidates limit v triangles turn
           unfolding candidatesWith
-          candidates-are = ap (λ (z : Popped × Queue). candidatesWith limit v triangles n s (z .0)) same-pop ∙ ap (turnCandidates limit v triangles n) (sym turn-is)
+          candidates-are = ap (λ (z : Popped × Queue). candidatesWith limit v triangles s (z .0)) same-pop ∙ ap (turnCandidates limit v triangles) (sym turn-is)
 
           popped-stands : StandsFor limit (edgeData v triangles) past s₁ p₁
           unfolding afterPop
@@ -162,22 +172,23 @@ module _ (limit : Float) (n : ℕ) (v : List Float) (buffer vw round : List ℕ)
             follows = follows-unqueue (S .stands .follows) (λ (e : ℕ). liveClaimed (x .item) (s .live e)) (λ e. live-claimed (x .item) (s .live e));
           }
 
-          popped-there : WindowsThere (GoesInto triangles) s₁
-          popped-there = there-pop (GoesInto triangles) s (S .there) (First x k, P .1)
+          popped-windows : WindowsThere (GoesInto triangles) s₁
+          popped-windows = there-pop (GoesInto triangles) s (S .there) (First x k, P .1)
 
         -- and it is out of date
         module _ (out : turn ≡ Skip) where
-          skip-steps : (triangles : List ℕ) (past : List Candidate) (s : State) → FieldStands limit v triangles past s p₀
-              → FieldEnds limit v triangles (past ++ stepCandidates limit v triangles n s) p₀ (running.at p₁) (stepOf (length (c .pts)) windows limit vw v triangles n s)
+          skip-steps : (triangles : List ℕ) (past : List Candidate) (s : State) → FieldStands limit v triangles n past s p₀
+              → FieldEnds limit v triangles n (past ++ stepCandidates limit v triangles s) p₀ (running.at p₁) (stepOf (length (c .pts)) windows limit vw v triangles s)
           unfolding afterTurn turnCandidates
           skip-steps triangles past s S =
-              let cs : past ≡ past ++ stepCandidates limit v triangles n s = sym (append-nil past) ∙ ap (λ (z : Turn). past ++ turnCandidates limit v triangles n z) (sym out) ∙ ap (λ (l : List Candidate). past ++ l) (sym (candidates-are triangles past s S)) in
+              let cs : past ≡ past ++ stepCandidates limit v triangles s = sym (append-nil past) ∙ ap (λ (z : Turn). past ++ turnCandidates limit v triangles z) (sym out) ∙ ap (λ (l : List Candidate). past ++ l) (sym (candidates-are triangles past s S)) in
               record {
                 state = s₁ triangles past s S;
-                is = step-is triangles past s S ∙ ap (λ (z : Turn). afterTurn (length (c .pts)) windows limit vw v triangles n z (s₁ triangles past s S)) out;
+                is = step-is triangles past s S ∙ ap (λ (z : Turn). afterTurn (length (c .pts)) windows limit vw v triangles z (s₁ triangles past s S)) out;
                 field = record {
                   stands = subst (λ (l : List Candidate). StandsFor limit (edgeData v triangles) l (s₁ triangles past s S) p₁) cs (popped-stands triangles past s S);
-                  there = popped-there triangles past s S;
+                  there = popped-windows triangles past s S;
+                  events = popped-events triangles past s S;
                 };
                 untouched = popped-untouched;
               }
@@ -198,7 +209,7 @@ module _ (limit : Float) (n : ℕ) (v : List Float) (buffer vw round : List ℕ)
           abbrev p₂ : Snapshot
           p₂ = snapshotAt now b₂
 
-          module _ (triangles : List ℕ) (past : List Candidate) (s : State) (S : FieldStands limit v triangles past s p₀) where
+          module _ (triangles : List ℕ) (past : List Candidate) (s : State) (S : FieldStands limit v triangles n past s p₀) where
             abbrev s₂ : State
             s₂ = marked p (s₁ triangles past s S)
 
@@ -211,23 +222,23 @@ module _ (limit : Float) (n : ℕ) (v : List Float) (buffer vw round : List ℕ)
                   follows = Q .follows;
                 }
 
-            passed-is : stepOf (length (c .pts)) windows limit vw v triangles n s ≡ addAll (length (c .pts)) windows limit vw (edgeData v triangles) (spreadCandidates v triangles p) s₂
+            passed-is : stepOf (length (c .pts)) windows limit vw v triangles s ≡ addAll (length (c .pts)) windows limit vw (edgeData v triangles) (spreadCandidates v triangles p) s₂
             unfolding afterTurn
-            passed-is = step-is triangles past s S ∙ ap (λ (z : Turn). afterTurn (length (c .pts)) windows limit vw v triangles n z (s₁ triangles past s S)) on
+            passed-is = step-is triangles past s S ∙ ap (λ (z : Turn). afterTurn (length (c .pts)) windows limit vw v triangles z (s₁ triangles past s S)) on
 
-            passed-candidates : stepCandidates limit v triangles n s ≡ spreadCandidates v triangles p
+            passed-candidates : stepCandidates limit v triangles s ≡ spreadCandidates v triangles p
             unfolding turnCandidates
-            passed-candidates = candidates-are triangles past s S ∙ ap (turnCandidates limit v triangles n) on
+            passed-candidates = candidates-are triangles past s S ∙ ap (turnCandidates limit v triangles) on
 
             module _ (F : FieldMesh v triangles n buffer (b .edges) er tw tr vw round) where
               passed-of : SpreadOf triangles n p
-              passed-of = turn-there triangles n (F .mesh .mesh .valid) limit s (S .there) (x .item) (x .key) (Pass p) (sym on ∙ turn-is triangles past s S)
+              passed-of = turn-there triangles n (F .mesh .mesh .valid) limit s (S .there) (x .item) (item-there triangles past s S) (x .key) (Pass p) (sym on ∙ turn-is triangles past s S)
 
               spread-in : SpreadIn buffer vw round p triangles n
               spread-in = record { same = F .same; rounds = F .rounds; there = passed-of }
 
               passed-ends : (r : Added) (b′ : Slices) → OfferEnds limit (edgeData v triangles) (past ++ spreadCandidates v triangles p) p₂ (addedEndIn r b′) (addAll (length (c .pts)) windows limit vw (edgeData v triangles) (spreadCandidates v triangles p) s₂)
-                  → FieldEnds limit v triangles (past ++ stepCandidates limit v triangles n s) p₀ (addedEndIn r b′) (stepOf (length (c .pts)) windows limit vw v triangles n s)
+                  → FieldEnds limit v triangles n (past ++ stepCandidates limit v triangles s) p₀ (addedEndIn r b′) (stepOf (length (c .pts)) windows limit vw v triangles s)
               passed-ends (Added·Stopped lack) b′ e = passed-is ∙ e
               passed-ends (Added·Went m) b′ e = record {
                 state = e .state;
@@ -235,7 +246,10 @@ module _ (limit : Float) (n : ℕ) (v : List Float) (buffer vw round : List ℕ)
                 field = record {
                   stands = subst (λ (l : List Candidate). StandsFor limit (edgeData v triangles) (past ++ l) (e .state) (snapshotAt m b′)) (sym passed-candidates) (e .stands);
                   there = there-all (GoesInto triangles) (length (c .pts)) windows limit vw (edgeData v triangles) (spreadCandidates v triangles p) (spread-into v triangles n (F .mesh .mesh .valid) p passed-of)
-                      s₂ (there-stock (GoesInto triangles) (s₁ triangles past s S) (popped-there triangles past s S) (s₂ .stock)) (e .state) (e .is);
+                      s₂ (there-stock (GoesInto triangles) (s₁ triangles past s S) (popped-windows triangles past s S) (s₂ .stock)) (e .state) (e .is);
+                  events = events-all n (length (c .pts)) windows limit vw (edgeData v triangles) (spreadCandidates v triangles p)
+                      (all-map {P = CandidateThere (GoesInto triangles)} {Q = EndsThere n (edgeData v triangles)} (into-ends v triangles n (F .mesh .mesh .valid)) (spreadCandidates v triangles p) (spread-into v triangles n (F .mesh .mesh .valid) p passed-of))
+                      s₂ (popped-events triangles past s S) (e .state) (e .is);
                 };
                 untouched = untouched-then (λ e. Unit {0}) p₀ p₂ (snapshotAt m b′) (record { more = popped-untouched .more; edges = popped-untouched .edges; words = popped-untouched .words; reals = popped-untouched .reals }) (e .untouched);
               }
@@ -261,7 +275,7 @@ module _ (limit : Float) (n : ℕ) (v : List Float) (buffer vw round : List ℕ)
             idle = not-idle r ∙ ap isEmpty (sym first);
             steps = λ triangles F past s S.
                 let adds = A .adds triangles n (F .mesh) (spread-in triangles past s S F) past (s₂ triangles past s S) (marked-stands triangles past s S) (spread-proper limit v triangles n (F .mesh .mesh .valid) (F .long) p (passed-of triangles past s S F)) in
-                step-ends r b′ (λ end. FieldEnds limit v triangles (past ++ stepCandidates limit v triangles n s) p₀ end (stepOf (length (c .pts)) windows limit vw v triangles n s))
+                step-ends r b′ (λ end. FieldEnds limit v triangles n (past ++ stepCandidates limit v triangles s) p₀ end (stepOf (length (c .pts)) windows limit vw v triangles s))
                 (passed-ends triangles past s S F r b′
                 (subst (λ (z : ℕ). OfferEnds limit (edgeData v triangles) (past ++ spreadCandidates v triangles p) p₂ (addedEndIn r b′) (addAll (length (c .pts)) (capacityOf z (length (b .reals))) limit vw (edgeData v triangles) (spreadCandidates v triangles p) (s₂ triangles past s S))) long adds));
           }

@@ -6,8 +6,8 @@ use mathlib.Core.Bool.{Bool, true, false, cond, not, _&&_}
 use mathlib.Core.List.{List}
 use mathlib.Core.Logic.{⊎-elim}
 use mathlib.Core.Path.{_≡_, refl, sym, ap, subst, _∙_}
-use borrow.Author.Tests.{eqb-false, ltb-true, le-ltb}
-use lib.Dec.{T, eqb, ltb}
+use borrow.Author.Tests.{eqb-false, lt-ltb, le-ltb}
+use lib.Dec.{T, eqb}
 use lib.ListN.{length, getD, List·getD-eq-default}
 use lib.Ieee.{Float, le}
 use Rattle.layout.specs.Layout.{aliveFlag, queuedFlag}
@@ -29,7 +29,7 @@ use Rattle.pop.specs.Words.{isPending, claimed, itemPending, itemClaimed}
 use Rattle.pop.proofs.Pending.{SameWindow, pending-past, pending-is, claimed-is}
 use Rattle.spread_offers.specs.declared.Spread.the-variants.{Window, Vertex}
 use Rattle.spread_offers.specs.Spreading.{SpreadOf}
-use Rattle.windows_there.specs.There.{GoesInto, RecordThere, WindowsThere}
+use Rattle.windows_there.specs.There.{GoesInto, RecordThere, WindowsThere, ItemThere}
 use Rattle.windows_there.proofs.Kept.{there-at}
 use Rattle.windows_there.proofs.Sides.{face-there}
 use Rattle.field_step.specs.declared.Turn.{Turn}
@@ -72,10 +72,10 @@ module _ (limit : Float) (n : ℕ) (made : ℕ) (w : List ℕ) (f vertex : List 
       λ t. cond (p t) (q t) Skip
 
   -- of an event's item, once it is popped
-  pub turn-held : (x : Item) (key : Float) → turnAt limit n (itemClaimed made w x) f vertex x key (itemPending made w x) ≡ turnOf limit n x key s
+  pub turn-held : (x : Item) → ItemThere (λ k. k < n) x → (key : Float) → turnAt limit n (itemClaimed made w x) f vertex x key (itemPending made w x) ≡ turnOf limit x key s
   unfolding turnAt turnOf itemPending itemClaimed
-  turn-held (Item·Vertex k) key = ap (λ (l : List Float). vertexTurn n l (k .0) key) (sym same)
-  turn-held (Item·Window id) key = go (decLe made (id .0)) where
+  turn-held (Item·Vertex k) there key = ap (λ (b : Bool). cond b (vertexTurn vertex (k .0) key) Skip) (lt-ltb (k .0) n there) ∙ ap (λ (l : List Float). vertexTurn l (k .0) key) (sym same)
+  turn-held (Item·Window id) there key = go (decLe made (id .0)) where
     go : Dec (made ≤ id .0) → cond (isPending made w (id .0)) (windowTurn limit (windowAt (claimed made w (id .0)) f (id .0))) Skip ≡ cond (win (id .0) .alive && win (id .0) .carried .queued) (windowTurn limit (win (id .0))) Skip
     go (yes d) = past-turn (id .0) d
     go (no d) = made-turn (id .0) (omega (arith, d))
@@ -86,13 +86,9 @@ TurnThere triangles n Skip = Unit {0}
 TurnThere triangles n (Pass c) = SpreadOf triangles n c
 
 module _ (triangles : List ℕ) (n : ℕ) (valid : ValidTriangles triangles n) (limit : Float) where
-  vertex-there : (vertex : List Float) (k : ℕ) (key : Float) → TurnThere triangles n (vertexTurn n vertex k key)
+  vertex-there : (vertex : List Float) (k : ℕ) → k < n → (key : Float) → TurnThere triangles n (vertexTurn vertex k key)
   unfolding vertexTurn
-  vertex-there vertex k key = go (ltb k n) refl (emitsOf (distanceOf vertex k) key (emittedOf vertex k)) where
-    go : (b : Bool) → ltb k n ≡ b → (e : Bool) → TurnThere triangles n (cond (b && e) (Pass (Vertex (record { 0 = k }) (distanceOf vertex k))) Skip)
-    go true h true = ltb-true k n h
-    go true h false = tt
-    go false h e = tt
+  vertex-there vertex k l key = by-cases (λ (b : Bool). TurnThere triangles n (cond b (Pass (Vertex (record { 0 = k }) (distanceOf vertex k))) Skip)) (emitsOf (distanceOf vertex k) key (emittedOf vertex k)) (λ y. l) (λ y. tt)
 
   window-there : (x : WindowRecord) → RecordThere (GoesInto triangles) x → TurnThere triangles n (windowTurn limit x)
   unfolding windowTurn goesOnOf
@@ -102,10 +98,10 @@ module _ (triangles : List ℕ) (n : ℕ) (valid : ValidTriangles triangles n) (
     go false h false = tt
     go false h true = (t .0, ⊎-elim (λ of. face-there triangles n valid (x .edge .0) (t .0) (x .carried .into .0) of) (λ q. absurd (eqb-false (x .carried .into .0) noFace h q)) (t .1))
 
-  item-there : (s : State) → WindowsThere (GoesInto triangles) s → (x : Item) (key : Float) → TurnThere triangles n (turnOf limit n x key s)
+  item-there : (s : State) → WindowsThere (GoesInto triangles) s → (x : Item) → ItemThere (λ k. k < n) x → (key : Float) → TurnThere triangles n (turnOf limit x key s)
   unfolding turnOf
-  item-there s T (Item·Vertex k) key = vertex-there (s .stock .vertex) (k .0) key
-  item-there s T (Item·Window id) key = go (decLe (length (s .wins)) (id .0)) where
+  item-there s T (Item·Vertex k) there key = vertex-there (s .stock .vertex) (k .0) there key
+  item-there s T (Item·Window id) there key = go (decLe (length (s .wins)) (id .0)) where
     Goal : WindowRecord → Type 0
     Goal x = TurnThere triangles n (cond (x .alive && x .carried .queued) (windowTurn limit x) Skip)
 
@@ -115,5 +111,5 @@ module _ (triangles : List ℕ) (n : ℕ) (valid : ValidTriangles triangles n) (
         let x = getD (s .wins) (id .0) noWindow in
         by-cases (λ (b : Bool). TurnThere triangles n (cond b (windowTurn limit x) Skip)) (x .alive && x .carried .queued) (λ y. window-there x (there-at (GoesInto triangles) s T (id .0) noWindow (omega (arith, d)))) (λ y. tt)
 
-  pub turn-there : (s : State) → WindowsThere (GoesInto triangles) s → (x : Item) (key : Float) (t : Turn) → t ≡ turnOf limit n x key s → TurnThere triangles n t
-  turn-there s T x key t h = subst (TurnThere triangles n) (sym h) (item-there s T x key)
+  pub turn-there : (s : State) → WindowsThere (GoesInto triangles) s → (x : Item) → ItemThere (λ k. k < n) x → (key : Float) (t : Turn) → t ≡ turnOf limit x key s → TurnThere triangles n t
+  turn-there s T x there key t h = subst (TurnThere triangles n) (sym h) (item-there s T x there key)

@@ -3,6 +3,7 @@ use Prim.Native.Nat.{ℕ, _≤_, _<_}
 use mathlib.Core.Bool.{Bool, true, false, cond}
 use mathlib.Core.List.{List, _++_}
 use mathlib.Core.Path.{_≡_}
+use lib.Dec.{ltb}
 use lib.ListN.{length}
 use lib.Ieee.{Float}
 use Rattle.buffers.specs.Lack.{lackNumber}
@@ -26,17 +27,17 @@ use Rattle.trim.specs.declared.Added.{Added}
 use Rattle.trim.specs.declared.Added.the-variants.{Stopped as Added·Stopped, Went as Added·Went}
 use Rattle.offers.specs.Offers.{StandsFor}
 use Rattle.offers.specs.Walks.{MeshIn, edgeData}
-use Rattle.windows_there.specs.There.{GoesInto, WindowsThere}
+use Rattle.windows_there.specs.There.{GoesInto, WindowsThere, EventsThere}
 use Rattle.field_step.specs.declared.Turn.{Turn}
 use Rattle.field_step.specs.declared.Turn.the-variants.{Skip}
 use Rattle.field_step.specs.declared.Stepped.{Stepped}
 use Rattle.field_step.specs.declared.Stepped.the-variants.{Idle, Stopped, Went}
 use Rattle.field_step.specs.Step.{vertexTurn, windowTurn, stepOf, stepCandidates, isEmpty}
 
--- ---- as the buffers are read, once the event is popped: `pending` says whether its window was alive and queued
+-- ---- as the buffers are read, once the event is popped: `pending` says whether its window was alive and queued; a vertex past the first n is passed over
 unfoldable pub turnAt : Float → ℕ → List ℕ → List Float → List Float → Item → Float → Bool → Turn
 turnAt limit n words reals vertex (Item·Window id) key pending = cond pending (windowTurn limit (windowAt words reals (id .0))) Skip
-turnAt limit n words reals vertex (Item·Vertex k) key pending = vertexTurn n vertex (k .0) key
+turnAt limit n words reals vertex (Item·Vertex k) key pending = cond (ltb (k .0) n) (vertexTurn vertex (k .0) key) Skip
 
 -- a window that is pending has a slot
 unfoldable pub SlotFor : ℕ → Item → Bool → Type 0
@@ -55,11 +56,12 @@ pub record FieldMesh (v : List Float) (triangles : List ℕ) (n : ℕ) (buffer e
   pub long : (e : ℕ) → e < length (edges triangles) → EdgeLength (len v triangles e)
 
 -- ---- the state in its buffers
-module _ (limit : Float) (v : List Float) (triangles : List ℕ) where
-  -- s follows the model with the candidates so far, and all its windows are the mesh's
+module _ (limit : Float) (v : List Float) (triangles : List ℕ) (n : ℕ) where
+  -- s follows the model with the candidates so far, all its windows are the mesh's, and so are the vertices that its events name
   pub record FieldStands (past : List Candidate) (s : State) (p : Snapshot) : Type 0 where
     pub stands : StandsFor limit (edgeData v triangles) past s p
     pub there : WindowsThere (GoesInto triangles) s
+    pub events : EventsThere n s
 
   -- from p₀ to p the buffers have come to hold a result
   pub record FieldComesTo (past : List Candidate) (p₀ p : Snapshot) (r : Result) : Type 0 where
@@ -97,6 +99,6 @@ pub record StepsOnce (limit : Float) (n : ℕ) (v : List Float) (buffer vertexWo
   pub idle : isIdle r ≡ isEmpty (popping (queue (b .keys) (b .events)) (counts .queued) .0)
   -- the buffers come to hold the state after one turn, of every mesh and state that they hold; or what there is no slot for is told
   pub steps : (triangles : List ℕ) → FieldMesh v triangles n buffer (b .edges) edgeReals triangleWords triangleReals vertexWords round
-      → (past : List Candidate) (s : State) → FieldStands limit v triangles past s (snapshotAt counts b)
-      → FieldEnds limit v triangles (past ++ stepCandidates limit v triangles n s) (snapshotAt counts b) (steppedEnd counts r b′)
-      (stepOf (length (c .pts)) (capacityOf (length (b .words)) (length (b .reals))) limit vertexWords v triangles n s)
+      → (past : List Candidate) (s : State) → FieldStands limit v triangles n past s (snapshotAt counts b)
+      → FieldEnds limit v triangles n (past ++ stepCandidates limit v triangles s) (snapshotAt counts b) (steppedEnd counts r b′)
+      (stepOf (length (c .pts)) (capacityOf (length (b .words)) (length (b .reals))) limit vertexWords v triangles s)

@@ -1,8 +1,7 @@
 -- One turn of the Rust's `while let Some(Event(key, id, vertex)) = field.queue.pop()`, over the state. Definitions only.
 use Prim.Native.Nat.{ℕ}
-use mathlib.Core.Bool.{Bool, true, false, cond, _&&_}
+use mathlib.Core.Bool.{Bool, true, false, _&&_}
 use mathlib.Core.List.{List, []}
-use lib.Dec.{ltb}
 use lib.ListN.{getD}
 use lib.Ieee.{Float}
 use Rattle.float64.specs.Scalar.{zero64}
@@ -39,11 +38,11 @@ noWindow = record {
 }
 
 -- ---- what an event that was popped passes on: `continue`, or an `emit` or a `propagate`
--- `let d = field.vertex[id]; if d < key || d >= field.emitted[id] - 1e-10 * (1. + d) { continue; }`, of one of n vertices
-unfoldable pub vertexTurn : ℕ → List Float → ℕ → Float → Turn
-vertexTurn n vertex k key =
+-- `let d = field.vertex[id]; if d < key || d >= field.emitted[id] - 1e-10 * (1. + d) { continue; }`
+unfoldable pub vertexTurn : List Float → ℕ → Float → Turn
+vertexTurn vertex k key =
     let d = distanceOf vertex k in
-    if ltb k n && emitsOf d key (emittedOf vertex k) then Pass (Vertex (record { 0 = k }) d) else Skip
+    if emitsOf d key (emittedOf vertex k) then Pass (Vertex (record { 0 = k }) d) else Skip
 
 -- `if w.into != NONE && w.src.lowest(w.b0, w.b1) <= field.limit { field.propagate(w); }`
 unfoldable pub windowTurn : Float → WindowRecord → Turn
@@ -52,11 +51,11 @@ windowTurn limit w =
     Pass (Window (w .edge) (w .carried .into) (w .win .b0) (w .win .b1) (w .win .src)) else Skip
 
 -- s is the state before the pop: `let w = field.wins[id]; if !w.alive || !w.queued { continue; }`
-unfoldable pub turnOf : Float → ℕ → Item → Float → State → Turn
-turnOf limit n (Item·Window id) key s =
+unfoldable pub turnOf : Float → Item → Float → State → Turn
+turnOf limit (Item·Window id) key s =
     let w = getD (s .wins) (id .0) noWindow in
     if w .alive && w .carried .queued then windowTurn limit w else Skip
-turnOf limit n (Item·Vertex k) key s = vertexTurn n (s .stock .vertex) (k .0) key
+turnOf limit (Item·Vertex k) key s = vertexTurn (s .stock .vertex) (k .0) key
 
 -- `field.emitted[id] = d`
 unfoldable pub markedVertex : Spread → List Float → List Float
@@ -67,14 +66,14 @@ abbrev pub marked : Spread → State → State
 marked c s = record { wins = s .wins; live = s .live; stock = stock (s .stock .made) (s .stock .queued) (s .stock .queue) (markedVertex c (s .stock .vertex)) }
 
 -- ---- the turn; `cuts` and `windows` are the counts of the cut buffer and the window buffer, `flags` the vertices' words
-module _ (cuts windows : ℕ) (limit : Float) (flags : List ℕ) (v : List Float) (triangles : List ℕ) (n : ℕ) where
+module _ (cuts windows : ℕ) (limit : Float) (flags : List ℕ) (v : List Float) (triangles : List ℕ) where
   unfoldable pub afterTurn : Turn → State → Result
   afterTurn Skip s = went s
   afterTurn (Pass c) s = addAll cuts windows limit flags (edgeData v triangles) (spreadCandidates v triangles c) (marked c s)
 
   unfoldable pub stepWith : State → Popped × Queue → Result
   stepWith s (Empty, q) = went s
-  stepWith s (First x k, q) = afterTurn (turnOf limit n (x .item) (x .key) s) (afterPop s (First x k, q))
+  stepWith s (First x k, q) = afterTurn (turnOf limit (x .item) (x .key) s) (afterPop s (First x k, q))
 
   -- where the queue is empty nothing is done
   abbrev pub stepOf : State → Result
@@ -88,14 +87,14 @@ abbrev pub idleOf : State → Bool
 idleOf s = isEmpty (popping (s .stock .queue) (s .stock .queued) .0)
 
 -- ---- the candidates of a turn, which demand 3 follows
-module _ (limit : Float) (v : List Float) (triangles : List ℕ) (n : ℕ) where
+module _ (limit : Float) (v : List Float) (triangles : List ℕ) where
   unfoldable pub turnCandidates : Turn → List Candidate
   turnCandidates Skip = []
   turnCandidates (Pass c) = spreadCandidates v triangles c
 
   unfoldable pub candidatesWith : State → Popped → List Candidate
   candidatesWith s Empty = []
-  candidatesWith s (First x k) = turnCandidates (turnOf limit n (x .item) (x .key) s)
+  candidatesWith s (First x k) = turnCandidates (turnOf limit (x .item) (x .key) s)
 
   abbrev pub stepCandidates : State → List Candidate
   stepCandidates s = candidatesWith s (popping (s .stock .queue) (s .stock .queued) .0)

@@ -9,13 +9,16 @@ use spread_offers::Spread;
 use trim::Added;
 use trim_split::Counts;
 ghost use Prim.Native.Nat.{_≤_, _<_};
+ghost use mathlib.Core.Bool.{cond};
 ghost use mathlib.Core.Path.{_≡_};
+ghost use lib.Dec.{ltb};
 ghost use lib.ListN.{length};
 ghost use Rattle.buffers.specs.Lent.{given, left};
 ghost use Rattle.windows.specs.Windows.{windowAt, capacityOf};
 ghost use Rattle.cut_lists.specs.Buffers.{cutsBefore};
 ghost use Rattle.cut_lists.specs.Cut.{Sizes};
 ghost use Rattle.trim.specs.Buffers.{before, after};
+ghost use Rattle.field_step.specs.declared.Turn.the-variants.{Skip};
 ghost use Rattle.field_step.specs.Step.{vertexTurn, windowTurn, markedVertex};
 ghost use Rattle.field_step.specs.Contract.{turnAt, SlotFor, steppedOf, StepsOnce};
 
@@ -32,9 +35,9 @@ pub enum Stepped {
     Went(Counts),
 }
 
-// A vertex's event of this key, in a mesh of n vertices.
+// A vertex's event of this key; one past the first n is passed over, and no queue of a mesh of n vertices has such a one.
 fn vertex_turn(vertex: &[f64], k: VertexId, key: f64, n: u32) -> Turn
-    ensures { λ r. ⌜ r ≡ vertexTurn n (given vertex) (k .0) key ⌝ }
+    ensures { λ r. ⌜ r ≡ cond (ltb (k .0) n) (vertexTurn (given vertex) (k .0) key) Skip ⌝ }
 {
     if n <= k.0 {
         return Turn::Skip;

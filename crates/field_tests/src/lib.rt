@@ -11,7 +11,7 @@ ghost use mathlib.Core.Path.{_≡_};
 ghost use Rattle.field_tests.specs.Tests.{emitsOf, goesOnOf, emittedOf, withEmitted};
 ghost use Rattle.buffers.specs.Lent.{given, left};
 
-// Whether an event of this key emits its vertex, which is at distance d: the event is not out of date, and d is less than what was emitted last.
+// Whether an event of this key emits its vertex, which is at distance d: the event is not out of date, and d is less than what was emitted last by more than 1e-10 (1 + d).
 pub fn emits(d: f64, key: f64, emitted: f64) -> bool
     ensures { λ r. ⌜ r ≡ emitsOf d key emitted ⌝ }
 {

@@ -18,7 +18,7 @@ ghost use Rattle.chains.specs.Chains.{links};
 ghost use Rattle.last_pass.specs.Lowered.{lowered, loweredBy, loweredEdge};
 ghost use Rattle.last_pass.specs.Buffers.{chainBehind, winsOn, loweredAllAt};
 
-// A vertex's distance is lowered to d where d is less.
+// A vertex's distance becomes the lesser of itself and d, by the Rust's `min`.
 fn lower(vertex: &mut [f64], v: VertexId, d: f64)
     ensures { λ r. ⌜ left vertex ≡ lowered (given vertex) (v .0) d ⌝ }
 {

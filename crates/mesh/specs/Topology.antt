@@ -17,10 +17,10 @@ use Rattle.frames.specs.Stored.{withLengths, withNormals}
 -- document 01's rooms of the mesh, laid out as crate layout says
 pub record MeshBuffers : Type 0 where
   pub vertex-words : List ℕ  -- of each vertex: where its faces start and end in `round`; its flag
-  pub edge-words : List ℕ  -- of each edge: its two vertices, its two faces, and its chain head and a scratch word, zero64 at first
+  pub edge-words : List ℕ  -- of each edge: its two vertices, its two faces, and its chain head and a scratch word, zero at first
   pub edge-reals : List Float  -- of each edge: its length and its unit vector
   pub round : List ℕ  -- the faces round each vertex, one vertex after the other
-  pub triangle-words : List ℕ  -- of each triangle: its three edges, its first and its last entry and a spare word, zero64 at first
+  pub triangle-words : List ℕ  -- of each triangle: its three edges, its first and its last entry and a spare word, zero at first
   pub triangle-reals : List Float  -- of each triangle: the inward normals of its sides
 
 abbrev pub meshBuffers : List ℕ → List ℕ → List Float → List ℕ → List ℕ → List Float → MeshBuffers

@@ -88,7 +88,7 @@ fn edge_count(ends: &[u32], lens: &[f64], edges: &[u32]) -> u32
 }
 
 // How many entries the lists of an addition can have.
-fn cut_count(pts: &[f64], out: &[f64], keep: &[f64], next: &[f64]) -> u32
+pub fn cut_count(pts: &[f64], out: &[f64], keep: &[f64], next: &[f64]) -> u32
     ensures { λ r. ⌜ r ≡ cutCount (cutsBefore pts out keep next) ⌝ }
 {
     let a = buffers::count(pts.len(), 1, out.len(), 2);

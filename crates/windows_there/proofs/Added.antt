@@ -20,7 +20,7 @@ use Rattle.trim_model.proofs.Ranks.{by-cases}
 use Rattle.trim_model.proofs.Lists.{all-append, all-left, all-right}
 use Rattle.trim_model.proofs.Windows.{parted, sorted-all}
 use Rattle.trim_state.specs.Trace.{windowEvent, winOf, making, makings, splitting, losing, visiting, visitings, near, touching, keeping, adding}
-use Rattle.windows_there.specs.There.{RecordThere, LiveThere}
+use Rattle.windows_there.specs.There.{RecordThere, LiveThere, ItemThere}
 
 -- ---- those that are left
 module _ (P : ℕ → ℕ → Type 0) (e : ℕ) where
@@ -68,15 +68,15 @@ module _ (P : ℕ → ℕ → Type 0) (e : ℕ) where
       (sorted-all Here (s .survivors ++ news) (all-append Here (s .survivors) news (visits-there t w (run t w l) (all-left Here (run t w l) (behind t w l) r) (start w made) tt) (fresh-there w k (s .made) (wideOf t (s .keep)))))
       (all-right Here (run t w l) (behind t w l) r))
 
--- ---- those that are made
-module _ (P : ℕ → ℕ → Type 0) where
+-- ---- those that are made, and the vertices that are touched
+module _ (P : ℕ → ℕ → Type 0) (Q : ℕ → Type 0) where
   abbrev pub MakesThere : Action → Type 0
   MakesThere (list n) = Unit {0}
   MakesThere (make x) = RecordThere P x
   MakesThere (trim i b0 b1 low) = Unit {0}
   MakesThere (kill i) = Unit {0}
-  MakesThere (push e) = Unit {0}
-  MakesThere (touch v d) = Unit {0}
+  MakesThere (push e) = ItemThere Q (e .item)
+  MakesThere (touch v d) = Q v
 
   abbrev All-there : List Action → Type 0
   All-there = All MakesThere
@@ -114,33 +114,33 @@ module _ (P : ℕ → ℕ → Type 0) where
   visitings-there e t w (u ∷ us) k s =
       all-append MakesThere (visiting e t w u s) (visitings e t w us (visit betterOf t w u s)) (visiting-there e t w u (k .0) s) (visitings-there e t w us (k .1) (visit betterOf t w u s))
 
-  touch-there : (b : Bool) (v : ℕ) (d : Float) → All-there (pushIf b (touch v d))
-  touch-there true v d = (tt, tt)
-  touch-there false v d = tt
+  touch-there : (b : Bool) (v : ℕ) → Q v → (d : Float) → All-there (pushIf b (touch v d))
+  touch-there true v h d = (h, tt)
+  touch-there false v h d = tt
 
-  touching-there : (e : Edge) (nw : Window) → All-there (touching e nw)
+  touching-there : (e : Edge) → Q (e .a .0) → Q (e .b .0) → (nw : Window) → All-there (touching e nw)
   unfolding touching
-  touching-there e nw =
+  touching-there e va vb nw =
       let l = e .len in
       let x = le (nw .b0) (near ⊗ l) in
       let y = le (l ⊖ near ⊗ l) (nw .b1) in
       let da = evalOf (winOf nw) zero64 zero64 in
       let db = evalOf (winOf nw) l zero64 in
-      all-append MakesThere (pushIf x (touch (e .a .0) da)) (pushIf y (touch (e .b .0) db)) (touch-there x (e .a .0) da) (touch-there y (e .b .0) db)
+      all-append MakesThere (pushIf x (touch (e .a .0) da)) (pushIf y (touch (e .b .0) db)) (touch-there x (e .a .0) va da) (touch-there y (e .b .0) vb db)
 
-  keeping-there : (e : Edge) (w : Window) → LiveThere P (e .id .0) w → (n : ℕ) (ks : List Interval) → All-there (keeping e w n ks)
+  keeping-there : (e : Edge) → Q (e .a .0) → Q (e .b .0) → (w : Window) → LiveThere P (e .id .0) w → (n : ℕ) (ks : List Interval) → All-there (keeping e w n ks)
   unfolding keeping
-  keeping-there e w h n [] = tt
-  keeping-there e w h n (k ∷ ks) =
+  keeping-there e va vb w h n [] = tt
+  keeping-there e va vb w h n (k ∷ ks) =
       let nw = part w (k .from) (k .to) n in
-      all-append MakesThere (making (e .id .0) w n k) (touching e nw ++ keeping e w (suc n) ks) (making-there (e .id .0) w h n k) (all-append MakesThere (touching e nw) (keeping e w (suc n) ks) (touching-there e nw) (keeping-there e w h (suc n) ks))
+      all-append MakesThere (making (e .id .0) w n k) (touching e nw ++ keeping e w (suc n) ks) (making-there (e .id .0) w h n k) (all-append MakesThere (touching e nw) (keeping e w (suc n) ks) (touching-there e va vb nw) (keeping-there e va vb w h (suc n) ks))
 
-  pub adding-there : (e : Edge) (w : Window) → LiveThere P (e .id .0) w → (live : List Window) (made : ℕ) → All (LiveThere P (e .id .0)) live → All-there (adding e w live made)
+  pub adding-there : (e : Edge) → Q (e .a .0) → Q (e .b .0) → (w : Window) → LiveThere P (e .id .0) w → (live : List Window) (made : ℕ) → All (LiveThere P (e .id .0)) live → All-there (adding e w live made)
   unfolding adding
-  adding-there e w h live made k =
+  adding-there e va vb w h live made k =
       let t = tinyOf (e .len) in
       let r = run t w live in
       let s = visits betterOf t w r (start w made) in
       let Here = LiveThere P (e .id .0) in
       let all = all-right Here (before t w live) (r ++ behind t w live) (subst (All Here) (parted t w live) k) in
-      (tt, all-append MakesThere (visitings (e .id .0) t w r (start w made)) (keeping e w (s .made) (wideOf t (s .keep))) (visitings-there (e .id .0) t w r (all-left Here r (behind t w live) all) (start w made)) (keeping-there e w h (s .made) (wideOf t (s .keep))))
+      (tt, all-append MakesThere (visitings (e .id .0) t w r (start w made)) (keeping e w (s .made) (wideOf t (s .keep))) (visitings-there (e .id .0) t w r (all-left Here r (behind t w live) all) (start w made)) (keeping-there e va vb w h (s .made) (wideOf t (s .keep))))

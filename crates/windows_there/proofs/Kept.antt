@@ -50,19 +50,19 @@ module _ (P : ℕ → ℕ → Type 0) where
   adjust-there g h zero (x ∷ wins) a = (h x (a .0), a .1)
   adjust-there g h (suc i) (x ∷ wins) a = (a .0, adjust-there g h i wins (a .1))
 
-  with-there : (a : Action) (wins : List WindowRecord) → MakesThere P a → All (RecordThere P) wins → All (RecordThere P) (winsWith a wins)
+  with-there : (Q : ℕ → Type 0) (a : Action) (wins : List WindowRecord) → MakesThere P Q a → All (RecordThere P) wins → All (RecordThere P) (winsWith a wins)
   unfolding winsWith trimmed relinked reflagged
-  with-there (list n) wins m h = h
-  with-there (make x) wins m h = all-append (RecordThere P) wins (x ∷ []) h (m, tt)
-  with-there (trim i b0 b1 low) wins m h = adjust-there (λ x. trimmed x b0 b1 low) (λ x k. k) i wins h
-  with-there (kill i) wins m h = adjust-there dead (λ x k. k) i wins h
-  with-there (push e) wins m h = h
-  with-there (touch v d) wins m h = h
+  with-there Q (list n) wins m h = h
+  with-there Q (make x) wins m h = all-append (RecordThere P) wins (x ∷ []) h (m, tt)
+  with-there Q (trim i b0 b1 low) wins m h = adjust-there (λ x. trimmed x b0 b1 low) (λ x k. k) i wins h
+  with-there Q (kill i) wins m h = adjust-there dead (λ x k. k) i wins h
+  with-there Q (push e) wins m h = h
+  with-there Q (touch v d) wins m h = h
 
-  after-there : (todo : List Action) (wins : List WindowRecord) → All (MakesThere P) todo → All (RecordThere P) wins → All (RecordThere P) (winsAfter todo wins)
+  after-there : (Q : ℕ → Type 0) (todo : List Action) (wins : List WindowRecord) → All (MakesThere P Q) todo → All (RecordThere P) wins → All (RecordThere P) (winsAfter todo wins)
   unfolding winsAfter
-  after-there [] wins m h = h
-  after-there (a ∷ rest) wins m h = after-there rest (winsWith a wins) (m .1) (with-there a wins (m .0) h)
+  after-there Q [] wins m h = h
+  after-there Q (a ∷ rest) wins m h = after-there Q rest (winsWith a wins) (m .1) (with-there Q a wins (m .0) h)
 
   -- ---- additions
   module _ (cuts windows : ℕ) (limit : Float) (flags : List ℕ) (mesh : EdgeData) where
@@ -92,7 +92,7 @@ module _ (P : ℕ → ℕ → Type 0) where
       admit-there =
           let todo = adding (edgeIn mesh e) (asWindow c) (s .live e) (s .stock .made) in
           finish-there (winsAfter todo (s .wins)) (put e list-after (s .live)) (play cuts windows limit flags todo (s .stock))
-          (after-there todo (s .wins) (adding-there P (edgeIn mesh e) (asWindow c) there (s .live e) (s .stock .made) (T .live e)) (T .wins)) edges-there
+          (after-there (λ k. Unit {0}) todo (s .wins) (adding-there P (λ k. Unit {0}) (edgeIn mesh e) tt tt (asWindow c) there (s .live e) (s .stock .made) (T .live e)) (T .wins)) edges-there
 
       add-there : Then (addOf cuts windows limit flags mesh c s)
       unfolding addOf

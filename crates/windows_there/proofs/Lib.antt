@@ -3,3 +3,4 @@ pub mod Kept
 pub mod Sides
 pub mod Inserted
 pub mod Passed
+pub mod Events

@@ -1,0 +1,74 @@
+-- What a caller in C or Rust is told of a job whose pieces are inserted. Definitions only.
+use Prim.Native.Nat.{ℕ, _*_, min}
+use mathlib.Core.List.{List}
+use mathlib.Core.Path.{_≡_}
+use lib.ListN.{length, set, take}
+use lib.Ieee.{Float}
+use Rattle.layout.specs.Layout.{wordsPerPiece, realsPerPiece, realsPerVertex, wordsPerWindow, realsPerWindow}
+use Rattle.buffers.specs.Lack.{lackNumber}
+use Rattle.buffers.specs.Slots.{slotsOf}
+use Rattle.job_checks.specs.Job.{Job}
+use Rattle.topology.specs.Edges.{edges}
+use Rattle.cut_lists.specs.Buffers.{Cuts, cutBuffers}
+use Rattle.run_operations.specs.Lists.{cutCount}
+use Rattle.mesh.specs.declared.OtherCounts.{OtherCounts}
+use Rattle.mesh.specs.declared.Meshed.{Meshed}
+use Rattle.mesh.specs.declared.Meshed.the-variants as meshed
+use Rattle.mesh.specs.Topology.{MeshBuffers, meshBuffers}
+use Rattle.mesh.specs.Answer.{countsIn, meshRefusal, Answered}
+use Rattle.windows.specs.Windows.{capacityOf}
+use Rattle.piece_ends.specs.Table.{pieceWords}
+use Rattle.piece_ends.specs.Directions.{pieceReals}
+use Rattle.begin.specs.Begin.{WorkSlices}
+use Rattle.insert_job.specs.declared.InsertedJob.{InsertedJob}
+use Rattle.insert_job.specs.declared.InsertedJob.the-variants.{Wedge, Stopped, Went}
+use Rattle.insert_job.specs.Field.{trimSlices, entrySlices}
+use Rattle.insert_job.specs.Job.{JobInserted, JobWithin}
+
+-- the slots of slices of these lengths; as much scratch as there are windows
+abbrev pub lentCounts : ℕ → ℕ → ℕ → ℕ → ℕ → OtherCounts
+lentCounts pw pr vertex words reals =
+    let windows = min (slotsOf words wordsPerWindow) (slotsOf reals realsPerWindow) in
+    record {
+      «vertex_reals» = slotsOf vertex realsPerVertex;
+      pieces = min (slotsOf pw wordsPerPiece) (slotsOf pr realsPerPiece);
+      windows = windows;
+      scratch = windows;
+      «other_scratch» = windows;
+    }
+
+abbrev pub lentIn : WorkSlices → OtherCounts
+lentIn s = lentCounts (length (s .piece-words)) (length (s .piece-reals)) (length (s .vertex)) (length (s .words)) (length (s .reals))
+
+-- the slots that all four cut buffers have
+abbrev pub cutTo : ℕ → Cuts → Cuts
+cutTo x c = cutBuffers (take x (c .pts)) (take (2 * x) (c .out)) (take (2 * x) (c .keep)) (take (2 * x) (c .next))
+
+abbrev pub edgesTold : Meshed → ℕ
+edgesTold (meshed.Edges n) = n
+edgesTold (meshed.Refused c) = 0
+edgesTold meshed.ThirdFace = 0
+
+-- the number that is answered, and what four numbers then hold, as far as they are lent
+unfoldable pub insertTold : ℕ → InsertedJob → List ℕ → ℕ × List ℕ
+insertTold n Wedge t = (11, t)
+insertTold n (Stopped lack) t = (lackNumber lack, t)
+insertTold n (Went counts) t = (0, set (set (set (set t 0 n) 1 (counts .trim .made)) 2 (counts .trim .queued)) 3 (counts .entries))
+
+-- a job j whose mesh was made in m, and slices s and c: its answer by definition, and what is then in the slices; of the mesh only the words of edges and triangles change
+pub record InsertedIn (j : Job) (m : MeshBuffers) (s : WorkSlices) (c : Cuts) (told : List ℕ) (r : ℕ) (m′ : MeshBuffers) (s′ : WorkSlices) (told′ : List ℕ) : Type 0 where
+  pub answer : InsertedJob
+  pub inserts : JobInserted j m s c answer (trimSlices m′ s′) (entrySlices m′ s′)
+  pub bounded : JobWithin (capacityOf (length (s .words)) (length (s .reals))) answer
+  pub pieces : s′ .piece-words ≡ pieceWords (j .kinds) (j .coords) (length (s .piece-words))
+  pub directions : s′ .piece-reals ≡ pieceReals (j .kinds) (j .coords) (length (s .piece-reals))
+  pub kept : m′ ≡ meshBuffers (m .vertex-words) (m′ .edge-words) (m .edge-reals) (m .round) (m′ .triangle-words) (m .triangle-reals)
+  pub tells : (r, told′) ≡ insertTold (length (edges (j .triangles))) answer told
+
+-- the mesh is refused by its number, and the slices beside it are as they were; or the pieces are inserted
+pub record InsertAnswers (j : Job) (m : MeshBuffers) (s : WorkSlices) (c : Cuts) (told : List ℕ) (r : ℕ) (m′ : MeshBuffers) (s′ : WorkSlices) (told′ : List ℕ) : Type 0 where
+  pub answer : Meshed
+  pub built : MeshBuffers
+  pub mesh : Answered j (lentIn s) answer m built
+  pub refused : (meshRefusal j (countsIn m (lentIn s)) ≡ 0 → ⊥) → (r ≡ meshRefusal j (countsIn m (lentIn s))) × ((m′ ≡ built) × ((s′ ≡ s) × (told′ ≡ told)))
+  pub inserted : meshRefusal j (countsIn m (lentIn s)) ≡ 0 → InsertedIn j built s (cutTo (cutCount c) c) told r m′ s′ told′
