@@ -27,8 +27,9 @@ use Rattle.finish.proofs.Contents.{work-in, contents-are}
 use Rattle.zero_buffers.specs.ZeroIf.{zeroWords}
 use Rattle.insertion.specs.Insertion.{Inserted}
 use Rattle.run_steps.specs.Run.{WorkResult, field}
-use Rattle.field_work.specs.Work.{workOf}
-use Rattle.compute.specs.Compute.{otherCounts, workIn, commonCount, firstCuts, computeOf, Leaves}
+use Rattle.field_work.specs.Work.{workOf, workCandidates}
+use Rattle.run_operations.specs.Lists.{cutCount, cutTo}
+use Rattle.compute.specs.Compute.{otherCounts, workIn, computeOf, Leaves}
 use Rattle.compute.proofs.Refusals.{compute-worked, built-is}
 
 -- the buffers after the work, which wrote to the slices of trimming, to the entries and to the pieces; c are the cut lists
@@ -86,7 +87,7 @@ module _ (j : Job) (b : FieldBuffers) (meshed : Meshed) (built : MeshBuffers) (a
       contents-are built (edgeData (j .vertices) (j .triangles)) edge-count (n .trim) (n .entries) (done .inserted .state) (done .inserted .entries) (j .kinds) (j .coords) b (afterWork b built pw pr z t c)
       (work-in (j .vertices) (j .triangles) (j .flags) built
       (fresh j (otherCounts b) meshed (b .mesh) built answered edge-count told) (held j (otherCounts b) meshed (b .mesh) built answered edge-count told)
-      (j .limit) (done .past) (n .trim) (n .entries) (done .inserted .state) (done .inserted .entries) (j .kinds) (j .coords) b (afterWork b built pw pr z t c)
+      (j .limit) (workCandidates j (built .vertex-words) (workIn b) c₀ most) (n .trim) (n .entries) (done .inserted .state) (done .inserted .entries) (j .kinds) (j .coords) b (afterWork b built pw pr z t c)
       (trimSlices built (begunJob j (workIn b))) rooms-kept
       (subst (λ (x : ℕ). n .trim .made ≤ x) (λ i. capacityOf (sym (same .words) i) (sym (same .reals) i)) fits)
       (done .stands .trim) (done .untouched) (done .stands .entries))
@@ -96,7 +97,7 @@ module _ (j : Job) (b : FieldBuffers) (meshed : Meshed) (built : MeshBuffers) (a
 module _ (j : Job) (b : FieldBuffers) (meshed : Meshed) (built : MeshBuffers) (answered : Answered j (otherCounts b) meshed (b .mesh) built)
     (passed : meshRefusal j (countsIn (b .mesh) (otherCounts b)) ≡ 0) (most : ℕ) where
   abbrev cuts-lent : Cuts
-  cuts-lent = firstCuts (commonCount (b .cuts)) (b .cuts)
+  cuts-lent = cutTo (cutCount (b .cuts)) (b .cuts)
 
   -- the work is the definition's
   pub computed : (r : WorkResult) → workOf j (built .vertex-words) (workIn b) cuts-lent most ≡ r → computeOf j b most ≡ r

@@ -17,12 +17,13 @@ use Rattle.mesh.specs.Answer.{countsIn, meshRefusals, meshRefusal, afterwards, 
 use Rattle.run_steps.specs.Run.{WorkResult, refused}
 use Rattle.field_work.specs.Work.{workOf}
 use Rattle.finish.specs.Contents.{FieldBuffers}
-use Rattle.compute.specs.Compute.{otherCounts, workIn, commonCount, firstCuts, unlessRefused, computeOf}
+use Rattle.run_operations.specs.Lists.{cutCount, cutTo}
+use Rattle.compute.specs.Compute.{otherCounts, workIn, unlessRefused, computeOf}
 
 -- ---- the definition
 module _ (j : Job) (b : FieldBuffers) (most : ℕ) where
   abbrev worked : WorkResult
-  worked = workOf j (filled (j .vertices) (j .triangles) (j .flags) (b .mesh) .vertex-words) (workIn b) (firstCuts (commonCount (b .cuts)) (b .cuts)) most
+  worked = workOf j (filled (j .vertices) (j .triangles) (j .flags) (b .mesh) .vertex-words) (workIn b) (cutTo (cutCount (b .cuts)) (b .cuts)) most
 
   pub compute-refused : (k : ℕ) → meshRefusal j (countsIn (b .mesh) (otherCounts b)) ≡ suc k → computeOf j b most ≡ refused (suc k)
   unfolding unlessRefused

@@ -1,10 +1,10 @@
 -- The whole job, 01's `Handing in a job` and the Rust's `compute`: what it answers, and what every buffer holds then. Definitions only.
-use Prim.Native.Nat.{ℕ, zero, suc, _*_, _/_, _≤_, min}
+use Prim.Native.Nat.{ℕ, zero, suc, min}
 use mathlib.Core.Bool.{cond}
 use mathlib.Core.List.{List}
 use mathlib.Core.Path.{_≡_}
 use lib.Dec.{leb}
-use lib.ListN.{length, take}
+use lib.ListN.{length}
 use Rattle.layout.specs.Layout.{realsPerVertex, wordsPerPiece, realsPerPiece}
 use Rattle.buffers.specs.Slots.{slotsOf}
 use Rattle.windows.specs.Windows.{capacityOf}
@@ -13,7 +13,7 @@ use Rattle.topology.specs.Edges.{edges}
 use Rattle.mesh.specs.declared.OtherCounts.{OtherCounts}
 use Rattle.mesh.specs.Topology.{MeshBuffers, filled}
 use Rattle.mesh.specs.Answer.{countsIn, meshRefusal}
-use Rattle.cut_lists.specs.Buffers.{Cuts, cutBuffers}
+use Rattle.run_operations.specs.Lists.{cutCount, cutTo}
 use Rattle.offers.specs.Walks.{edgeData}
 use Rattle.begin.specs.Begin.{WorkSlices, workSlices}
 use Rattle.insertion.specs.Insertion.{Inserted}
@@ -37,13 +37,6 @@ otherCounts b = record {
 abbrev pub workIn : FieldBuffers → WorkSlices
 workIn b = workSlices (b .piece-words) (b .piece-reals) (b .vertex) (b .words) (b .reals) (b .keys) (b .events) (b .entry-words)
 
--- the entries that all four cut lists have slots for, and those slots
-abbrev pub commonCount : Cuts → ℕ
-commonCount c = min (min (slotsOf (length (c .pts)) 1) (slotsOf (length (c .out)) 2)) (min (slotsOf (length (c .keep)) 2) (slotsOf (length (c .next)) 2))
-
-abbrev pub firstCuts : ℕ → Cuts → Cuts
-firstCuts x c = cutBuffers (take x (c .pts)) (take (2 * x) (c .out)) (take (2 * x) (c .keep)) (take (2 * x) (c .next))
-
 -- ---- what the job comes to
 -- 1 to 10 come before the work
 unfoldable pub unlessRefused : ℕ → WorkResult → WorkResult
@@ -54,7 +47,7 @@ unlessRefused (suc k) r = refused (suc k)
 abbrev pub computeOf : Job → FieldBuffers → ℕ → WorkResult
 computeOf j b most =
     unlessRefused (meshRefusal j (countsIn (b .mesh) (otherCounts b)))
-    (workOf j (filled (j .vertices) (j .triangles) (j .flags) (b .mesh) .vertex-words) (workIn b) (firstCuts (commonCount (b .cuts)) (b .cuts)) most)
+    (workOf j (filled (j .vertices) (j .triangles) (j .flags) (b .mesh) .vertex-words) (workIn b) (cutTo (cutCount (b .cuts)) (b .cuts)) most)
 
 -- ---- what every buffer holds then: as it was after 1 to 9, zeros after any other refusal, or the field
 abbrev pub Leaves : Job → FieldBuffers → WorkResult → FieldBuffers → Type 0

@@ -23,6 +23,8 @@ use Rattle.cut_lists.specs.Cut.{Sizes}
 use Rattle.trim_split.proofs.Untouched.{untouched-then}
 use Rattle.trim.specs.Buffers.{Slices}
 use Rattle.trim.specs.Adding.{snapshotAt}
+use Rattle.trim_model.specs.Model.{Candidate}
+use Rattle.offers.specs.Offers.{StandsFor}
 use Rattle.offers.specs.Walks.{edgeData}
 use Rattle.face_entries.specs.Buffers.{EntryBuffers, entryCapacity}
 use Rattle.face_entries.specs.Entries.{FaceEntry, HoldsOnly}
@@ -48,7 +50,7 @@ use Rattle.run_steps.specs.declared.FieldWork.{FieldWork}
 use Rattle.run_steps.specs.declared.FieldWork.the-variants.{Refused, Done}
 use Rattle.run_steps.specs.Run.{WorkResult, refused, field, loopOf}
 use Rattle.run_steps.specs.Contract.{WorkWithin, RunEnds, RunComesTo, RunsOn, RunsTo}
-use Rattle.field_work.specs.Work.{andLoop, workOf}
+use Rattle.field_work.specs.Work.{andLoop, thenOffered, workOf, workCandidates}
 use Rattle.field_work.specs.Contract.{FieldDone, JobWorked, WorksTo}
 
 -- slices as long as they were
@@ -131,15 +133,25 @@ module _ (j : Job) (others : OtherCounts) (meshed : Meshed) (before m : MeshBuff
   is-loop : workOf j (m .vertex-words) s c most ≡ loop j (m .vertex-words) s c most (G .inserted)
   is-loop = work-went j (m .vertex-words) s c most (G .inserted) no-wedge (G .is)
 
+  -- the candidates by the definition
+  offered-are : candidatesIn (insertsOf j)
+      ++ advanceCandidates (length (c .pts)) (capacityOf (length (s .words)) (length (s .reals))) (j .limit) (m .vertex-words) (j .vertices) (j .triangles) most (G .inserted .state)
+      ≡ workCandidates j (m .vertex-words) s c most
+  unfolding thenOffered
+  offered-are =
+      ap
+      (λ (r : InsertResult).
+      candidatesIn (insertsOf j)
+      ++ thenOffered r (λ (x : Inserted). advanceCandidates (length (c .pts)) (capacityOf (length (s .words)) (length (s .reals))) (j .limit) (m .vertex-words) (j .vertices) (j .triangles) most (x .state)))
+      (sym (G .is))
+
   ended : (r : FieldWork) (b₂ : Slices) → Ends r b₂ (length (c .pts)) (capacityOf (length (s .words)) (length (s .reals))) → JobWorked j m s c most r b₂ t₁
   ended (Refused n) b₂ E = is-loop ∙ E
   ended (Done n steps) b₂ E = record {
     inserted = record { state = E .state; entries = G .inserted .entries };
     is = is-loop ∙ E .is;
-    past = candidatesIn (insertsOf j)
-        ++ advanceCandidates (length (c .pts)) (capacityOf (length (s .words)) (length (s .reals))) (j .limit) (m .vertex-words) (j .vertices) (j .triangles) most (G .inserted .state);
     stands = record {
-      trim = E .stands .stands;
+      trim = subst (λ (l : List Candidate). StandsFor (j .limit) (edgeData (j .vertices) (j .triangles)) l (E .state) (snapshotAt (n .trim) b₂)) offered-are (E .stands .stands);
       entries = subst (λ (z : ℕ). HoldsOnly (m .triangle-words) z (t₁ .triangles) (t₁ .words) (G .inserted .entries)) (sym (E .same-entries)) (G .stands .entries);
     };
     untouched = untouched-then (λ e. Unit {0}) (snapshotAt (noCounts .trim) (trimSlices m (begunJob j s))) (snapshotAt (k .trim) b₁) (snapshotAt (n .trim) b₂) (G .untouched) (E .untouched);

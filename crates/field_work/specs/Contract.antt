@@ -10,7 +10,6 @@ use Rattle.mesh.specs.declared.Meshed.{Meshed}
 use Rattle.mesh.specs.Topology.{MeshBuffers}
 use Rattle.mesh.specs.Answer.{countsIn, meshRefusal, Answered}
 use Rattle.windows.specs.Windows.{capacityOf}
-use Rattle.trim_model.specs.Model.{Candidate}
 use Rattle.cut_lists.specs.Buffers.{Cuts}
 use Rattle.trim_split.specs.Running.{Untouched}
 use Rattle.trim.specs.Buffers.{Slices}
@@ -28,7 +27,7 @@ use Rattle.run_steps.specs.declared.FieldWork.{FieldWork}
 use Rattle.run_steps.specs.declared.FieldWork.the-variants.{Refused, Done}
 use Rattle.run_steps.specs.Run.{refused, field}
 use Rattle.run_steps.specs.Contract.{WorkWithin}
-use Rattle.field_work.specs.Work.{workOf}
+use Rattle.field_work.specs.Work.{workOf, workCandidates}
 
 -- a job j whose mesh stands in m, slices s and c as they are lent
 module _ (j : Job) (m : MeshBuffers) (s : WorkSlices) (c : Cuts) (most : ℕ) where
@@ -36,9 +35,7 @@ module _ (j : Job) (m : MeshBuffers) (s : WorkSlices) (c : Cuts) (most : ℕ) wh
   pub record FieldDone (n : InsertCounts) (steps : ℕ) (b′ : Slices) (t′ : EntryBuffers) : Type 0 where
     pub inserted : Inserted
     pub is : workOf j (m .vertex-words) s c most ≡ field inserted steps
-    -- the candidates that were offered
-    pub past : List Candidate
-    pub stands : HoldsInserted (j .limit) (edgeData (j .vertices) (j .triangles)) (m .triangle-words) past inserted (placeAt n b′ t′)
+    pub stands : HoldsInserted (j .limit) (edgeData (j .vertices) (j .triangles)) (m .triangle-words) (workCandidates j (m .vertex-words) s c most) inserted (placeAt n b′ t′)
     pub untouched : Untouched (λ e. Unit {0}) (snapshotAt (noCounts .trim) (trimSlices m (begunJob j s))) (snapshotAt (n .trim) b′)
 
   abbrev pub JobWorked : FieldWork → Slices → EntryBuffers → Type 0

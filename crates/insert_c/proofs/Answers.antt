@@ -11,7 +11,7 @@ use Rattle.job_checks.specs.Job.{Job, job, vertexCount}
 use Rattle.topology.specs.Edges.{edges}
 use Rattle.cut_lists.specs.Buffers.{Cuts}
 use Rattle.cut_lists.specs.Cut.{Sizes}
-use Rattle.run_operations.specs.Lists.{cutCount}
+use Rattle.run_operations.specs.Lists.{cutCount, cutTo}
 use Rattle.run_operations.proofs.Whole.{pts-fit, out-fit, keep-fit, next-fit}
 use Rattle.mesh.specs.declared.OtherCounts.{OtherCounts}
 use Rattle.mesh.specs.declared.Meshed.{Meshed}
@@ -22,7 +22,7 @@ use Rattle.insert_job.specs.declared.InsertedJob.{InsertedJob}
 use Rattle.insert_job.specs.Field.{trimSlices, entrySlices}
 use Rattle.insert_job.specs.Job.{InsertsJob}
 use Rattle.insert_job.proofs.Begun.{begun-fits}
-use Rattle.insert_c.specs.Exports.{lentIn, cutTo, edgesTold, insertTold, InsertedIn, InsertAnswers}
+use Rattle.insert_c.specs.Exports.{lentIn, edgesTold, insertTold, InsertedIn, InsertAnswers}
 
 twice : (x a b : ℕ) → a ≡ 2 * x → b ≡ x → a ≡ b + b
 twice x a b h k = omega (arith, h, k)

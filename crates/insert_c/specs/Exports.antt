@@ -1,16 +1,16 @@
 -- What a caller in C or Rust is told of a job whose pieces are inserted. Definitions only.
-use Prim.Native.Nat.{ℕ, _*_, min}
+use Prim.Native.Nat.{ℕ, min}
 use mathlib.Core.List.{List}
 use mathlib.Core.Path.{_≡_}
-use lib.ListN.{length, set, take}
+use lib.ListN.{length, set}
 use lib.Ieee.{Float}
 use Rattle.layout.specs.Layout.{wordsPerPiece, realsPerPiece, realsPerVertex, wordsPerWindow, realsPerWindow}
 use Rattle.buffers.specs.Lack.{lackNumber}
 use Rattle.buffers.specs.Slots.{slotsOf}
 use Rattle.job_checks.specs.Job.{Job}
 use Rattle.topology.specs.Edges.{edges}
-use Rattle.cut_lists.specs.Buffers.{Cuts, cutBuffers}
-use Rattle.run_operations.specs.Lists.{cutCount}
+use Rattle.cut_lists.specs.Buffers.{Cuts}
+use Rattle.run_operations.specs.Lists.{cutCount, cutTo}
 use Rattle.mesh.specs.declared.OtherCounts.{OtherCounts}
 use Rattle.mesh.specs.declared.Meshed.{Meshed}
 use Rattle.mesh.specs.declared.Meshed.the-variants as meshed
@@ -39,10 +39,6 @@ lentCounts pw pr vertex words reals =
 
 abbrev pub lentIn : WorkSlices → OtherCounts
 lentIn s = lentCounts (length (s .piece-words)) (length (s .piece-reals)) (length (s .vertex)) (length (s .words)) (length (s .reals))
-
--- the slots that all four cut buffers have
-abbrev pub cutTo : ℕ → Cuts → Cuts
-cutTo x c = cutBuffers (take x (c .pts)) (take (2 * x) (c .out)) (take (2 * x) (c .keep)) (take (2 * x) (c .next))
 
 abbrev pub edgesTold : Meshed → ℕ
 edgesTold (meshed.Edges n) = n

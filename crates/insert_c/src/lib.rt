@@ -15,13 +15,13 @@ ghost use Rattle.layout.specs.Layout.{wordsPerPiece};
 ghost use Rattle.buffers.specs.Lent.{given, left};
 ghost use Rattle.cut_lists.specs.Buffers.{cutBuffers, cutsBefore};
 ghost use Rattle.trim.specs.Buffers.{after as Buffers·after};
-ghost use Rattle.run_operations.specs.Lists.{cutCount};
+ghost use Rattle.run_operations.specs.Lists.{cutCount, cutTo};
 ghost use Rattle.job_checks.specs.Job.{job};
 ghost use Rattle.mesh.specs.Topology.{meshBuffers, before, after};
 ghost use Rattle.insertion.specs.Places.{entriesAfter};
 ghost use Rattle.begin.specs.Begin.{workBefore, workAfter};
 ghost use Rattle.insert_job.specs.Job.{InsertsJob};
-ghost use Rattle.insert_c.specs.Exports.{lentCounts, edgesTold, cutTo, insertTold, InsertAnswers};
+ghost use Rattle.insert_c.specs.Exports.{lentCounts, edgesTold, insertTold, InsertAnswers};
 
 // The slots that slices of these lengths have. No scratch is lent, so none can lack.
 fn lent_counts(
@@ -137,7 +137,7 @@ fn insert_parts(
     )
 }
 
-// Any job: its first refusal that holds of 1 to 14 and 17, or 0; its mesh, and its pieces inserted.
+// Any job: its first refusal that holds of 1 to 14 and 17, or 0; its mesh, and its pieces inserted. Stopped by 11 to 17, the slices are left as they are then; the cut lists always are.
 #[no_mangle]
 pub extern "C" fn sirmolaat_insert(
     vertices: &[f64],

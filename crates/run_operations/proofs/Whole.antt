@@ -18,9 +18,9 @@ use Rattle.contents.proofs.Held.{drop-zeros, words-are, reals-are-all}
 use Rattle.contents.proofs.Forgotten.{heads-only}
 use Rattle.run_operations.specs.declared.Ran.{Ran}
 use Rattle.run_operations.specs.declared.Ran.the-variants.{Done, Ended}
-use Rattle.run_operations.specs.Lists.{meshOf, Setting, settingOf, ReadyToRun, Finishes, Ends, Runs, snapshotIn, edgeCount, operationCount, cutCount, lentSetting, cleared, ZeroSlices, ZeroCuts, RunWhole}
+use Rattle.run_operations.specs.Lists.{meshOf, Setting, settingOf, ReadyToRun, Finishes, Ends, Runs, snapshotIn, edgeCount, operationCount, cutCount, cutTo, lentSetting, cleared, ZeroSlices, ZeroCuts, RunWhole}
 use Rattle.trim.specs.Buffers.{Slices, slices}
-use Rattle.cut_lists.specs.Buffers.{Cuts, cutBuffers}
+use Rattle.cut_lists.specs.Buffers.{Cuts}
 use Rattle.run_operations.proofs.Loop.{SameLengths, SameCuts}
 
 -- ---- counts
@@ -68,9 +68,6 @@ pub next-fit : (c : Cuts) (x : ℕ) → x ≡ cutCount c → 2 * x ≤ length (c
 next-fit c x h = two-slots x (length (c .next)) (least-fourth (slotsOf (length (c .pts)) 1) (slotsOf (length (c .out)) 2) (slotsOf (length (c .keep)) 2) (slotsOf (length (c .next)) 2) x h)
 
 -- ---- the parts of the cut buffers that are used
-abbrev pub parts : ℕ → Cuts → Cuts
-parts x c = cutBuffers (take x (c .pts)) (take (2 * x) (c .out)) (take (2 * x) (c .keep)) (take (2 * x) (c .next))
-
 twice : (x a b : ℕ) → a ≡ 2 * x → b ≡ x → a ≡ b + b
 twice x a b h k = omega (arith, h, k)
 
@@ -78,7 +75,7 @@ module _ (ends : List ℕ) (lens : List Float) (b : Slices) (c : Cuts) (m x : �
   pts-length : length (take x (c .pts)) ≡ x
   pts-length = length-take-le x (c .pts) (pts-fit c x isCuts)
 
-  pub parts-ready : ReadyToRun m 0 b (parts x c)
+  pub parts-ready : ReadyToRun m 0 b (cutTo x c)
   parts-ready = record {
     fits = omega arith;
     edges = least-last (min (slotsOf (length ends) wordsPerEnds) (slotsOf (length lens) realsPerLen)) (slotsOf (length (b .edges)) wordsPerEdge) m isEdges;
@@ -91,10 +88,10 @@ module _ (ends : List ℕ) (lens : List Float) (b : Slices) (c : Cuts) (m x : �
     abbrev settingAt : ℕ → ℕ → Setting
     settingAt k e = record { cuts = k; windows = capacityOf (length (b .words)) (length (b .reals)); limit = limit; flags = flags; mesh = meshOf ends lens; edges = e; vertices = slotsOf (length (b .vertex)) realsPerVertex }
 
-    same-setting : settingOf (parts x c) b limit flags ends lens m ≡ lentSetting c b limit flags ends lens
+    same-setting : settingOf (cutTo x c) b limit flags ends lens m ≡ lentSetting c b limit flags ends lens
     same-setting = let p : length (take x (c .pts)) ≡ cutCount c = pts-length ∙ isCuts in λ t. settingAt (p t) (isEdges t)
 
-    pub parts-run : (ops : List ℕ) (args : List Float) (n : ℕ) → n ≡ operationCount ops args → (p : Snapshot) (r : Ran) (b′ : Slices) → Runs (settingOf (parts x c) b limit flags ends lens m) ops args n p r b′
+    pub parts-run : (ops : List ℕ) (args : List Float) (n : ℕ) → n ≡ operationCount ops args → (p : Snapshot) (r : Ran) (b′ : Slices) → Runs (settingOf (cutTo x c) b limit flags ends lens m) ops args n p r b′
         → Runs (lentSetting c b limit flags ends lens) ops args (operationCount ops args) p r b′
     parts-run ops args n isCount p r b′ k =
         subst (λ (j : ℕ). Runs (lentSetting c b limit flags ends lens) ops args j p r b′) isCount

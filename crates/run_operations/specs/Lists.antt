@@ -2,7 +2,7 @@
 use Prim.Native.Nat.{ℕ, _+_, _*_, _≤_, _<_, min}
 use mathlib.Core.List.{List}
 use mathlib.Core.Path.{_≡_}
-use lib.ListN.{length, getD, replicate}
+use lib.ListN.{length, getD, replicate, take}
 use lib.Ieee.{Float, nan}
 use Rattle.layout.specs.Layout.{realsPerVertex, wordsPerEdge, wordsPerOperation, realsPerOperation, wordsPerEnds, endsLow, endsHigh, realsPerLen}
 use Rattle.float64.specs.Scalar.{zero64}
@@ -19,7 +19,7 @@ use Rattle.trim_state.specs.State.{State, Result, stopped, went, EdgeData}
 use Rattle.trim_state.specs.Follows.{Follows}
 use Rattle.trim_split.specs.Running.{Snapshot, snapshot, Untouched}
 use Rattle.trim.specs.Buffers.{Slices, slices}
-use Rattle.cut_lists.specs.Buffers.{Cuts}
+use Rattle.cut_lists.specs.Buffers.{Cuts, cutBuffers}
 use Rattle.trim_operations.specs.Operations.{Operation, touch, operations, candidates, DoublesOf}
 use Rattle.trim_operations.specs.Run.{operate, Run, ran, ended, runFrom, start}
 use Rattle.trim_operations.specs.Demand3.{Demand3}
@@ -150,6 +150,10 @@ operationCount ops args = min (slotsOf (length ops) wordsPerOperation) (slotsOf 
 
 abbrev pub cutCount : Cuts → ℕ
 cutCount c = min (min (slotsOf (length (c .pts)) 1) (slotsOf (length (c .out)) 2)) (min (slotsOf (length (c .keep)) 2) (slotsOf (length (c .next)) 2))
+
+-- the first x slots of each
+abbrev pub cutTo : ℕ → Cuts → Cuts
+cutTo x c = cutBuffers (take x (c .pts)) (take (2 * x) (c .out)) (take (2 * x) (c .keep)) (take (2 * x) (c .next))
 
 abbrev pub lentSetting : Cuts → Slices → Float → List ℕ → List ℕ → List Float → Setting
 lentSetting c b limit flags ends lens = record {
