@@ -1,2 +1,2 @@
-pub mod Refusals
-pub mod Contents
+pub mod Told
+pub mod Computing

@@ -1,1 +1,1 @@
-pub mod Compute
+pub mod Answers

@@ -3,9 +3,11 @@ use Prim.Native.Nat.{ℕ, _-_, _<_, _≤_}
 use mathlib.Core.Bool.{Bool, true, false, cond}
 use mathlib.Core.List.{List, _++_}
 use mathlib.Core.Path.{_≡_, refl, sym, ap, subst, _∙_}
+use native.Mathlib.Omega.{arith}
 use lib.ListN.{length}
 use lib.Ieee.{Float}
 use Rattle.buffers.specs.declared.Lack.{Lack}
+use Rattle.buffers.specs.declared.Lack.the-variants as lacks
 use Rattle.buffers.specs.Lack.{lackNumber}
 use Rattle.windows.specs.Windows.{capacityOf}
 use Rattle.heap.specs.declared.Popped.{Popped}
@@ -48,6 +50,13 @@ module _ (q : Queue) (n : ℕ) where
   unfolding isEmpty
   one-waits h k = ap (λ (z : Popped × Queue). isEmpty (z .0)) (pop-done q n (at q 0) (popped q (n - 1)) h k refl refl)
 
+-- ---- what there is no slot for has a number above 9
+pub lack-above : (lack : Lack) → 9 < lackNumber lack
+lack-above lacks.Windows = omega arith
+lack-above lacks.Events = omega arith
+lack-above lacks.Cuts = omega arith
+lack-above lacks.Entries = omega arith
+
 -- ---- the budget
 budget-done : (xs : List FaceEntry) (steps : ℕ) (s : State) → idleOf s ≡ true → budgeted xs steps (went s) ≡ field (record { state = s; entries = xs }) steps
 unfolding budgeted
@@ -67,7 +76,7 @@ module _ (limit : Float) (n most : ℕ) (v : List Float) (buffer vw round : List
   run-stopped : (k : InsertCounts) (lack : Lack) (b′ : Slices) → Advances k (advanced.Stopped lack) b′ → Runs k (workAnswer (b′ .keys) (b′ .events) (k .entries) (advanced.Stopped lack)) b′
   unfolding budgeted
   run-stopped k lack b′ A = record {
-    bounded = tt;
+    bounded = lack-above lack;
     runs = λ triangles F past s S xs.
         ap (budgeted xs (stepsOf (length (c .pts)) (capacityOf (length (b .words)) (length (b .reals))) limit vw v triangles most s)) (A .advances triangles F past s S .0);
   }
@@ -97,7 +106,7 @@ module _ (limit : Float) (n most : ℕ) (v : List Float) (buffer vw round : List
 
     run-spent : noneWaits (b′ .keys) (b′ .events) (t .queued) ≡ false → Runs k (Refused 15) b′
     run-spent h = record {
-      bounded = tt;
+      bounded = omega arith;
       runs = λ triangles F past s S xs.
           let taken = stepsOf (length (c .pts)) (capacityOf (length (b .words)) (length (b .reals))) limit vw v triangles most s in
           let g = A .advances triangles F past s S .0 in
@@ -122,10 +131,10 @@ module _ (limit : Float) (n most : ℕ) (v : List Float) (buffer vw round : List
   From from r b′ = RunsTo limit n most v buffer vw round er tw tr b c from r b′
 
   pub run-wedge : (from : InsertedJob) → from ≡ job.Wedge → (b′ : Slices) → From from (Refused 11) b′
-  run-wedge from e b′ = subst (λ (z : InsertedJob). From z (Refused 11) b′) (sym e) (record { bounded = tt; runs = refl })
+  run-wedge from e b′ = subst (λ (z : InsertedJob). From z (Refused 11) b′) (sym e) (record { bounded = omega arith; runs = refl })
 
   pub run-lack : (from : InsertedJob) (lack : Lack) → from ≡ job.Stopped lack → (k : ℕ) → k ≡ lackNumber lack → (b′ : Slices) → From from (Refused k) b′
-  run-lack from lack e k h b′ = subst (λ (z : InsertedJob). From z (Refused k) b′) (sym e) (record { bounded = tt; runs = ap Refused h })
+  run-lack from lack e k h b′ = subst (λ (z : InsertedJob). From z (Refused k) b′) (sym e) (record { bounded = subst (λ (z : ℕ). 9 < z) (sym h) (lack-above lack); runs = ap Refused h })
 
   pub run-from : (from : InsertedJob) (k : InsertCounts) → from ≡ job.Went k → (a : Advanced) (b′ : Slices) (r : FieldWork) → r ≡ workAnswer (b′ .keys) (b′ .events) (k .entries) a → Advances k a b′ → From from r b′
   run-from from k e a b′ r h A = subst (λ (z : InsertedJob). From z r b′) (sym e) (run-answer k a b′ r h A)

@@ -1,5 +1,5 @@
 -- What the main loop does to the buffers, within its budget. Definitions only.
-use Prim.Native.Nat.{ℕ, _≤_}
+use Prim.Native.Nat.{ℕ, _≤_, _<_}
 use mathlib.Core.Bool.{Bool, cond}
 use mathlib.Core.List.{List, _++_}
 use mathlib.Core.Path.{_≡_}
@@ -36,9 +36,9 @@ abbrev pub workAnswer : List Float → List ℕ → ℕ → Advanced → FieldWo
 workAnswer keys events entries (advanced.Stopped lack) = Refused (lackNumber lack)
 workAnswer keys events entries (advanced.Went c steps) = cond (noneWaits keys events (c .queued)) (Done (record { trim = c; entries = entries }) steps) (Refused 15)
 
--- if it was not stopped, the windows are within the buffer
+-- a refusal is none of 1 to 9, and else the windows are within the buffer
 abbrev pub WorkWithin : ℕ → FieldWork → Type 0
-WorkWithin windows (Refused k) = Unit {0}
+WorkWithin windows (Refused k) = 9 < k
 WorkWithin windows (Done n steps) = n .trim .made ≤ windows
 
 module _ (limit : Float) (v : List Float) (triangles : List ℕ) (vertices : ℕ) where

@@ -18,7 +18,7 @@ use Rattle.run_steps.specs.Run.{WorkResult, refused}
 use Rattle.field_work.specs.Work.{workOf}
 use Rattle.finish.specs.Contents.{FieldBuffers}
 use Rattle.run_operations.specs.Lists.{cutCount, cutTo}
-use Rattle.compute.specs.Compute.{otherCounts, workIn, unlessRefused, computeOf}
+use Rattle.compute_spec.specs.Compute.{otherCounts, workIn, unlessRefused, computeOf}
 
 -- ---- the definition
 module _ (j : Job) (b : FieldBuffers) (most : ℕ) where

@@ -29,8 +29,8 @@ use Rattle.insertion.specs.Insertion.{Inserted}
 use Rattle.run_steps.specs.Run.{WorkResult, field}
 use Rattle.field_work.specs.Work.{workOf, workCandidates}
 use Rattle.run_operations.specs.Lists.{cutCount, cutTo}
-use Rattle.compute.specs.Compute.{otherCounts, workIn, computeOf, Leaves}
-use Rattle.compute.proofs.Refusals.{compute-worked, built-is}
+use Rattle.compute_spec.specs.Compute.{otherCounts, workIn, computeOf, Leaves}
+use Rattle.compute_spec.proofs.Refusals.{compute-worked, built-is}
 
 -- the buffers after the work, which wrote to the slices of trimming, to the entries and to the pieces; c are the cut lists
 abbrev pub afterWork : FieldBuffers → MeshBuffers → List ℕ → List Float → Slices → EntryBuffers → Cuts → FieldBuffers
