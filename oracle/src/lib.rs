@@ -6,6 +6,7 @@ pub mod exact;
 pub mod generate;
 pub mod job;
 pub mod reading;
+pub mod rooms;
 pub mod slip;
 pub mod upstream;
 pub mod vector;

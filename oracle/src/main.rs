@@ -3,10 +3,12 @@ use oracle::compare::{self, Readings, Tally};
 use oracle::dump::{self, Contents, contents};
 use oracle::exact::{Buffers, Refusal, judge_pseudo};
 use oracle::generate::insertion::{self, Stage};
+use oracle::generate::rooms as lent;
 use oracle::generate::small;
 use oracle::generate::workshop::{self, Shape};
 use oracle::job::{Job, Mesh};
 use oracle::reading::{AllButHypot, OnlyHypot, Patched, Published};
+use oracle::rooms::{check, compute};
 use oracle::slip::{self, Sizes};
 use oracle::vectors;
 use std::collections::BTreeMap;
@@ -48,6 +50,8 @@ fn run(args: &[&str]) -> Result<(), String> {
         ["count", first, count] => count_small(number(first)?, number(count)?, false),
         ["count", first, count, "judged"] => count_small(number(first)?, number(count)?, true),
         ["count-workshop"] => count_workshop(),
+        ["count-rooms", first, count] => count_rooms(number(first)?, number(count)?),
+        ["count-sixty"] => count_sixty(),
         ["vectors", leaf, seed, count] => {
             print(&vectors::make(leaf, number(seed)?, number(count)? as u32)?)
         }
@@ -68,8 +72,16 @@ fn run(args: &[&str]) -> Result<(), String> {
                 number(seed)?,
             ))
         }
+        ["refusals", "rooms", first, count] => refusals(number(first)?, number(count)?, |seed| {
+            let (job, mut rooms) = lent::job(seed);
+            compute(&job, &mut rooms).map(|_| ())
+        }),
         ["refusals", stage, first, count] => {
-            refusals(parse_stage(stage)?, number(first)?, number(count)?)
+            let stage = parse_stage(stage)?;
+            refusals(number(first)?, number(count)?, |seed| {
+                Mesh::new(&insertion::job(seed, stage))
+                    .and_then(|mesh| stage.run(&mesh).map(|_| ()))
+            })
         }
         ["pairs", seed, count] => vectors::hypot_pairs(number(seed)?, number(count)?),
         ["time", shape, triangles, lines, limit] => {
@@ -149,13 +161,17 @@ fn print_answer(
     print(text.unwrap_or_else(slip::refused).as_bytes())
 }
 
-/// By which numbers the jobs of `generate::insertion` are refused.
-fn refusals(stage: Stage, first: u64, count: u64) -> Result<(), String> {
+/// By which numbers the jobs of so many seeds are refused.
+fn refusals(
+    first: u64,
+    count: u64,
+    answer: impl Fn(u64) -> Result<(), Refusal>,
+) -> Result<(), String> {
     let mut tally = BTreeMap::new();
     for seed in first..first + count {
-        let job = insertion::job(seed, stage);
-        let answer = Mesh::new(&job).and_then(|mesh| stage.run(&mesh).map(|_| ()));
-        *tally.entry(answer.err().map_or(0, |r| r.0)).or_insert(0u64) += 1;
+        *tally
+            .entry(answer(seed).err().map_or(0, |r| r.0))
+            .or_insert(0u64) += 1;
     }
     for (number, jobs) in tally {
         println!("refusal {number}: {jobs} jobs");
@@ -181,7 +197,7 @@ fn faithful(first: u64, count: u64) -> Result<(), String> {
 
 fn faithful_workshop() -> Result<(), String> {
     let mut tally = Tally::default();
-    for (n, (shape, triangles, lines, limit)) in workshop_mix().into_iter().enumerate() {
+    for (n, (shape, triangles, lines, limit)) in workshop::mix().into_iter().enumerate() {
         if triangles > 10_000 {
             continue;
         }
@@ -213,6 +229,33 @@ fn count_small(first: u64, count: u64, judged: bool) -> Result<(), String> {
     Ok(())
 }
 
+/// The small jobs of tests/field/compare.sh.
+fn count_rooms(first: u64, count: u64) -> Result<(), String> {
+    let mut tally = Tally::default();
+    for seed in first..first + count {
+        let (job, lent) = lent::job(seed);
+        match check(&job, &lent) {
+            Err(r) => tally.refuse(r),
+            Ok(buffers) => {
+                let job = Job { buffers, ..job };
+                tally.add(&compare::readings::<Published, Patched>(&job, seed));
+            }
+        }
+    }
+    println!("{}", tally.text());
+    Ok(())
+}
+
+/// The workshop jobs of tests/field/compare.sh.
+fn count_sixty() -> Result<(), String> {
+    let mut tally = Tally::default();
+    for (n, (_, job)) in (0..).zip(workshop::sixty()) {
+        tally.add(&compare::readings::<Published, Patched>(&job, n));
+    }
+    println!("{}", tally.text());
+    Ok(())
+}
+
 fn report(tallies: &[Tally; 3]) {
     let names = [
         "published against patched",
@@ -224,24 +267,9 @@ fn report(tallies: &[Tally; 3]) {
     }
 }
 
-/// Every shape, size and number of start lines. Long ruled triangles make
-/// windows out of proportion, so large ones get a limit.
-fn workshop_mix() -> Vec<(Shape, usize, usize, f64)> {
-    let mut mix = vec![];
-    for triangles in [2_000, 10_000, 30_000, 60_000] {
-        for shape in Shape::ALL {
-            for lines in [1, 10, 100, 300] {
-                let ruled = shape == Shape::Ruled && triangles > 2_000;
-                mix.push((shape, triangles, lines, if ruled { 60. } else { 1e7 }));
-            }
-        }
-    }
-    mix
-}
-
 fn count_workshop() -> Result<(), String> {
     let mut tallies = [Tally::default(), Tally::default(), Tally::default()];
-    for (n, (shape, triangles, lines, limit)) in workshop_mix().into_iter().enumerate() {
+    for (n, (shape, triangles, lines, limit)) in workshop::mix().into_iter().enumerate() {
         let n = n as u64;
         let job = workshop::job(shape, triangles, lines, limit, n);
         let pair = compare::readings::<Published, Patched>(&job, n);

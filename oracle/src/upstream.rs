@@ -105,9 +105,56 @@ pub struct Questions {
     pub edge_at: Vec<(u32, f64)>,
 }
 
-/// Runs the published file, with the flags in place of its own judgement.
-/// It has neither refusals nor a bound on its steps: the job must be one
-/// that ends in a field.
+/// A job as the published file takes it, its topology made, with the flags
+/// in place of that file's own judgement.
+pub struct Ready<'a> {
+    v: &'a [Vec3],
+    t: &'a [[u32; 3]],
+    topo: exact::Topology,
+    judged: Vec<bool>,
+    pieces: Vec<exact::Piece>,
+    limit: f64,
+}
+
+impl<'a> Ready<'a> {
+    pub fn new(
+        v: &'a [Vec3],
+        t: &'a [[u32; 3]],
+        flags: &[bool],
+        sources: &[Piece],
+        limit: f64,
+    ) -> Result<Self, String> {
+        let mut topo = exact::Topology::new(v, t, &boundary(v.len(), t))?;
+        let judged = std::mem::replace(&mut topo.pseudo, flags.to_vec());
+        let pieces = sources
+            .iter()
+            .map(|p| match *p {
+                Piece::Point(f, a) => exact::Piece::Point(f, a),
+                Piece::Segment(f, a, b) => exact::Piece::Segment(f, a, b),
+            })
+            .collect();
+        Ok(Ready {
+            v,
+            t,
+            topo,
+            judged,
+            pieces,
+            limit,
+        })
+    }
+
+    fn field(&self) -> Result<exact::Field<'_>, String> {
+        exact::Field::compute(self.v, self.t, &self.topo, &self.pieces, self.limit, &Never)
+    }
+
+    /// `Field::compute` alone, to be timed; the answer is the field.
+    pub fn compute(&self) -> Result<impl Sized + '_, String> {
+        self.field()
+    }
+}
+
+/// Runs the published file. It has neither refusals nor a bound on its
+/// steps: the job must be one that ends in a field.
 pub fn solve(
     v: &[Vec3],
     t: &[[u32; 3]],
@@ -116,17 +163,8 @@ pub fn solve(
     limit: f64,
     questions: &Questions,
 ) -> Result<Answers, String> {
-    let boundary = boundary(v.len(), t);
-    let mut topo = exact::Topology::new(v, t, &boundary)?;
-    let judged = std::mem::replace(&mut topo.pseudo, flags.to_vec());
-    let pieces: Vec<exact::Piece> = sources
-        .iter()
-        .map(|p| match *p {
-            Piece::Point(f, a) => exact::Piece::Point(f, a),
-            Piece::Segment(f, a, b) => exact::Piece::Segment(f, a, b),
-        })
-        .collect();
-    let field = exact::Field::compute(v, t, &topo, &pieces, limit, &Never)?;
+    let ready = Ready::new(v, t, flags, sources, limit)?;
+    let field = ready.field()?;
     let mut state = field.state();
     state.steps = steps(&LAST_LINE.take()).ok_or("no step count in the trace")?;
     let at = questions.at.iter().map(|&(f, p)| field.at(f, p)).collect();
@@ -136,6 +174,7 @@ pub fn solve(
         .map(|&(e, x)| field.edge_at(e, x))
         .collect();
     drop(field);
+    let Ready { topo, judged, .. } = ready;
     let topology = crate::exact::Topology {
         edges: topo.edges,
         len: topo.len,

@@ -15,7 +15,9 @@ use crate::dump::{bits, src_parts};
 use crate::exact::{Refusal, Src, Win};
 use crate::generate::insertion::{self, Stage};
 use crate::generate::rng::Rng;
+use crate::generate::rooms;
 use crate::job::Job;
+use crate::rooms::{Rooms, Slots};
 
 /// Bytes being written.
 #[derive(Default)]
@@ -64,7 +66,13 @@ pub fn stream(job: &Job) -> Result<Vec<u8>, Refusal> {
 pub fn stored_small(stage: Stage, first: u64, count: u64) -> Vec<u8> {
     let mut out = Out::default();
     for seed in first..first + count {
-        stored::record(&insertion::job(seed, stage), stage, &mut out);
+        match stage {
+            Stage::Insert => stored::inserted(&insertion::job(seed, stage), &mut out),
+            Stage::Field => {
+                let (job, mut lent) = rooms::job(seed);
+                stored::whole(&job, &mut lent, &mut out);
+            }
+        }
     }
     out.0
 }
@@ -74,7 +82,13 @@ pub fn stored_fitted(stage: Stage, mut job: Job, seed: u64) -> Vec<u8> {
     let mut out = Out::default();
     // A job that is refused whatever is lent is stored all the same.
     let _ = insertion::fit(&mut Rng::new(seed), &mut job, stage);
-    stored::record(&job, stage, &mut out);
+    match stage {
+        Stage::Insert => stored::inserted(&job, &mut out),
+        Stage::Field => {
+            let mut lent = Rooms::new(&Slots::least(&job, job.buffers));
+            stored::whole(&job, &mut lent, &mut out);
+        }
+    }
     out.0
 }
 

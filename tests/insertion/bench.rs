@@ -1,5 +1,9 @@
 //! Inserts the pieces of the same jobs by the static library and by the Rust (`Mesh::inserted`, published reading) by turns, in one run, and compares all that they leave.
 //! Usage: bench.
+#[path = "../clock.rs"]
+mod clock;
+
+use clock::{clock, print_load};
 use oracle::exact::{Buffers, Field, Src, Topology, Win, judge_pseudo};
 use oracle::generate::rng::Rng;
 use oracle::generate::walk::Walker;
@@ -15,25 +19,7 @@ const SECONDS: f64 = 4.;
 /// Entries of each list of an addition.
 const CUTS: usize = 4_096;
 
-#[repr(C)]
-struct Timespec {
-    seconds: i64,
-    nanoseconds: i64,
-}
-
-/// Seconds that the processor worked for this thread, whatever else runs.
-fn clock() -> f64 {
-    let mut t = Timespec {
-        seconds: 0,
-        nanoseconds: 0,
-    };
-    assert_eq!(unsafe { clock_gettime(3, &mut t) }, 0);
-    t.seconds as f64 + 1e-9 * t.nanoseconds as f64
-}
-
 unsafe extern "C" {
-    /// The C library's; clock 3 is CLOCK_THREAD_CPUTIME_ID on Linux.
-    fn clock_gettime(clock: i32, t: *mut Timespec) -> i32;
     /// The answer is 0 or the refusal; `told` then has the edges, the windows made, the events queued and the entries of faces.
     fn sirmolaat_insert(
         vertices: *const f64,
@@ -399,12 +385,7 @@ fn in_face(n: usize, shared: bool, border: bool) -> Job {
 }
 
 fn main() {
-    let load = std::fs::read_to_string("/proc/loadavg").unwrap_or_default();
-    println!(
-        "- other work as the run began: a load of {} on {} processors\n",
-        load.split(' ').next().unwrap_or("?"),
-        std::thread::available_parallelism().map_or(0, |n| n.get())
-    );
+    print_load();
     println!(
         "| pieces | how many | triangles | windows made | live | entries | the Rust's, ms | insertion, ms | ratio | mesh, ms |"
     );

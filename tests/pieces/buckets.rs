@@ -1,29 +1,19 @@
 //! How full the buckets of the pieces' ends get, and how many steps it takes to ask of every end whether it is the first of its bits. `bucket` is `pointBucket` of
 //! crates/piece_ends/specs/Table.antt. Usage: buckets
+use oracle::rooms::bucket;
 use std::collections::HashMap;
 
 type Point = [f64; 3];
-const GOLDEN: u64 = 2_654_435_769;
-const WORD: u64 = 4_294_967_296;
-
-fn bucket(size: u64, p: Point) -> u64 {
-    let mix = |h: u64, x: f64| {
-        let b = x.to_bits();
-        let product = (h + b % WORD) % WORD * ((b / WORD + GOLDEN) % WORD);
-        (product / WORD + product % WORD) % WORD
-    };
-    p.into_iter().fold(GOLDEN, mix) * size / WORD
-}
 
 /// The segments of a job: points, most different in a bucket, most ends in a bucket, steps for each end.
 fn count(name: &str, segments: &[(Point, Point)]) {
-    let size = segments.len() as u64;
+    let size = segments.len();
     let mut chains: Vec<Vec<[u64; 3]>> = vec![vec![]; segments.len()];
     let mut points: HashMap<[u64; 3], usize> = HashMap::new();
     let mut different = vec![0usize; segments.len()];
     let (mut steps, mut ends) = (0u64, 0u64);
     for p in segments.iter().flat_map(|&(a, b)| [a, b]) {
-        let (b, bits) = (bucket(size, p) as usize, p.map(f64::to_bits));
+        let (b, bits) = (bucket(size, p), p.map(f64::to_bits));
         let place = *points.entry(bits).or_insert_with(|| {
             different[b] += 1;
             chains[b].len()

@@ -36,6 +36,10 @@ use Rattle.computed.specs.declared.Computed.{Computed}
 use Rattle.computed.specs.declared.Computed.the-variants as computed
 use Rattle.compute_spec.specs.Compute.{otherCounts, fieldBuffers, workIn, computeOf, Leaves, answerOf, Computes}
 use Rattle.compute_spec.proofs.Refusals.{compute-refused}
+use Rattle.field_model.specs.Queue.{inOrder}
+use Rattle.field_model.specs.Lent.{ComputesOver}
+use Rattle.field_model.proofs.Lawful.{in-order}
+use Rattle.field_model.proofs.Leaving.{computes-over}
 use Rattle.make_field.specs.Contract.{WorkFits, Makes, MakesField}
 use Rattle.compute.specs.Answers.{edgesOf, zeroes, clears, told}
 
@@ -182,5 +186,5 @@ module _ (v : List Float) (triangles flags kinds faces : List ℕ) (coords : Lis
         go zero h = says-made h r (makes .makes h flags a (b .mesh) (b .scratch) (b .other-scratch) answered (passed h) (counted h)) left
         go (suc k) h = says-mesh (omega (arith, h)) left
 
-      pub computes : b′ ≡ zeroedBy r b₁ → (z : Computed) → z ≡ told (length v) (length triangles) (length kinds) count r → Computes j b most z b′
-      computes left z is = subst (λ (y : Computed). Computes j b most y b′) (sym is) (says left)
+      pub computes : b′ ≡ zeroedBy r b₁ → (z : Computed) → z ≡ told (length v) (length triangles) (length kinds) count r → ComputesOver inOrder j b most z b′
+      computes left z is = computes-over inOrder in-order j b most z b′ (subst (λ (y : Computed). Computes j b most y b′) (sym is) (says left))

@@ -1,4 +1,4 @@
--- What the parts of `compute` answer. Definitions only: the contract is `Computes` of compute_spec.
+-- What the parts of `compute` answer. Definitions only: the contract is `ComputesOver` of field_model.
 use Prim.Native.Nat.{ℕ, min}
 use mathlib.Core.Bool.{Bool, true, false}
 use lib.Dec.{ltb}

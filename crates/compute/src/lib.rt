@@ -20,7 +20,9 @@ use zero_buffers::zero_words_if;
 ghost use mathlib.Core.Path.{_≡_};
 ghost use Rattle.buffers.specs.Lent.{given};
 ghost use Rattle.job_checks.specs.Job.{job};
-ghost use Rattle.compute_spec.specs.Compute.{buffersBefore, buffersAfter, Computes};
+ghost use Rattle.compute_spec.specs.Compute.{buffersBefore, buffersAfter};
+ghost use Rattle.field_model.specs.Queue.{inOrder};
+ghost use Rattle.field_model.specs.Lent.{ComputesOver};
 ghost use Rattle.compute.specs.Answers.{countsOf, edgesOf, zeroes, clears, told};
 
 // The slots that slices of these lengths have.
@@ -90,7 +92,8 @@ fn answer(vertices: usize, triangles: usize, kinds: usize, edges: u32, work: Fie
     }
 }
 
-// Any job, any buffers: a refusal by its number in document 01, or a field. `Computes` says what is answered and what every buffer holds then.
+// Any job, any buffers: a refusal by its number in document 01, or a field. `ComputesOver` says what is answered and what every buffer holds then; its
+// queue is the list of events in order, or any other that pops the least (field_model's `computes-over`).
 pub fn compute(
     vertices: &[f64],
     triangles: &[u32],
@@ -121,7 +124,7 @@ pub fn compute(
     scratch: &mut [u32],
     other_scratch: &mut [u32],
 ) -> Computed
-    ensures { λ r. ⌜ Computes (job (given vertices) (given triangles) (given flags) (given kinds) (given faces) (given coords) limit)
+    ensures { λ r. ⌜ ComputesOver inOrder (job (given vertices) (given triangles) (given flags) (given kinds) (given faces) (given coords) limit)
         (buffersBefore «vertex_words» «edge_words» «edge_reals» round «triangle_words» «triangle_reals»
         «piece_words» «piece_reals» vertex words reals keys events «entry_words» pts out keep next scratch «other_scratch») «max_steps» r
         (buffersAfter «vertex_words» «edge_words» «edge_reals» round «triangle_words» «triangle_reals»

@@ -7,7 +7,8 @@ use Rattle.job_checks.specs.Job.{Job}
 use Rattle.finish.specs.Contents.{FieldBuffers}
 use Rattle.computed.specs.declared.Computed.{Computed}
 use Rattle.computed.specs.declared.Computed.the-variants.{Refused, Field}
-use Rattle.compute_spec.specs.Compute.{Computes}
+use Rattle.field_model.specs.Queue.{inOrder}
+use Rattle.field_model.specs.Lent.{ComputesOver}
 
 -- the number that is answered, and what six numbers then hold, as far as they are lent
 unfoldable pub fieldTold : Computed → List ℕ → ℕ × List ℕ
@@ -17,5 +18,5 @@ fieldTold (Field f) t = (0, set (set (set (set (set (set t 0 (f .vertices)) 1 (f
 -- the job is computed, and its answer told
 pub record ToldOf (j : Job) (b : FieldBuffers) (most : ℕ) (told : List ℕ) (r : ℕ) (b′ : FieldBuffers) (told′ : List ℕ) : Type 0 where
   pub answer : Computed
-  pub computes : Computes j b most answer b′
+  pub computes : ComputesOver inOrder j b most answer b′
   pub tells : (r, told′) ≡ fieldTold answer told

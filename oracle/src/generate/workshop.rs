@@ -167,3 +167,37 @@ pub fn job(shape: Shape, triangles: usize, lines: usize, limit: f64, seed: u64) 
     }
     job
 }
+
+/// Every shape, size and number of start lines. Long ruled triangles make
+/// windows out of proportion, so large ones get a limit.
+pub fn mix() -> Vec<(Shape, usize, usize, f64)> {
+    let mut mix = vec![];
+    for triangles in [2_000, 10_000, 30_000, 60_000] {
+        for shape in Shape::ALL {
+            for lines in [1, 10, 100, 300] {
+                let ruled = shape == Shape::Ruled && triangles > 2_000;
+                mix.push((shape, triangles, lines, if ruled { 60. } else { 1e7 }));
+            }
+        }
+    }
+    mix
+}
+
+/// Ten jobs of every shape, each with its name.
+pub fn sixty() -> impl Iterator<Item = (String, Job)> {
+    let chosen = |&(_, triangles, lines, _): &(Shape, usize, usize, f64)| match triangles {
+        2_000 => true,
+        30_000 => lines == 10 || lines == 300,
+        60_000 => lines == 1 || lines == 300,
+        _ => lines == 1 || lines == 100,
+    };
+    mix()
+        .into_iter()
+        .filter(chosen)
+        .map(|(shape, t, lines, limit)| {
+            (
+                format!("{shape:?}, {t} triangles, {lines} lines"),
+                job(shape, t, lines, limit, lines as u64),
+            )
+        })
+}

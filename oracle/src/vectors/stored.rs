@@ -1,10 +1,11 @@
-//! Whole jobs as stored records: what is handed in and lent, and what
-//! insertion alone or the whole field leaves. README.md has the layout.
+//! Jobs as stored records: what is handed in and lent, and what insertion
+//! alone or the whole job leaves. README.md has the layout.
 use super::Out;
 use crate::dump::{Contents, bits, contents, src_parts};
 use crate::exact::Refusal;
-use crate::generate::insertion::Stage;
 use crate::job::{Job, Mesh};
+use crate::reading::Patched;
+use crate::rooms::{Rooms, Slots, compute};
 
 /// The most numbers that are stored of what a job leaves; of longer lists
 /// their check sums.
@@ -123,7 +124,25 @@ fn answer(held: &Contents, faces: usize) -> (u32, Row) {
     (detail, answer)
 }
 
-fn lists(row: &mut Row, job: &Job) {
+/// What is handed in, and the slots of the rooms that have to suffice.
+fn handed_in(row: &mut Row, job: &Job, lent: &Slots) {
+    row.count(job.vertices.len());
+    row.count(job.triangles.len());
+    row.count(job.flags.len());
+    row.count(job.piece_kinds.len());
+    row.count(job.piece_faces.len());
+    row.count(job.piece_coords.len());
+    row.0.extend([
+        lent.vertices,
+        lent.edges,
+        lent.round,
+        lent.triangles,
+        lent.pieces,
+        lent.buffers.windows,
+        lent.scratch,
+        lent.other_scratch,
+    ]);
+    row.f64(job.limit);
     row.f64s(&job.vertices);
     row.0.extend(&job.triangles);
     row.bytes(&job.flags);
@@ -132,32 +151,46 @@ fn lists(row: &mut Row, job: &Job) {
     row.f64s(&job.piece_coords);
 }
 
-/// One record.
-pub fn record(job: &Job, stage: Stage, out: &mut Out) {
-    let (faces, pieces) = (job.triangles.len() / 3, job.piece_kinds.len());
-    let held: Result<Contents, Refusal> =
-        Mesh::new(job).and_then(|mesh| Ok(contents(stage.run(&mesh)?)));
-    let refusal = held.as_ref().err().map_or(0, |r| r.0);
-    let (detail, answer) = held.map_or((0, Row::default()), |held| answer(&held, faces));
-    let lent = job.buffers;
-    let rest = row(|r| {
-        r.count(job.vertices.len());
-        r.count(job.triangles.len());
-        r.count(job.flags.len());
-        r.count(pieces);
-        r.count(job.piece_faces.len());
-        r.count(job.piece_coords.len());
-        for slots in [job.flags.len(), 3 * faces, 3 * faces, faces, pieces] {
-            r.count(slots);
-        }
-        r.0.extend([lent.windows; 3]);
-        r.f64(job.limit);
-        lists(r, job);
-        r.0.extend([lent.events, lent.cuts, lent.face_entries, job.max_steps]);
-        r.0.extend(&answer.0);
-    });
+fn write(refusal: u32, detail: u32, rest: &Row, out: &mut Out) {
     out.u32(refusal);
     out.u32(detail);
     out.count(3 + rest.0.len());
     rest.0.iter().for_each(|&n| out.u32(n));
+}
+
+/// A record of insertion.
+pub fn inserted(job: &Job, out: &mut Out) {
+    let held: Result<Contents, Refusal> =
+        Mesh::new(job).and_then(|mesh| Ok(contents(mesh.inserted::<Patched>()?)));
+    let refusal = held.as_ref().err().map_or(0, |r| r.0);
+    let faces = job.triangles.len() / 3;
+    let (detail, answer) = held.map_or((0, Row::default()), |held| answer(&held, faces));
+    let lent = job.buffers;
+    let rest = row(|r| {
+        handed_in(r, job, &Slots::least(job, lent));
+        r.0.extend([lent.events, lent.cuts, lent.face_entries, job.max_steps]);
+        r.0.extend(&answer.0);
+    });
+    write(refusal, detail, &rest, out);
+}
+
+/// A record of the whole job in rooms of these lengths, with 7 everywhere.
+pub fn whole(job: &Job, rooms: &mut Rooms, out: &mut Out) {
+    rooms.fill(|| 7, || 7.);
+    let lent = rooms.slots();
+    let answer = compute(job, rooms);
+    let rest = row(|r| {
+        handed_in(r, job, &lent);
+        r.u32(job.max_steps);
+        rooms.all_words().iter().for_each(|s| r.count(s.1.len()));
+        rooms.all_reals().iter().for_each(|s| r.count(s.1.len()));
+        r.0.extend(answer.unwrap_or_default());
+        for (_, words) in rooms.all_words() {
+            r.u32(row(|sum| sum.0.extend(words)).check_sum());
+        }
+        for (_, reals) in rooms.all_reals() {
+            r.u32(row(|sum| sum.f64s(reals)).check_sum());
+        }
+    });
+    write(answer.err().map_or(0, |r| r.0), 2, &rest, out);
 }

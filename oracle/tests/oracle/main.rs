@@ -3,5 +3,6 @@ mod fuzz;
 mod insertion;
 mod readings;
 mod refusals;
+mod rooms;
 mod scope;
 mod vectors;

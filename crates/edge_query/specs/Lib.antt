@@ -1,0 +1,2 @@
+pub mod EdgeDistance
+pub mod Forward

@@ -1,0 +1,30 @@
+use mathlib.Core.Path.{ap, _∙_}
+use lib.Ieee.{Float}
+use Rattle.face_query.specs.FaceDistance.{throughCorner, throughVertices}
+use Rattle.face_query.proofs.Steps.{infinite}
+use borrow.Author.Needs.{needs}
+use Rattle.face_query.proofs.through_vertices.Statement.{statement}
+use Rattle.face_query.proofs.through_vertices.Tie as tie
+
+through-corner-requires : tie.Need-through-corner-requires
+through-corner-requires c κs = search needs
+
+through-corner-requires-2 : tie.Need-through-corner-requires-2
+through-corner-requires-2 c κs = search needs
+
+through-corner-requires-3 : tie.Need-through-corner-requires-3
+through-corner-requires-3 c κs = search needs
+
+returns : tie.Need-returns
+unfolding throughVertices
+returns c =
+    let second = c .before in
+    let first = second .before in
+    let a = first .before .before .before .before .args in
+    let through = throughCorner (a .vertices .now) (a .triangles .now) (a .vertex .now) (a .f .0) (a .p) in
+    c .through-corner3 .ensures ∙ ap (through 2) (second .through-corner2 .ensures ∙ ap (through 1) (first .through-corner .ensures ∙ ap (through 0) infinite))
+
+pub through-vertices-spec : {M : Type 1} → statement M
+through-vertices-spec =
+    tie.close
+    (tie.spec through-corner-requires through-corner-requires-2 through-corner-requires-3 returns)

@@ -1,0 +1,248 @@
+-- The three demands of the whole job, and the laws of a field that a job returned: demand-1, demand-2, demand-3, field-laws; returned, of an answer. Assumes nothing.
+use Prim.Native.Nat.{ℕ, zero, suc, _+_, _*_, _-_, _/_, _≤_, _<_}
+use native.Mathlib.Omega.{arith}
+use mathlib.Core.Bool.{Bool, true, false, cond}
+use mathlib.Core.List.{List, [], _∷_, _++_, map}
+use mathlib.Core.Logic.{_⊎_, inl, inr}
+use mathlib.Core.Path.{_≡_, refl, sym, ap, subst, _∙_}
+use borrow.Author.Tests.{le-leb, lt-leb}
+use lib.Dec.{leb}
+use lib.ListN.{length, getD, replicate, List·getD-append}
+use lib.Ieee.{Float}
+use Rattle.layout.specs.Layout.{wordsPerEdge, wordsPerTriangle, triangleLastEntry, wordsPerPiece, wordsPerWindow, realsPerWindow}
+use Rattle.float64.specs.Scalar.{zero64}
+use Rattle.better.specs.Claim.{All}
+use Rattle.windows.specs.declared.WindowRecord.{WindowRecord}
+use Rattle.windows.specs.Windows.{capacityOf}
+use Rattle.chains.specs.Chains.{Links, links, headOf, linkAt, Path}
+use Rattle.job_checks.specs.declared.BufferCounts.{BufferCounts}
+use Rattle.job_checks.specs.Any.{firstOf}
+use Rattle.job_checks.specs.Job.{Job, vertexCount, triangleCount, pieceCount}
+use Rattle.job_checks.specs.Refusals.{refusals}
+use Rattle.topology.specs.Edges.{edges}
+use Rattle.mesh.specs.Topology.{MeshBuffers, filled}
+use Rattle.mesh.specs.Answer.{countsIn, meshRefusals, meshRefusal}
+use Rattle.trim_model.specs.Windows.{Window, unqueued}
+use Rattle.trim_model.proofs.Ranks.{by-cases}
+use Rattle.trim_model.proofs.Lists.{all-map}
+use Rattle.trim_state.specs.State.{State}
+use Rattle.trim_state.proofs.Follows.{follows-demand3}
+use Rattle.live_windows.specs.Live.{nums, HoldsWindows}
+use Rattle.live_windows.proofs.Places.{head-path, short}
+use Rattle.contents.specs.Contents.{wordsFrom, realsFrom}
+use Rattle.offers.specs.Walks.{edgeData}
+use Rattle.face_entries.specs.Buffers.{firstEntryOf, lastEntryOf}
+use Rattle.face_entries.specs.Entries.{FaceEntry, numbersOf, trianglesWith, entryWordsFrom, entryWords, HoldsEntries, HoldsOnly}
+use Rattle.face_entries.proofs.Linking.{chain-first}
+use Rattle.face_entries.proofs.Numbers.{numbers-few}
+use Rattle.face_entries.proofs.Content.{FaceThere, content-only}
+use Rattle.face_entries.proofs.Keeping.{fresh-none}
+use Rattle.insertion.specs.Insertion.{Inserted}
+use Rattle.run_operations.specs.Lists.{cutCount, cutTo}
+use Rattle.run_steps.specs.Run.{WorkResult, refused, field}
+use Rattle.field_work.specs.Work.{workOf}
+use Rattle.last_pass.specs.Buffers.{chainBehind}
+use Rattle.last_pass.proofs.Chains.{chain-is}
+use Rattle.last_pass.proofs.Finished.{lows-stay, lists-stay}
+use Rattle.finish.specs.Contents.{FieldBuffers, FieldContents}
+use Rattle.finish.specs.Refused.{zeroField}
+use Rattle.finish.proofs.Spare.{fresh-spare, field-spare}
+use Rattle.computed.specs.declared.Computed.{Computed}
+use Rattle.computed.specs.declared.Computed.the-variants.{Refused, Field as Computed·Field}
+use Rattle.computed.specs.declared.Field.{Field}
+use Rattle.compute_spec.specs.Compute.{otherCounts, workIn, unlessRefused, computeOf, Leaves, answerOf, Computes}
+use Rattle.topology.proofs.Checked.{edge-ends}
+use Rattle.last_pass.specs.Lowered.{loweredAll}
+use Rattle.work_laws.proofs.Zeros.{zeros-behind}
+use Rattle.work_laws.proofs.Beyond.{Beyond, beyond-lowered}
+use Rattle.work_laws.proofs.Stops.{WorkEnds, work-ends}
+use Rattle.field_laws.specs.Demands.{JobRefusal, EndsWithin, RestIsZero, RoomsThen, JobDemand1, AsTheRust, JobDemand2, BookKept, JobDemand3, EntryLaws, FieldLaws, ReturnedField, Returned}
+use Rattle.field_laws.proofs.Held.{length-words, length-reals}
+use Rattle.field_laws.proofs.Job.{passed, built, sound-job, mesh-fresh, triangle-slots, face-there, laws, entries-are, entries-fit}
+use Rattle.field_laws.proofs.Entries.{job-entries, first-there, last-there, link-below, piece-below}
+use Rattle.field_laws.proofs.Rooms.{entries-from, field-rooms}
+use Rattle.field_laws.proofs.Reasons.{refused-for}
+use Rattle.field_laws.proofs.Taken.{none-numbered, vertex-slots, edge-slots-zero, length-slots, round-slots, triangle-slots-zero, normal-slots, direction-slots}
+use Rattle.piece_ends.proofs.Held.{spare-zero}
+use Rattle.field_laws.proofs.Field.{idle-windows, no-windows, mesh-laws, window-laws}
+
+-- windows of which none is queued
+unqueued-same : (us : List Window) → All (λ (u : Window). u .carried .queued ≡ false) us → map unqueued us ≡ us
+unqueued-same [] a = refl
+unqueued-same (u ∷ us) a =
+    (λ i. record { b0 = u .b0; b1 = u .b1; low = u .low; src = u .src; carried = record { into = u .carried .into; queued = sym (a .0) i }; num = u .num } ∷ unqueued-same us (a .1) i)
+
+-- ---- a field
+module _ (j : Job) (b : FieldBuffers) (most : ℕ) (x : Inserted) (n : ℕ) (is : computeOf j b most ≡ field x n) where
+  abbrev s : State
+  s = x .state
+
+  entries-there : All (λ (y : FaceEntry). (y .face < triangleCount j) × (y .entry .piece < pieceCount j)) (x .entries)
+  entries-there =
+      subst (All (λ (y : FaceEntry). (y .face < triangleCount j) × (y .entry .piece < pieceCount j))) (sym (entries-are j b most x n is))
+      (job-entries (j .vertices) (j .triangles) (vertexCount j) (sound-job j b most x n is .triangles) (j .kinds) (j .faces) (j .coords) (face-there j b most x n is))
+
+  faces-in : All (λ (y : FaceEntry). y .face < triangleCount j) (x .entries)
+  faces-in = all-map {P = λ (y : FaceEntry). (y .face < triangleCount j) × (y .entry .piece < pieceCount j)} {Q = λ (y : FaceEntry). y .face < triangleCount j} (λ y k. k .0) (x .entries) entries-there
+
+  pieces-in : All (λ (y : FaceEntry). y .entry .piece < pieceCount j) (x .entries)
+  pieces-in = all-map {P = λ (y : FaceEntry). (y .face < triangleCount j) × (y .entry .piece < pieceCount j)} {Q = λ (y : FaceEntry). y .entry .piece < pieceCount j} (λ y k. k .1) (x .entries) entries-there
+
+  abbrev m : MeshBuffers
+  m = built j b most x n is
+
+  holds-only : HoldsOnly (m .triangle-words) (length (x .entries)) (trianglesWith (m .triangle-words) (x .entries)) (entryWords (length (b .entry-words)) (x .entries)) (x .entries)
+  holds-only =
+      content-only (m .triangle-words) (length (b .entry-words)) (fresh-none m (mesh-fresh j b most x n is)) (x .entries) (entries-fit j b most x n is)
+      (all-map {P = λ (y : FaceEntry). (y .face < triangleCount j) × (y .entry .piece < pieceCount j)} {Q = FaceThere (m .triangle-words)} (λ y k. let z = k .0 in omega (arith, z, triangle-slots j b most x n is)) (x .entries) entries-there)
+
+  book-kept : BookKept j b most (s .live)
+  book-kept =
+      let F = laws j b most x n is .follows in
+      record { exactly = λ e. sym (unqueued-same (s .live e) (idle-windows j b most x n is e)) ∙ F .same e; trimmed = λ e. follows-demand3 F e }
+
+  module _ (b′ : FieldBuffers) (c : FieldContents m (edgeData (j .vertices) (j .triangles)) (length (edges (j .triangles))) s (x .entries) (j .kinds) (j .coords) b b′) where
+    entry-word : (i a : ℕ) → i < length (x .entries) → a < 3 → getD (b′ .entry-words) (3 * i + a) 0 ≡ getD (entryWordsFrom 0 (x .entries)) (3 * i + a) 0
+    entry-word i a l m =
+        let w = entryWordsFrom 0 (x .entries) in
+        ap (λ (z : List ℕ). getD z (3 * i + a) 0) (c .entry-words) ∙ List·getD-append w (replicate (length (b .entry-words) - 3 * length (x .entries)) 0) 0 (3 * i + a) (omega (arith, l, m, entries-from 0 (x .entries)))
+
+    entry-laws : EntryLaws j (x .entries) b′
+    entry-laws = record {
+      holds = subst (λ (w : List ℕ). HoldsEntries (length (x .entries)) (b′ .mesh .triangle-words) w (x .entries)) (sym (c .entry-words))
+          (subst (λ (t : List ℕ). HoldsEntries (length (x .entries)) t (entryWords (length (b .entry-words)) (x .entries)) (x .entries)) (sym (c .triangle-words)) (holds-only .holds));
+      entries-there = entries-there;
+      pieces-there = λ i l. subst (λ (z : ℕ). z < pieceCount j) (sym (entry-word i 0 l (omega arith))) (piece-below (pieceCount j) 0 (x .entries) pieces-in i l);
+      firsts-there = λ f. subst (λ (z : ℕ). z ≤ length (x .entries)) (sym (ap (λ (t : List ℕ). firstEntryOf t f) (c .triangle-words) ∙ chain-first (entryWords (length (b .entry-words)) (x .entries)) (firstEntryOf (trianglesWith (m .triangle-words) (x .entries)) f) (numbersOf f (x .entries)) (holds-only .holds .chain f))) (first-there f (x .entries));
+      lasts-there = λ f. subst (λ (z : ℕ). z ≤ length (x .entries)) (sym (ap (λ (t : List ℕ). lastEntryOf t f) (c .triangle-words) ∙ holds-only .holds .last f)) (last-there f (x .entries));
+      links-there = λ i l. let z = link-below 0 (x .entries) i l in subst (λ (q : ℕ). q ≤ length (x .entries)) (sym (entry-word i 2 l (omega arith))) (omega (arith, z));
+      chains-end = λ f. numbers-few 0 f (x .entries);
+    }
+
+    laws-of : FieldLaws j b x b′
+    laws-of = record { passed = passed j b most x n is; rooms = field-rooms j b most x n is b′ c; mesh = mesh-laws j b most x n is b′ c; windows = window-laws j b most x n is b′ c; entries = entry-laws }
+
+    as-the-rust : AsTheRust j s b′
+    as-the-rust =
+        let L = laws j b most x n is in
+        let W = window-laws j b most x n is b′ c .holds in
+        let made = s .stock .made in
+        let k = links (b′ .mesh .edge-words) (b′ .words) in
+        record {
+          windows = W .all ∙ sym (lows-stay (s .wins) (L .recorded .lows));
+          lists = λ none e.
+              let stands = W .on-edge e .chain in
+              let p : Path (b′ .words) (linkAt k e 0) (nums (s .live e)) = head-path k e (nums (s .live e)) (stands .path) in
+              chain-is made k e (nums (s .live e)) made 0 p (stands .belong) (short made (b′ .words) e (linkAt k e 0) (nums (s .live e)) p (stands .belong))
+              ∙ sym (lists-stay made (b′ .words) (b′ .reals) (b′ .mesh .edge-words) (s .wins) (s .live) W none (L .follows) e);
+          distances = c .vertex;
+        }
+
+    lowered-there : Beyond (vertexCount j) (loweredAll (length (edges (j .triangles))) (edgeData (j .vertices) (j .triangles)) (s .live) (s .stock .vertex))
+    lowered-there =
+        beyond-lowered (vertexCount j) (length (edges (j .triangles))) (edgeData (j .vertices) (j .triangles))
+        (λ e l. let z = edge-ends (j .triangles) (vertexCount j) (sound-job j b most x n is .triangles) e l in (omega (arith, z .0, z .1), z .1)) (s .live) (s .stock .vertex) (laws j b most x n is .beyond)
+
+    rest-is-zero : RestIsZero j (s .stock .made) (length (x .entries)) b b′
+    rest-is-zero =
+        let count = laws j b most x n is .recorded .count in
+        record {
+          keys = c .keys;
+          events = c .events;
+          cuts = c .cuts;
+          scratch = c .scratch;
+          other-scratch = c .other-scratch;
+          words = λ p h. ap (λ (l : List ℕ). getD l p 0) (c .words) ∙ zeros-behind 0 (wordsFrom (s .live) 0 (s .wins)) (length (b .words) - length (wordsFrom (s .live) 0 (s .wins))) p (omega (arith, h, count, length-words (s .live) 0 (s .wins)));
+          reals = λ p h. ap (λ (l : List Float). getD l p zero64) (c .reals) ∙ zeros-behind zero64 (realsFrom (s .wins)) (length (b .reals) - length (realsFrom (s .wins))) p (omega (arith, h, count, length-reals (s .wins)));
+          entries = λ p h. ap (λ (l : List ℕ). getD l p 0) (c .entry-words) ∙ holds-only .behind p h;
+          vertex-words = λ p h. ap (λ (l : List ℕ). getD l p 0) (c .vertex-words) ∙ vertex-slots (j .vertices) (j .triangles) (j .flags) (b .mesh) p h;
+          vertex = λ p h. ap (λ (l : List Float). getD l p zero64) (c .vertex) ∙ lowered-there p h;
+          edge-words = λ i a h l. ap (λ (z : List ℕ). getD z (wordsPerEdge * i + a) 0) (c .edge-words) ∙ edge-slots-zero (j .vertices) (j .triangles) (j .flags) (b .mesh) (s .live) i a h l (no-windows j b most x n is i h);
+          edge-reals = λ p h. ap (λ (l : List Float). getD l p zero64) (c .edge-reals) ∙ length-slots (j .vertices) (j .triangles) (j .flags) (b .mesh) p h;
+          round = λ p h. ap (λ (l : List ℕ). getD l p 0) (c .round) ∙ round-slots (j .vertices) (j .triangles) (j .flags) (b .mesh) (sound-job j b most x n is .triangles) p h;
+          triangle-words = λ i a h l.
+              ap (λ (z : List ℕ). getD z (wordsPerTriangle * i + a) 0) (c .triangle-words)
+              ∙ triangle-slots-zero (j .vertices) (j .triangles) (j .flags) (b .mesh) (x .entries) i a (let z = sound-job j b most x n is .whole .whole-triangles in omega (arith, z, h)) l (none-numbered (triangleCount j) i h 0 (x .entries) faces-in);
+          triangle-reals = λ p h. ap (λ (l : List Float). getD l p zero64) (c .triangle-reals) ∙ normal-slots (j .vertices) (j .triangles) (j .flags) (b .mesh) p h;
+          piece-words = λ i a h l. ap (λ (z : List ℕ). getD z (wordsPerPiece * i + a) 0) (c .piece-words) ∙ spare-zero (j .kinds) (j .coords) (length (b .piece-words)) i a h l;
+          piece-reals = λ p h. ap (λ (l : List Float). getD l p zero64) (c .piece-reals) ∙ direction-slots (j .kinds) (j .coords) (length (b .piece-reals)) p h;
+          spare = field-spare m (edgeData (j .vertices) (j .triangles)) (length (edges (j .triangles))) s (x .entries) (j .kinds) (j .coords) b b′ (fresh-spare m (mesh-fresh j b most x n is)) c;
+        }
+
+-- ---- refusals
+first-few : (k : ℕ) (ts : List (ℕ × Bool)) → All (λ (t : ℕ × Bool). t .0 ≤ k) ts → firstOf ts ≤ k
+unfolding firstOf
+first-few k [] a = omega arith
+first-few k (t ∷ ts) a = by-cases (λ (b : Bool). cond b (t .0) (firstOf ts) ≤ k) (t .1) (λ y. a .0) (λ y. first-few k ts (a .1))
+
+mesh-few : (j : Job) (c : BufferCounts) → meshRefusal j c ≤ 10
+unfolding meshRefusals refusals
+mesh-few j c =
+    first-few 10 (meshRefusals j c) (omega arith, (omega arith, (omega arith, (omega arith, (omega arith, (omega arith, (omega arith, (omega arith, (omega arith, (omega arith, tt))))))))))
+
+work-within : (most : ℕ) (r : WorkResult) → WorkEnds most r → EndsWithin most r
+work-within most (refused k) h = (let z = h .0 in omega (arith, z), h .1)
+work-within most (field x n) h = h
+
+ends-within : (most k : ℕ) (r : WorkResult) → k ≤ 10 → WorkEnds most r → EndsWithin most (unlessRefused k r)
+unfolding unlessRefused
+ends-within most zero r h w = work-within most r w
+ends-within most (suc k) r h w = (omega arith, inl (omega (arith, h)))
+
+refused-rooms : (k : ℕ) (b b′ : FieldBuffers) → b′ ≡ cond (leb k 9) b (zeroField b) → (k ≤ 9 → b′ ≡ b) × (9 < k → b′ ≡ zeroField b)
+refused-rooms k b b′ h =
+    ((λ l. h ∙ ap (λ (t : Bool). cond t b (zeroField b)) (le-leb k 9 l)), (λ l. h ∙ ap (λ (t : Bool). cond t b (zeroField b)) (lt-leb k 9 l)))
+
+-- ---- the demands
+module _ (j : Job) (b : FieldBuffers) (most : ℕ) where
+  rooms-then : (r : WorkResult) → computeOf j b most ≡ r → (b′ : FieldBuffers) → Leaves j b r b′ → RoomsThen j b r b′
+  rooms-then (refused k) h b′ c = refused-rooms k b b′ c
+  rooms-then (field x n) h b′ c = rest-is-zero j b most x n h b′ c
+
+  pub demand-1 : JobDemand1 j b most
+  demand-1 = (
+    ends-within most (meshRefusal j (countsIn (b .mesh) (otherCounts b)))
+        (workOf j (filled (j .vertices) (j .triangles) (j .flags) (b .mesh) .vertex-words) (workIn b) (cutTo (cutCount (b .cuts)) (b .cuts)) most)
+        (mesh-few j (countsIn (b .mesh) (otherCounts b))) (work-ends j (filled (j .vertices) (j .triangles) (j .flags) (b .mesh) .vertex-words) (workIn b) (cutTo (cutCount (b .cuts)) (b .cuts)) most),
+    rooms-then (computeOf j b most) refl,
+  )
+
+  pub demand-2 : JobDemand2 j b most
+  demand-2 = (as-the-rust j b most, refused-for j b most)
+
+  pub demand-3 : JobDemand3 j b most
+  demand-3 x n is = book-kept j b most x n is
+
+  pub field-laws : ReturnedField j b most
+  field-laws x n is b′ c = laws-of j b most x n is b′ c
+
+-- ---- an answer
+fieldOr : Field → Computed → Field
+fieldOr d (Refused k) = d
+fieldOr d (Computed·Field f) = f
+
+IsField : Computed → Type 0
+IsField (Refused k) = ⊥
+IsField (Computed·Field f) = Unit {0}
+
+answer-of : (j : Job) (b : FieldBuffers) (most : ℕ) (f : Field) (b′ : FieldBuffers) (r : WorkResult) → computeOf j b most ≡ r → Computed·Field f ≡ answerOf j r → EndsWithin most r → Leaves j b r b′ → Returned j b most f b′
+unfolding answerOf fieldOr IsField
+answer-of j b most f b′ (refused k) is a w c = absurd (subst IsField a tt)
+answer-of j b most f b′ (field x n) is a w c =
+    let same = ap (fieldOr f) a in
+    record {
+      inserted = x;
+      vertices = ap (λ (z : Field). z .vertices) same;
+      triangles = ap (λ (z : Field). z .triangles) same;
+      pieces = ap (λ (z : Field). z .pieces) same;
+      edge-count = ap (λ (z : Field). z .edges) same;
+      windows = ap (λ (z : Field). z .windows) same ∙ sym (laws j b most x n is .recorded .count);
+      steps-within = let z = ap (λ (z : Field). z .steps) same in omega (arith, z, w);
+      leaves = c;
+      laws = field-laws j b most x n is b′ c;
+      as-the-rust = demand-2 j b most .0 x n is b′ c;
+      book = demand-3 j b most x n is;
+    }
+
+pub returned : (j : Job) (b : FieldBuffers) (most : ℕ) (f : Field) (b′ : FieldBuffers) → Computes j b most (Computed·Field f) b′ → Returned j b most f b′
+returned j b most f b′ C = answer-of j b most f b′ (computeOf j b most) refl (C .answer) (demand-1 j b most .0) (C .leaves)

@@ -1,0 +1,8 @@
+pub mod Held
+pub mod Job
+pub mod Field
+pub mod Entries
+pub mod Rooms
+pub mod Taken
+pub mod Reasons
+pub mod Demands

@@ -1,0 +1,12 @@
+pub mod Lawful
+pub mod Queues
+pub mod Numbers
+pub mod Playing
+pub mod Adding
+pub mod Turns
+pub mod Loop
+pub mod Inserting
+pub mod Candidates
+pub mod Flags
+pub mod Whole
+pub mod Leaving

@@ -1,0 +1,4 @@
+pub mod Queue
+pub mod Field
+pub mod Job
+pub mod Lent

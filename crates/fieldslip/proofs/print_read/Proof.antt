@@ -1,0 +1,107 @@
+-- `fieldslip::print_read` is safe and ends. A slice's front has as many elements as it is cut to. Assumes nothing.
+use mathlib.Core.Path.{sym}
+use lib.Seq.{length-take-le}
+use borrow.Author.Needs.{needs}
+use Rattle.fieldslip.proofs.print_read.Statement.{statement}
+use Rattle.fieldslip.proofs.print_read.Tie as tie
+
+cast-least : tie.Need-cast-least
+cast-least c = search needs
+
+mul-least : tie.Need-mul-least
+mul-least c = search needs
+
+least-requires : tie.Need-least-requires
+least-requires c κs = search needs
+
+slice-aggregate-v : tie.Need-slice-aggregate-v
+slice-aggregate-v c = sym (length-take-le _ _ (search needs))
+
+cast-least-2 : tie.Need-cast-least-2
+cast-least-2 c = search needs
+
+mul-least-2 : tie.Need-mul-least-2
+mul-least-2 c = search needs
+
+least-requires-2 : tie.Need-least-requires-2
+least-requires-2 c κs = search needs
+
+slice-aggregate-t : tie.Need-slice-aggregate-t
+slice-aggregate-t c = sym (length-take-le _ _ (search needs))
+
+cast-least-3 : tie.Need-cast-least-3
+cast-least-3 c = search needs
+
+least-requires-3 : tie.Need-least-requires-3
+least-requires-3 c κs = search needs
+
+slice-aggregate-f : tie.Need-slice-aggregate-f
+slice-aggregate-f c = sym (length-take-le _ _ (search needs))
+
+cast-least-4 : tie.Need-cast-least-4
+cast-least-4 c = search needs
+
+least-requires-4 : tie.Need-least-requires-4
+least-requires-4 c κs = search needs
+
+slice-aggregate-k : tie.Need-slice-aggregate-k
+slice-aggregate-k c = sym (length-take-le _ _ (search needs))
+
+cast-least-5 : tie.Need-cast-least-5
+cast-least-5 c = search needs
+
+least-requires-5 : tie.Need-least-requires-5
+least-requires-5 c κs = search needs
+
+slice-aggregate-n : tie.Need-slice-aggregate-n
+slice-aggregate-n c = sym (length-take-le _ _ (search needs))
+
+cast-least-6 : tie.Need-cast-least-6
+cast-least-6 c = search needs
+
+mul-least-3 : tie.Need-mul-least-3
+mul-least-3 c = search needs
+
+least-requires-6 : tie.Need-least-requires-6
+least-requires-6 c κs = search needs
+
+slice-aggregate-c : tie.Need-slice-aggregate-c
+slice-aggregate-c c = sym (length-take-le _ _ (search needs))
+
+print-job-requires : tie.Need-print-job-requires
+print-job-requires c κs = search needs
+
+same-length : tie.Need-same-length
+same-length c = search needs
+
+returns : tie.Need-returns
+returns c = search needs
+
+pub print-read-spec : {M : Type 1} → statement M
+print-read-spec =
+    tie.close
+    (tie.spec
+    cast-least
+    mul-least
+    least-requires
+    slice-aggregate-v
+    cast-least-2
+    mul-least-2
+    least-requires-2
+    slice-aggregate-t
+    cast-least-3
+    least-requires-3
+    slice-aggregate-f
+    cast-least-4
+    least-requires-4
+    slice-aggregate-k
+    cast-least-5
+    least-requires-5
+    slice-aggregate-n
+    cast-least-6
+    mul-least-3
+    least-requires-6
+    slice-aggregate-c
+    print-job-requires
+    same-length
+    returns)

@@ -1,0 +1,3 @@
+pub mod Sources
+pub mod Spread
+pub mod Live

@@ -1,0 +1,116 @@
+-- Document 01's print-out. Definitions only.
+use Prim.Native.Nat.{ℕ, zero, suc, _+_, _*_, _%_}
+use mathlib.Core.Bool.{Bool, cond, _&&_}
+use mathlib.Core.List.{List, [], _∷_, _++_}
+use lib.Dec.{ltb, leb, eqb}
+use lib.ListN.{getD}
+use lib.Ieee.{Float, nan, binary64, toBits}
+use Rattle.layout.specs.Layout.{realsPerVertex, vertexDistance, aliveFlag}
+use Rattle.windows.specs.Windows.{flagsAt, hasFlag}
+use Rattle.float64.specs.Scalar.{absOf}
+use Rattle.text_out.specs.Text.{decimal}
+use Rattle.thousandths.specs.Thousandths.{thousandthsOf}
+use Rattle.computed.specs.declared.Field.{Field}
+use Rattle.computed.specs.declared.Computed.{Computed}
+use Rattle.computed.specs.declared.Computed.the-variants as computed
+
+-- how many of the first n windows live, by the windows' words
+unfoldable pub isLive : List ℕ → ℕ → Bool
+isLive words k = hasFlag (flagsAt words k) aliveFlag
+
+unfoldable pub liveCount : List ℕ → ℕ → ℕ
+unfolding isLive
+liveCount words zero = 0
+liveCount words (suc n) = liveCount words n + cond (isLive words n) 1 0
+
+-- ---- the words, in ASCII
+
+-- "far"
+abbrev pub farText : List ℕ
+farText = 102 ∷ 97 ∷ 114 ∷ []
+
+-- "nan"
+abbrev pub nanText : List ℕ
+nanText = 110 ∷ 97 ∷ 110 ∷ []
+
+-- "corner "
+abbrev pub cornerText : List ℕ
+cornerText = 99 ∷ 111 ∷ 114 ∷ 110 ∷ 101 ∷ 114 ∷ 32 ∷ []
+
+-- " "
+abbrev pub spaceText : List ℕ
+spaceText = 32 ∷ []
+
+-- "\n"
+abbrev pub endOfLine : List ℕ
+endOfLine = 10 ∷ []
+
+-- "edges "
+abbrev pub edgesText : List ℕ
+edgesText = 101 ∷ 100 ∷ 103 ∷ 101 ∷ 115 ∷ 32 ∷ []
+
+-- "windows "
+abbrev pub windowsText : List ℕ
+windowsText = 119 ∷ 105 ∷ 110 ∷ 100 ∷ 111 ∷ 119 ∷ 115 ∷ 32 ∷ []
+
+-- " live "
+abbrev pub liveText : List ℕ
+liveText = 32 ∷ 108 ∷ 105 ∷ 118 ∷ 101 ∷ 32 ∷ []
+
+-- " steps "
+abbrev pub stepsText : List ℕ
+stepsText = 32 ∷ 115 ∷ 116 ∷ 101 ∷ 112 ∷ 115 ∷ 32 ∷ []
+
+-- "end\n"
+abbrev pub endText : List ℕ
+endText = 101 ∷ 110 ∷ 100 ∷ 10 ∷ []
+
+-- "refused "
+abbrev pub refusedText : List ℕ
+refusedText = 114 ∷ 101 ∷ 102 ∷ 117 ∷ 115 ∷ 101 ∷ 100 ∷ 32 ∷ []
+
+-- ---- the lines
+
+-- A distance in thousandths, or `far` where it is infinite. What a distance cannot be is `nan`: no number, 2 ^ 52 or more in size, or below zero in
+-- thousandths. The bit patterns from 2 ^ 63 on are those with the minus sign, and without it they rise with the size.
+unfoldable pub distanceText : Float → List ℕ
+distanceText x =
+    let b = toBits binary64 x in
+    let t = thousandthsOf (absOf x) in
+    cond (eqb b 0x7ff0_0000_0000_0000) farText
+    (cond (leb 0x4330_0000_0000_0000 (b % 0x8000_0000_0000_0000)) nanText
+    (cond (leb 0x8000_0000_0000_0000 b && ltb 0 t) nanText (decimal t)))
+
+unfoldable pub counted : List ℕ → ℕ → List ℕ
+counted word n = word ++ decimal n
+
+unfoldable pub cornerLine : ℕ → Float → List ℕ
+unfolding counted distanceText
+cornerLine k x = counted cornerText k ++ spaceText ++ distanceText x ++ endOfLine
+
+-- a line for each of n vertices
+unfoldable pub cornerLines : List Float → ℕ → List ℕ
+unfolding cornerLine
+cornerLines vertex zero = []
+cornerLines vertex (suc n) = cornerLines vertex n ++ cornerLine n (getD vertex (realsPerVertex * n + vertexDistance) nan)
+
+unfoldable pub edgesLine : ℕ → List ℕ
+unfolding counted
+edgesLine edges = counted edgesText edges ++ endOfLine
+
+unfoldable pub windowsLine : ℕ → ℕ → ℕ → List ℕ
+unfolding counted
+windowsLine windows live steps = counted windowsText windows ++ counted liveText live ++ counted stepsText steps ++ endOfLine
+
+unfoldable pub refusedLine : ℕ → List ℕ
+unfolding counted
+refusedLine number = counted refusedText number ++ endOfLine
+
+unfoldable pub fieldText : Field → ℕ → List Float → List ℕ
+unfolding edgesLine windowsLine cornerLines
+fieldText f live vertex = edgesLine (f .edges) ++ windowsLine (f .windows) live (f .steps) ++ cornerLines vertex (f .vertices) ++ endText
+
+unfoldable pub textOf : Computed → ℕ → List Float → List ℕ
+unfolding fieldText refusedLine
+textOf (computed.Refused number) live vertex = refusedLine number
+textOf (computed.Field f) live vertex = fieldText f live vertex

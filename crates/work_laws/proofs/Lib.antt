@@ -1,0 +1,10 @@
+pub mod Work
+pub mod Recorded
+pub mod Complete
+pub mod Account
+pub mod Inside
+pub mod Zeros
+pub mod Beyond
+pub mod Stock
+pub mod Laws
+pub mod Stops

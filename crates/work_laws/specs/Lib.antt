@@ -1,0 +1,3 @@
+pub mod Kept
+pub mod Account
+pub mod Laws
