@@ -1,20 +1,19 @@
--- The three demands of the whole job, and the laws of a field that a job returned: demand-1, demand-2, demand-3, field-laws; returned, of an answer. Assumes nothing.
-use Prim.Native.Nat.{ℕ, zero, suc, _+_, _*_, _-_, _/_, _≤_, _<_}
+-- The three demands of the whole job, and the laws of a field that a job returned: demand-1, demand-2, demand-3, field-laws; returned, of an answer. They are shown of the field that
+-- `computeOf` comes to, over the heap's buffers, and so of the job over the list of events in order (field-for, by job-same). Assumes nothing.
+use Prim.Native.Nat.{ℕ, zero, suc, _+_, _*_, _-_, _≤_, _<_}
 use native.Mathlib.Omega.{arith}
-use mathlib.Core.Bool.{Bool, true, false, cond}
-use mathlib.Core.List.{List, [], _∷_, _++_, map}
-use mathlib.Core.Logic.{_⊎_, inl, inr}
+use mathlib.Core.Bool.{Bool, false, cond}
+use mathlib.Core.List.{List, [], _∷_, map}
+use mathlib.Core.Logic.{inl}
 use mathlib.Core.Path.{_≡_, refl, sym, ap, subst, _∙_}
 use borrow.Author.Tests.{le-leb, lt-leb}
 use lib.Dec.{leb}
 use lib.ListN.{length, getD, replicate, List·getD-append}
 use lib.Ieee.{Float}
-use Rattle.layout.specs.Layout.{wordsPerEdge, wordsPerTriangle, triangleLastEntry, wordsPerPiece, wordsPerWindow, realsPerWindow}
+use Rattle.layout.specs.Layout.{wordsPerEdge, wordsPerTriangle, wordsPerPiece}
 use Rattle.float64.specs.Scalar.{zero64}
 use Rattle.better.specs.Claim.{All}
-use Rattle.windows.specs.declared.WindowRecord.{WindowRecord}
-use Rattle.windows.specs.Windows.{capacityOf}
-use Rattle.chains.specs.Chains.{Links, links, headOf, linkAt, Path}
+use Rattle.chains.specs.Chains.{links, linkAt, Path}
 use Rattle.job_checks.specs.declared.BufferCounts.{BufferCounts}
 use Rattle.job_checks.specs.Any.{firstOf}
 use Rattle.job_checks.specs.Job.{Job, vertexCount, triangleCount, pieceCount}
@@ -25,9 +24,9 @@ use Rattle.mesh.specs.Answer.{countsIn, meshRefusals, meshRefusal}
 use Rattle.trim_model.specs.Windows.{Window, unqueued}
 use Rattle.trim_model.proofs.Ranks.{by-cases}
 use Rattle.trim_model.proofs.Lists.{all-map}
-use Rattle.trim_state.specs.State.{State}
+use Rattle.trim_state.specs.State.{State, EdgeData}
 use Rattle.trim_state.proofs.Follows.{follows-demand3}
-use Rattle.live_windows.specs.Live.{nums, HoldsWindows}
+use Rattle.live_windows.specs.Live.{nums}
 use Rattle.live_windows.proofs.Places.{head-path, short}
 use Rattle.contents.specs.Contents.{wordsFrom, realsFrom}
 use Rattle.offers.specs.Walks.{edgeData}
@@ -39,9 +38,9 @@ use Rattle.face_entries.proofs.Content.{FaceThere, content-only}
 use Rattle.face_entries.proofs.Keeping.{fresh-none}
 use Rattle.insertion.specs.Insertion.{Inserted}
 use Rattle.run_operations.specs.Lists.{cutCount, cutTo}
-use Rattle.run_steps.specs.Run.{WorkResult, refused, field}
+use Rattle.run_steps.specs.Run as run
+use Rattle.run_steps.specs.Run.{WorkResult, field}
 use Rattle.field_work.specs.Work.{workOf}
-use Rattle.last_pass.specs.Buffers.{chainBehind}
 use Rattle.last_pass.proofs.Chains.{chain-is}
 use Rattle.last_pass.proofs.Finished.{lows-stay, lists-stay}
 use Rattle.finish.specs.Contents.{FieldBuffers, FieldContents}
@@ -50,15 +49,22 @@ use Rattle.finish.proofs.Spare.{fresh-spare, field-spare}
 use Rattle.computed.specs.declared.Computed.{Computed}
 use Rattle.computed.specs.declared.Computed.the-variants.{Refused, Field as Computed·Field}
 use Rattle.computed.specs.declared.Field.{Field}
-use Rattle.compute_spec.specs.Compute.{otherCounts, workIn, unlessRefused, computeOf, Leaves, answerOf, Computes}
+use Rattle.compute_spec.specs.Compute.{otherCounts, workIn, unlessRefused, computeOf}
+use Rattle.trim_model.specs.Model.{Candidate}
+use Rattle.field_model.specs.Queue.{inOrder}
+use Rattle.field_model.specs.Field.{Reply, refused, gives}
+use Rattle.field_model.specs.Job.{Finished}
+use Rattle.field_model.specs.Lent.{computeOver, candidatesOver, answerOver, emptied, LeavesOver, ComputesOver, finishedOf}
+use Rattle.field_model.proofs.Lawful.{in-order}
+use Rattle.field_model.proofs.Whole.{job-same, job-candidates}
 use Rattle.topology.proofs.Checked.{edge-ends}
 use Rattle.last_pass.specs.Lowered.{loweredAll}
 use Rattle.work_laws.proofs.Zeros.{zeros-behind}
 use Rattle.work_laws.proofs.Beyond.{Beyond, beyond-lowered}
 use Rattle.work_laws.proofs.Stops.{WorkEnds, work-ends}
-use Rattle.field_laws.specs.Demands.{JobRefusal, EndsWithin, RestIsZero, RoomsThen, JobDemand1, AsTheRust, JobDemand2, BookKept, JobDemand3, EntryLaws, FieldLaws, ReturnedField, Returned}
+use Rattle.field_laws.specs.Demands.{EndsWithin, RestIsZero, RoomsThen, JobDemand1, AsTheRust, JobDemand2, BookKept, JobDemand3, EntryLaws, FieldLaws, ReturnedField, Returned}
 use Rattle.field_laws.proofs.Held.{length-words, length-reals}
-use Rattle.field_laws.proofs.Job.{passed, built, sound-job, mesh-fresh, triangle-slots, face-there, laws, entries-are, entries-fit}
+use Rattle.field_laws.proofs.Job.{jobCandidates, finishedAs, passed, built, sound-job, mesh-fresh, triangle-slots, face-there, laws, entries-are, entries-fit}
 use Rattle.field_laws.proofs.Entries.{job-entries, first-there, last-there, link-below, piece-below}
 use Rattle.field_laws.proofs.Rooms.{entries-from, field-rooms}
 use Rattle.field_laws.proofs.Reasons.{refused-for}
@@ -96,7 +102,7 @@ module _ (j : Job) (b : FieldBuffers) (most : ℕ) (x : Inserted) (n : ℕ) (is 
       content-only (m .triangle-words) (length (b .entry-words)) (fresh-none m (mesh-fresh j b most x n is)) (x .entries) (entries-fit j b most x n is)
       (all-map {P = λ (y : FaceEntry). (y .face < triangleCount j) × (y .entry .piece < pieceCount j)} {Q = FaceThere (m .triangle-words)} (λ y k. let z = k .0 in omega (arith, z, triangle-slots j b most x n is)) (x .entries) entries-there)
 
-  book-kept : BookKept j b most (s .live)
+  book-kept : BookKept j (jobCandidates j b most) (s .live)
   book-kept =
       let F = laws j b most x n is .follows in
       record { exactly = λ e. sym (unqueued-same (s .live e) (idle-windows j b most x n is e)) ∙ F .same e; trimmed = λ e. follows-demand3 F e }
@@ -119,14 +125,14 @@ module _ (j : Job) (b : FieldBuffers) (most : ℕ) (x : Inserted) (n : ℕ) (is 
       chains-end = λ f. numbers-few 0 f (x .entries);
     }
 
-    laws-of : FieldLaws j b x b′
+    laws-of : FieldLaws j b (finishedAs x n) b′
     laws-of = record { passed = passed j b most x n is; rooms = field-rooms j b most x n is b′ c; mesh = mesh-laws j b most x n is b′ c; windows = window-laws j b most x n is b′ c; entries = entry-laws }
 
-    as-the-rust : AsTheRust j s b′
+    as-the-rust : AsTheRust j (finishedAs x n) b′
     as-the-rust =
         let L = laws j b most x n is in
         let W = window-laws j b most x n is b′ c .holds in
-        let made = s .stock .made in
+        let made = length (s .wins) in
         let k = links (b′ .mesh .edge-words) (b′ .words) in
         record {
           windows = W .all ∙ sym (lows-stay (s .wins) (L .recorded .lows));
@@ -143,17 +149,16 @@ module _ (j : Job) (b : FieldBuffers) (most : ℕ) (x : Inserted) (n : ℕ) (is 
         beyond-lowered (vertexCount j) (length (edges (j .triangles))) (edgeData (j .vertices) (j .triangles))
         (λ e l. let z = edge-ends (j .triangles) (vertexCount j) (sound-job j b most x n is .triangles) e l in (omega (arith, z .0, z .1), z .1)) (s .live) (s .stock .vertex) (laws j b most x n is .beyond)
 
-    rest-is-zero : RestIsZero j (s .stock .made) (length (x .entries)) b b′
+    rest-is-zero : RestIsZero j (length (s .wins)) (length (x .entries)) b b′
     rest-is-zero =
-        let count = laws j b most x n is .recorded .count in
         record {
           keys = c .keys;
           events = c .events;
           cuts = c .cuts;
           scratch = c .scratch;
           other-scratch = c .other-scratch;
-          words = λ p h. ap (λ (l : List ℕ). getD l p 0) (c .words) ∙ zeros-behind 0 (wordsFrom (s .live) 0 (s .wins)) (length (b .words) - length (wordsFrom (s .live) 0 (s .wins))) p (omega (arith, h, count, length-words (s .live) 0 (s .wins)));
-          reals = λ p h. ap (λ (l : List Float). getD l p zero64) (c .reals) ∙ zeros-behind zero64 (realsFrom (s .wins)) (length (b .reals) - length (realsFrom (s .wins))) p (omega (arith, h, count, length-reals (s .wins)));
+          words = λ p h. ap (λ (l : List ℕ). getD l p 0) (c .words) ∙ zeros-behind 0 (wordsFrom (s .live) 0 (s .wins)) (length (b .words) - length (wordsFrom (s .live) 0 (s .wins))) p (omega (arith, h, length-words (s .live) 0 (s .wins)));
+          reals = λ p h. ap (λ (l : List Float). getD l p zero64) (c .reals) ∙ zeros-behind zero64 (realsFrom (s .wins)) (length (b .reals) - length (realsFrom (s .wins))) p (omega (arith, h, length-reals (s .wins)));
           entries = λ p h. ap (λ (l : List ℕ). getD l p 0) (c .entry-words) ∙ holds-only .behind p h;
           vertex-words = λ p h. ap (λ (l : List ℕ). getD l p 0) (c .vertex-words) ∙ vertex-slots (j .vertices) (j .triangles) (j .flags) (b .mesh) p h;
           vertex = λ p h. ap (λ (l : List Float). getD l p zero64) (c .vertex) ∙ lowered-there p h;
@@ -180,12 +185,13 @@ unfolding meshRefusals refusals
 mesh-few j c =
     first-few 10 (meshRefusals j c) (omega arith, (omega arith, (omega arith, (omega arith, (omega arith, (omega arith, (omega arith, (omega arith, (omega arith, (omega arith, tt))))))))))
 
-work-within : (most : ℕ) (r : WorkResult) → WorkEnds most r → EndsWithin most r
-work-within most (refused k) h = (let z = h .0 in omega (arith, z), h .1)
+work-within : (most : ℕ) (r : WorkResult) → WorkEnds most r → EndsWithin most (finishedOf r)
+unfolding finishedOf
+work-within most (run.refused k) h = (let z = h .0 in omega (arith, z), h .1)
 work-within most (field x n) h = h
 
-ends-within : (most k : ℕ) (r : WorkResult) → k ≤ 10 → WorkEnds most r → EndsWithin most (unlessRefused k r)
-unfolding unlessRefused
+ends-within : (most k : ℕ) (r : WorkResult) → k ≤ 10 → WorkEnds most r → EndsWithin most (finishedOf (unlessRefused k r))
+unfolding unlessRefused finishedOf
 ends-within most zero r h w = work-within most r w
 ends-within most (suc k) r h w = (omega arith, inl (omega (arith, h)))
 
@@ -193,14 +199,61 @@ refused-rooms : (k : ℕ) (b b′ : FieldBuffers) → b′ ≡ cond (leb k 9) b 
 refused-rooms k b b′ h =
     ((λ l. h ∙ ap (λ (t : Bool). cond t b (zeroField b)) (le-leb k 9 l)), (λ l. h ∙ ap (λ (t : Bool). cond t b (zeroField b)) (lt-leb k 9 l)))
 
+-- what a field's buffers hold says nothing of the queue
+with-queue : (built : MeshBuffers) (mesh : EdgeData) (edge-count : ℕ) (x : Inserted) (n : ℕ) (kinds : List ℕ) (coords : List Float) (b b′ : FieldBuffers)
+    → FieldContents built mesh edge-count (emptied (finishedAs x n)) (x .entries) kinds coords b b′ → FieldContents built mesh edge-count (x .state) (x .entries) kinds coords b b′
+with-queue built mesh edge-count x n kinds coords b b′ c = record {
+  vertex-words = c .vertex-words;
+  edge-words = c .edge-words;
+  edge-reals = c .edge-reals;
+  round = c .round;
+  triangle-words = c .triangle-words;
+  triangle-reals = c .triangle-reals;
+  vertex = c .vertex;
+  piece-words = c .piece-words;
+  piece-reals = c .piece-reals;
+  words = c .words;
+  reals = c .reals;
+  keys = c .keys;
+  events = c .events;
+  cuts = c .cuts;
+  entry-words = c .entry-words;
+  scratch = c .scratch;
+  other-scratch = c .other-scratch;
+}
+
 -- ---- the demands
+finishedOr : Finished → Reply Finished → Finished
+finishedOr d (refused k) = d
+finishedOr d (gives x) = x
+
+Gives : Reply Finished → Type 0
+Gives (refused k) = ⊥
+Gives (gives x) = Unit {0}
+
 module _ (j : Job) (b : FieldBuffers) (most : ℕ) where
-  rooms-then : (r : WorkResult) → computeOf j b most ≡ r → (b′ : FieldBuffers) → Leaves j b r b′ → RoomsThen j b r b′
-  rooms-then (refused k) h b′ c = refused-rooms k b b′ c
-  rooms-then (field x n) h b′ c = rest-is-zero j b most x n h b′ c
+  abbrev given : (x : Inserted) (n : ℕ) (b′ : FieldBuffers) → LeavesOver j b (gives (finishedAs x n)) b′
+      → FieldContents (filled (j .vertices) (j .triangles) (j .flags) (b .mesh)) (edgeData (j .vertices) (j .triangles)) (length (edges (j .triangles))) (x .state) (x .entries) (j .kinds) (j .coords) b b′
+  given x n b′ c = with-queue (filled (j .vertices) (j .triangles) (j .flags) (b .mesh)) (edgeData (j .vertices) (j .triangles)) (length (edges (j .triangles))) x n (j .kinds) (j .coords) b b′ c
+
+  same : computeOver inOrder j b most ≡ finishedOf (computeOf j b most)
+  same = job-same inOrder in-order j b most
+
+  -- whatever is so of the field over the heap's buffers is so of the field
+  field-for : (P : Finished → Type 0) → ((y : Inserted) (n : ℕ) → computeOf j b most ≡ field y n → P (finishedAs y n)) → (x : Finished) → computeOver inOrder j b most ≡ gives x → P x
+  unfolding finishedOf finishedOr Gives
+  field-for P each x is = go (computeOf j b most) refl (sym same ∙ is) where
+    go : (r : WorkResult) → computeOf j b most ≡ r → finishedOf r ≡ gives x → P x
+    go (run.refused k) e h = absurd (subst Gives (sym h) tt)
+    go (field y n) e h = subst P (ap (finishedOr x) h) (each y n e)
+
+  rooms-then : (r : WorkResult) → computeOf j b most ≡ r → (b′ : FieldBuffers) → LeavesOver j b (finishedOf r) b′ → RoomsThen j b (finishedOf r) b′
+  unfolding finishedOf
+  rooms-then (run.refused k) h b′ c = refused-rooms k b b′ c
+  rooms-then (field x n) h b′ c = rest-is-zero j b most x n h b′ (given x n b′ c)
 
   pub demand-1 : JobDemand1 j b most
-  demand-1 = (
+  demand-1 = subst (λ (r : Reply Finished). EndsWithin most r × ((b′ : FieldBuffers) → LeavesOver j b r b′ → RoomsThen j b r b′)) (sym same) (
     ends-within most (meshRefusal j (countsIn (b .mesh) (otherCounts b)))
         (workOf j (filled (j .vertices) (j .triangles) (j .flags) (b .mesh) .vertex-words) (workIn b) (cutTo (cutCount (b .cuts)) (b .cuts)) most)
         (mesh-few j (countsIn (b .mesh) (otherCounts b))) (work-ends j (filled (j .vertices) (j .triangles) (j .flags) (b .mesh) .vertex-words) (workIn b) (cutTo (cutCount (b .cuts)) (b .cuts)) most),
@@ -208,13 +261,18 @@ module _ (j : Job) (b : FieldBuffers) (most : ℕ) where
   )
 
   pub demand-2 : JobDemand2 j b most
-  demand-2 = (as-the-rust j b most, refused-for j b most)
+  demand-2 = (
+    field-for (λ (x : Finished). (b′ : FieldBuffers) → LeavesOver j b (gives x) b′ → AsTheRust j x b′) (λ x n is b′ c. as-the-rust j b most x n is b′ (given x n b′ c)),
+    refused-for j b most,
+  )
 
   pub demand-3 : JobDemand3 j b most
-  demand-3 x n is = book-kept j b most x n is
+  demand-3 =
+      field-for (λ (x : Finished). BookKept j (candidatesOver inOrder j b most) (x .live))
+      (λ x n is. subst (λ (cs : List Candidate). BookKept j cs (x .state .live)) (sym (job-candidates inOrder in-order j b most (passed j b most x n is))) (book-kept j b most x n is))
 
   pub field-laws : ReturnedField j b most
-  field-laws x n is b′ c = laws-of j b most x n is b′ c
+  field-laws = field-for (λ (x : Finished). (b′ : FieldBuffers) → LeavesOver j b (gives x) b′ → FieldLaws j b x b′) (λ x n is b′ c. laws-of j b most x n is b′ (given x n b′ c))
 
 -- ---- an answer
 fieldOr : Field → Computed → Field
@@ -225,24 +283,26 @@ IsField : Computed → Type 0
 IsField (Refused k) = ⊥
 IsField (Computed·Field f) = Unit {0}
 
-answer-of : (j : Job) (b : FieldBuffers) (most : ℕ) (f : Field) (b′ : FieldBuffers) (r : WorkResult) → computeOf j b most ≡ r → Computed·Field f ≡ answerOf j r → EndsWithin most r → Leaves j b r b′ → Returned j b most f b′
-unfolding answerOf fieldOr IsField
+answer-of : (j : Job) (b : FieldBuffers) (most : ℕ) (f : Field) (b′ : FieldBuffers) (r : Reply Finished) → computeOver inOrder j b most ≡ r → Computed·Field f ≡ answerOver j r → EndsWithin most r → LeavesOver j b r b′ → Returned j b most f b′
+unfolding answerOver fieldOr IsField
 answer-of j b most f b′ (refused k) is a w c = absurd (subst IsField a tt)
-answer-of j b most f b′ (field x n) is a w c =
+answer-of j b most f b′ (gives x) is a w c =
     let same = ap (fieldOr f) a in
     record {
-      inserted = x;
+      finished = x;
+      comes-to = is;
       vertices = ap (λ (z : Field). z .vertices) same;
       triangles = ap (λ (z : Field). z .triangles) same;
       pieces = ap (λ (z : Field). z .pieces) same;
       edge-count = ap (λ (z : Field). z .edges) same;
-      windows = ap (λ (z : Field). z .windows) same ∙ sym (laws j b most x n is .recorded .count);
+      windows = ap (λ (z : Field). z .windows) same;
+      popped = ap (λ (z : Field). z .steps) same;
       steps-within = let z = ap (λ (z : Field). z .steps) same in omega (arith, z, w);
       leaves = c;
-      laws = field-laws j b most x n is b′ c;
-      as-the-rust = demand-2 j b most .0 x n is b′ c;
-      book = demand-3 j b most x n is;
+      laws = field-laws j b most x is b′ c;
+      as-the-rust = demand-2 j b most .0 x is b′ c;
+      book = demand-3 j b most x is;
     }
 
-pub returned : (j : Job) (b : FieldBuffers) (most : ℕ) (f : Field) (b′ : FieldBuffers) → Computes j b most (Computed·Field f) b′ → Returned j b most f b′
-returned j b most f b′ C = answer-of j b most f b′ (computeOf j b most) refl (C .answer) (demand-1 j b most .0) (C .leaves)
+pub returned : (j : Job) (b : FieldBuffers) (most : ℕ) (f : Field) (b′ : FieldBuffers) → ComputesOver inOrder j b most (Computed·Field f) b′ → Returned j b most f b′
+returned j b most f b′ C = answer-of j b most f b′ (computeOver inOrder j b most) refl (C .answer) (demand-1 j b most .0) (C .leaves)

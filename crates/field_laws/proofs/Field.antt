@@ -1,22 +1,20 @@
--- The laws of a field that a job returned, of its state and of the buffers: mesh-laws, window-laws, entry-laws. Assumes nothing.
+-- The laws of a field that a job returned, of its state and of the buffers: mesh-laws, window-laws. Assumes nothing.
 use Prim.Native.Nat.{ℕ, zero, suc, _+_, _*_, _-_, _/_, _%_, _≤_, _<_}
 use native.Mathlib.Omega.{arith}
 use native.Mathlib.Decide.{decLe}
 use native.Mathlib.Nat.{div-add-mod'}
 use mathlib.Core.Bool.{Bool, true, false, cond, _&&_}
-use mathlib.Core.List.{List, [], _∷_, _++_, map}
-use mathlib.Core.Logic.{⊎-elim, _⊎_, inl, inr, _≢_}
+use mathlib.Core.List.{List, [], _∷_}
+use mathlib.Core.Logic.{_⊎_, _≢_}
 use mathlib.Core.Path.{_≡_, refl, sym, ap, subst, _∙_}
 use borrow.Author.Tests.{ne-eqb, lt-ltb, le-leb}
-use lib.Dec.{T, eqb, ltb, leb}
+use lib.Dec.{T, eqb}
 use lib.ListN.{length, length-append, getD, replicate, length-replicate, List·getD-eq-default}
 use lib.Ieee.{Float, lt}
-use Rattle.layout.specs.Layout.{wordsPerVertex, vertexStart, vertexEnd, wordsPerEdge, edgeHead, edgeScratch, wordsPerTriangle, triangleFirstEntry, triangleLastEntry, wordsPerWindow, realsPerWindow}
+use Rattle.layout.specs.Layout.{wordsPerEdge, edgeHead, edgeScratch, wordsPerTriangle, triangleFirstEntry, triangleLastEntry, wordsPerWindow, realsPerWindow}
 use Rattle.float64.specs.Scalar.{zero64}
-use Rattle.nat_laws.specs.Lists.{listOf}
 use Rattle.nat_laws.proofs.Lists.{length-listOf, getD-listOf}
-use Rattle.better.specs.Claim.{All, Pairs, Point}
-use Rattle.better.specs.Stretches.{betterOf}
+use Rattle.better.specs.Claim.{All, Point}
 use Rattle.buffers.specs.declared.EdgeId.{EdgeId}
 use Rattle.buffers.specs.declared.FaceId.{FaceId}
 use Rattle.heap.specs.declared.Popped.{Popped}
@@ -25,16 +23,16 @@ use Rattle.heap.specs.Queue.{Queue, at, slots, popped, popping}
 use Rattle.heap.specs.Model.{weightOf}
 use Rattle.windows.specs.declared.WindowRecord.{WindowRecord}
 use Rattle.windows.specs.Windows.{capacityOf, windowAt, edgeStored, intoOf}
-use Rattle.chains.specs.Chains.{Links, links, headOf, nextLink, firstLink, Belongs}
+use Rattle.chains.specs.Chains.{Links, links, headOf, nextLink, firstLink}
 use Rattle.chains.proofs.Paths.{path-first}
-use Rattle.job_checks.specs.Job.{Job, vertexCount, triangleCount, pieceCount}
+use Rattle.job_checks.specs.Job.{Job, vertexCount, triangleCount}
 use Rattle.job_checks.specs.Sound.{ValidTriangles}
 use Rattle.topology.specs.Edges.{noFace, edges, vertexFaces}
 use Rattle.topology.specs.Frames.{len}
 use Rattle.topology.proofs.Checked.{edge-ends}
 use Rattle.topology.proofs.Edges.{tri-edge-there}
 use Rattle.topology.proofs.Other.{face-or-none}
-use Rattle.frames.specs.Stored.{lowAt, highAt, faceAt}
+use Rattle.frames.specs.Stored.{faceAt}
 use Rattle.vertex_faces.specs.Ranges.{degreeAmong, startOf, endOf}
 use Rattle.vertex_faces.proofs.Ranges.{sums-grow}
 use Rattle.vertex_faces.proofs.Sides.{start-sum, total-is}
@@ -44,36 +42,32 @@ use Rattle.mesh.proofs.Keeping.{held-kept}
 use Rattle.mesh_readers.proofs.Mesh.{mesh-round}
 use Rattle.mesh_readers.proofs.Round.{entry-there}
 use Rattle.trim_model.specs.Intervals.{tinyOf}
-use Rattle.trim_model.specs.Windows.{Window, unqueued}
-use Rattle.trim_model.specs.Claim.{Trimmed}
-use Rattle.trim_model.proofs.Lists.{all-map, all-map2}
+use Rattle.trim_model.specs.Windows.{Window}
+use Rattle.trim_model.proofs.Lists.{all-map2}
 use Rattle.trim_model.proofs.Ranks.{by-cases, rank-lt, wide-pos, tiny-nonneg}
 use Rattle.trim_model.proofs.Windows.{Wide}
 use Rattle.trim_state.specs.State.{State}
 use Rattle.trim_state.proofs.Follows.{follows-differ, follows-below, follows-tidy, follows-demand3}
-use Rattle.live_windows.specs.Live.{nums, Among, Alive, HoldsWindows}
+use Rattle.live_windows.specs.Live.{nums, HoldsWindows}
 use Rattle.live_windows.proofs.Places.{short}
 use Rattle.pop.proofs.Pending.{window-is}
-use Rattle.contents.specs.Contents.{padded, wordsFrom, realsFrom, wordsOf, realsOfAll, linkAfter}
-use Rattle.windows_there.specs.There.{FaceOf, GoesInto, RecordThere, LiveThere}
+use Rattle.contents.specs.Contents.{padded, wordsFrom, realsFrom, realsOfAll, linkAfter}
+use Rattle.windows_there.specs.There.{FaceOf, GoesInto, LiveThere}
 use Rattle.windows_there.proofs.Kept.{there-at}
-use Rattle.face_entries.specs.Entries.{FaceEntry, wordWith, trianglesWith, entryWords, HoldsEntries, HoldsOnly}
-use Rattle.face_entries.proofs.Content.{FaceThere, content-only}
-use Rattle.face_entries.proofs.Keeping.{fresh-none}
-use Rattle.field_step.specs.Step.{isEmpty, idleOf, noWindow}
+use Rattle.face_entries.specs.Entries.{FaceEntry, wordWith, trianglesWith}
+use Rattle.field_step.specs.Step.{isEmpty, noWindow}
 use Rattle.insertion.specs.Insertion.{Inserted}
-use Rattle.last_pass.specs.Finished.{LowIs}
 use Rattle.last_pass.proofs.Finished.{low-stored}
 use Rattle.offers.specs.Walks.{edgeData}
 use Rattle.finish.specs.Contents.{FieldBuffers, FieldContents, edgeWordWith, edgesWith}
 use Rattle.run_steps.specs.Run.{field}
 use Rattle.insert_job.specs.Field.{begunJob}
 use Rattle.compute_spec.specs.Compute.{workIn, computeOf}
-use Rattle.work_laws.specs.Account.{names, waiting, OnRecord, Accounted}
+use Rattle.work_laws.specs.Account.{names, waiting, OnRecord}
 use Rattle.work_laws.specs.Laws.{StateLaws}
-use Rattle.field_laws.specs.Demands.{jobCandidates, MeshLaws, WindowLaws, EntryLaws}
+use Rattle.field_laws.specs.Demands.{MeshLaws, WindowLaws}
 use Rattle.field_laws.proofs.Held.{length-words, length-reals, link-is, contents-hold}
-use Rattle.field_laws.proofs.Job.{built, sound-job, mesh-held, mesh-fresh, edge-slots, long, laws, no-event}
+use Rattle.field_laws.proofs.Job.{jobCandidates, finishedAs, built, sound-job, mesh-held, edge-slots, long, laws, no-event}
 
 -- ---- no event is queued
 queue-empty : (q : Queue) (n : ℕ) → n ≤ slots q → isEmpty (popping q n .0) ≡ true → n ≡ 0
@@ -226,7 +220,10 @@ module _ (j : Job) (b : FieldBuffers) (most : ℕ) (x : Inserted) (n : ℕ) (is 
         }
 
     -- ---- the windows
-    count : s .stock .made ≡ length (s .wins)
+    abbrev made : ℕ
+    made = length (s .wins)
+
+    count : s .stock .made ≡ made
     count = L .recorded .count
 
     outside : (e : ℕ) → length (m .edge-words) ≤ wordsPerEdge * e + edgeHead → s .live e ≡ []
@@ -241,39 +238,37 @@ module _ (j : Job) (b : FieldBuffers) (most : ℕ) (x : Inserted) (n : ℕ) (is 
     abbrev unlinked : (d : WindowRecord) (i : ℕ) → i < length (s .wins) → getD (s .wins) i d .link ≡ 0
     unlinked d i l = all-at (λ (z : WindowRecord). z .link ≡ 0) (s .wins) (L .accounted .unlinked) i d l
 
-    holds-windows : HoldsWindows (s .stock .made) (s .wins) (links (b′ .mesh .edge-words) (b′ .words)) (b′ .reals) (s .live)
+    holds-windows : HoldsWindows made (s .wins) (links (b′ .mesh .edge-words) (b′ .words)) (b′ .reals) (s .live)
     holds-windows =
         let H = contents-hold (s .wins) (s .live) (waiting (s .stock)) (L .accounted .on-record) (L .accounted .complete)
         unlinked (λ e. follows-differ (L .follows) e)
         (length (b .words)) (length (b .reals)) fits-words fits-reals (m .edge-words) outside in
-        subst (λ (k : ℕ). HoldsWindows k (s .wins) (links (b′ .mesh .edge-words) (b′ .words)) (b′ .reals) (s .live)) (sym count)
-        (subst (λ (f : List Float). HoldsWindows (length (s .wins)) (s .wins) (links (b′ .mesh .edge-words) (b′ .words)) f (s .live)) (sym (c .reals))
-        (subst (λ (z : Links). HoldsWindows (length (s .wins)) (s .wins) z (realsOfAll (length (b .reals)) (s .wins)) (s .live)) (λ i. links (sym (c .edge-words) i) (sym (c .words) i)) H))
+        subst (λ (f : List Float). HoldsWindows (length (s .wins)) (s .wins) (links (b′ .mesh .edge-words) (b′ .words)) f (s .live)) (sym (c .reals))
+        (subst (λ (z : Links). HoldsWindows (length (s .wins)) (s .wins) z (realsOfAll (length (b .reals)) (s .wins)) (s .live)) (λ i. links (sym (c .edge-words) i) (sym (c .words) i)) H)
 
-    below : (e : ℕ) → All (λ (i : ℕ). i < s .stock .made) (nums (s .live e))
-    below e = nums-below (s .stock .made) (s .live e) (follows-below (L .follows) e)
+    below : (e : ℕ) → All (λ (i : ℕ). i < made) (nums (s .live e))
+    below e = subst (λ (k : ℕ). All (λ (i : ℕ). i < k) (nums (s .live e))) count (nums-below (s .stock .made) (s .live e) (follows-below (L .follows) e))
 
-    slots-are : s .stock .made ≤ capacityOf (length (b′ .words)) (length (b′ .reals))
+    slots-are : made ≤ capacityOf (length (b′ .words)) (length (b′ .reals))
     slots-are =
         let p : length (b′ .words) ≡ length (b .words) = ap length (c .words) ∙ padded-length 0 (length (b .words)) (wordsFrom (s .live) 0 (s .wins)) (omega (arith, length-words (s .live) 0 (s .wins), fits-words)) in
         let q : length (b′ .reals) ≡ length (b .reals) = ap length (c .reals) ∙ padded-length zero64 (length (b .reals)) (realsFrom (s .wins)) (omega (arith, length-reals (s .wins), fits-reals)) in
-        subst (λ (k : ℕ). s .stock .made ≤ k) (λ i. capacityOf (sym p i) (sym q i)) (L .fits)
+        subst (λ (k : ℕ). k ≤ capacityOf (length (b′ .words)) (length (b′ .reals))) count (subst (λ (k : ℕ). s .stock .made ≤ k) (λ i. capacityOf (sym p i) (sym q i)) (L .fits))
 
-    link-there : (i : ℕ) → i < s .stock .made → nextLink (b′ .words) i ≤ s .stock .made
+    link-there : (i : ℕ) → i < made → nextLink (b′ .words) i ≤ made
     link-there i h =
-        let l : i < length (s .wins) = omega (arith, h, count) in
         let d = noWindow in
         let y = getD (s .wins) i d in
         let read = link-is (s .wins) (s .live) (waiting (s .stock)) (L .accounted .on-record) (L .accounted .complete) unlinked (λ e. follows-differ (L .follows) e)
-        (length (b .words)) (length (b .reals)) fits-words fits-reals (m .edge-words) outside i l d in
-        subst (λ (z : ℕ). z ≤ s .stock .made) (sym (ap (λ (w : List ℕ). nextLink w i) (c .words) ∙ read))
-        (by-cases (λ (v : Bool). cond v (linkAfter i (nums (s .live (y .edge .0)))) (y .link) ≤ s .stock .made) (y .alive) (λ t. link-below (s .stock .made) i (nums (s .live (y .edge .0))) (below (y .edge .0))) (λ t. let z = unlinked d i l in omega (arith, z)))
+        (length (b .words)) (length (b .reals)) fits-words fits-reals (m .edge-words) outside i h d in
+        subst (λ (z : ℕ). z ≤ made) (sym (ap (λ (w : List ℕ). nextLink w i) (c .words) ∙ read))
+        (by-cases (λ (v : Bool). cond v (linkAfter i (nums (s .live (y .edge .0)))) (y .link) ≤ made) (y .alive) (λ t. link-below made i (nums (s .live (y .edge .0))) (below (y .edge .0))) (λ t. let z = unlinked d i h in omega (arith, z)))
 
-    record-there : (i : ℕ) → i < s .stock .made → GoesInto (j .triangles) (edgeStored (b′ .words) i) (intoOf (b′ .words) i)
+    record-there : (i : ℕ) → i < made → GoesInto (j .triangles) (edgeStored (b′ .words) i) (intoOf (b′ .words) i)
     unfolding windowAt
     record-there i h =
         let d = noWindow in
-        let W = window-is (s .stock .made) (b′ .words) (b′ .reals) (b′ .mesh .edge-words) (s .wins) (s .live) holds-windows i d h in
+        let W = window-is made (b′ .words) (b′ .reals) (b′ .mesh .edge-words) (s .wins) (s .live) holds-windows i d h in
         let t = there-at (GoesInto (j .triangles)) s (L .there) i d (omega (arith, h, count)) in
         subst (λ (e : ℕ). GoesInto (j .triangles) e (intoOf (b′ .words) i)) (sym (ap (λ (z : EdgeId). z .0) (W .edge)))
         (subst (λ (g : ℕ). GoesInto (j .triangles) (getD (s .wins) i d .edge .0) g) (sym (ap (λ (z : FaceId). z .0) (W .into))) t)
@@ -284,19 +279,18 @@ module _ (j : Job) (b : FieldBuffers) (most : ℕ) (x : Inserted) (n : ℕ) (is 
         let tiny = tiny-nonneg (len (j .vertices) (j .triangles) e) (record { number = checked .number; double = checked .double }) (checked .positive) in
         (w .point0, (w .point1, rank-lt (w .point0) (w .point1) (wide-pos tiny (w .point0) (w .point1) (w .wide))))
 
-    pub window-laws : WindowLaws j s b′
+    pub window-laws : WindowLaws j (finishedAs x n) b′
     window-laws =
         let H = holds-windows in
         let w = b′ .words in
         record {
           holds = H;
-          counted = count;
           slots-there = slots-are;
           edge-there = record-there;
-          heads-there = λ e. subst (λ (z : ℕ). z ≤ s .stock .made) (sym (path-first w (headOf (b′ .mesh .edge-words) e) (nums (s .live e)) (H .on-edge e .chain .path))) (first-below (s .stock .made) (nums (s .live e)) (below e));
+          heads-there = λ e. subst (λ (z : ℕ). z ≤ made) (sym (path-first w (headOf (b′ .mesh .edge-words) e) (nums (s .live e)) (H .on-edge e .chain .path))) (first-below made (nums (s .live e)) (below e));
           links-there = link-there;
-          chains-end = λ e. let z = short (s .stock .made) w e (headOf (b′ .mesh .edge-words) e) (nums (s .live e)) (H .on-edge e .chain .path) (H .on-edge e .chain .belong) in omega (arith, z, length-nums (s .live e));
-          lows = λ i l. low-stored (s .stock .made) w (b′ .reals) (b′ .mesh .edge-words) (s .wins) (s .live) H (L .recorded .lows) i l;
+          chains-end = λ e. let z = short made w e (headOf (b′ .mesh .edge-words) e) (nums (s .live e)) (H .on-edge e .chain .path) (H .on-edge e .chain .belong) in omega (arith, z, length-nums (s .live e));
+          lows = λ i l. low-stored made w (b′ .reals) (b′ .mesh .edge-words) (s .wins) (s .live) H (L .recorded .lows) i l;
           ordered = λ e. all-map2 {P = Wide (tinyOf (len (j .vertices) (j .triangles) e))} {Q = LiveThere (GoesInto (j .triangles)) e} {R = λ (u : Window). Point (u .b0) × (Point (u .b1) × T (lt (u .b0) (u .b1)))} (one-ordered e) (s .live e) (follows-tidy (L .follows) e .wides) (L .there .live e);
           rise = λ e. follows-demand3 (L .follows) e .order;
           inside = L .inside;

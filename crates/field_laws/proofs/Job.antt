@@ -1,16 +1,16 @@
 -- A job that comes to a field passed refusals 1 to 10; its state has the laws of the work, and its mesh stands in the buffers. Assumes nothing.
-use Prim.Native.Nat.{ℕ, zero, suc, _+_, _*_, _/_, _≤_, _<_}
+use Prim.Native.Nat.{ℕ, zero, suc, _/_, _≤_, _<_}
 use native.Mathlib.Omega.{arith}
-use mathlib.Core.Bool.{Bool, true, false}
-use mathlib.Core.List.{List, [], _∷_, _++_}
-use mathlib.Core.Path.{_≡_, refl, sym, ap, subst, _∙_}
+use mathlib.Core.Bool.{true, false}
+use mathlib.Core.List.{List, [], _∷_}
+use mathlib.Core.Path.{_≡_, refl, sym, subst, _∙_}
 use lib.ListN.{length, getD}
 use lib.Ieee.{Float}
 use Rattle.layout.specs.Layout.{wordsPerEdge}
 use Rattle.buffers.specs.Slots.{slotsOf}
 use Rattle.better.specs.Claim.{All}
 use Rattle.windows.specs.Windows.{capacityOf}
-use Rattle.job_checks.specs.Job.{Job, vertexCount, triangleCount, pieceCount}
+use Rattle.job_checks.specs.Job.{Job, vertexCount, triangleCount}
 use Rattle.job_checks.specs.Refusals.{refusals, refusalOf}
 use Rattle.job_checks.specs.Sound.{Sound}
 use Rattle.job_checks.proofs.Any.{both-passed, passed-here}
@@ -40,14 +40,22 @@ use Rattle.insert_job.specs.Field.{begunJob, insertsOf}
 use Rattle.insert_job.proofs.Begun.{checked, begun-proper, begun-job}
 use Rattle.run_operations.specs.Lists.{cutCount, cutTo}
 use Rattle.run_steps.specs.Run.{WorkResult, refused, field}
-use Rattle.field_work.specs.Work.{workOf}
+use Rattle.field_work.specs.Work.{workOf, workCandidates}
 use Rattle.finish.specs.Contents.{FieldBuffers}
-use Rattle.compute_spec.specs.Compute.{otherCounts, workIn, unlessRefused, computeOf}
+use Rattle.compute_spec.specs.Compute.{otherCounts, workIn, computeOf}
 use Rattle.compute_spec.proofs.Refusals.{compute-refused, compute-worked}
 use Rattle.work_laws.specs.Kept.{SoundCandidate}
 use Rattle.work_laws.specs.Laws.{StateLaws}
 use Rattle.work_laws.proofs.Laws.{state-laws}
-use Rattle.field_laws.specs.Demands.{jobCandidates}
+use Rattle.field_model.specs.Job.{Finished}
+
+-- its candidates, by the definition over the heap's buffers
+abbrev pub jobCandidates : Job → FieldBuffers → ℕ → List Candidate
+jobCandidates j b most = workCandidates j (filled (j .vertices) (j .triangles) (j .flags) (b .mesh) .vertex-words) (workIn b) (cutTo (cutCount (b .cuts)) (b .cuts)) most
+
+-- its field without the queue, after so many steps
+abbrev pub finishedAs : Inserted → ℕ → Finished
+finishedAs x n = record { wins = x .state .wins; live = x .state .live; vertex = x .state .stock .vertex; entries = x .entries; steps = n }
 
 filled-as : (v : List Float) (triangles flags : List ℕ) (m : MeshBuffers) (k : ℕ) → k ≡ 0 → sharedByThree triangles ≡ false → filled v triangles flags m ≡ afterwards k m (topologyOf v triangles flags m)
 unfolding afterwards topologyOf

@@ -38,7 +38,10 @@ either-requires-3 c κs = search needs
 
 returns : tie.Need-returns
 unfolding meetsRefusal
-returns c = rw (c .either3 .ensures, c .before .either2 .ensures, c .before .before .either .ensures, c .before .before .before .any-above-one .ensures, c .before .before .before .before .over2 .ensures, c .before .before .before .before .before .refusal-number2 .ensures, c .before .before .before .before .before .before .check-pieces .ensures, c .before .before .before .before .before .before .before .any-degenerate .ensures, c .before .before .before .before .before .before .before .before .over .ensures, c .before .before .before .before .before .before .before .before .before .refusal-number .ensures, c .before .before .before .before .before .before .before .before .before .before .check-mesh .ensures)
+returns c =
+    let one = c .before .before .before .before in
+    let two = one .before .before .before .before in
+    rw (c .either3 .ensures, c .before .either2 .ensures, c .before .before .either .ensures, c .before .before .before .any-above-one .ensures, one .over2 .ensures, one .before .refusal-number2 .ensures, one .before .before .check-pieces .ensures, one .before .before .before .any-degenerate .ensures, two .over .ensures, two .before .refusal-number .ensures, two .before .before .check-mesh .ensures)
 
 pub meets-refusal-spec : {M : Type 1} → statement M
 meets-refusal-spec =

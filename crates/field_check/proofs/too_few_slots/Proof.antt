@@ -38,7 +38,10 @@ either-requires-3 c κs = search needs
 
 returns : tie.Need-returns
 unfolding tooFewSlots
-returns c = rw (c .either3 .ensures, c .before .either2 .ensures, c .before .before .either .ensures, c .before .before .before .over4 .ensures, c .before .before .before .before .over3 .ensures, c .before .before .before .before .before .over2 .ensures, c .before .before .before .before .before .before .over .ensures, c .before .before .before .before .before .before .before .capacity .ensures, c .before .before .before .before .before .before .before .before .slots .ensures, c .before .before .before .before .before .before .before .before .before .count2 .ensures, c .before .before .before .before .before .before .before .before .before .before .count .ensures)
+returns c =
+    let one = c .before .before .before .before in
+    let two = one .before .before .before .before in
+    rw (c .either3 .ensures, c .before .either2 .ensures, c .before .before .either .ensures, c .before .before .before .over4 .ensures, one .over3 .ensures, one .before .over2 .ensures, one .before .before .over .ensures, one .before .before .before .capacity .ensures, two .slots .ensures, two .before .count2 .ensures, two .before .before .count .ensures)
 
 pub too-few-slots-spec : {M : Type 1} → statement M
 too-few-slots-spec =

@@ -47,7 +47,11 @@ either-requires-4 c κs = search needs
 
 returns : tie.Need-returns
 unfolding triangleOutside
-returns c = rw (c .either4 .ensures, c .before .either3 .ensures, c .before .before .either2 .ensures, c .before .before .before .either .ensures, c .before .before .before .before .over2 .ensures, c .before .before .before .before .before .read-u325 .ensures, c .before .before .before .before .before .before .over .ensures, c .before .before .before .before .before .before .before .read-u324 .ensures, c .before .before .before .before .before .before .before .before .past3 .ensures, c .before .before .before .before .before .before .before .before .before .read-u323 .ensures, c .before .before .before .before .before .before .before .before .before .before .past2 .ensures, c .before .before .before .before .before .before .before .before .before .before .before .read-u322 .ensures, c .before .before .before .before .before .before .before .before .before .before .before .before .past .ensures, c .before .before .before .before .before .before .before .before .before .before .before .before .before .read-u32 .ensures)
+returns c =
+    let one = c .before .before .before .before in
+    let two = one .before .before .before .before in
+    let three = two .before .before .before .before in
+    rw (c .either4 .ensures, c .before .either3 .ensures, c .before .before .either2 .ensures, c .before .before .before .either .ensures, one .over2 .ensures, one .before .read-u325 .ensures, one .before .before .over .ensures, one .before .before .before .read-u324 .ensures, two .past3 .ensures, two .before .read-u323 .ensures, two .before .before .past2 .ensures, two .before .before .before .read-u322 .ensures, three .past .ensures, three .before .read-u32 .ensures)
 
 pub triangle-outside-spec : {M : Type 1} → statement M
 triangle-outside-spec =

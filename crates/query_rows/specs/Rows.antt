@@ -1,0 +1,66 @@
+-- Rows of questions: refusal 20 once, then each question's number and distance, which are those of the single query. Definitions only.
+-- A row whose answers don't fit is refused by 74, a number that no document uses.
+use Prim.Native.Nat.{ℕ, zero, suc}
+use mathlib.Core.Bool.{Bool, _||_}
+use mathlib.Core.List.{List}
+use lib.Dec.{ltb}
+use lib.Ieee.{Float, nan}
+use lib.ListN.{length, getD, set}
+use Rattle.buffers.specs.Slots.{slotsOf}
+use Rattle.float64.specs.Notation.{if_then_else_}
+use Rattle.computed.specs.declared.Computed.{Computed}
+use Rattle.computed.specs.declared.Computed.the-variants.{Refused, Field as isField}
+use Rattle.computed.specs.declared.Field.{Field}
+use Rattle.field_check.specs.FieldCheck.{JobSlices, FieldSlices, fieldUnsound}
+use Rattle.queries.specs.declared.EdgeDistance.{EdgeDistance}
+use Rattle.queries.specs.Answers.{edgeNumber, edgeValue}
+use Rattle.queries.specs.Queries.{edgeAnswer}
+use Rattle.query_rows.specs.declared.RowAnswer.{RowAnswer}
+use Rattle.query_rows.specs.declared.RowAnswer.the-variants.{NoField, ShortRow, Answered}
+
+abbrev pub rowNumber : RowAnswer → ℕ
+rowNumber NoField = 20
+rowNumber ShortRow = 74
+rowNumber Answered = 0
+
+-- the answer of a row, and the slices for the numbers and the distances as it leaves them
+pub record RowResult : Type 0 where
+  pub answer : RowAnswer
+  pub numbers : List ℕ
+  pub distances : List Float
+
+abbrev pub rowResult : RowAnswer → List ℕ → List Float → RowResult
+rowResult r ns ds = record { answer = r; numbers = ns; distances = ds }
+
+-- the first n elements written in turn
+unfoldable pub writtenRow : {A : Type 0} → (ℕ → A) → ℕ → List A → List A
+writtenRow g zero l = l
+writtenRow g (suc k) l = set (writtenRow g k l) k (g k)
+
+-- how many elements of a slice are counted
+abbrev pub elements : {A : Type 0} → List A → ℕ
+elements l = slotsOf (length l) 1
+
+-- fewer places than there are questions
+unfoldable pub shortFor : ℕ → ℕ → ℕ → ℕ → Bool
+shortFor questions others numbers distances = ltb others questions || (ltb numbers questions || ltb distances questions)
+
+-- ---- places on edges
+abbrev pub edgeAsked : Field → FieldSlices → List ℕ → List Float → ℕ → EdgeDistance
+edgeAsked n b edges places i = edgeAnswer n b (getD edges i 0) (getD places i nan)
+
+module _ (n : Field) (b : FieldSlices) (edges : List ℕ) (places : List Float) where
+  abbrev pub edgeNumbers : ℕ → ℕ
+  edgeNumbers i = edgeNumber (edgeAsked n b edges places i)
+
+  abbrev pub edgeValues : ℕ → Float
+  edgeValues i = edgeValue (edgeAsked n b edges places i)
+
+module _ (j : JobSlices) (b : FieldSlices) (numbers : List ℕ) (distances : List Float) where
+  unfoldable pub edgeRow : Computed → List ℕ → List Float → RowResult
+  unfolding shortFor writtenRow
+  edgeRow (Refused k) edges places = rowResult NoField numbers distances
+  edgeRow (isField n) edges places =
+      if fieldUnsound n j b then rowResult NoField numbers distances else
+      if shortFor (elements edges) (elements places) (elements numbers) (elements distances) then rowResult ShortRow numbers distances else
+      rowResult Answered (writtenRow (edgeNumbers n b edges places) (elements edges) numbers) (writtenRow (edgeValues n b edges places) (elements edges) distances)
