@@ -148,8 +148,21 @@ impl<'a> Ready<'a> {
     }
 
     /// `Field::compute` alone, to be timed; the answer is the field.
-    pub fn compute(&self) -> Result<impl Sized + '_, String> {
-        self.field()
+    pub fn compute(&self) -> Result<Solved<'_>, String> {
+        self.field().map(Solved)
+    }
+}
+
+/// A finished field of the published file, and its two queries.
+pub struct Solved<'a>(exact::Field<'a>);
+
+impl Solved<'_> {
+    pub fn at(&self, f: u32, p: Vec3) -> f64 {
+        self.0.at(f, p)
+    }
+
+    pub fn edge_at(&self, e: u32, x: f64) -> f64 {
+        self.0.edge_at(e, x)
     }
 }
 

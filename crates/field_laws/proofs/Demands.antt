@@ -240,7 +240,7 @@ module _ (j : Job) (b : FieldBuffers) (most : ℕ) where
   same = job-same inOrder in-order j b most
 
   -- whatever is so of the field over the heap's buffers is so of the field
-  field-for : (P : Finished → Type 0) → ((y : Inserted) (n : ℕ) → computeOf j b most ≡ field y n → P (finishedAs y n)) → (x : Finished) → computeOver inOrder j b most ≡ gives x → P x
+  pub field-for : (P : Finished → Type 0) → ((y : Inserted) (n : ℕ) → computeOf j b most ≡ field y n → P (finishedAs y n)) → (x : Finished) → computeOver inOrder j b most ≡ gives x → P x
   unfolding finishedOf finishedOr Gives
   field-for P each x is = go (computeOf j b most) refl (sym same ∙ is) where
     go : (r : WorkResult) → computeOf j b most ≡ r → finishedOf r ≡ gives x → P x

@@ -6,15 +6,19 @@ use mathlib.Core.List.{List}
 use lib.Dec.{ltb}
 use lib.Ieee.{Float, nan}
 use lib.ListN.{length, getD, set}
+use Rattle.layout.specs.Layout.{coordinatesPerVertex}
 use Rattle.buffers.specs.Slots.{slotsOf}
 use Rattle.float64.specs.Notation.{if_then_else_}
+use Rattle.job_checks.specs.Edge.{vertexAt}
 use Rattle.computed.specs.declared.Computed.{Computed}
 use Rattle.computed.specs.declared.Computed.the-variants.{Refused, Field as isField}
 use Rattle.computed.specs.declared.Field.{Field}
 use Rattle.field_check.specs.FieldCheck.{JobSlices, FieldSlices, fieldUnsound}
+use Rattle.queries.specs.declared.FaceDistance.{FaceDistance}
 use Rattle.queries.specs.declared.EdgeDistance.{EdgeDistance}
-use Rattle.queries.specs.Answers.{edgeNumber, edgeValue}
-use Rattle.queries.specs.Queries.{edgeAnswer}
+use Rattle.queries.specs.declared.VertexDistance.{VertexDistance}
+use Rattle.queries.specs.Answers.{faceNumber, edgeNumber, vertexNumber, faceValue, edgeValue, vertexValue}
+use Rattle.queries.specs.Queries.{faceAnswer, edgeAnswer, vertexAnswer}
 use Rattle.query_rows.specs.declared.RowAnswer.{RowAnswer}
 use Rattle.query_rows.specs.declared.RowAnswer.the-variants.{NoField, ShortRow, Answered}
 
@@ -45,6 +49,26 @@ elements l = slotsOf (length l) 1
 unfoldable pub shortFor : ℕ → ℕ → ℕ → ℕ → Bool
 shortFor questions others numbers distances = ltb others questions || (ltb numbers questions || ltb distances questions)
 
+-- ---- points of faces: three coordinates for each
+abbrev pub faceAsked : Field → FieldSlices → JobSlices → List ℕ → List Float → ℕ → FaceDistance
+faceAsked n b j asked points i = faceAnswer n b j (getD asked i 0) (vertexAt points i)
+
+module _ (n : Field) (b : FieldSlices) (j : JobSlices) (asked : List ℕ) (points : List Float) where
+  abbrev pub faceNumbers : ℕ → ℕ
+  faceNumbers i = faceNumber (faceAsked n b j asked points i)
+
+  abbrev pub faceValues : ℕ → Float
+  faceValues i = faceValue (faceAsked n b j asked points i)
+
+module _ (j : JobSlices) (b : FieldSlices) (numbers : List ℕ) (distances : List Float) where
+  unfoldable pub faceRow : Computed → List ℕ → List Float → RowResult
+  unfolding shortFor writtenRow
+  faceRow (Refused k) asked points = rowResult NoField numbers distances
+  faceRow (isField n) asked points =
+      if fieldUnsound n j b then rowResult NoField numbers distances else
+      if shortFor (elements asked) (slotsOf (length points) coordinatesPerVertex) (elements numbers) (elements distances) then rowResult ShortRow numbers distances else
+      rowResult Answered (writtenRow (faceNumbers n b j asked points) (elements asked) numbers) (writtenRow (faceValues n b j asked points) (elements asked) distances)
+
 -- ---- places on edges
 abbrev pub edgeAsked : Field → FieldSlices → List ℕ → List Float → ℕ → EdgeDistance
 edgeAsked n b edges places i = edgeAnswer n b (getD edges i 0) (getD places i nan)
@@ -64,3 +88,23 @@ module _ (j : JobSlices) (b : FieldSlices) (numbers : List ℕ) (distances : Lis
       if fieldUnsound n j b then rowResult NoField numbers distances else
       if shortFor (elements edges) (elements places) (elements numbers) (elements distances) then rowResult ShortRow numbers distances else
       rowResult Answered (writtenRow (edgeNumbers n b edges places) (elements edges) numbers) (writtenRow (edgeValues n b edges places) (elements edges) distances)
+
+-- ---- vertices
+abbrev pub vertexAsked : Field → FieldSlices → List ℕ → ℕ → VertexDistance
+vertexAsked n b asked i = vertexAnswer n b (getD asked i 0)
+
+module _ (n : Field) (b : FieldSlices) (asked : List ℕ) where
+  abbrev pub vertexNumbers : ℕ → ℕ
+  vertexNumbers i = vertexNumber (vertexAsked n b asked i)
+
+  abbrev pub vertexValues : ℕ → Float
+  vertexValues i = vertexValue (vertexAsked n b asked i)
+
+module _ (j : JobSlices) (b : FieldSlices) (numbers : List ℕ) (distances : List Float) where
+  unfoldable pub vertexRow : Computed → List ℕ → RowResult
+  unfolding shortFor writtenRow
+  vertexRow (Refused k) asked = rowResult NoField numbers distances
+  vertexRow (isField n) asked =
+      if fieldUnsound n j b then rowResult NoField numbers distances else
+      if shortFor (elements asked) (elements asked) (elements numbers) (elements distances) then rowResult ShortRow numbers distances else
+      rowResult Answered (writtenRow (vertexNumbers n b asked) (elements asked) numbers) (writtenRow (vertexValues n b asked) (elements asked) distances)

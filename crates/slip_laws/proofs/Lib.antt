@@ -1,0 +1,6 @@
+pub mod Parts
+pub mod Rows
+pub mod Pieces
+pub mod Walk
+pub mod RoundTrip
+pub mod Written

@@ -1,0 +1,1 @@
+// The slip of a job is read as that job: definitions and laws, no code.
