@@ -20,7 +20,7 @@ use Rattle.mesh_readers.specs.Readers.{sideIn, coordsAt}
 use Rattle.mesh_readers.specs.declared.FrameCoords.{FrameCoords}
 use Rattle.last_pass.specs.Buffers.{chainBehind}
 use Rattle.face_distance.specs.Entries.{throughVertex, throughWindow}
-use Rattle.face_query.specs.FaceDistance.{throughWindows, recordsOn, throughCorner, throughSide}
+use Rattle.face_query.specs.FaceDistance.{throughWindows, recordsOn, throughFaceVertex, throughSide}
 
 -- 1.0 / 0.0
 pub infinite : div binary64 one zero64 ≡ inf false
@@ -30,8 +30,8 @@ infinite = refl
 -- ---- a vertex
 pub corner-is : (v : List Float) (triangles : List ℕ) (vertex : List Float) (f : ℕ) (p : Vec3) (i : ℕ) (d : Float) (k : VertexId) (o : Vec3) (far through r : Float)
     → k ≡ record { 0 = getD triangles (verticesPerTriangle * f + i) 0 } → o ≡ vertexAt v (k .0) → far ≡ distanceOf vertex (k .0) → through ≡ throughVertex p o far → r ≡ minOf d through
-    → r ≡ throughCorner v triangles vertex f p i d
-unfolding throughCorner
+    → r ≡ throughFaceVertex v triangles vertex f p i d
+unfolding throughFaceVertex
 corner-is v triangles vertex f p i d k o far through r hk ho hf ht hr =
     hr ∙ ap (minOf d) (ht ∙ (λ j. throughVertex p (ho j) (hf j)) ∙ ap (λ (y : VertexId). throughVertex p (vertexAt v (y .0)) (distanceOf vertex (y .0))) hk)
 

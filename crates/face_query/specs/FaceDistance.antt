@@ -54,15 +54,15 @@ toEntries coords p d (x ∷ xs) = toEntries coords p (minOf d (toPart coords p (
 -- through the vertices
 module _ (v : List Float) (triangles : List ℕ) (vertex : List Float) (f : ℕ) (p : Vec3) where
   -- `d = d.min(norm(sub(p, v[k])) + vertex[k])`, where k is vertex i of the face
-  unfoldable pub throughCorner : ℕ → Float → Float
-  throughCorner i d =
+  unfoldable pub throughFaceVertex : ℕ → Float → Float
+  throughFaceVertex i d =
       let k : ℕ = getD triangles (verticesPerTriangle * f + i) 0 in
       minOf d (throughVertex p (vertexAt v k) (distanceOf vertex k))
 
   -- `for &k in &t[f]`, from infinity on
   unfoldable pub throughVertices : Float
-  unfolding throughCorner
-  throughVertices = throughCorner 2 (throughCorner 1 (throughCorner 0 (inf false)))
+  unfolding throughFaceVertex
+  throughVertices = throughFaceVertex 2 (throughFaceVertex 1 (throughFaceVertex 0 (inf false)))
 
 -- through the windows on its edges, where so many windows are made
 module _ (v : List Float) (edgeWords : List ℕ) (edgeReals : List Float) (triangleWords : List ℕ) (triangleReals : List Float) (words : List ℕ) (reals : List Float) (made f : ℕ) (p : Vec3) where

@@ -26,7 +26,7 @@ ghost use Rattle.last_pass.specs.Buffers.{chainBehind};
 ghost use Rattle.face_entries.specs.Buffers.{entryCapacity};
 ghost use Rattle.face_entries.specs.Entries.{entriesFrom};
 ghost use Rattle.face_distance.specs.Entries.{toPoint, toSegment, throughWindow};
-ghost use Rattle.face_query.specs.FaceDistance.{throughWindows, recordsOn, firstEnd, secondEnd, toPart, toEntries, throughCorner, throughVertices, throughSide, throughSides, toPieces, faceDistanceIn};
+ghost use Rattle.face_query.specs.FaceDistance.{throughWindows, recordsOn, firstEnd, secondEnd, toPart, toEntries, throughFaceVertex, throughVertices, throughSide, throughSides, toPieces, faceDistanceIn};
 
 // The lesser of d and of the way through vertex i of a face.
 fn through_corner(
@@ -38,7 +38,7 @@ fn through_corner(
     i: u32,
     d: f64,
 ) -> f64
-    ensures { λ r. ⌜ r ≡ throughCorner (given vertices) (given triangles) (given vertex) (f .0) p i d ⌝ }
+    ensures { λ r. ⌜ r ≡ throughFaceVertex (given vertices) (given triangles) (given vertex) (f .0) p i d ⌝ }
 {
     let k = mesh_readers::face_vertex(triangles, f, i);
     let v = mesh_readers::vertex(vertices, k);

@@ -62,7 +62,7 @@ use Rattle.last_pass.specs.Lowered.{loweredAll}
 use Rattle.work_laws.proofs.Zeros.{zeros-behind}
 use Rattle.work_laws.proofs.Beyond.{Beyond, beyond-lowered}
 use Rattle.work_laws.proofs.Stops.{WorkEnds, work-ends}
-use Rattle.field_laws.specs.Demands.{EndsWithin, RestIsZero, RoomsThen, JobDemand1, AsTheRust, JobDemand2, BookKept, JobDemand3, EntryLaws, FieldLaws, ReturnedField, Returned}
+use Rattle.field_laws.specs.Demands.{EndsWithin, RestIsZero, BuffersThen, JobDemand1, AsTheRust, JobDemand2, ModelKept, JobDemand3, EntryLaws, FieldLaws, ReturnedField, Returned}
 use Rattle.field_laws.proofs.Held.{length-words, length-reals}
 use Rattle.field_laws.proofs.Job.{jobCandidates, finishedAs, passed, built, sound-job, mesh-fresh, triangle-slots, face-there, laws, entries-are, entries-fit}
 use Rattle.field_laws.proofs.Entries.{job-entries, first-there, last-there, link-below, piece-below}
@@ -102,8 +102,8 @@ module _ (j : Job) (b : FieldBuffers) (most : ℕ) (x : Inserted) (n : ℕ) (is 
       content-only (m .triangle-words) (length (b .entry-words)) (fresh-none m (mesh-fresh j b most x n is)) (x .entries) (entries-fit j b most x n is)
       (all-map {P = λ (y : FaceEntry). (y .face < triangleCount j) × (y .entry .piece < pieceCount j)} {Q = FaceThere (m .triangle-words)} (λ y k. let z = k .0 in omega (arith, z, triangle-slots j b most x n is)) (x .entries) entries-there)
 
-  book-kept : BookKept j (jobCandidates j b most) (s .live)
-  book-kept =
+  model-kept : ModelKept j (jobCandidates j b most) (s .live)
+  model-kept =
       let F = laws j b most x n is .follows in
       record { exactly = λ e. sym (unqueued-same (s .live e) (idle-windows j b most x n is e)) ∙ F .same e; trimmed = λ e. follows-demand3 F e }
 
@@ -195,8 +195,8 @@ unfolding unlessRefused finishedOf
 ends-within most zero r h w = work-within most r w
 ends-within most (suc k) r h w = (omega arith, inl (omega (arith, h)))
 
-refused-rooms : (k : ℕ) (b b′ : FieldBuffers) → b′ ≡ cond (leb k 9) b (zeroField b) → (k ≤ 9 → b′ ≡ b) × (9 < k → b′ ≡ zeroField b)
-refused-rooms k b b′ h =
+refused-buffers : (k : ℕ) (b b′ : FieldBuffers) → b′ ≡ cond (leb k 9) b (zeroField b) → (k ≤ 9 → b′ ≡ b) × (9 < k → b′ ≡ zeroField b)
+refused-buffers k b b′ h =
     ((λ l. h ∙ ap (λ (t : Bool). cond t b (zeroField b)) (le-leb k 9 l)), (λ l. h ∙ ap (λ (t : Bool). cond t b (zeroField b)) (lt-leb k 9 l)))
 
 -- what a field's buffers hold says nothing of the queue
@@ -247,17 +247,17 @@ module _ (j : Job) (b : FieldBuffers) (most : ℕ) where
     go (run.refused k) e h = absurd (subst Gives (sym h) tt)
     go (field y n) e h = subst P (ap (finishedOr x) h) (each y n e)
 
-  rooms-then : (r : WorkResult) → computeOf j b most ≡ r → (b′ : FieldBuffers) → LeavesOver j b (finishedOf r) b′ → RoomsThen j b (finishedOf r) b′
+  buffers-then : (r : WorkResult) → computeOf j b most ≡ r → (b′ : FieldBuffers) → LeavesOver j b (finishedOf r) b′ → BuffersThen j b (finishedOf r) b′
   unfolding finishedOf
-  rooms-then (run.refused k) h b′ c = refused-rooms k b b′ c
-  rooms-then (field x n) h b′ c = rest-is-zero j b most x n h b′ (given x n b′ c)
+  buffers-then (run.refused k) h b′ c = refused-buffers k b b′ c
+  buffers-then (field x n) h b′ c = rest-is-zero j b most x n h b′ (given x n b′ c)
 
   pub demand-1 : JobDemand1 j b most
-  demand-1 = subst (λ (r : Reply Finished). EndsWithin most r × ((b′ : FieldBuffers) → LeavesOver j b r b′ → RoomsThen j b r b′)) (sym same) (
+  demand-1 = subst (λ (r : Reply Finished). EndsWithin most r × ((b′ : FieldBuffers) → LeavesOver j b r b′ → BuffersThen j b r b′)) (sym same) (
     ends-within most (meshRefusal j (countsIn (b .mesh) (otherCounts b)))
         (workOf j (filled (j .vertices) (j .triangles) (j .flags) (b .mesh) .vertex-words) (workIn b) (cutTo (cutCount (b .cuts)) (b .cuts)) most)
         (mesh-few j (countsIn (b .mesh) (otherCounts b))) (work-ends j (filled (j .vertices) (j .triangles) (j .flags) (b .mesh) .vertex-words) (workIn b) (cutTo (cutCount (b .cuts)) (b .cuts)) most),
-    rooms-then (computeOf j b most) refl,
+    buffers-then (computeOf j b most) refl,
   )
 
   pub demand-2 : JobDemand2 j b most
@@ -268,8 +268,8 @@ module _ (j : Job) (b : FieldBuffers) (most : ℕ) where
 
   pub demand-3 : JobDemand3 j b most
   demand-3 =
-      field-for (λ (x : Finished). BookKept j (candidatesOver inOrder j b most) (x .live))
-      (λ x n is. subst (λ (cs : List Candidate). BookKept j cs (x .state .live)) (sym (job-candidates inOrder in-order j b most (passed j b most x n is))) (book-kept j b most x n is))
+      field-for (λ (x : Finished). ModelKept j (candidatesOver inOrder j b most) (x .live))
+      (λ x n is. subst (λ (cs : List Candidate). ModelKept j cs (x .state .live)) (sym (job-candidates inOrder in-order j b most (passed j b most x n is))) (model-kept j b most x n is))
 
   pub field-laws : ReturnedField j b most
   field-laws = field-for (λ (x : Finished). (b′ : FieldBuffers) → LeavesOver j b (gives x) b′ → FieldLaws j b x b′) (λ x n is b′ c. laws-of j b most x n is b′ (given x n b′ c))
@@ -301,7 +301,7 @@ answer-of j b most f b′ (gives x) is a w c =
       leaves = c;
       laws = field-laws j b most x is b′ c;
       as-the-rust = demand-2 j b most .0 x is b′ c;
-      book = demand-3 j b most x is;
+      model = demand-3 j b most x is;
     }
 
 pub returned : (j : Job) (b : FieldBuffers) (most : ℕ) (f : Field) (b′ : FieldBuffers) → ComputesOver inOrder j b most (Computed·Field f) b′ → Returned j b most f b′

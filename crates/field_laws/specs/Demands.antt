@@ -86,13 +86,13 @@ pub record RestIsZero (j : Job) (made entered : ℕ) (b b′ : FieldBuffers) : T
   pub piece-reals : (p : ℕ) → realsPerPiece * pieceCount j ≤ p → getD (b′ .piece-reals) p zero64 ≡ zero64
 
 -- "1 to 9 change no room", "10 to 15 and 17 fill every room with zeros"
-abbrev pub RoomsThen : Job → FieldBuffers → Reply Finished → FieldBuffers → Type 0
-RoomsThen j b (refused k) b′ = (k ≤ 9 → b′ ≡ b) × (9 < k → b′ ≡ zeroField b)
-RoomsThen j b (gives x) b′ = RestIsZero j (length (x .wins)) (length (x .entries)) b b′
+abbrev pub BuffersThen : Job → FieldBuffers → Reply Finished → FieldBuffers → Type 0
+BuffersThen j b (refused k) b′ = (k ≤ 9 → b′ ≡ b) × (9 < k → b′ ≡ zeroField b)
+BuffersThen j b (gives x) b′ = RestIsZero j (length (x .wins)) (length (x .entries)) b b′
 
 abbrev pub JobDemand1 : Job → FieldBuffers → ℕ → Type 0
 JobDemand1 j b most =
-    EndsWithin most (computeOver inOrder j b most) × ((b′ : FieldBuffers) → LeavesOver j b (computeOver inOrder j b most) b′ → RoomsThen j b (computeOver inOrder j b most) b′)
+    EndsWithin most (computeOver inOrder j b most) × ((b′ : FieldBuffers) → LeavesOver j b (computeOver inOrder j b most) b′ → BuffersThen j b (computeOver inOrder j b most) b′)
 
 -- ---- demand 2: "On every job .. that ends in a field .., the windows, corner distances .. and the count of steps equal the Rust's"
 -- `computeOver inOrder` is the Rust's `compute` on values up to the end of its main loop, and has the steps. Of what comes after, and of the buffers:
@@ -132,18 +132,18 @@ JobDemand2 j b most = ((x : Finished) → computeOver inOrder j b most ≡ gives
 
 -- ---- demand 3, for the candidates that the job offers: "after the list, on every edge, the live windows are exactly those of 01's book; .."
 -- the book fed with the limit, the lengths and these candidates
-abbrev pub jobBook : Job → List Candidate → Model
-jobBook j cs = steps betterOf (j .limit) (len (j .vertices) (j .triangles)) cs empty
+abbrev pub jobModel : Job → List Candidate → Model
+jobModel j cs = steps betterOf (j .limit) (len (j .vertices) (j .triangles)) cs empty
 
-pub record BookKept (j : Job) (cs : List Candidate) (live : ℕ → List Window) : Type 0 where
+pub record ModelKept (j : Job) (cs : List Candidate) (live : ℕ → List Window) : Type 0 where
   -- the book's live windows, of which the pops of their events have cleared the mark `queued`
-  pub exactly : (e : ℕ) → live e ≡ map unqueued (jobBook j cs .edge e .live)
+  pub exactly : (e : ℕ) → live e ≡ map unqueued (jobModel j cs .edge e .live)
   -- the sentences of demand 3, one by one, in trim_model/specs/Claim.antt
   pub trimmed : (e : ℕ) → Trimmed (tinyOf (len (j .vertices) (j .triangles) e)) (stepsBound betterOf (j .limit) (len (j .vertices) (j .triangles)) e cs empty)
-      (record { live = live e; admitted = jobBook j cs .edge e .admitted; slivers = jobBook j cs .edge e .slivers })
+      (record { live = live e; admitted = jobModel j cs .edge e .admitted; slivers = jobModel j cs .edge e .slivers })
 
 abbrev pub JobDemand3 : Job → FieldBuffers → ℕ → Type 0
-JobDemand3 j b most = (x : Finished) → computeOver inOrder j b most ≡ gives x → BookKept j (candidatesOver inOrder j b most) (x .live)
+JobDemand3 j b most = (x : Finished) → computeOver inOrder j b most ≡ gives x → ModelKept j (candidatesOver inOrder j b most) (x .live)
 
 -- ---- the laws of a field that a job returned, of its lists and of the buffers
 -- the mesh
@@ -214,4 +214,4 @@ pub record Returned (j : Job) (b : FieldBuffers) (most : ℕ) (f : Field) (b′ 
   pub leaves : LeavesOver j b (gives finished) b′
   pub laws : FieldLaws j b finished b′
   pub as-the-rust : AsTheRust j finished b′
-  pub book : BookKept j (candidatesOver inOrder j b most) (finished .live)
+  pub model : ModelKept j (candidatesOver inOrder j b most) (finished .live)

@@ -1,18 +1,15 @@
 -- The answers of `sirmolaat_insert`, from what the functions that it calls answered. Assumes nothing.
-use Prim.Native.Nat.{ℕ, _+_, _*_, _≤_, _<_}
+use Prim.Native.Nat.{ℕ, _*_, _≤_, _<_}
 use mathlib.Core.List.{List}
 use mathlib.Core.Path.{_≡_, refl, sym, ap, subst, _∙_}
 use native.Mathlib.Omega.{arith}
-use lib.ListN.{length, take}
-use lib.Seq.{length-take-le}
+use lib.ListN.{length}
 use lib.Ieee.{Float}
 use Rattle.layout.specs.Layout.{wordsPerPiece}
 use Rattle.job_checks.specs.Job.{Job, job, vertexCount}
 use Rattle.topology.specs.Edges.{edges}
 use Rattle.cut_lists.specs.Buffers.{Cuts}
-use Rattle.cut_lists.specs.Cut.{Sizes}
 use Rattle.run_operations.specs.Lists.{cutCount, cutTo}
-use Rattle.run_operations.proofs.Whole.{pts-fit, out-fit, keep-fit, next-fit}
 use Rattle.mesh.specs.declared.OtherCounts.{OtherCounts}
 use Rattle.mesh.specs.declared.Meshed.{Meshed}
 use Rattle.mesh.specs.Topology.{MeshBuffers, meshBuffers}
@@ -23,21 +20,6 @@ use Rattle.insert_job.specs.Field.{trimSlices, entrySlices}
 use Rattle.insert_job.specs.Job.{InsertsJob}
 use Rattle.insert_job.proofs.Begun.{begun-fits}
 use Rattle.insert_c.specs.Exports.{lentIn, edgesTold, insertTold, InsertedIn, InsertAnswers}
-
-twice : (x a b : ℕ) → a ≡ 2 * x → b ≡ x → a ≡ b + b
-twice x a b h k = omega (arith, h, k)
-
--- the parts of the cut buffers that are used
-module _ (c : Cuts) (x : ℕ) (is : x ≡ cutCount c) where
-  pts-length : length (take x (c .pts)) ≡ x
-  pts-length = length-take-le x (c .pts) (pts-fit c x is)
-
-  pub parts-sizes : Sizes (length (take x (c .pts))) (take (2 * x) (c .out)) (take (2 * x) (c .keep)) (take (2 * x) (c .next))
-  parts-sizes = record {
-    outs = twice x _ _ (length-take-le (2 * x) (c .out) (out-fit c x is)) pts-length;
-    keeps = twice x _ _ (length-take-le (2 * x) (c .keep) (keep-fit c x is)) pts-length;
-    nexts = twice x _ _ (length-take-le (2 * x) (c .next) (next-fit c x is)) pts-length;
-  }
 
 -- a mesh that was answered with a number, over slices whose slots were counted
 module _ (v : List Float) (triangles flags kinds faces : List ℕ) (coords : List Float) (limit : Float) (m : MeshBuffers) (s : WorkSlices) (o : OtherCounts) (a : Meshed) (built : MeshBuffers)

@@ -67,7 +67,7 @@ module _ (n : Field) (b : FieldSlices) where
       if placeOutside (lengthAt (b .edge-reals) e) x then edge.PlaceOutside else
       edge.At (edgeDistanceIn (b .vertex) (links (b .edge-words) (b .words)) (b .reals) (n .windows) (trimEdgeAt (b .edge-words) (b .edge-reals) e) x)
 
-  -- the Rust's `vertex_at`
+  -- the Rust's `vertex[k]`
   unfoldable pub vertexAnswer : ℕ → VertexDistance
   vertexAnswer k = if leb (n .vertices) k then vertex.MissingVertex else vertex.At (distanceOf (b .vertex) k)
 

@@ -12,7 +12,7 @@ use Rattle.slip.specs.declared.Slip.the-variants.{TooShort, LeftOver, Un
 use Rattle.slip.specs.declared.Slip.the-variants as slip
 use Rattle.slip.specs.Format.{isJob, vertexCount, triangleCount, pieceCount, piecesFrom, exceeds, afterPieces, answerTo}
 use Rattle.slip.specs.Format.{jobIn}
-use Rattle.slip.specs.Reading.{Rows, vertexRoom, triangleRoom, pieceRoom, filled, written, answer, reading}
+use Rattle.slip.specs.Reading.{Rows, vertexSlots, triangleSlots, pieceSlots, filled, written, answer, reading}
 use Rattle.slip.proofs.Pieces.{job-else}
 
 or-false : (a b : Bool) → a || b ≡ false → (a ≡ false) × (b ≡ false)
@@ -58,9 +58,9 @@ pub record Ready (s : List ℕ) (b : Rows) : Type 0 where
   pub coords : 6 * pieceCount s ≤ length (b .coords)
 
 pub ready : (s : List ℕ) (b : Rows) → isJob (answer s b) ≡ true → Ready s b
-unfolding answer vertexRoom triangleRoom pieceRoom
+unfolding answer vertexSlots triangleSlots pieceSlots
 ready s b h =
-    let f = job-fits s (vertexRoom b) (triangleRoom b) (pieceRoom b) h in
+    let f = job-fits s (vertexSlots b) (triangleSlots b) (pieceSlots b) h in
     record {
       counts = f .counts;
       mesh = f .mesh;

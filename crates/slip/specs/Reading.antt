@@ -21,14 +21,14 @@ abbrev pub rows : List Float → List ℕ → List ℕ → List ℕ → List ℕ
 rows v t f k n c = record { vertices = v; triangles = t; flags = f; kinds = k; faces = n; coords = c }
 
 -- how many vertices, triangles and pieces there is room for: the whole records that all slices of each have
-unfoldable pub vertexRoom : Rows → ℕ
-vertexRoom b = min (length (b .vertices) / 3) (length (b .flags))
+unfoldable pub vertexSlots : Rows → ℕ
+vertexSlots b = min (length (b .vertices) / 3) (length (b .flags))
 
-unfoldable pub triangleRoom : Rows → ℕ
-triangleRoom b = length (b .triangles) / 3
+unfoldable pub triangleSlots : Rows → ℕ
+triangleSlots b = length (b .triangles) / 3
 
-unfoldable pub pieceRoom : Rows → ℕ
-pieceRoom b = min (length (b .kinds)) (min (length (b .faces)) (length (b .coords) / 6))
+unfoldable pub pieceSlots : Rows → ℕ
+pieceSlots b = min (length (b .kinds)) (min (length (b .faces)) (length (b .coords) / 6))
 
 -- the job's lists stand at the fronts, and no other element changes
 unfoldable pub filled : Job → Rows → Rows
@@ -47,8 +47,8 @@ written s slip.TooMany b = b
 written s (slip.Job j) b = filled (jobIn s) b
 
 unfoldable pub answer : List ℕ → Rows → Slip
-unfolding vertexRoom triangleRoom pieceRoom answerTo
-answer s b = answerTo s (vertexRoom b) (triangleRoom b) (pieceRoom b)
+unfolding vertexSlots triangleSlots pieceSlots answerTo
+answer s b = answerTo s (vertexSlots b) (triangleSlots b) (pieceSlots b)
 
 unfoldable pub reading : List ℕ → Rows → Slip × Rows
 unfolding written answer

@@ -9,7 +9,7 @@ use lib.ListN.{length, take, drop}
 use lib.Seq.{take-at}
 use Rattle.job_checks.specs.Job.{Job, vertexCount, triangleCount, pieceCount}
 use Rattle.little_endian.specs.Bytes.{atFront}
-use Rattle.slip.specs.Reading.{Rows, vertexRoom, triangleRoom, pieceRoom, filled, reading}
+use Rattle.slip.specs.Reading.{Rows, vertexSlots, triangleSlots, pieceSlots, filled, reading}
 use Rattle.slip_write.specs.declared.Written.the-variants.{Length}
 use Rattle.slip_write.specs.Write.{slipOf, oversized, writing}
 use Rattle.slip_laws.specs.Whole.{Whole, answerOf}
@@ -32,7 +32,7 @@ module _ (j : Job) (w : Whole j) (out : List ℕ) where
   slip-written h = rw (not-oversized, le-ltb (length out) (length (slipOf j)) h)
 
   -- as many bytes as the writer answers, read where there is room, leave the job at the fronts
-  pub written-read : (b : Rows) → vertexCount j ≤ vertexRoom b → triangleCount j ≤ triangleRoom b → pieceCount j ≤ pieceRoom b
+  pub written-read : (b : Rows) → vertexCount j ≤ vertexSlots b → triangleCount j ≤ triangleSlots b → pieceCount j ≤ pieceSlots b
       → reading (take (length (slipOf j)) (atFront (slipOf j) out)) b ≡ (answerOf j, filled j b)
   unfolding atFront
   written-read b hv ht hp =

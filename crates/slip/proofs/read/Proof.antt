@@ -1,6 +1,6 @@
 -- `slip::read` meets its contract. Assumes nothing.
 use Rattle.slip.proofs.Room.{Ready, ready, did-read, did-refuse}
-use Rattle.slip.specs.Reading.{Rows, rows, vertexRoom, triangleRoom, pieceRoom, filled, answer}
+use Rattle.slip.specs.Reading.{Rows, rows, vertexSlots, triangleSlots, pieceSlots, filled, answer}
 use mathlib.Core.Path.{_≡_, sym, _∙_}
 use borrow.Author.Needs.{needs}
 use Rattle.slip.proofs.read.Statement.{statement}
@@ -13,7 +13,7 @@ given-rows c =
     rows (a .vertices .now) (a .triangles .now) (a .flags .now) (a .kinds .now) (a .faces .now) (a .coords .now)
 
 answered : (c : tie.After-check) → c .check .result ≡ answer (c .before .before .before .before .before .before .before .before .before .before .before .args .s .now) (given-rows c)
-unfolding answer vertexRoom triangleRoom pieceRoom
+unfolding answer vertexSlots triangleSlots pieceSlots
 answered c =
     let at-least2 = c .before .before in
     rw (at-least2 .before .least .ensures, c .before .least3 .ensures, at-least2 .least2 .ensures) at (c .check .ensures)
