@@ -1,3 +1,4 @@
 pub mod Magnitude
 pub mod Reciprocal
 pub mod Ends
+pub mod RoundingError
