@@ -1,0 +1,3 @@
+pub mod HypotOrder
+pub mod ProductOrder
+pub mod Middle
