@@ -3,6 +3,8 @@ pub mod Ties
 pub mod Points
 pub mod Stretches
 pub mod Buffers
+pub mod Signs
 pub mod Pairs
+pub mod Turns
 pub mod Stored
 pub mod Decimal

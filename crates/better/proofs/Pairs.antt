@@ -2,21 +2,22 @@
 --     joined-no      a stretch that does not continue the last is one more
 --     pairs-push     what the buffer holds after one more pair
 --     pairs-more, pairs-longer  what it holds after a stretch
---     rest           what the loop over the points comes to from pts[k - 1] on; rest-start, rest-next, rest-end, rest-full
+--     pairs-take     the first of them
+--     step           what a pair of neighbours adds to the stretches; stretches-cons, stretches-nil
 use Prim.Native.Nat.{ℕ, zero, suc, _+_, _*_, _-_, _≤_, _<_}
 use native.Mathlib.Omega.{arith}
+use native.Mathlib.Decide.{decLe}
 use native.Mathlib.Numerals.{add-one}
 use mathlib.Core.Path.{_≡_, refl, sym, ap, _∙_, subst}
 use mathlib.Core.Logic.{_≢_}
 use lib.Dec.{T}
 use mathlib.Core.Bool.{true, false}
 use mathlib.Core.List.{List, [], _∷_, _++_, append-assoc}
-use lib.ListN.{length, take, drop, getD, set, length-append, length-take, length-set, drop-of-length-le}
-use lib.Seq.{getD-set-same, getD-set-other, getD-take, drop-cons}
+use lib.ListN.{length, take, getD, set, length-append, length-set}
+use lib.Seq.{getD-set-same, getD-set-other, take-append-le, take-all}
 use lib.Ieee.{Float, nan, eq}
-use Rattle.nat_laws.proofs.Tests.{branch}
-use Rattle.better.specs.Stretches.{Interval, interval, joined, shorterBetween, stretches, outOf}
 use Rattle.float64.specs.Notation.{if_then_else_}
+use Rattle.better.specs.Stretches.{Interval, interval, joined, shorterBetween, stretches}
 use Rattle.source.specs.declared.Src.{Src}
 use Rattle.better.specs.Buffers.{pairs, lastEndsAt}
 
@@ -24,7 +25,11 @@ pub pairs-length : (m : ℕ) (l : List Float) → length (pairs m l) ≡ m
 pairs-length zero l = refl
 pairs-length (suc m) l = rw length-append (omega (arith, pairs-length m l))
 
-pairs-set : (m : ℕ) (l : List Float) (i : ℕ) (v : Float) → m + m ≤ i → pairs m (set l i v) ≡ pairs m l
+pub pairs-take : (i m : ℕ) (l : List Float) → i ≤ m → take i (pairs m l) ≡ pairs i l
+pairs-take i zero l h = let e : i ≡ 0 = omega arith in rw e
+pairs-take i (suc m) l h = elim (decLe i m) [ yes k ↦ rw (take-append-le i (pairs m l) (interval (getD l (m + m) nan) (getD l (suc (m + m)) nan) ∷ []) (omega (arith, pairs-length m l))) (pairs-take i m l k) | no k ↦ let e : i ≡ suc m = omega arith in rw e (take-all (suc m) (pairs (suc m) l) (omega (arith, pairs-length (suc m) l))) ]
+
+pub pairs-set : (m : ℕ) (l : List Float) (i : ℕ) (v : Float) → m + m ≤ i → pairs m (set l i v) ≡ pairs m l
 pairs-set zero l i v h = refl
 pairs-set (suc m) l i v h = rw (pairs-set m l i v (omega arith), getD-set-other l i (m + m) v nan (omega arith), getD-set-other l i (suc (m + m)) v nan (omega arith))
 
@@ -78,52 +83,15 @@ module _ (l : List Float) (x0 x1 : Float) where
       let f : i ≡ suc (m + m) = omega arith in
       rw (joined-last (pairs m l) g x0 x1, joined-one g x0 x1 h, f, pairs-set m l (suc (m + m)) x1 (omega arith), getD-set-other l (suc (m + m)) (m + m) x1 nan (omega arith), getD-set-same l (suc (m + m)) x1 nan (omega arith))
 
--- ---- the loop over the points
-pub joined-more : (gs : List Interval) (x0 x1 : Float) → length gs ≤ length (joined gs x0 x1)
-unfolding joined
-joined-more [] x0 x1 = omega arith
-joined-more (g ∷ []) x0 x1 = branch (λ (l : List Interval). 1 ≤ length l) (eq (g .to) x0) (λ t. omega arith) (λ t. omega arith)
-joined-more (g ∷ h ∷ gs) x0 x1 = omega (arith, joined-more (h ∷ gs) x0 x1)
-
+-- ---- the loop over neighbours
 module _ (p q : Src) where
   abbrev pub step : Float → Float → List Interval → List Interval
   step x0 x1 gs = if shorterBetween p q x0 x1 then joined gs x0 x1 else gs
 
-  stretches-more : (x0 : Float) (xs : List Float) (gs : List Interval) → length gs ≤ length (stretches p q x0 xs gs)
-  unfolding stretches
-  stretches-more x0 [] gs = omega arith
-  stretches-more x0 (x1 ∷ xs) gs =
-      let a : length gs ≤ length (step x0 x1 gs) = branch (λ (l : List Interval). length gs ≤ length l) (shorterBetween p q x0 x1) (λ t. joined-more gs x0 x1) (λ t. omega arith) in
-      omega (arith, a, stretches-more x1 xs (step x0 x1 gs))
-
-  stretches-cons : (x0 x1 : Float) (xs : List Float) (gs : List Interval) → stretches p q x0 (x1 ∷ xs) gs ≡ stretches p q x1 xs (step x0 x1 gs)
+  pub stretches-cons : (x0 x1 : Float) (xs : List Float) (gs : List Interval) → stretches p q x0 (x1 ∷ xs) gs ≡ stretches p q x1 xs (step x0 x1 gs)
   unfolding stretches
   stretches-cons x0 x1 xs gs = refl
 
-  stretches-nil : (x0 : Float) (gs : List Interval) → stretches p q x0 [] gs ≡ gs
+  pub stretches-nil : (x0 : Float) (gs : List Interval) → stretches p q x0 [] gs ≡ gs
   unfolding stretches
   stretches-nil x0 gs = refl
-
-  -- what the loop comes to from pts[k - 1] on, with the stretches gs so far
-  abbrev pub rest : List Float → ℕ → ℕ → List Interval → List Interval
-  rest pts n k gs = stretches p q (getD pts (k - 1) nan) (drop k (take n pts)) gs
-
-  pub rest-start : (pts : List Float) (n : ℕ) → outOf p q (take n pts) ≡ rest pts n 1 []
-  unfolding outOf stretches
-  rest-start [] zero = refl
-  rest-start [] (suc n) = refl
-  rest-start (x ∷ pts) zero = refl
-  rest-start (x ∷ pts) (suc n) = refl
-
-  pub rest-next : (pts : List Float) (n k : ℕ) (gs : List Interval) → k < n → n ≤ length pts → rest pts n k gs ≡ rest pts n (k + 1) (step (getD pts (k - 1) nan) (getD pts k nan) gs)
-  rest-next pts n k gs h b =
-      let s : suc k - 1 ≡ k = omega arith in
-      rw (add-one k, s, drop-cons (take n pts) k nan (rw length-take (omega arith)), getD-take n pts k nan h) (stretches-cons (getD pts (k - 1) nan) (getD pts k nan) (drop (suc k) (take n pts)) gs)
-
-  pub rest-end : (pts : List Float) (n k : ℕ) (gs : List Interval) → n ≤ k → rest pts n k gs ≡ gs
-  rest-end pts n k gs h =
-      let b : length (take n pts) ≤ k = rw length-take (omega arith) in
-      rw (drop-of-length-le (take n pts) b) (stretches-nil (getD pts (k - 1) nan) gs)
-
-  pub rest-full : (pts : List Float) (n k : ℕ) (gs : List Interval) (size : ℕ) → size < length gs + length gs → size < length (rest pts n k gs) + length (rest pts n k gs)
-  rest-full pts n k gs size h = omega (arith, stretches-more (getD pts (k - 1) nan) (drop k (take n pts)) gs)

@@ -1,27 +1,25 @@
 -- Intervals over the front of a buffer. Assumes nothing.
 --     stored-pairs   a buffer that holds m of them and is else as it was
 --     stored-short   those that it has no entries for are not written
---     joined-new     a list that is longer with a stretch has it as one more
---     turn-spares, turn-full  a turn of the loop over the points
+--     copied-next, copied-full     a copy of one more, and of one that there is no entry for
 --     short, answers, said    what `better` ensures; answers-of, spared: what follows
-use Prim.Native.Nat.{ℕ, zero, suc, _+_, _-_, _≤_, _<_}
+use Prim.Native.Nat.{ℕ, zero, suc, _+_, _*_, _≤_, _<_}
 use native.Mathlib.Omega.{arith}
+use native.Mathlib.Numerals.{add-one}
 use mathlib.Core.Path.{_≡_, refl, sym, ap, _∙_, subst}
 use mathlib.Core.Bool.{Bool, true, false, cond, _&&_}
 use mathlib.Core.Logic.{inl, inr}
 use mathlib.Core.List.{List, [], _∷_, _++_}
 use borrow.Author.Tests.{le-leb, lt-leb, leb-true, leb-false}
 use lib.Dec.{leb}
-use lib.ListN.{length, take, drop, getD, length-append, take-append-drop}
-use lib.Seq.{take-append-seam, drop-drop}
-use lib.Ieee.{Float, nan, eq}
-use Rattle.nat_laws.proofs.Tests.{branch}
-use Rattle.source.specs.declared.Src.{Src}
+use lib.ListN.{length, drop, getD, set, take-append-drop}
+use lib.Seq.{drop-drop, drop-set-lt}
+use lib.Ieee.{Float, nan}
 use Rattle.better.specs.declared.Listed.{Listed}
 use Rattle.better.specs.declared.Listed.the-variants.{Full, Entries}
-use Rattle.better.specs.Stretches.{Interval, interval, joined, shorterBetween, stretches}
+use Rattle.better.specs.Stretches.{Interval, interval}
 use Rattle.better.specs.Buffers.{pairs, HoldsPairs, Answers, listedNumber, stored, hasEntries, bettering}
-use Rattle.better.proofs.Pairs.{step, rest, pairs-length, joined-more}
+use Rattle.better.proofs.Pairs.{pairs-length, pairs-take, pairs-push}
 
 pairs-cons : (m : ℕ) (a b : Float) (l : List Float) → pairs (suc m) (a ∷ b ∷ l) ≡ interval a b ∷ pairs m l
 pairs-cons zero a b l = refl
@@ -51,69 +49,34 @@ stored-short (g ∷ gs) hs [] h = refl
 stored-short (g ∷ gs) hs (a ∷ []) h = refl
 stored-short (g ∷ gs) hs (a ∷ b ∷ out) h = ap (λ (z : List Float). g .from ∷ g .to ∷ z) (stored-short gs hs out (omega arith))
 
-pub joined-new : (gs : List Interval) (x0 x1 : Float) → length gs < length (joined gs x0 x1) → joined gs x0 x1 ≡ gs ++ (interval x0 x1 ∷ [])
-unfolding joined
-joined-new [] x0 x1 h = refl
-joined-new (g ∷ []) x0 x1 h =
-    branch (λ (l : List Interval). 1 < length l → l ≡ g ∷ interval x0 x1 ∷ []) (eq (g .to) x0) (λ t k. absurd (omega arith)) (λ t k. refl) h
-joined-new (g ∷ k ∷ gs) x0 x1 h = ap (λ (z : List Interval). g ∷ z) (joined-new (k ∷ gs) x0 x1 (omega arith))
+-- one more
+pub copied-next : (i e : ℕ) (from first after : List Float) → e ≡ 2 * i → e + 1 < length after → pairs i after ≡ pairs i from → drop (i + i) after ≡ drop (i + i) first
+    → let next = set (set after e (getD from e nan)) (e + 1) (getD from (e + 1) nan) in (pairs (i + 1) next ≡ pairs (i + 1) from) × (drop (i + 1 + (i + 1)) next ≡ drop (i + 1 + (i + 1)) first)
+copied-next i e from first after s h f d =
+    let t : e ≡ i + i = omega arith in
+    let u : i + 1 + (i + 1) ≡ i + i + 2 = omega arith in
+    let v : e + 1 ≡ suc (i + i) = omega arith in
+    let x0 = getD from e nan in
+    let x1 = getD from (e + 1) nan in (
+      pairs-push after x0 x1 i e t h ∙ rw (f, add-one i, t, add-one (i + i)),
+      drop-set-lt (i + 1 + (i + 1)) (set after e x0) (e + 1) x1 (omega arith)
+          ∙ drop-set-lt (i + 1 + (i + 1)) after e x0 (omega arith)
+          ∙ rw u
+          (sym (drop-drop 2 (i + i) after) ∙ ap (drop 2) d ∙ drop-drop 2 (i + i) first),
+    )
 
-joined-front : (m : ℕ) (gs : List Interval) (x0 x1 : Float) → m < length gs → take m (joined gs x0 x1) ≡ take m gs
-unfolding joined
-joined-front zero gs x0 x1 h = refl
-joined-front (suc m) [] x0 x1 h = absurd (omega arith)
-joined-front (suc m) (g ∷ []) x0 x1 h = absurd (omega arith)
-joined-front (suc m) (g ∷ k ∷ gs) x0 x1 h = ap (λ (z : List Interval). g ∷ z) (joined-front m (k ∷ gs) x0 x1 (omega arith))
-
-module _ (p q : Src) where
-  step-more : (x0 x1 : Float) (gs : List Interval) → length gs ≤ length (step p q x0 x1 gs)
-  step-more x0 x1 gs = branch (λ (l : List Interval). length gs ≤ length l) (shorterBetween p q x0 x1) (λ t. joined-more gs x0 x1) (λ t. omega arith)
-
-  stretches-front : (m : ℕ) (x0 : Float) (xs : List Float) (gs : List Interval) → m < length gs → take m (stretches p q x0 xs gs) ≡ take m gs
-  unfolding stretches
-  stretches-front m x0 [] gs h = refl
-  stretches-front m x0 (x1 ∷ xs) gs h =
-      stretches-front m x1 xs (step p q x0 x1 gs) (omega (arith, step-more x0 x1 gs, h))
-      ∙ branch (λ (l : List Interval). take m l ≡ take m gs) (shorterBetween p q x0 x1) (λ t. joined-front m gs x0 x1 h) (λ t. refl)
-
-  -- gs and one more do not fit in out: what the loop comes to is stored as gs is
-  pub rest-stored : (pts : List Float) (n k : ℕ) (x0 x1 : Float) (gs : List Interval) (out : List Float) → length out < length (step p q x0 x1 gs) + length (step p q x0 x1 gs) → length gs + length gs ≤ length out
-      → stored (rest p q pts n k (step p q x0 x1 gs)) out ≡ stored gs out
-  rest-stored pts n k x0 x1 gs out h b = branch (λ (l : List Interval). length out < length l + length l → stored (rest p q pts n k l) out ≡ stored gs out) (shorterBetween p q x0 x1)
-      (λ t j.
-      let one : joined gs x0 x1 ≡ gs ++ (interval x0 x1 ∷ []) = joined-new gs x0 x1 (omega arith) in
-      let len : length (joined gs x0 x1) ≡ length gs + 1 = ap length one ∙ length-append gs (interval x0 x1 ∷ []) in
-      let all = rest p q pts n k (joined gs x0 x1) in
-      let front : take (length gs) all ≡ gs =
-      stretches-front (length gs) _ _ (joined gs x0 x1) (omega (arith, len)) ∙ ap (take (length gs)) one ∙ take-append-seam gs (interval x0 x1 ∷ []) in
-      ap (λ (z : List Interval). stored z out) (sym (take-append-drop (length gs) all) ∙ ap (λ (z : List Interval). z ++ drop (length gs) all) front)
-      ∙ stored-short gs (drop (length gs) all) out (omega (arith, len, j)))
-      (λ t j. absurd (omega (arith, j, b))) h
-
-  -- a turn of the loop: m stretches became k of them, and what is behind them is as it was
-  pub turn-spares : (x0 x1 : Float) (m k : ℕ) (first before after : List Float) → pairs k after ≡ step p q x0 x1 (pairs m before) → drop (k + k) after ≡ drop (k + k) before → drop (m + m) before ≡ drop (m + m) first
-      → drop (k + k) after ≡ drop (k + k) first
-  turn-spares x0 x1 m k first before after e d h =
-      let more : length (pairs m before) ≤ length (step p q x0 x1 (pairs m before)) = step-more x0 x1 (pairs m before) in
-      let le : m ≤ k = omega (arith, more, pairs-length m before, pairs-length k after, ap length e) in
-      let j = k + k - (m + m) in
-      let s : m + m + j ≡ k + k = omega (arith, le) in
-      d
-      ∙ ap (λ (i : ℕ). drop i before) (sym s)
-      ∙ sym (drop-drop j (m + m) before)
-      ∙ ap (drop j) h
-      ∙ drop-drop j (m + m) first
-      ∙ ap (λ (i : ℕ). drop i first) s
-
-  -- the turn that finds no entry for its stretch
-  pub turn-full : (pts : List Float) (n k : ℕ) (x0 x1 : Float) (m : ℕ) (first before after : List Float) (all : List Interval) → all ≡ rest p q pts n k (step p q x0 x1 (pairs m before))
-      → length before ≡ length first → m + m ≤ length before → drop (m + m) before ≡ drop (m + m) first
-      → length after < length (step p q x0 x1 (pairs m before)) + length (step p q x0 x1 (pairs m before)) → after ≡ before → after ≡ stored all first
-  turn-full pts n k x0 x1 m first before after all e l b d h same =
-      same
-      ∙ stored-pairs m before first l (omega (arith, l, b)) d
-      ∙ sym (rest-stored pts n k x0 x1 (pairs m before) first (omega (arith, h, l, ap length same)) (omega (arith, l, b, pairs-length m before)))
-      ∙ ap (λ (z : List Interval). stored z first) (sym e)
+-- i of the m in front of `from` were put over `first`, and there is no entry for one more
+pub copied-full : (m i : ℕ) (from first after : List Float) → i < m → length after ≡ length first → i + i ≤ length after → length after < suc (suc (i + i)) → pairs i after ≡ pairs i from → drop (i + i) after ≡ drop (i + i) first
+    → (length after < length (pairs m from) + length (pairs m from)) × (after ≡ stored (pairs m from) first)
+copied-full m i from first after h l b f e d =
+    let gs = pairs m from in
+    let parts : gs ≡ pairs i from ++ drop i gs = sym (take-append-drop i gs) ∙ ap (λ (z : List Interval). z ++ drop i gs) (pairs-take i m from (omega arith)) in (
+      omega (arith, pairs-length m from),
+      stored-pairs i after first l (omega arith) d
+          ∙ ap (λ (z : List Interval). stored z first) e
+          ∙ sym (stored-short (pairs i from) (drop i gs) first (omega (arith, pairs-length i from)))
+          ∙ ap (λ (z : List Interval). stored z first) (sym parts),
+    )
 
 -- what `better` answers: where the points outgrow their buffer, and else from what its loop does
 pub short : (size : ℕ) (before pts : List Float) (gs : List Interval) → size < length pts → (Full, before) ≡ bettering size before pts gs

@@ -1,11 +1,11 @@
 -- Lists in lent buffers. Definitions only.
 use Prim.Native.Nat.{ℕ, zero, suc, _+_, _≤_, _<_}
-use mathlib.Core.Bool.{Bool, false, cond, _&&_}
+use mathlib.Core.Bool.{Bool, false, cond}
 use mathlib.Core.Path.{_≡_}
 use mathlib.Core.Logic.{_⊎_}
 use mathlib.Core.List.{List, [], _∷_, _++_}
 use lib.Dec.{leb}
-use lib.ListN.{length, take, drop, getD}
+use lib.ListN.{length, drop, getD}
 use lib.Ieee.{Float, nan, eq}
 use Rattle.float64.specs.Notation.{if_then_else_}
 use Rattle.better.specs.Points.{insertOf}
@@ -20,11 +20,6 @@ use Rattle.better.specs.declared.Listed.the-variants.{Full, Entries}
 abbrev pub listedNumber : Listed → ℕ
 listedNumber Full = 14
 listedNumber (Entries n) = 0
-
--- the list stands in front of the buffer; or it has more entries than the buffer
-abbrev pub ListsEntries : Listed → List Float → List Float → Type 0
-ListsEntries Full buffer xs = length buffer < length xs
-ListsEntries (Entries n) buffer xs = (length xs ≡ n) × (take n buffer ≡ xs)
 
 -- the list stands at the end of the buffer; or it has more entries than the buffer
 abbrev pub PlacedWithin : Placed → List Float → Type 0
@@ -78,6 +73,11 @@ hasEntries gs buffer = leb (length gs + length gs) (length buffer)
 unfoldable pub bettering : ℕ → List Float → List Float → List Interval → Listed × List Float
 unfolding stored
 bettering size out pts gs = cond (leb (length pts) size) (cond (hasEntries gs out) (Entries (length gs)) Full, stored gs out) (Full, out)
+
+-- the walk in the buffer of its points: the stretches gs between them stand in front of it; or the points have more entries than the buffer
+abbrev pub Walked : Listed → List Float → List Float → List Interval → Type 0
+Walked Full buffer pts gs = length buffer < length pts
+Walked (Entries m) buffer pts gs = (length pts ≤ length buffer) × ((m + m ≤ length buffer) × (pairs m buffer ≡ gs))
 
 -- what follows: the stretches stand in front of `out`; or the points or the stretches have more entries than their buffer
 abbrev pub Answers : Listed → ℕ → List Float → List Float → List Interval → Type 0

@@ -6,7 +6,11 @@ use Rattle.float64.specs.Scalar.{two}
 use Rattle.float64.specs.Notation.{_⊕_, _⊘_, if_then_else_}
 use Rattle.source.specs.declared.Src.{Src}
 use Rattle.source.specs.Distance.{edgeOf}
-use Rattle.better.specs.Cutting.{shorter}
+use Rattle.better.specs.declared.Cut.{Cut}
+use Rattle.better.specs.declared.Cut.the-variants.{Nowhere, At}
+use Rattle.better.specs.declared.Turn.{Turn}
+use Rattle.better.specs.declared.Turn.the-variants.{Settled, CutAt}
+use Rattle.better.specs.Cutting.{shorter, cutOf}
 use Rattle.better.specs.Points.{ptsOf, walkOf}
 
 -- the Rust's pair of two ends
@@ -29,6 +33,14 @@ shorterBetween p q x0 x1 =
     if le x1 x0 then false else
     let m = (x0 ⊕ x1) ⊘ two in
     shorter (edgeOf p m) (edgeOf q m)
+
+-- a turn of the walk and of the loop over neighbours, between x0 and x1: the cut, if there is one; else p is shorter there or not
+abbrev pub settling : Cut → Bool → Turn
+settling Nowhere b = Settled b
+settling (At c) b = CutAt c
+
+unfoldable pub turnOf : Src → Src → Float → Float → Turn
+turnOf p q x0 x1 = settling (cutOf p q x0 x1) (shorterBetween p q x0 x1)
 
 -- the loop over neighbours x0 and x1
 unfoldable pub stretches : Src → Src → Float → List Float → List Interval → List Interval
