@@ -1,3 +1,4 @@
 pub mod HypotOrder
 pub mod ProductOrder
+pub mod SumOrder
 pub mod Middle
