@@ -168,12 +168,12 @@ pub fn better(
     q: Src,
     lo: f64,
     hi: f64,
+    pts: &mut [f64],
+    out: &mut [f64],
     p_low: f64,
     p_wide: f64,
     q_low: f64,
     q_wide: f64,
-    pts: &mut [f64],
-    out: &mut [f64],
 ) -> Listed
     ensures { λ r. ⌜ (r, now (out .exit)) ≡ bettering (length (now (pts .entry))) (now (out .entry)) (walkOf p q (ptsOf p q lo hi)) (betterOf p q lo hi) ⌝ }
     ensures { λ r. ⌜ listedNumber r ≡ cond (leb (length (walkOf p q (ptsOf p q lo hi))) (length (now (pts .entry))) && hasEntries (betterOf p q lo hi) (now (out .entry))) 0 14 ⌝ }
