@@ -2,17 +2,13 @@
 //! fields and their jobs, a word at a time, and compares with what the rooms then say (reader.rs).
 //! Usage: compare questions FIRST COUNT | compare damage FIRST COUNT | compare all FIRST COUNT
 mod damage;
+mod fields;
 mod library;
 mod questions;
 mod reader;
 
 use library::Row;
-use oracle::dump::{Contents, bits, contents};
-use oracle::exact::Field;
-use oracle::generate::rooms;
-use oracle::job::{Job, Mesh};
-use oracle::reading::Patched;
-use oracle::rooms::{Rooms, Told, check, hold};
+use oracle::dump::bits;
 use std::collections::BTreeMap;
 
 /// How many differences are printed.
@@ -20,41 +16,6 @@ const PRINTED: u64 = 20;
 
 /// Of so many jobs whose fields are asked, one is damaged.
 const DAMAGED: u64 = 40;
-
-/// A field with what it was made of.
-struct Known<'a> {
-    mesh: &'a Mesh,
-    field: &'a Field<'a, Patched>,
-    held: &'a Contents,
-    told: Told,
-}
-
-/// A small job, its rooms as the field leaves them, and the field or the refusal.
-fn with_field(seed: u64, with: impl FnOnce(&Job, Rooms, Result<Known, u32>)) {
-    let (job, mut rooms) = rooms::job(seed);
-    let checked = check(&job, &rooms).and_then(|buffers| {
-        Mesh::new(&Job {
-            buffers,
-            ..job.clone()
-        })
-    });
-    let mesh = match checked {
-        Ok(mesh) => mesh,
-        Err(refusal) => return with(&job, rooms, Err(refusal.0)),
-    };
-    let field = match mesh.field::<Patched>() {
-        Ok(field) => field,
-        Err(refusal) => return with(&job, rooms, Err(refusal.0)),
-    };
-    let held = contents(mesh.field::<Patched>().expect("the same field"));
-    let known = Known {
-        mesh: &mesh,
-        field: &field,
-        held: &held,
-        told: hold(&mesh, &held, &mut rooms),
-    };
-    with(&job, rooms, Ok(known));
-}
 
 #[derive(Default)]
 struct Tally {

@@ -1,7 +1,8 @@
 //! Damaged fields: every word of small fields' rooms, of their counts and of their jobs, one at a time.
+use crate::fields::{Known, with_field};
 use crate::library::{Asked, UNWRITTEN};
 use crate::reader::Reader;
-use crate::{Known, Tally, same, with_field};
+use crate::{Tally, same};
 use oracle::generate::rng::Rng;
 use oracle::job::Job;
 use oracle::rooms::{Rooms, Told};

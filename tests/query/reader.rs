@@ -75,6 +75,28 @@ impl Reader<'_> {
         }
     }
 
+    /// A window as a slot of a window buffer has it; of the flags those that there are.
+    pub fn slot(&self, i: u32) -> ([u32; 4], [f64; 6]) {
+        let at = 6 * i as usize;
+        let flags = self.window(i, 2) % 8;
+        let words = [
+            self.window(i, 0),
+            self.window(i, 1),
+            flags,
+            self.window(i, 3),
+        ];
+        let reals = self.rooms.reals[at..at + 6].try_into().expect("six");
+        (words, reals)
+    }
+
+    /// The window at a place in an edge's list.
+    pub fn window_at(&self, e: u32, place: u32) -> Result<u32, u32> {
+        if e >= self.told[3] {
+            return Err(23);
+        }
+        self.on_edge(e).get(place as usize).copied().ok_or(26)
+    }
+
     fn too_few(&self) -> bool {
         let ([v, t, _, e, w, _], lent) = (self.told, self.rooms.slots());
         // of the vertices only the distances are lent again
