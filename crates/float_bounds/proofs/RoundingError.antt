@@ -74,7 +74,7 @@ round-near f a c C =
     record { most = omega arith; least = omega arith }
 
 -- the same of n / c, both multiplied by k
-near-cancel : (P n c g k : ℕ) → 0 < k → NearFraction P (n * k) (c * k) g → NearFraction P n c g
+pub near-cancel : (P n c g k : ℕ) → 0 < k → NearFraction P (n * k) (c * k) g → NearFraction P n c g
 near-cancel P n c g k K h =
     let i : P * (g * (c * k)) ≡ P * (g * c) * k = ap (λ (x : ℕ). P * x) (sym (mul-assoc g c k)) ∙ sym (mul-assoc P (g * c) k) in
     let j : P * (n * k) ≡ P * n * k = sym (mul-assoc P n k) in
