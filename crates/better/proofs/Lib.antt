@@ -8,3 +8,4 @@ pub mod Pairs
 pub mod Turns
 pub mod Stored
 pub mod Decimal
+pub mod BoundedSigns
