@@ -30,18 +30,18 @@ use Rattle.run_steps.specs.declared.FieldWork.{FieldWork}
 use Rattle.run_steps.specs.declared.FieldWork.the-variants.{Refused, Done}
 use Rattle.run_steps.specs.Run.{WorkResult, refused, field}
 use Rattle.finish.specs.Contents.{FieldBuffers}
-use Rattle.finish.specs.Refused.{zeroField, AllRooms}
-use Rattle.finish.proofs.Refused.{zero-rooms}
+use Rattle.finish.specs.Refused.{zeroField, FieldLengths}
+use Rattle.finish.proofs.Refused.{zero-lengths}
 use Rattle.computed.specs.declared.Computed.{Computed}
 use Rattle.computed.specs.declared.Computed.the-variants as computed
-use Rattle.compute_spec.specs.Compute.{otherCounts, fieldBuffers, workIn, computeOf, Leaves, answerOf, Computes}
+use Rattle.compute_spec.specs.Compute.{otherCounts, fieldBuffers, workIn, computeByHeap, LeavesByHeap, answerByHeap, ComputesByHeap}
 use Rattle.compute_spec.proofs.Refusals.{compute-refused}
 use Rattle.field_model.specs.Queue.{inOrder}
 use Rattle.field_model.specs.Lent.{ComputesOver}
 use Rattle.field_model.proofs.Lawful.{in-order}
 use Rattle.field_model.proofs.Leaving.{computes-over}
-use Rattle.make_field.specs.Contract.{WorkFits, Makes, MakesField}
-use Rattle.compute.specs.Answers.{edgesOf, zeroes, clears, told}
+use Rattle.make_field.specs.Contract.{WorkFits, MadeOrRefused, MakesField}
+use Rattle.compute.specs.Answers.{edgesAnswered, zeroes, clears, told}
 
 -- ---- the buffers b₁ that the work left, zeroed as its answer says
 abbrev pub zeroedBy : FieldWork → FieldBuffers → FieldBuffers
@@ -73,22 +73,22 @@ stayed : (k : ℕ) (b₁ : FieldBuffers) → k ≤ 9 → zeroedBy (Refused k) b�
 stayed k b₁ l = rw (le-ltb 9 k l) refl
 
 -- ---- what a refusal leaves
-leaves-zeros : (j : Job) (b b₁ b′ : FieldBuffers) (k : ℕ) → 9 < k → AllRooms b b₁ → b′ ≡ zeroedBy (Refused k) b₁ → Leaves j b (refused k) b′
-leaves-zeros j b b₁ b′ k l rooms left = left ∙ zeroed k b₁ l ∙ zero-rooms b b₁ rooms ∙ sym (ap (λ t. cond t b (zeroField b)) (lt-leb k 9 l))
+leaves-zeros : (j : Job) (b b₁ b′ : FieldBuffers) (k : ℕ) → 9 < k → FieldLengths b b₁ → b′ ≡ zeroedBy (Refused k) b₁ → LeavesByHeap j b (refused k) b′
+leaves-zeros j b b₁ b′ k l lengths left = left ∙ zeroed k b₁ l ∙ zero-lengths b b₁ lengths ∙ sym (ap (λ t. cond t b (zeroField b)) (lt-leb k 9 l))
 
-leaves-same : (j : Job) (b b₁ b′ : FieldBuffers) (k : ℕ) → k ≤ 9 → b₁ ≡ b → b′ ≡ zeroedBy (Refused k) b₁ → Leaves j b (refused k) b′
+leaves-same : (j : Job) (b b₁ b′ : FieldBuffers) (k : ℕ) → k ≤ 9 → b₁ ≡ b → b′ ≡ zeroedBy (Refused k) b₁ → LeavesByHeap j b (refused k) b′
 leaves-same j b b₁ b′ k l same left = left ∙ stayed k b₁ l ∙ same ∙ sym (ap (λ t. cond t b (zeroField b)) (le-leb k 9 l))
 
 -- ---- the answers
-answer-refused : (j : Job) (w : WorkResult) (k : ℕ) → w ≡ refused k → computed.Refused k ≡ answerOf j w
-unfolding answerOf
-answer-refused j w k h = sym (ap (answerOf j) h)
+answer-refused : (j : Job) (w : WorkResult) (k : ℕ) → w ≡ refused k → computed.Refused k ≡ answerByHeap j w
+unfolding answerByHeap
+answer-refused j w k h = sym (ap (answerByHeap j) h)
 
 answer-field : (j : Job) (nv nt np count made steps : ℕ) (w : WorkResult) (x : Inserted) → w ≡ field x steps → nv ≡ vertexCount j → nt ≡ triangleCount j → np ≡ pieceCount j → count ≡ length (edges (j .triangles)) → made ≡ length (x .state .wins)
-    → computed.Field (record { vertices = nv; triangles = nt; pieces = np; edges = count; windows = made; steps = steps }) ≡ answerOf j w
-unfolding answerOf
+    → computed.Field (record { vertices = nv; triangles = nt; pieces = np; edges = count; windows = made; steps = steps }) ≡ answerByHeap j w
+unfolding answerByHeap
 answer-field j nv nt np count made steps w x h a b c d e =
-    (λ i. computed.Field (record { vertices = a i; triangles = b i; pieces = c i; edges = d i; windows = e i; steps = steps })) ∙ sym (ap (answerOf j) h)
+    (λ i. computed.Field (record { vertices = a i; triangles = b i; pieces = c i; edges = d i; windows = e i; steps = steps })) ∙ sym (ap (answerByHeap j) h)
 
 -- ---- a mesh that was refused by 1 to 9 is as it was
 third-only : (shared : Bool) → (firstOf ((10, shared) ∷ []) ≡ 0) ⊎ (firstOf ((10, shared) ∷ []) ≡ 10)
@@ -103,7 +103,7 @@ mesh-stays (suc k) m t l = refl
 
 -- ---- the mesh answered with a number, over slices whose slots were counted
 module _ (v : List Float) (triangles flags kinds faces : List ℕ) (coords : List Float) (limit : Float) (b : FieldBuffers) (most : ℕ) (o : OtherCounts) (counts : o ≡ otherCounts b)
-    (a : Meshed) (m : MeshBuffers) (built : Answered (job v triangles flags kinds faces coords limit) o a (b .mesh) m) (number count : ℕ) (number-is : number ≡ meshedNumber a) (count-is : count ≡ edgesOf a) where
+    (a : Meshed) (m : MeshBuffers) (built : Answered (job v triangles flags kinds faces coords limit) o a (b .mesh) m) (number count : ℕ) (number-is : number ≡ meshedNumber a) (count-is : count ≡ edgesAnswered a) where
   abbrev j : Job
   j = job v triangles flags kinds faces coords limit
 
@@ -118,7 +118,7 @@ module _ (v : List Float) (triangles flags kinds faces : List ℕ) (coords : Lis
     passed = sym refusal ∙ none
 
     counted : count ≡ length (edges triangles)
-    counted = count-is ∙ ap edgesOf (answered .edge-count passed)
+    counted = count-is ∙ ap edgesAnswered (answered .edge-count passed)
 
   -- what `make_field` asks
   pub work-fits : WorkFits number count v kinds (b .piece-words) (m .edge-words)
@@ -142,15 +142,15 @@ module _ (v : List Float) (triangles flags kinds faces : List ℕ) (coords : Lis
     abbrev b₁ : FieldBuffers
     b₁ = fieldBuffers m₁ s₁ c₁ (b .scratch) (b .other-scratch)
 
-    module _ (rooms : AllRooms b b₁) (b′ : FieldBuffers) where
+    module _ (lengths : FieldLengths b b₁) (b′ : FieldBuffers) where
       abbrev Answers : FieldWork → Type 0
-      Answers w = Computes j b most (told (length v) (length triangles) (length kinds) count w) b′
+      Answers w = ComputesByHeap j b most (told (length v) (length triangles) (length kinds) count w) b′
 
       -- a refusal by the definition's number, with what it leaves
-      says-refused : (k : ℕ) → computeOf j b most ≡ refused k → Leaves j b (refused k) b′ → Answers (Refused k)
+      says-refused : (k : ℕ) → computeByHeap j b most ≡ refused k → LeavesByHeap j b (refused k) b′ → Answers (Refused k)
       says-refused k is leaves = record {
-        answer = answer-refused j (computeOf j b most) k is;
-        leaves = subst (λ (w : WorkResult). Leaves j b w b′) (sym is) leaves;
+        answer = answer-refused j (computeByHeap j b most) k is;
+        leaves = subst (λ (w : WorkResult). LeavesByHeap j b w b′) (sym is) leaves;
       }
 
       -- of the mesh
@@ -159,25 +159,25 @@ module _ (v : List Float) (triangles flags kinds faces : List ℕ) (coords : Lis
           let p = makes .passes-on some in
           let zeroed = left ∙ ap (λ (w : FieldWork). zeroedBy w b₁) (p .0) in
           subst Answers (sym (p .0)) (says-refused number (refused-by number some refl) (go (leb number 9) refl zeroed (p .1))) where
-            refused-by : (k : ℕ) → 0 < k → number ≡ k → computeOf j b most ≡ refused k
+            refused-by : (k : ℕ) → 0 < k → number ≡ k → computeByHeap j b most ≡ refused k
             refused-by zero l h = absurd (omega (arith, l))
             refused-by (suc k) l h = compute-refused j b most k (sym refusal ∙ h)
 
-            go : (few : Bool) → leb number 9 ≡ few → b′ ≡ zeroedBy (Refused number) b₁ → (m₁ ≡ m) × ((s₁ ≡ workIn b) × (c₁ ≡ b .cuts)) → Leaves j b (refused number) b′
+            go : (few : Bool) → leb number 9 ≡ few → b′ ≡ zeroedBy (Refused number) b₁ → (m₁ ≡ m) × ((s₁ ≡ workIn b) × (c₁ ≡ b .cuts)) → LeavesByHeap j b (refused number) b′
             go true h z q =
                 let few = leb-true number 9 h in
                 leaves-same j b b₁ b′ number few (λ i. fieldBuffers ((q .0 ∙ unchanged some few) i) (q .1 .0 i) (q .1 .1 i) (b .scratch) (b .other-scratch)) z
-            go false h z q = leaves-zeros j b b₁ b′ number (leb-false number 9 h) rooms z
+            go false h z q = leaves-zeros j b b₁ b′ number (leb-false number 9 h) lengths z
 
       -- of the work, or the field
-      says-made : number ≡ 0 → (w : FieldWork) → Makes j b most w (fieldBuffers m₁ s₁ c₁ (zeroWords (b .scratch)) (zeroWords (b .other-scratch))) → b′ ≡ zeroedBy w b₁ → Answers w
-      says-made none (Refused k) made left = says-refused k (made .0) (leaves-zeros j b b₁ b′ k (made .1) rooms left)
+      says-made : number ≡ 0 → (w : FieldWork) → MadeOrRefused j b most w (fieldBuffers m₁ s₁ c₁ (zeroWords (b .scratch)) (zeroWords (b .other-scratch))) → b′ ≡ zeroedBy w b₁ → Answers w
+      says-made none (Refused k) made left = says-refused k (made .0) (leaves-zeros j b b₁ b′ k (made .1) lengths left)
       says-made none (Done n steps) made left =
           let sound = checked j (otherCounts b) a (b .mesh) m answered (passed none) in
           record {
-            answer = answer-field j (slotsOf (length v) coordinatesPerVertex) (slotsOf (length triangles) verticesPerTriangle) (slotsOf (length kinds) 1) count (n .trim .made) steps (computeOf j b most) (made .inserted) (made .is)
+            answer = answer-field j (slotsOf (length v) coordinatesPerVertex) (slotsOf (length triangles) verticesPerTriangle) (slotsOf (length kinds) 1) count (n .trim .made) steps (computeByHeap j b most) (made .inserted) (made .is)
                 (omega (arith, sound .whole .few-vertices)) (omega (arith, sound .whole .few-triangles)) (omega (arith, sound .whole .few-pieces)) (counted none) (made .made);
-            leaves = subst (λ (w : WorkResult). Leaves j b w b′) (sym (made .is)) (subst (Leaves j b (field (made .inserted) steps)) (sym left) (made .leaves));
+            leaves = subst (λ (w : WorkResult). LeavesByHeap j b w b′) (sym (made .is)) (subst (LeavesByHeap j b (field (made .inserted) steps)) (sym left) (made .leaves));
           }
 
       says : b′ ≡ zeroedBy r b₁ → Answers r
@@ -187,4 +187,4 @@ module _ (v : List Float) (triangles flags kinds faces : List ℕ) (coords : Lis
         go (suc k) h = says-mesh (omega (arith, h)) left
 
       pub computes : b′ ≡ zeroedBy r b₁ → (z : Computed) → z ≡ told (length v) (length triangles) (length kinds) count r → ComputesOver inOrder j b most z b′
-      computes left z is = computes-over inOrder in-order j b most z b′ (subst (λ (y : Computed). Computes j b most y b′) (sym is) (says left))
+      computes left z is = computes-over inOrder in-order j b most z b′ (subst (λ (y : Computed). ComputesByHeap j b most y b′) (sym is) (says left))

@@ -1,6 +1,6 @@
 -- The answers of the parts of `compute`, case by case. Assumes nothing.
 use Prim.Native.Nat.{ℕ}
-use mathlib.Core.Bool.{Bool, true, false}
+use mathlib.Core.Bool.{true, false}
 use mathlib.Core.Path.{_≡_, sym, ap, _∙_}
 use lib.Dec.{ltb}
 use Rattle.layout.specs.Layout.{coordinatesPerVertex, verticesPerTriangle}
@@ -9,7 +9,6 @@ use Rattle.mesh.specs.declared.OtherCounts.{OtherCounts}
 use Rattle.insertion.specs.declared.InsertCounts.{InsertCounts}
 use Rattle.run_steps.specs.declared.FieldWork.{FieldWork}
 use Rattle.run_steps.specs.declared.FieldWork.the-variants.{Refused, Done}
-use Rattle.computed.specs.declared.Computed.{Computed}
 use Rattle.computed.specs.declared.Computed.the-variants as computed
 use Rattle.compute.specs.Answers.{zeroes, clears, told}
 

@@ -14,8 +14,8 @@ use Rattle.computed.specs.declared.Computed.{Computed}
 use Rattle.computed.specs.declared.Computed.the-variants as computed
 
 -- the slots of slices of these lengths
-abbrev pub countsOf : ℕ → ℕ → ℕ → ℕ → ℕ → ℕ → ℕ → OtherCounts
-countsOf pw pr vertex words reals scratch other = record {
+abbrev pub otherCountsOf : ℕ → ℕ → ℕ → ℕ → ℕ → ℕ → ℕ → OtherCounts
+otherCountsOf pw pr vertex words reals scratch other = record {
   «vertex_reals» = slotsOf vertex realsPerVertex;
   pieces = min (slotsOf pw wordsPerPiece) (slotsOf pr realsPerPiece);
   windows = capacityOf words reals;
@@ -23,10 +23,10 @@ countsOf pw pr vertex words reals scratch other = record {
   «other_scratch» = slotsOf other 1;
 }
 
-abbrev pub edgesOf : Meshed → ℕ
-edgesOf (meshed.Edges n) = n
-edgesOf (meshed.Refused c) = 0
-edgesOf meshed.ThirdFace = 0
+abbrev pub edgesAnswered : Meshed → ℕ
+edgesAnswered (meshed.Edges n) = n
+edgesAnswered (meshed.Refused c) = 0
+edgesAnswered meshed.ThirdFace = 0
 
 -- whether every buffer is zeroed: by the refusals from 10 on
 abbrev pub zeroes : FieldWork → Bool

@@ -23,7 +23,7 @@ ghost use Rattle.job_checks.specs.Job.{job};
 ghost use Rattle.compute_spec.specs.Compute.{buffersBefore, buffersAfter};
 ghost use Rattle.field_model.specs.Queue.{inOrder};
 ghost use Rattle.field_model.specs.Lent.{ComputesOver};
-ghost use Rattle.compute.specs.Answers.{countsOf, edgesOf, zeroes, clears, told};
+ghost use Rattle.compute.specs.Answers.{otherCountsOf, edgesAnswered, zeroes, clears, told};
 
 // The slots that slices of these lengths have.
 fn other_counts(
@@ -35,7 +35,7 @@ fn other_counts(
     scratch: usize,
     other_scratch: usize,
 ) -> OtherCounts
-    ensures { λ r. ⌜ r ≡ countsOf «piece_words» «piece_reals» vertex words reals scratch «other_scratch» ⌝ }
+    ensures { λ r. ⌜ r ≡ otherCountsOf «piece_words» «piece_reals» vertex words reals scratch «other_scratch» ⌝ }
 {
     OtherCounts {
         vertex_reals: slots(vertex, REALS_PER_VERTEX),
@@ -47,7 +47,7 @@ fn other_counts(
 }
 
 fn edge_count(meshed: Meshed) -> u32
-    ensures { λ r. ⌜ r ≡ edgesOf meshed ⌝ }
+    ensures { λ r. ⌜ r ≡ edgesAnswered meshed ⌝ }
 {
     match meshed {
         Meshed::Edges(edges) => edges,

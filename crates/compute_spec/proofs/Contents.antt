@@ -1,6 +1,5 @@
 -- Where the work on a job ends in a field, `finish` leaves every buffer as the definition has it. Assumes nothing.
 use Prim.Native.Nat.{ℕ, _≤_}
-use mathlib.Core.Bool.{false}
 use mathlib.Core.List.{List}
 use mathlib.Core.Path.{_≡_, refl, sym, ap, subst, _∙_}
 use lib.ListN.{length}
@@ -9,7 +8,7 @@ use Rattle.windows.specs.Windows.{capacityOf}
 use Rattle.job_checks.specs.Job.{Job}
 use Rattle.topology.specs.Edges.{edges}
 use Rattle.mesh.specs.declared.Meshed.{Meshed}
-use Rattle.mesh.specs.Topology.{MeshBuffers, filled}
+use Rattle.mesh.specs.Topology.{MeshBuffers}
 use Rattle.mesh.specs.Answer.{countsIn, meshRefusal, Answered}
 use Rattle.mesh.proofs.Fields.{held, fresh}
 use Rattle.cut_lists.specs.Buffers.{Cuts}
@@ -22,14 +21,14 @@ use Rattle.insertion.specs.declared.InsertCounts.{InsertCounts}
 use Rattle.insert_job.specs.Field.{trimSlices, begunJob}
 use Rattle.field_work.specs.Contract.{FieldDone}
 use Rattle.finish.specs.Finish.{FinishesTo}
-use Rattle.finish.specs.Contents.{FieldBuffers, FieldContents, slicesOf, SameRooms, RoomsKept, afterFinish}
+use Rattle.finish.specs.Contents.{FieldBuffers, FieldContents, WorkLengths, BuffersKept, afterFinish}
 use Rattle.finish.proofs.Contents.{work-in, contents-are}
 use Rattle.zero_buffers.specs.ZeroIf.{zeroWords}
 use Rattle.insertion.specs.Insertion.{Inserted}
 use Rattle.run_steps.specs.Run.{WorkResult, field}
 use Rattle.field_work.specs.Work.{workOf, workCandidates}
 use Rattle.run_operations.specs.Lists.{cutCount, cutTo}
-use Rattle.compute_spec.specs.Compute.{otherCounts, workIn, computeOf, Leaves}
+use Rattle.compute_spec.specs.Compute.{otherCounts, workIn, computeByHeap, LeavesByHeap}
 use Rattle.compute_spec.proofs.Refusals.{compute-worked, built-is}
 
 -- the buffers after the work, which wrote to the slices of trimming, to the entries and to the pieces; c are the cut lists
@@ -60,11 +59,11 @@ module _ (j : Job) (b : FieldBuffers) (meshed : Meshed) (built : MeshBuffers) (a
     (passed : meshRefusal j (countsIn (b .mesh) (otherCounts b)) ≡ 0) (c₀ : Cuts) (most : ℕ)
     (pw : List ℕ) (pr : List Float) (z : Slices) (t : EntryBuffers) (c : Cuts)
     (pieces : pw ≡ pieceWords (j .kinds) (j .coords) (length (b .piece-words))) (directions : pr ≡ pieceReals (j .kinds) (j .coords) (length (b .piece-reals)))
-    (same : SameRooms b (afterWork b built pw pr z t c)) (same-edges : length (z .edges) ≡ length (built .edge-words))
+    (same : WorkLengths b (afterWork b built pw pr z t c)) (same-edges : length (z .edges) ≡ length (built .edge-words))
     (n : InsertCounts) (steps : ℕ) (fits : n .trim .made ≤ capacityOf (length (b .words)) (length (b .reals)))
     (done : FieldDone j built (workIn b) c₀ most n steps z t) where
-  rooms-kept : RoomsKept built (j .kinds) (j .coords) b (afterWork b built pw pr z t c)
-  rooms-kept = record {
+  buffers-kept : BuffersKept built (j .kinds) (j .coords) b (afterWork b built pw pr z t c)
+  buffers-kept = record {
     same = same;
     edge-length = same-edges;
     vertex-words = refl;
@@ -88,7 +87,7 @@ module _ (j : Job) (b : FieldBuffers) (meshed : Meshed) (built : MeshBuffers) (a
       (work-in (j .vertices) (j .triangles) (j .flags) built
       (fresh j (otherCounts b) meshed (b .mesh) built answered edge-count told) (held j (otherCounts b) meshed (b .mesh) built answered edge-count told)
       (j .limit) (workCandidates j (built .vertex-words) (workIn b) c₀ most) (n .trim) (n .entries) (done .inserted .state) (done .inserted .entries) (j .kinds) (j .coords) b (afterWork b built pw pr z t c)
-      (trimSlices built (begunJob j (workIn b))) rooms-kept
+      (trimSlices built (begunJob j (workIn b))) buffers-kept
       (subst (λ (x : ℕ). n .trim .made ≤ x) (λ i. capacityOf (sym (same .words) i) (sym (same .reals) i)) fits)
       (done .stands .trim) (done .untouched) (done .stands .entries))
       z′ c′ ends
@@ -100,7 +99,7 @@ module _ (j : Job) (b : FieldBuffers) (meshed : Meshed) (built : MeshBuffers) (a
   cuts-lent = cutTo (cutCount (b .cuts)) (b .cuts)
 
   -- the work is the definition's
-  pub computed : (r : WorkResult) → workOf j (built .vertex-words) (workIn b) cuts-lent most ≡ r → computeOf j b most ≡ r
+  pub computed : (r : WorkResult) → workOf j (built .vertex-words) (workIn b) cuts-lent most ≡ r → computeByHeap j b most ≡ r
   computed r h =
       compute-worked j b most passed
       ∙ ap (λ (m : MeshBuffers). workOf j (m .vertex-words) (workIn b) cuts-lent most) (sym (built-is j (otherCounts b) meshed (b .mesh) built answered passed))
@@ -108,8 +107,8 @@ module _ (j : Job) (b : FieldBuffers) (meshed : Meshed) (built : MeshBuffers) (a
 
   pub leaves-field : (x : Inserted) (steps : ℕ) (b′ : FieldBuffers) → workOf j (built .vertex-words) (workIn b) cuts-lent most ≡ field x steps
       → FieldContents built (edgeData (j .vertices) (j .triangles)) (length (edges (j .triangles))) (x .state) (x .entries) (j .kinds) (j .coords) b b′
-      → Leaves j b (computeOf j b most) b′
+      → LeavesByHeap j b (computeByHeap j b most) b′
   leaves-field x steps b′ h k =
-      subst (λ (r : WorkResult). Leaves j b r b′) (sym (computed (field x steps) h))
+      subst (λ (r : WorkResult). LeavesByHeap j b r b′) (sym (computed (field x steps) h))
       (subst (λ (m : MeshBuffers). FieldContents m (edgeData (j .vertices) (j .triangles)) (length (edges (j .triangles))) (x .state) (x .entries) (j .kinds) (j .coords) b b′)
       (built-is j (otherCounts b) meshed (b .mesh) built answered passed) k)

@@ -18,18 +18,18 @@ use Rattle.run_steps.specs.Run.{WorkResult, refused}
 use Rattle.field_work.specs.Work.{workOf}
 use Rattle.finish.specs.Contents.{FieldBuffers}
 use Rattle.run_operations.specs.Lists.{cutCount, cutTo}
-use Rattle.compute_spec.specs.Compute.{otherCounts, workIn, unlessRefused, computeOf}
+use Rattle.compute_spec.specs.Compute.{otherCounts, workIn, unlessRefused, computeByHeap}
 
 -- ---- the definition
 module _ (j : Job) (b : FieldBuffers) (most : ℕ) where
   abbrev worked : WorkResult
   worked = workOf j (filled (j .vertices) (j .triangles) (j .flags) (b .mesh) .vertex-words) (workIn b) (cutTo (cutCount (b .cuts)) (b .cuts)) most
 
-  pub compute-refused : (k : ℕ) → meshRefusal j (countsIn (b .mesh) (otherCounts b)) ≡ suc k → computeOf j b most ≡ refused (suc k)
+  pub compute-refused : (k : ℕ) → meshRefusal j (countsIn (b .mesh) (otherCounts b)) ≡ suc k → computeByHeap j b most ≡ refused (suc k)
   unfolding unlessRefused
   compute-refused k h = ap (λ (n : ℕ). unlessRefused n worked) h
 
-  pub compute-worked : meshRefusal j (countsIn (b .mesh) (otherCounts b)) ≡ 0 → computeOf j b most ≡ worked
+  pub compute-worked : meshRefusal j (countsIn (b .mesh) (otherCounts b)) ≡ 0 → computeByHeap j b most ≡ worked
   unfolding unlessRefused
   compute-worked h = ap (λ (n : ℕ). unlessRefused n worked) h
 

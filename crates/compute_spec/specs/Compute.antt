@@ -19,7 +19,6 @@ use Rattle.cut_lists.specs.Buffers.{Cuts, cutsBefore, cutsAfter}
 use Rattle.run_operations.specs.Lists.{cutCount, cutTo}
 use Rattle.offers.specs.Walks.{edgeData}
 use Rattle.begin.specs.Begin.{WorkSlices, workSlices, workBefore, workAfter}
-use Rattle.insertion.specs.Insertion.{Inserted}
 use Rattle.run_steps.specs.Run.{WorkResult, refused, field}
 use Rattle.field_work.specs.Work.{workOf}
 use Rattle.finish.specs.Contents.{FieldBuffers, FieldContents}
@@ -80,21 +79,21 @@ unlessRefused zero r = r
 unlessRefused (suc k) r = refused (suc k)
 
 -- 1 to 10 in order; then 11, the insertion of the pieces (12, 13, 14, 17), at most `most` steps (12, 13, 14) and 15; or the field after so many steps
-abbrev pub computeOf : Job → FieldBuffers → ℕ → WorkResult
-computeOf j b most =
+abbrev pub computeByHeap : Job → FieldBuffers → ℕ → WorkResult
+computeByHeap j b most =
     unlessRefused (meshRefusal j (countsIn (b .mesh) (otherCounts b)))
     (workOf j (filled (j .vertices) (j .triangles) (j .flags) (b .mesh) .vertex-words) (workIn b) (cutTo (cutCount (b .cuts)) (b .cuts)) most)
 
 -- ---- what every buffer holds then: as it was after 1 to 9, zeros after any other refusal, or the field
-abbrev pub Leaves : Job → FieldBuffers → WorkResult → FieldBuffers → Type 0
-Leaves j b (refused k) b′ = b′ ≡ cond (leb k 9) b (zeroField b)
-Leaves j b (field x steps) b′ =
+abbrev pub LeavesByHeap : Job → FieldBuffers → WorkResult → FieldBuffers → Type 0
+LeavesByHeap j b (refused k) b′ = b′ ≡ cond (leb k 9) b (zeroField b)
+LeavesByHeap j b (field x steps) b′ =
     FieldContents (filled (j .vertices) (j .triangles) (j .flags) (b .mesh)) (edgeData (j .vertices) (j .triangles)) (length (edges (j .triangles))) (x .state) (x .entries) (j .kinds) (j .coords) b b′
 
 -- ---- the answer by value
-unfoldable pub answerOf : Job → WorkResult → Computed
-answerOf j (refused k) = Refused k
-answerOf j (field x steps) = Field (record {
+unfoldable pub answerByHeap : Job → WorkResult → Computed
+answerByHeap j (refused k) = Refused k
+answerByHeap j (field x steps) = Field (record {
   vertices = vertexCount j;
   triangles = triangleCount j;
   pieces = pieceCount j;
@@ -104,6 +103,6 @@ answerOf j (field x steps) = Field (record {
 })
 
 -- The contract of `compute`, for every job and whatever the buffers hold: its answer, and what is left in b′ of the buffers b.
-pub record Computes (j : Job) (b : FieldBuffers) (most : ℕ) (r : Computed) (b′ : FieldBuffers) : Type 0 where
-  pub answer : r ≡ answerOf j (computeOf j b most)
-  pub leaves : Leaves j b (computeOf j b most) b′
+pub record ComputesByHeap (j : Job) (b : FieldBuffers) (most : ℕ) (r : Computed) (b′ : FieldBuffers) : Type 0 where
+  pub answer : r ≡ answerByHeap j (computeByHeap j b most)
+  pub leaves : LeavesByHeap j b (computeByHeap j b most) b′

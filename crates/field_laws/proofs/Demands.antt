@@ -1,5 +1,5 @@
 -- The three demands of the whole job, and the laws of a field that a job returned: demand-1, demand-2, demand-3, field-laws; returned, of an answer. They are shown of the field that
--- `computeOf` comes to, over the heap's buffers, and so of the job over the list of events in order (field-for, by job-same). Assumes nothing.
+-- `computeByHeap` comes to, over the heap's buffers, and so of the job over the list of events in order (field-for, by job-same). Assumes nothing.
 use Prim.Native.Nat.{ℕ, zero, suc, _+_, _*_, _-_, _≤_, _<_}
 use native.Mathlib.Omega.{arith}
 use mathlib.Core.Bool.{Bool, false, cond}
@@ -49,7 +49,7 @@ use Rattle.finish.proofs.Spare.{fresh-spare, field-spare}
 use Rattle.computed.specs.declared.Computed.{Computed}
 use Rattle.computed.specs.declared.Computed.the-variants.{Refused, Field as Computed·Field}
 use Rattle.computed.specs.declared.Field.{Field}
-use Rattle.compute_spec.specs.Compute.{otherCounts, workIn, unlessRefused, computeOf}
+use Rattle.compute_spec.specs.Compute.{otherCounts, workIn, unlessRefused, computeByHeap}
 use Rattle.trim_model.specs.Model.{Candidate}
 use Rattle.field_model.specs.Queue.{inOrder}
 use Rattle.field_model.specs.Field.{Reply, refused, gives}
@@ -66,7 +66,7 @@ use Rattle.field_laws.specs.Demands.{EndsWithin, RestIsZero, BuffersThen
 use Rattle.field_laws.proofs.Held.{length-words, length-reals}
 use Rattle.field_laws.proofs.Job.{jobCandidates, finishedAs, passed, built, sound-job, mesh-fresh, triangle-slots, face-there, laws, entries-are, entries-fit}
 use Rattle.field_laws.proofs.Entries.{job-entries, first-there, last-there, link-below, piece-below}
-use Rattle.field_laws.proofs.Rooms.{entries-from, field-rooms}
+use Rattle.field_laws.proofs.Lengths.{entries-from, field-lengths}
 use Rattle.field_laws.proofs.Reasons.{refused-for}
 use Rattle.field_laws.proofs.Taken.{none-numbered, vertex-slots, edge-slots-zero, length-slots, round-slots, triangle-slots-zero, normal-slots, direction-slots}
 use Rattle.piece_ends.proofs.Held.{spare-zero}
@@ -79,7 +79,7 @@ unqueued-same (u ∷ us) a =
     (λ i. record { b0 = u .b0; b1 = u .b1; low = u .low; src = u .src; carried = record { into = u .carried .into; queued = sym (a .0) i }; num = u .num } ∷ unqueued-same us (a .1) i)
 
 -- ---- a field
-module _ (j : Job) (b : FieldBuffers) (most : ℕ) (x : Inserted) (n : ℕ) (is : computeOf j b most ≡ field x n) where
+module _ (j : Job) (b : FieldBuffers) (most : ℕ) (x : Inserted) (n : ℕ) (is : computeByHeap j b most ≡ field x n) where
   abbrev s : State
   s = x .state
 
@@ -126,7 +126,7 @@ module _ (j : Job) (b : FieldBuffers) (most : ℕ) (x : Inserted) (n : ℕ) (is 
     }
 
     laws-of : FieldLaws j b (finishedAs x n) b′
-    laws-of = record { passed = passed j b most x n is; rooms = field-rooms j b most x n is b′ c; mesh = mesh-laws j b most x n is b′ c; windows = window-laws j b most x n is b′ c; entries = entry-laws }
+    laws-of = record { passed = passed j b most x n is; lengths = field-lengths j b most x n is b′ c; mesh = mesh-laws j b most x n is b′ c; windows = window-laws j b most x n is b′ c; entries = entry-laws }
 
     as-the-rust : AsTheRust j (finishedAs x n) b′
     as-the-rust =
@@ -236,18 +236,18 @@ module _ (j : Job) (b : FieldBuffers) (most : ℕ) where
       → FieldContents (filled (j .vertices) (j .triangles) (j .flags) (b .mesh)) (edgeData (j .vertices) (j .triangles)) (length (edges (j .triangles))) (x .state) (x .entries) (j .kinds) (j .coords) b b′
   given x n b′ c = with-queue (filled (j .vertices) (j .triangles) (j .flags) (b .mesh)) (edgeData (j .vertices) (j .triangles)) (length (edges (j .triangles))) x n (j .kinds) (j .coords) b b′ c
 
-  same : computeOver inOrder j b most ≡ finishedOf (computeOf j b most)
+  same : computeOver inOrder j b most ≡ finishedOf (computeByHeap j b most)
   same = job-same inOrder in-order j b most
 
   -- whatever is so of the field over the heap's buffers is so of the field
-  pub field-for : (P : Finished → Type 0) → ((y : Inserted) (n : ℕ) → computeOf j b most ≡ field y n → P (finishedAs y n)) → (x : Finished) → computeOver inOrder j b most ≡ gives x → P x
+  pub field-for : (P : Finished → Type 0) → ((y : Inserted) (n : ℕ) → computeByHeap j b most ≡ field y n → P (finishedAs y n)) → (x : Finished) → computeOver inOrder j b most ≡ gives x → P x
   unfolding finishedOf finishedOr Gives
-  field-for P each x is = go (computeOf j b most) refl (sym same ∙ is) where
-    go : (r : WorkResult) → computeOf j b most ≡ r → finishedOf r ≡ gives x → P x
+  field-for P each x is = go (computeByHeap j b most) refl (sym same ∙ is) where
+    go : (r : WorkResult) → computeByHeap j b most ≡ r → finishedOf r ≡ gives x → P x
     go (run.refused k) e h = absurd (subst Gives (sym h) tt)
     go (field y n) e h = subst P (ap (finishedOr x) h) (each y n e)
 
-  buffers-then : (r : WorkResult) → computeOf j b most ≡ r → (b′ : FieldBuffers) → LeavesOver j b (finishedOf r) b′ → BuffersThen j b (finishedOf r) b′
+  buffers-then : (r : WorkResult) → computeByHeap j b most ≡ r → (b′ : FieldBuffers) → LeavesOver j b (finishedOf r) b′ → BuffersThen j b (finishedOf r) b′
   unfolding finishedOf
   buffers-then (run.refused k) h b′ c = refused-buffers k b b′ c
   buffers-then (field x n) h b′ c = rest-is-zero j b most x n h b′ (given x n b′ c)
@@ -257,7 +257,7 @@ module _ (j : Job) (b : FieldBuffers) (most : ℕ) where
     ends-within most (meshRefusal j (countsIn (b .mesh) (otherCounts b)))
         (workOf j (filled (j .vertices) (j .triangles) (j .flags) (b .mesh) .vertex-words) (workIn b) (cutTo (cutCount (b .cuts)) (b .cuts)) most)
         (mesh-few j (countsIn (b .mesh) (otherCounts b))) (work-ends j (filled (j .vertices) (j .triangles) (j .flags) (b .mesh) .vertex-words) (workIn b) (cutTo (cutCount (b .cuts)) (b .cuts)) most),
-    buffers-then (computeOf j b most) refl,
+    buffers-then (computeByHeap j b most) refl,
   )
 
   pub demand-2 : JobDemand2 j b most

@@ -1,9 +1,9 @@
 -- The entries of a job's pieces name faces of the mesh and pieces of the job, and their links lead to entries: job-entries; link-below, piece-below, first-there, last-there. Assumes nothing.
 use Prim.Native.Nat.{ℕ, zero, suc, _+_, _*_, _/_, _≤_, _<_}
 use native.Mathlib.Omega.{arith}
-use mathlib.Core.Bool.{Bool, true, false, cond}
+use mathlib.Core.Bool.{Bool, cond}
 use mathlib.Core.List.{List, [], _∷_, _++_}
-use mathlib.Core.Path.{_≡_, refl, sym, ap, subst, _∙_}
+use mathlib.Core.Path.{_≡_, refl, sym, subst}
 use lib.Dec.{eqb}
 use lib.ListN.{length, getD}
 use lib.Ieee.{Float}
@@ -17,10 +17,9 @@ use Rattle.chains.specs.Chains.{firstLink}
 use Rattle.source_windows.specs.declared.Normal.the-variants.{Left, Right}
 use Rattle.source_offers.specs.Offering.{segmentOffer, pointOffer}
 use Rattle.carriers.specs.Carrier.{carrierOf}
-use Rattle.offers.specs.Each.{eachOf}
 use Rattle.offers.proofs.Each.{each-all}
 use Rattle.face_entries.specs.declared.Part.{Part}
-use Rattle.face_entries.specs.declared.Part.the-variants.{EndA, EndB, Whole}
+use Rattle.face_entries.specs.declared.Part.the-variants.{EndA, EndB}
 use Rattle.face_entries.specs.Entries.{FaceEntry, numbersFrom, numbersOf, finalLink, entryWordsFrom}
 use Rattle.face_entries.proofs.Numbers.{Numbered, each-numbered, numbers-below, final-in}
 use Rattle.piece_ends.specs.Ends.{endPoint, firstOfBits}

@@ -62,7 +62,7 @@ use Rattle.offers.specs.Walks.{edgeData}
 use Rattle.finish.specs.Contents.{FieldBuffers, FieldContents, edgeWordWith, edgesWith}
 use Rattle.run_steps.specs.Run.{field}
 use Rattle.insert_job.specs.Field.{begunJob}
-use Rattle.compute_spec.specs.Compute.{workIn, computeOf}
+use Rattle.compute_spec.specs.Compute.{workIn, computeByHeap}
 use Rattle.work_laws.specs.Account.{names, waiting, OnRecord}
 use Rattle.work_laws.specs.Laws.{StateLaws}
 use Rattle.field_laws.specs.Demands.{MeshLaws, WindowLaws}
@@ -157,7 +157,7 @@ pub padded-length : {A : Type 0} (z : A) (n : ℕ) (l : List A) → length l ≤
 padded-length z n l h = omega (arith, length-append l (replicate (n - length l) z), length-replicate (n - length l) z, h)
 
 -- ---- the field
-module _ (j : Job) (b : FieldBuffers) (most : ℕ) (x : Inserted) (n : ℕ) (is : computeOf j b most ≡ field x n) where
+module _ (j : Job) (b : FieldBuffers) (most : ℕ) (x : Inserted) (n : ℕ) (is : computeByHeap j b most ≡ field x n) where
   abbrev s : State
   s = x .state
 

@@ -19,12 +19,12 @@ use Rattle.source.specs.declared.Src.the-variants.{Point, Line}
 use Rattle.source.specs.declared.Win.{Win}
 use Rattle.better.specs.Claim.{All, Pairs}
 use Rattle.windows.specs.declared.WindowRecord.{WindowRecord}
-use Rattle.windows.specs.Windows.{isLine, realsOf, srcOf, flagsOf, hasFlag, edgeStored, intoOf, flagsAt, linkOf, winAt, windowAt, relinked}
-use Rattle.chains.specs.Chains.{Links, links, headOf, nextLink, Path, Out, Belongs, AllBelong, firstLink, OnEdge}
+use Rattle.windows.specs.Windows.{isLine, realsOf, srcOf, flagsOf, hasFlag, flagsAt, winAt, windowAt, relinked}
+use Rattle.chains.specs.Chains.{Links, links, headOf, nextLink, Path, Belongs, firstLink}
 use Rattle.trim_model.specs.Windows.{Window}
 use Rattle.trim_model.proofs.Lists.{all-map, all-map2}
 use Rattle.trim_state.specs.Trace.{recordOf}
-use Rattle.live_windows.specs.Live.{liveOf, nums, Alive, Among, Stands, bare, winsOf, FewFlags, HoldsWindows}
+use Rattle.live_windows.specs.Live.{liveOf, nums, Alive, Among, Stands, bare, winsOf, HoldsWindows}
 use Rattle.contents.specs.Contents.{linkAfter, fourWords, wordsFrom, sixReals, realsFrom, wordsOf, realsOfAll}
 use Rattle.finish.specs.Contents.{edgeWordWith, edgesWith}
 use Rattle.work_laws.specs.Account.{OnRecord}

@@ -42,7 +42,7 @@ use Rattle.run_operations.specs.Lists.{cutCount, cutTo}
 use Rattle.run_steps.specs.Run.{WorkResult, refused, field}
 use Rattle.field_work.specs.Work.{workOf, workCandidates}
 use Rattle.finish.specs.Contents.{FieldBuffers}
-use Rattle.compute_spec.specs.Compute.{otherCounts, workIn, computeOf}
+use Rattle.compute_spec.specs.Compute.{otherCounts, workIn, computeByHeap}
 use Rattle.compute_spec.proofs.Refusals.{compute-refused, compute-worked}
 use Rattle.work_laws.specs.Kept.{SoundCandidate}
 use Rattle.work_laws.specs.Laws.{StateLaws}
@@ -73,7 +73,7 @@ no-field : (k : ℕ) (x : Inserted) (n : ℕ) → refused k ≡ field x n → �
 unfolding IsField
 no-field k x n h = subst IsField (sym h) tt
 
-module _ (j : Job) (b : FieldBuffers) (most : ℕ) (x : Inserted) (n : ℕ) (is : computeOf j b most ≡ field x n) where
+module _ (j : Job) (b : FieldBuffers) (most : ℕ) (x : Inserted) (n : ℕ) (is : computeByHeap j b most ≡ field x n) where
   pub passed : meshRefusal j (countsIn (b .mesh) (otherCounts b)) ≡ 0
   passed = go (meshRefusal j (countsIn (b .mesh) (otherCounts b))) refl where
     go : (k : ℕ) → meshRefusal j (countsIn (b .mesh) (otherCounts b)) ≡ k → k ≡ 0

@@ -2,7 +2,7 @@ pub mod Held
 pub mod Job
 pub mod Field
 pub mod Entries
-pub mod Rooms
+pub mod Lengths
 pub mod Taken
 pub mod Reasons
 pub mod Demands

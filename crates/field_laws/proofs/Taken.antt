@@ -1,21 +1,20 @@
 -- Slots of the mesh and of the pieces that a field does not take are zero: slots-zero. Assumes nothing.
-use Prim.Native.Nat.{ℕ, zero, suc, _+_, _*_, _-_, _/_, _%_, _≤_, _<_}
+use Prim.Native.Nat.{ℕ, suc, _+_, _*_, _-_, _/_, _%_, _≤_, _<_}
 use native.Mathlib.Omega.{arith}
 use native.Mathlib.Decide.{decLe}
 use mathlib.Core.Bool.{Bool, true, false, cond, _&&_}
-use mathlib.Core.List.{List, [], _∷_, _++_}
+use mathlib.Core.List.{List, [], _∷_}
 use mathlib.Core.Path.{_≡_, refl, sym, ap, subst, _∙_}
 use borrow.Author.Tests.{ne-eqb, le-ltb}
 use lib.Dec.{eqb, ltb}
 use lib.ListN.{length, getD, replicate, List·getD-eq-default}
 use lib.Ieee.{Float}
-use Rattle.layout.specs.Layout.{wordsPerVertex, wordsPerEdge, edgeHead, realsPerEdge, wordsPerTriangle, triangleFirstEntry, triangleLastEntry, realsPerNormal, wordsPerPiece, realsPerPiece}
+use Rattle.layout.specs.Layout.{wordsPerVertex, wordsPerEdge, edgeHead, realsPerEdge, wordsPerTriangle, triangleFirstEntry, triangleLastEntry, realsPerNormal, realsPerPiece}
 use Rattle.float64.specs.Scalar.{zero64}
 use Rattle.nat_laws.specs.Lists.{listOf}
 use Rattle.nat_laws.proofs.Lists.{length-listOf, getD-listOf}
 use Rattle.better.specs.Claim.{All}
 use Rattle.chains.specs.Chains.{firstLink}
-use Rattle.job_checks.specs.Job.{Job, vertexCount, triangleCount}
 use Rattle.job_checks.specs.Sound.{ValidTriangles}
 use Rattle.topology.specs.Edges.{edges, triEdge, edgeFaces, vertexFaces}
 use Rattle.topology.specs.Rows.{rows}
@@ -27,11 +26,8 @@ use Rattle.vertex_faces.proofs.Ranges.{read-past, flags-past}
 use Rattle.vertex_faces.proofs.Sides.{total-is}
 use Rattle.frames.specs.Stored.{lengthRow, row3, normalOf}
 use Rattle.mesh.specs.Topology.{MeshBuffers, vertexWords, filled}
-use Rattle.piece_ends.specs.Table.{pieceWords}
 use Rattle.piece_ends.specs.Directions.{pieceReals, directionOf}
-use Rattle.piece_ends.proofs.Held.{spare-zero}
 use Rattle.trim_model.specs.Windows.{Window}
-use Rattle.trim_state.specs.State.{State}
 use Rattle.live_windows.specs.Live.{nums}
 use Rattle.face_entries.specs.Entries.{FaceEntry, numbersFrom, numbersOf, finalLink, wordWith, trianglesWith}
 use Rattle.finish.specs.Contents.{edgeWordWith, edgesWith}

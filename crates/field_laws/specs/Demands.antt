@@ -42,12 +42,11 @@ use Rattle.last_pass.specs.Buffers.{chainBehind}
 use Rattle.last_pass.specs.Finished.{lowsSet, retained, resorted, LowIs}
 use Rattle.zero_buffers.specs.ZeroIf.{zeroReals, zeroWords, zeroCuts}
 use Rattle.finish.specs.Contents.{FieldBuffers, SpareZero}
-use Rattle.finish.specs.Refused.{zeroField, AllRooms}
+use Rattle.finish.specs.Refused.{zeroField, FieldLengths}
 use Rattle.computed.specs.declared.Field.{Field}
 use Rattle.compute_spec.specs.Compute.{otherCounts}
 use Rattle.field_model.specs.Queue.{inOrder}
-use Rattle.field_model.specs.Field as model
-use Rattle.field_model.specs.Field.{Reply, refused, gives, Slots, eventIn}
+use Rattle.field_model.specs.Field.{FieldState, Reply, refused, gives, Slots, eventIn}
 use Rattle.field_model.specs.Job.{Finished, pseudoOf, afterSources}
 use Rattle.field_model.specs.Lent.{slotsIn, computeOver, candidatesOver, LeavesOver}
 
@@ -105,14 +104,14 @@ pub record AsTheRust (j : Job) (x : Finished) (b′ : FieldBuffers) : Type 0 whe
   pub distances : b′ .vertex ≡ loweredAll (length (edges (j .triangles))) (edgeData (j .vertices) (j .triangles)) (x .live) (x .vertex)
 
 -- "(none is refused but for 01's reasons)": the reason for each number. Those of the main loop with so many turns left, from the field f:
-pub data LoopRefused (j : Job) (slots : Slots) : ℕ → model.Field (List Event) → ℕ → Type 0 where
+pub data LoopRefused (j : Job) (slots : Slots) : ℕ → FieldState (List Event) → ℕ → Type 0 where
   -- 15: the turns are over and an event waits
-  spent : (f : model.Field (List Event)) (x : Event) (rest : List Event) → f .queue ≡ x ∷ rest → LoopRefused j slots zero f 15
+  spent : (f : FieldState (List Event)) (x : Event) (rest : List Event) → f .queue ≡ x ∷ rest → LoopRefused j slots zero f 15
   -- 12, 13 or 14: the turn of the first event comes to what there is no slot for
-  turning : (left : ℕ) (f : model.Field (List Event)) (x : Event) (rest : List Event) (k : ℕ) → f .queue ≡ x ∷ rest
+  turning : (left : ℕ) (f : FieldState (List Event)) (x : Event) (rest : List Event) (k : ℕ) → f .queue ≡ x ∷ rest
       → eventIn inOrder slots (j .limit) (pseudoOf j) (j .vertices) (j .triangles) x rest f ≡ refused k → LoopRefused j slots (suc left) f k
   -- that turn is done, and a later one is refused
-  later : (left : ℕ) (f g : model.Field (List Event)) (x : Event) (rest : List Event) (k : ℕ) → f .queue ≡ x ∷ rest
+  later : (left : ℕ) (f g : FieldState (List Event)) (x : Event) (rest : List Event) (k : ℕ) → f .queue ≡ x ∷ rest
       → eventIn inOrder slots (j .limit) (pseudoOf j) (j .vertices) (j .triangles) x rest f ≡ gives g → LoopRefused j slots left g k → LoopRefused j slots (suc left) f k
 
 -- and all of them, in the order in which they are tried
@@ -124,7 +123,7 @@ pub data RefusedFor (j : Job) (b : FieldBuffers) (most : ℕ) : ℕ → Type 0 w
   -- 12, 13, 14 or 17: a piece is entered for which there is no slot
   inserting : (k : ℕ) → afterSources inOrder (slotsIn b) j ≡ refused k → RefusedFor j b most k
   -- 12, 13, 14 or 15: the main loop, from what insertion left
-  looping : (f : model.Field (List Event)) (k : ℕ) → afterSources inOrder (slotsIn b) j ≡ gives f → LoopRefused j (slotsIn b) most f k → RefusedFor j b most k
+  looping : (f : FieldState (List Event)) (k : ℕ) → afterSources inOrder (slotsIn b) j ≡ gives f → LoopRefused j (slotsIn b) most f k → RefusedFor j b most k
 
 abbrev pub JobDemand2 : Job → FieldBuffers → ℕ → Type 0
 JobDemand2 j b most = ((x : Finished) → computeOver inOrder j b most ≡ gives x → (b′ : FieldBuffers) → LeavesOver j b (gives x) b′ → AsTheRust j x b′)
@@ -192,7 +191,7 @@ pub record FieldLaws (j : Job) (b : FieldBuffers) (x : Finished) (b′ : FieldBu
   -- the job met none of 1 to 10
   pub passed : meshRefusal j (countsIn (b .mesh) (otherCounts b)) ≡ 0
   -- every slice is as long as it was lent
-  pub rooms : AllRooms b b′
+  pub lengths : FieldLengths b b′
   pub mesh : MeshLaws j b′
   pub windows : WindowLaws j x b′
   pub entries : EntryLaws j (x .entries) b′

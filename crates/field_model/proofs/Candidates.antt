@@ -19,7 +19,7 @@ use Rattle.advance.specs.Advance.{ofState, advanceCandidates}
 use Rattle.advance.proofs.More.{candidates-idle}
 use Rattle.field_work.specs.Work.{thenOffered}
 use Rattle.field_model.specs.Queue.{QueueKind, OfRest, LeastFirst}
-use Rattle.field_model.specs.Field.{Field, Reply, orNone, Slots, turnIn, eventIn, loopCandidates}
+use Rattle.field_model.specs.Field.{FieldState, Reply, orNone, Slots, turnIn, eventIn, loopCandidates}
 use Rattle.field_model.proofs.Queues.{SamePop, no-event, one-event, pop-same}
 use Rattle.field_model.proofs.Playing.{Agreed}
 use Rattle.field_model.proofs.Adding.{like, AlikeIn, MeetsIn, both-stopped, both-went}
@@ -35,14 +35,14 @@ module _ (Q : QueueKind) (L : LeastFirst Q) (slots : Slots) (small : slots .wind
   abbrev heaped : ℕ → State → List Candidate
   heaped = advanceCandidates (slots .cuts) (slots .windows) limit flags v triangles
 
-  abbrev over : ℕ → Field (Q .State) → List Candidate
+  abbrev over : ℕ → FieldState (Q .State) → List Candidate
   over = loopCandidates Q slots limit pseudo v triangles
 
   more-heaped : (k : ℕ) (s : State) (p : Popped × Queue) → popping (s .stock .queue) (s .stock .queued) ≡ p → heaped (suc k) s ≡ candidatesWith limit v triangles s (p .0) ++ ofState [] (heaped k) (step s p)
   unfolding advanceCandidates
   more-heaped k s p is = ap (λ (p : Popped × Queue). candidatesWith limit v triangles s (p .0) ++ ofState [] (heaped k) (step s p)) is
 
-  later-same : (k : ℕ) (xs : List FaceEntry) → ((s : State) (q : Q .State) → AlikeIn Q L slots s q → over k (like Q L slots s xs q) ≡ heaped k s) → (r : Reply (Field (Q .State))) (o : Result) → MeetsIn Q L slots xs r o
+  later-same : (k : ℕ) (xs : List FaceEntry) → ((s : State) (q : Q .State) → AlikeIn Q L slots s q → over k (like Q L slots s xs q) ≡ heaped k s) → (r : Reply (FieldState (Q .State))) (o : Result) → MeetsIn Q L slots xs r o
       → orNone (over k) r ≡ ofState [] (heaped k) o
   unfolding orNone ofState
   later-same k xs ih _ _ (both-stopped n) = refl
@@ -62,7 +62,7 @@ module _ (Q : QueueKind) (L : LeastFirst Q) (slots : Slots) (small : slots .wind
             ∙ sym (more-heaped k s (First x n, heap) is)
 
   -- after insertion
-  pub offered-same : (k : ℕ) (r : Reply (Field (Q .State))) (o : InsertResult) → MeetsInserted Q L slots r o → orNone (over k) r ≡ thenOffered o (λ (x : Inserted). heaped k (x .state))
+  pub offered-same : (k : ℕ) (r : Reply (FieldState (Q .State))) (o : InsertResult) → MeetsInserted Q L slots r o → orNone (over k) r ≡ thenOffered o (λ (x : Inserted). heaped k (x .state))
   unfolding orNone thenOffered
   offered-same k _ _ (both-refused n) = refl
   offered-same k _ _ (both-inserted x q a) = loop-candidates k (x .entries) (x .state) q a

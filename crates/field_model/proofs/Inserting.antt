@@ -28,23 +28,23 @@ use Rattle.cut_lists.specs.Buffers.{Cuts}
 use Rattle.job_checks.specs.Job.{Job}
 use Rattle.insert_job.specs.Field.{begunJob, emptyField}
 use Rattle.field_model.specs.Queue.{QueueKind, LeastFirst}
-use Rattle.field_model.specs.Field.{Field, Reply, refused, gives, andGo, Slots, addAllIn, insertIn, insertAllIn}
+use Rattle.field_model.specs.Field.{FieldState, Reply, refused, gives, andGo, Slots, addAllIn, insertIn, insertAllIn}
 use Rattle.field_model.proofs.Queues.{SameQueue, none-same}
 use Rattle.field_model.proofs.Playing.{either, Agreed}
 use Rattle.field_model.proofs.Adding.{like, AlikeIn, MeetsIn, both-stopped, both-went, all-meets}
 
 module _ (Q : QueueKind) (L : LeastFirst Q) (slots : Slots) where
   -- both are refused by one number, or both go on alike
-  pub data MeetsInserted : Reply (Field (Q .State)) → InsertResult → Type 1 where
+  pub data MeetsInserted : Reply (FieldState (Q .State)) → InsertResult → Type 1 where
     both-refused : (n : ℕ) → MeetsInserted (refused n) (insertion.stopped n)
     both-inserted : (x : Inserted) (q : Q .State) → AlikeIn Q L slots (x .state) q → MeetsInserted (gives (like Q L slots (x .state) (x .entries) q)) (insertion.went x)
 
-  entries-meet : (xs : List FaceEntry) (r : Reply (Field (Q .State))) (o : Result) → MeetsIn Q L slots xs r o → MeetsInserted r (withEntries xs o)
+  entries-meet : (xs : List FaceEntry) (r : Reply (FieldState (Q .State))) (o : Result) → MeetsIn Q L slots xs r o → MeetsInserted r (withEntries xs o)
   unfolding withEntries
   entries-meet xs _ _ (both-stopped n) = both-refused n
   entries-meet xs _ _ (both-went s q a) = both-inserted (record { state = s; entries = xs }) q a
 
-  then-inserted : (r : Reply (Field (Q .State))) (o : InsertResult) (f : Field (Q .State) → Reply (Field (Q .State))) (g : Inserted → InsertResult) → MeetsInserted r o
+  then-inserted : (r : Reply (FieldState (Q .State))) (o : InsertResult) (f : FieldState (Q .State) → Reply (FieldState (Q .State))) (g : Inserted → InsertResult) → MeetsInserted r o
       → ((x : Inserted) (q : Q .State) → AlikeIn Q L slots (x .state) q → MeetsInserted (f (like Q L slots (x .state) (x .entries) q)) (g x)) → MeetsInserted (andGo r f) (andInsert o g)
   unfolding andGo andInsert
   then-inserted _ _ f g (both-refused n) h = both-refused n

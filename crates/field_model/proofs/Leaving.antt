@@ -16,7 +16,7 @@ use Rattle.run_steps.specs.Run as run
 use Rattle.run_steps.specs.Run.{WorkResult}
 use Rattle.finish.specs.Contents.{edgesWith, FieldBuffers, FieldContents}
 use Rattle.computed.specs.declared.Computed.{Computed}
-use Rattle.compute_spec.specs.Compute.{computeOf, Leaves, answerOf, Computes}
+use Rattle.compute_spec.specs.Compute.{computeByHeap, LeavesByHeap, answerByHeap, ComputesByHeap}
 use Rattle.field_model.specs.Queue.{QueueKind, LeastFirst}
 use Rattle.field_model.specs.Field.{Reply}
 use Rattle.field_model.specs.Job.{Finished}
@@ -53,31 +53,31 @@ module _ (j : Job) (b b′ : FieldBuffers) where
   held-same : (s t : State) (xs : List FaceEntry) → s .wins ≡ t .wins → s .live ≡ t .live → s .stock .vertex ≡ t .stock .vertex → Holds s xs → Holds t xs
   held-same s t xs = contents-same (filled (j .vertices) (j .triangles) (j .flags) (b .mesh)) (edgeData (j .vertices) (j .triangles)) (length (edges (j .triangles))) s t xs (j .kinds) (j .coords) b b′
 
-  without-queue : (r : WorkResult) → Leaves j b r b′ → LeavesOver j b (finishedOf r) b′
+  without-queue : (r : WorkResult) → LeavesByHeap j b r b′ → LeavesOver j b (finishedOf r) b′
   unfolding finishedOf
   without-queue (run.refused k) h = h
   without-queue (run.field x steps) h = held-same (x .state) (emptied (record { wins = x .state .wins; live = x .state .live; vertex = x .state .stock .vertex; entries = x .entries; steps = steps })) (x .entries) refl refl refl h
 
-  with-queue : (r : WorkResult) → LeavesOver j b (finishedOf r) b′ → Leaves j b r b′
+  with-queue : (r : WorkResult) → LeavesOver j b (finishedOf r) b′ → LeavesByHeap j b r b′
   unfolding finishedOf
   with-queue (run.refused k) h = h
   with-queue (run.field x steps) h = held-same (emptied (record { wins = x .state .wins; live = x .state .live; vertex = x .state .stock .vertex; entries = x .entries; steps = steps })) (x .state) (x .entries) refl refl refl h
 
-same-answer : (j : Job) (r : WorkResult) → answerOf j r ≡ answerOver j (finishedOf r)
-unfolding answerOf answerOver finishedOf
+same-answer : (j : Job) (r : WorkResult) → answerByHeap j r ≡ answerOver j (finishedOf r)
+unfolding answerByHeap answerOver finishedOf
 same-answer j (run.refused k) = refl
 same-answer j (run.field x steps) = refl
 
 -- for every queue: whoever computes by the heap's buffers computes by it, and the other way round
 module _ (Q : QueueKind) (L : LeastFirst Q) (j : Job) (b : FieldBuffers) (most : ℕ) (r : Computed) (b′ : FieldBuffers) where
-  pub computes-over : Computes j b most r b′ → ComputesOver Q j b most r b′
+  pub computes-over : ComputesByHeap j b most r b′ → ComputesOver Q j b most r b′
   computes-over h = record {
-    answer = h .answer ∙ same-answer j (computeOf j b most) ∙ ap (answerOver j) (sym (job-same Q L j b most));
-    leaves = subst (λ (w : Reply Finished). LeavesOver j b w b′) (sym (job-same Q L j b most)) (without-queue j b b′ (computeOf j b most) (h .leaves));
+    answer = h .answer ∙ same-answer j (computeByHeap j b most) ∙ ap (answerOver j) (sym (job-same Q L j b most));
+    leaves = subst (λ (w : Reply Finished). LeavesOver j b w b′) (sym (job-same Q L j b most)) (without-queue j b b′ (computeByHeap j b most) (h .leaves));
   }
 
-  pub computes-heaped : ComputesOver Q j b most r b′ → Computes j b most r b′
+  pub computes-heaped : ComputesOver Q j b most r b′ → ComputesByHeap j b most r b′
   computes-heaped h = record {
-    answer = h .answer ∙ ap (answerOver j) (job-same Q L j b most) ∙ sym (same-answer j (computeOf j b most));
-    leaves = with-queue j b b′ (computeOf j b most) (subst (λ (w : Reply Finished). LeavesOver j b w b′) (job-same Q L j b most) (h .leaves));
+    answer = h .answer ∙ ap (answerOver j) (job-same Q L j b most) ∙ sym (same-answer j (computeByHeap j b most));
+    leaves = with-queue j b b′ (computeByHeap j b most) (subst (λ (w : Reply Finished). LeavesOver j b w b′) (job-same Q L j b most) (h .leaves));
   }

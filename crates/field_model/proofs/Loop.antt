@@ -19,7 +19,7 @@ use Rattle.advance.specs.Advance.{ofState, advanceOf, stepsOf}
 use Rattle.advance.proofs.More.{advance-idle, steps-idle}
 use Rattle.run_steps.specs.Run.{budgeted}
 use Rattle.field_model.specs.Queue.{QueueKind, OfRest, LeastFirst}
-use Rattle.field_model.specs.Field.{Field, Reply, refused, gives, andGo, Slots, eventIn, loopIn}
+use Rattle.field_model.specs.Field.{FieldState, Reply, refused, gives, andGo, Slots, eventIn, loopIn}
 use Rattle.field_model.specs.Job.{Finished, finished}
 use Rattle.field_model.specs.Lent.{finishedOf}
 use Rattle.field_model.proofs.Queues.{SamePop, no-event, one-event, pop-same}
@@ -75,7 +75,7 @@ module _ (Q : QueueKind) (L : LeastFirst Q) (slots : Slots) (small : slots .wind
   more-heaped k steps s p is busy = rw busy (ap (λ (p : Popped × Queue). finishedOf (budgeted xs (steps + suc (ofState 0 (taken k) (step s p))) (andNext (step s p) (advance k)))) is)
 
   -- and then
-  then-same : (k steps : ℕ) → ((s : State) (q : Q .State) → AlikeIn Q L slots s q → over k (suc steps) s q ≡ heaped k (suc steps) s) → (r : Reply (Field (Q .State))) (o : Result) → MeetsIn Q L slots xs r o
+  then-same : (k steps : ℕ) → ((s : State) (q : Q .State) → AlikeIn Q L slots s q → over k (suc steps) s q ≡ heaped k (suc steps) s) → (r : Reply (FieldState (Q .State))) (o : Result) → MeetsIn Q L slots xs r o
       → andGo (andGo r (loopIn Q slots limit pseudo v triangles k (suc steps))) finished ≡ finishedOf (budgeted xs (steps + suc (ofState 0 (taken k) o)) (andNext o (advance k)))
   unfolding andGo andNext ofState budgeted finishedOf
   then-same k steps ih _ _ (both-stopped n) = refl

@@ -23,7 +23,7 @@ use Rattle.trim_model.specs.Windows.{Window}
 use Rattle.trim_state.proofs.Made.{one}
 use Rattle.face_entries.specs.Entries.{FaceEntry}
 use Rattle.field_model.specs.Queue.{QueueKind, LeastFirst}
-use Rattle.field_model.specs.Field.{Field, Reply, refused, gives, andGo, Slots, pushIn, touchIn, actIn, playIn}
+use Rattle.field_model.specs.Field.{FieldState, Reply, refused, gives, andGo, Slots, pushIn, touchIn, actIn, playIn}
 use Rattle.field_model.proofs.Queues.{SameQueue, count-same, push-same}
 use Rattle.field_model.proofs.Numbers.{Double, Fit, AllFit}
 
@@ -50,11 +50,11 @@ module _ (Q : QueueKind) (L : LeastFirst Q) (slots : Slots) where
     pub reached : L .Reached q
     pub same : SameQueue (slots .events) (Q .events q) queued heap
 
-  abbrev pub fieldAt : List WindowRecord → (ℕ → List Window) → List FaceEntry → List Float → Q .State → Field (Q .State)
+  abbrev pub fieldAt : List WindowRecord → (ℕ → List Window) → List FaceEntry → List Float → Q .State → FieldState (Q .State)
   fieldAt wins live xs vertex q = record { wins = wins; live = live; vertex = vertex; entries = xs; queue = q }
 
   -- both are refused by one number, or both go on alike
-  pub data Meets (wins : List WindowRecord) (live : ℕ → List Window) (xs : List FaceEntry) : Reply (Field (Q .State)) → Outcome → Type 1 where
+  pub data Meets (wins : List WindowRecord) (live : ℕ → List Window) (xs : List FaceEntry) : Reply (FieldState (Q .State)) → Outcome → Type 1 where
     both-stop : (n : ℕ) → Meets wins live xs (refused n) (actions.stopped n)
     both-go : (k : Stock) (q : Q .State) → Alike wins (k .made) (k .queued) (k .queue) q → Meets wins live xs (gives (fieldAt wins live xs (k .vertex) q)) (actions.went k)
 
@@ -62,7 +62,7 @@ module _ (Q : QueueKind) (L : LeastFirst Q) (slots : Slots) where
   adjusted : (g : WindowRecord → WindowRecord) (i : ℕ) (wins : List WindowRecord) (made queued : ℕ) (heap : Queue) (q : Q .State) → Alike wins made queued heap q → Alike (adjust i g wins) made queued heap q
   adjusted g i wins made queued heap q a = record { counted = a .counted ∙ sym (length-adjust g i wins); few = subst (λ (n : ℕ). n ≤ slots .windows) (sym (length-adjust g i wins)) (a .few); reached = a .reached; same = a .same }
 
-  pub then-meets : (wins wins′ : List WindowRecord) (live : ℕ → List Window) (xs : List FaceEntry) (r : Reply (Field (Q .State))) (o : Outcome) (f : Field (Q .State) → Reply (Field (Q .State))) (g : Stock → Outcome)
+  pub then-meets : (wins wins′ : List WindowRecord) (live : ℕ → List Window) (xs : List FaceEntry) (r : Reply (FieldState (Q .State))) (o : Outcome) (f : FieldState (Q .State) → Reply (FieldState (Q .State))) (g : Stock → Outcome)
       → Meets wins live xs r o → ((k : Stock) (q : Q .State) → Alike wins (k .made) (k .queued) (k .queue) q → Meets wins′ live xs (f (fieldAt wins live xs (k .vertex) q)) (g k))
       → Meets wins′ live xs (andGo r f) (andThen o g)
   unfolding andGo andThen
@@ -78,7 +78,7 @@ module _ (Q : QueueKind) (L : LeastFirst Q) (slots : Slots) where
     unfolding pushIn queueing
     push-meets e p wins live xs made queued heap vertex q a =
         let cap = slots .events in
-        let put : Reply (Field (Q .State)) = gives (fieldAt wins live xs vertex (Q .put e q)) in
+        let put : Reply (FieldState (Q .State)) = gives (fieldAt wins live xs vertex (Q .put e q)) in
         subst (λ (n : ℕ). Meets wins live xs (cond (ltb n cap) put (refused 13)) (queueing made vertex (pushing heap queued e))) (sym (count-same cap (Q .events q) queued heap (a .same)))
         (subst (λ (n : ℕ). Meets wins live xs (cond (ltb queued cap) put (refused 13)) (queueing made vertex (cond {A = Pushed × Queue} (ltb queued n) (Queued (queued + 1), pushed heap queued e) (Full, heap)))) (sym (a .same .room))
         (go (ltb queued cap) refl))
@@ -100,7 +100,7 @@ module _ (Q : QueueKind) (L : LeastFirst Q) (slots : Slots) where
         let vertex = withDistance (s .vertex) k d in
         let e : Event = record { key = d; item = Item·Vertex (record { 0 = k }) } in
         let pushes = pushIn Q slots limit pseudo v triangles e (fieldAt wins live xs vertex q) in
-        let rests : Reply (Field (Q .State)) = gives (fieldAt wins live xs vertex q) in
+        let rests : Reply (FieldState (Q .State)) = gives (fieldAt wins live xs vertex q) in
         let queues = queueing (s .made) vertex (pushing (s .queue) (s .queued) e) in
         let stays = actions.went (stock (s .made) (s .queued) (s .queue) vertex) in
         let flag = eqb (getD flags (3 * k + 2) 0) 1 in
@@ -118,7 +118,7 @@ module _ (Q : QueueKind) (L : LeastFirst Q) (slots : Slots) where
         either (λ (b : Bool). Meets wins live xs (cond b (gives (fieldAt wins live xs (s .vertex) q)) (refused 14)) (cond b (actions.went s) (actions.stopped 14))) (leb n (slots .cuts)) (both-go s q a) (both-stop 14)
     act-meets (make x) wins live xs s q f a =
         let more = wins ++ (x ∷ []) in
-        let made : Reply (Field (Q .State)) = gives (fieldAt more live xs (s .vertex) q) in
+        let made : Reply (FieldState (Q .State)) = gives (fieldAt more live xs (s .vertex) q) in
         subst (λ (n : ℕ). Meets more live xs (cond (ltb n (slots .windows)) made (refused 12)) (act (slots .cuts) (slots .windows) limit flags (make x) s)) (a .counted)
         (go (ltb (s .made) (slots .windows)) refl)
       where

@@ -1,4 +1,4 @@
--- A whole job over any queue that takes the least event: its refusal is that of `computeOf`, or else all but the queue is the same. Assumes nothing.
+-- A whole job over any queue that takes the least event: its refusal is that of `computeByHeap`, or else all but the queue is the same. Assumes nothing.
 use Prim.Native.Nat.{ℕ, zero, suc, _+_, _≤_, _<_, min}
 use native.Mathlib.Omega.{arith}
 use mathlib.Core.Bool.{Bool, true, false}
@@ -27,9 +27,9 @@ use Rattle.advance.specs.Advance.{advanceOf, stepsOf}
 use Rattle.run_steps.specs.Run.{WorkResult, budgeted, loopOf}
 use Rattle.field_work.specs.Work.{andLoop, workOf, workCandidates}
 use Rattle.finish.specs.Contents.{FieldBuffers}
-use Rattle.compute_spec.specs.Compute.{otherCounts, workIn, unlessRefused, computeOf}
+use Rattle.compute_spec.specs.Compute.{otherCounts, workIn, unlessRefused, computeByHeap}
 use Rattle.field_model.specs.Queue.{QueueKind, inOrder, LeastFirst, queueKind}
-use Rattle.field_model.specs.Field.{Field, Reply, refused, andGo, Slots, loopIn}
+use Rattle.field_model.specs.Field.{FieldState, Reply, refused, andGo, Slots, loopIn}
 use Rattle.field_model.specs.Job.{Finished, finished, pseudoOf, afterSources, fieldOf, jobCandidates, unlessMesh}
 use Rattle.field_model.specs.Lent.{slotsIn, computeOver, candidatesOver, finishedOf}
 use Rattle.heap.specs.Model.{AnyQueue}
@@ -48,13 +48,13 @@ module _ (Q : QueueKind) (L : LeastFirst Q) (j : Job) (flags : List ℕ) (s : Wo
   small : slots .windows < 4294967296
   small = omega arith
 
-  abbrev over : Reply (Field (Q .State)) → Reply Finished
-  over r = andGo r (λ (f : Field (Q .State)). andGo (loopIn Q slots (j .limit) (pseudoOf j) (j .vertices) (j .triangles) most 0 f) finished)
+  abbrev over : Reply (FieldState (Q .State)) → Reply Finished
+  over r = andGo r (λ (f : FieldState (Q .State)). andGo (loopIn Q slots (j .limit) (pseudoOf j) (j .vertices) (j .triangles) most 0 f) finished)
 
   abbrev heaped : InsertResult → WorkResult
   heaped r = andLoop r (loopOf (slots .cuts) (slots .windows) (j .limit) flags (j .vertices) (j .triangles) most)
 
-  run-same : (r : Reply (Field (Q .State))) (o : InsertResult) → MeetsInserted Q L slots r o → over r ≡ finishedOf (heaped o)
+  run-same : (r : Reply (FieldState (Q .State))) (o : InsertResult) → MeetsInserted Q L slots r o → over r ≡ finishedOf (heaped o)
   unfolding andLoop andGo finishedOf
   run-same _ _ (both-refused n) = refl
   run-same _ _ (both-inserted x q a) =
@@ -95,8 +95,8 @@ slots-are b = λ i. record {
   vertex-reals = length (b .vertex);
 }
 
--- whatever the queue, of every job, in whatever buffers, within whatever budget: the refusal of `computeOf`, or its field but for the queue
-pub job-same : (Q : QueueKind) (L : LeastFirst Q) (j : Job) (b : FieldBuffers) (most : ℕ) → computeOver Q j b most ≡ finishedOf (computeOf j b most)
+-- whatever the queue, of every job, in whatever buffers, within whatever budget: the refusal of `computeByHeap`, or its field but for the queue
+pub job-same : (Q : QueueKind) (L : LeastFirst Q) (j : Job) (b : FieldBuffers) (most : ℕ) → computeOver Q j b most ≡ finishedOf (computeByHeap j b most)
 job-same Q L j b most = go (meshRefusal j (countsIn (b .mesh) (otherCounts b))) refl where
   words : List ℕ
   words = filled (j .vertices) (j .triangles) (j .flags) (b .mesh) .vertex-words

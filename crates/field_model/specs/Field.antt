@@ -36,26 +36,26 @@ use Rattle.field_step.specs.Step.{noWindow, vertexTurn, windowTurn, markedVerte
 use Rattle.field_model.specs.Queue.{QueueKind}
 
 -- `Field`, with a queue of states S
-pub record Field (S : Type 0) : Type 0 where
+pub record FieldState (S : Type 0) : Type 0 where
   pub wins : List WindowRecord  -- `wins`: all windows made, in the order of their numbers, dead ones too
   pub live : ℕ → List Window  -- `on_edge`: of each edge its live windows in order
   pub vertex : List Float  -- `vertex` and `emitted`, two numbers for each vertex
   pub entries : List FaceEntry  -- `in_face`, as the list of its pushes
   pub queue : S  -- `queue`
 
-abbrev pub withWins : {S : Type 0} → List WindowRecord → Field S → Field S
+abbrev pub withWins : {S : Type 0} → List WindowRecord → FieldState S → FieldState S
 withWins wins f = record { wins = wins; live = f .live; vertex = f .vertex; entries = f .entries; queue = f .queue }
 
-abbrev pub withLive : {S : Type 0} → (ℕ → List Window) → Field S → Field S
+abbrev pub withLive : {S : Type 0} → (ℕ → List Window) → FieldState S → FieldState S
 withLive live f = record { wins = f .wins; live = live; vertex = f .vertex; entries = f .entries; queue = f .queue }
 
-abbrev pub withVertex : {S : Type 0} → List Float → Field S → Field S
+abbrev pub withVertex : {S : Type 0} → List Float → FieldState S → FieldState S
 withVertex vertex f = record { wins = f .wins; live = f .live; vertex = vertex; entries = f .entries; queue = f .queue }
 
-abbrev pub withEntry : {S : Type 0} → FaceEntry → Field S → Field S
+abbrev pub withEntry : {S : Type 0} → FaceEntry → FieldState S → FieldState S
 withEntry x f = record { wins = f .wins; live = f .live; vertex = f .vertex; entries = f .entries ++ (x ∷ []); queue = f .queue }
 
-abbrev pub withQueue : {S : Type 0} → S → Field S → Field S
+abbrev pub withQueue : {S : Type 0} → S → FieldState S → FieldState S
 withQueue q f = record { wins = f .wins; live = f .live; vertex = f .vertex; entries = f .entries; queue = q }
 
 -- a refusal by its number in 01, or what there is afterwards
@@ -74,7 +74,7 @@ orNone of (gives x) = of x
 
 -- what is done to a field
 abbrev pub Change : QueueKind → Type 0
-Change Q = Field (Q .State) → Reply (Field (Q .State))
+Change Q = FieldState (Q .State) → Reply (FieldState (Q .State))
 
 -- 01's counts of the rooms that the job may fill
 pub record Slots : Type 0 where
@@ -124,7 +124,7 @@ module _ (Q : QueueKind) (slots : Slots) (limit : Float) (pseudo : ℕ → Bool)
       let e = c .edge in
       let made = length (f .wins) in
       andGo (playIn (adding (edgeIn (edgeData v triangles) e) (asWindow c) (f .live e) made) f)
-      (λ (g : Field (Q .State)). gives (withLive (put e (addTo betterOf (tinyOf (edgeData v triangles .len e)) (asWindow c) (f .live e) made .live) (f .live)) g))
+      (λ (g : FieldState (Q .State)). gives (withLive (put e (addTo betterOf (tinyOf (edgeData v triangles .len e)) (asWindow c) (f .live e) made .live) (f .live)) g))
 
   -- `add`: `if w.b1 - w.b0 <= tiny || w.src.lowest(w.b0, w.b1) > self.limit { return; }`
   unfoldable pub addIn : Candidate → Change Q
@@ -150,14 +150,14 @@ module _ (Q : QueueKind) (slots : Slots) (limit : Float) (pseudo : ℕ → Bool)
 
   -- ---- the main loop
   -- `if vertex { let d = field.vertex[id]; .. }`, or `let w = field.wins[id]; if !w.alive || !w.queued { continue; } ..`
-  unfoldable pub turnIn : Item → Float → Field (Q .State) → Turn
+  unfoldable pub turnIn : Item → Float → FieldState (Q .State) → Turn
   turnIn (Item·Window id) key f =
       let w = getD (f .wins) (id .0) noWindow in
       if w .alive && w .carried .queued then windowTurn limit w else Skip
   turnIn (Item·Vertex k) key f = vertexTurn (f .vertex) (k .0) key
 
   -- the queue is q then, and `field.wins[id].queued = false` of a live window that the event names
-  abbrev pub withoutEvent : Item → Q .State → Field (Q .State) → Field (Q .State)
+  abbrev pub withoutEvent : Item → Q .State → FieldState (Q .State) → FieldState (Q .State)
   withoutEvent x q f = record { wins = winsClaimed x (f .wins); live = λ (e : ℕ). liveClaimed x (f .live e); vertex = f .vertex; entries = f .entries; queue = q }
 
   -- `continue`, or `field.emitted[id] = d; field.emit(id, d)`, or `field.propagate(w)`
@@ -171,13 +171,13 @@ module _ (Q : QueueKind) (slots : Slots) (limit : Float) (pseudo : ℕ → Bool)
   eventIn x q f = passIn (turnIn (x .item) (x .key) f) (withoutEvent (x .item) q f)
 
   -- the whole loop, of no more turns than so many, with `steps` counted so far: the field and `steps` at its end. 15 is tried before a pop: the turns are over and an event waits.
-  unfoldable pub loopIn : ℕ → ℕ → Field (Q .State) → Reply (Field (Q .State) × ℕ)
+  unfoldable pub loopIn : ℕ → ℕ → FieldState (Q .State) → Reply (FieldState (Q .State) × ℕ)
   unfolding andGo taking
   loopIn zero steps f = taking (gives (f, steps)) (λ (x : Event) (q : Q .State). refused 15) (Q .take (f .queue))
   loopIn (suc k) steps f = taking (gives (f, steps)) (λ (x : Event) (q : Q .State). andGo (eventIn x q f) (loopIn k (suc steps))) (Q .take (f .queue))
 
   -- the candidates that it offers to edges, in order, which demand 3 follows
-  unfoldable pub loopCandidates : ℕ → Field (Q .State) → List Candidate
+  unfoldable pub loopCandidates : ℕ → FieldState (Q .State) → List Candidate
   unfolding orNone taking
   loopCandidates zero f = []
   loopCandidates (suc k) f =

@@ -18,7 +18,7 @@ use Rattle.begin.specs.Begin.{vertexReals}
 use Rattle.insert_job.specs.Field.{insertsOf}
 use Rattle.insert_job.specs.Job.{wedgeIn}
 use Rattle.field_model.specs.Queue.{QueueKind}
-use Rattle.field_model.specs.Field.{Field, Reply, refused, gives, andGo, orNone, Slots, insertAllIn, loopIn, loopCandidates}
+use Rattle.field_model.specs.Field.{FieldState, Reply, refused, gives, andGo, orNone, Slots, insertAllIn, loopIn, loopCandidates}
 
 -- what the main loop leaves: `field.queue` is empty and goes. The last pass over `vertex` is in what the buffers hold (`LeavesOver`).
 pub record Finished : Type 0 where
@@ -28,7 +28,7 @@ pub record Finished : Type 0 where
   pub entries : List FaceEntry
   pub steps : ℕ  -- how many events were popped
 
-abbrev pub finished : {S : Type 0} → Field S × ℕ → Reply Finished
+abbrev pub finished : {S : Type 0} → FieldState S × ℕ → Reply Finished
 finished x = gives (record { wins = x .0 .wins; live = x .0 .live; vertex = x .0 .vertex; entries = x .0 .entries; steps = x .1 })
 
 -- `topo.pseudo`: a vertex's flag is 1
@@ -37,18 +37,18 @@ pseudoOf j k = eqb (getD (j .flags) k 0) 1
 
 module _ (Q : QueueKind) (slots : Slots) (j : Job) where
   -- `Field { wins: vec![], on_edge: .., vertex: vec![f64::INFINITY; ..], emitted: .., in_face: HashMap::new(), .. queue: BinaryHeap::new(), .. }`
-  abbrev pub noneYet : Field (Q .State)
+  abbrev pub noneYet : FieldState (Q .State)
   noneYet = record { wins = []; live = λ (e : ℕ). []; vertex = vertexReals (vertexCount j) (slots .vertex-reals); entries = []; queue = Q .start }
 
   -- the loop over `sources`: 12, 13, 14 and 17
-  abbrev pub afterSources : Reply (Field (Q .State))
+  abbrev pub afterSources : Reply (FieldState (Q .State))
   afterSources = insertAllIn Q slots (j .limit) (pseudoOf j) (j .vertices) (j .triangles) (insertsOf j) noneYet
 
   -- a job whose mesh passed, within `most` steps (01's allowance): 11, the loop over `sources`, the main loop with 12, 13, 14 and 15
   abbrev pub fieldOf : ℕ → Reply Finished
   fieldOf most =
       if wedgeIn j then refused 11 else
-      andGo afterSources (λ (f : Field (Q .State)). andGo (loopIn Q slots (j .limit) (pseudoOf j) (j .vertices) (j .triangles) most 0 f) finished)
+      andGo afterSources (λ (f : FieldState (Q .State)). andGo (loopIn Q slots (j .limit) (pseudoOf j) (j .vertices) (j .triangles) most 0 f) finished)
 
   -- all candidates that it offers to edges, in order: those of its pieces, then those of the main loop
   abbrev pub jobCandidates : ℕ → List Candidate

@@ -35,7 +35,7 @@ use Rattle.last_pass.specs.Lowered.{loweredAll}
 use Rattle.last_pass.proofs.Held.{lowered-held}
 use Rattle.zero_buffers.specs.ZeroIf.{zeroReals}
 use Rattle.finish.specs.Finish.{FinishesTo}
-use Rattle.finish.specs.Contents.{FieldBuffers, slicesOf, FieldContents, RoomsKept, noWindows, WorkIn, afterFinish}
+use Rattle.finish.specs.Contents.{FieldBuffers, slicesOf, FieldContents, BuffersKept, noWindows, WorkIn, afterFinish}
 use Rattle.finish.proofs.Edges.{windows-stand, edge-words-are}
 
 words-fit : (made m n : ℕ) → made ≤ capacityOf m n → wordsPerWindow * made ≤ m
@@ -54,14 +54,14 @@ module _ (built : MeshBuffers) (mesh : EdgeData) (edges : ℕ) (counts : Counts)
   pub window-words-are : b₁ .words ≡ wordsOf (length (b .words)) (s .wins) (s .live)
   window-words-are =
       words-are (counts .made) (s .wins) (b₁ .mesh .edge-words) (b₁ .words) (b₁ .reals) (s .live) (w .holds) (words-fit (counts .made) (length (b₁ .words)) (length (b₁ .reals)) (w .fits)) (reals-fit (counts .made) (length (b₁ .words)) (length (b₁ .reals)) (w .fits))
-      (behind 0 (wordsPerWindow * counts .made) (length (b .words)) (b₁ .words) (w .rooms .same .words) (w .untouched .words))
-      ∙ ap (λ (n : ℕ). wordsOf n (s .wins) (s .live)) (w .rooms .same .words)
+      (behind 0 (wordsPerWindow * counts .made) (length (b .words)) (b₁ .words) (w .kept .same .words) (w .untouched .words))
+      ∙ ap (λ (n : ℕ). wordsOf n (s .wins) (s .live)) (w .kept .same .words)
 
   pub window-reals-are : b₁ .reals ≡ realsOfAll (length (b .reals)) (s .wins)
   window-reals-are =
       reals-are-all (counts .made) (s .wins) (b₁ .mesh .edge-words) (b₁ .words) (b₁ .reals) (s .live) (w .holds) (words-fit (counts .made) (length (b₁ .words)) (length (b₁ .reals)) (w .fits)) (reals-fit (counts .made) (length (b₁ .words)) (length (b₁ .reals)) (w .fits))
-      (behind zero64 (realsPerWindow * counts .made) (length (b .reals)) (b₁ .reals) (w .rooms .same .reals) (w .untouched .reals))
-      ∙ ap (λ (n : ℕ). realsOfAll n (s .wins)) (w .rooms .same .reals)
+      (behind zero64 (realsPerWindow * counts .made) (length (b .reals)) (b₁ .reals) (w .kept .same .reals) (w .untouched .reals))
+      ∙ ap (λ (n : ℕ). realsOfAll n (s .wins)) (w .kept .same .reals)
 
   -- ---- and after it: z and c are what it left
   module _ (z : Slices) (c : Cuts) (ends : FinishesTo edges (counts .made) (b₁ .mesh .edge-reals) (slicesOf b₁) (b₁ .cuts) z c) where
@@ -72,31 +72,31 @@ module _ (built : MeshBuffers) (mesh : EdgeData) (edges : ℕ) (counts : Counts)
     contents-are =
         let only = only-these (built .triangle-words) entered (b₁ .mesh .triangle-words) (b₁ .entry-words) xs (w .entries) in
         record {
-          vertex-words = w .rooms .vertex-words;
+          vertex-words = w .kept .vertex-words;
           edge-words = ends .edges
-              ∙ edge-words-are (built .edge-words) (b₁ .mesh .edge-words) (w .rooms .edge-length) (counts .made) (s .wins) (b₁ .words) (b₁ .reals) (s .live) (w .holds) (w .fresh .scratch) (λ i ne. w .untouched .edges i (λ e u. ne e));
-          edge-reals = w .rooms .edge-reals;
-          round = w .rooms .round;
+              ∙ edge-words-are (built .edge-words) (b₁ .mesh .edge-words) (w .kept .edge-length) (counts .made) (s .wins) (b₁ .words) (b₁ .reals) (s .live) (w .holds) (w .fresh .scratch) (λ i ne. w .untouched .edges i (λ e u. ne e));
+          edge-reals = w .kept .edge-reals;
+          round = w .kept .round;
           triangle-words = only .1 .0;
-          triangle-reals = w .rooms .triangle-reals;
+          triangle-reals = w .kept .triangle-reals;
           vertex = ends .vertex
               ∙ lowered-held (counts .made) (s .wins) (links (b₁ .mesh .edge-words) (b₁ .words)) (b₁ .reals) (b₁ .mesh .edge-reals) (s .live) mesh (w .holds) edges (w .edge-data) (b₁ .vertex)
               ∙ ap (loweredAll edges mesh (s .live)) (sym (w .distances));
-          piece-words = w .rooms .piece-words;
-          piece-reals = w .rooms .piece-reals;
+          piece-words = w .kept .piece-words;
+          piece-reals = w .kept .piece-reals;
           words = ends .words ∙ window-words-are;
           reals = ends .reals ∙ window-reals-are;
-          keys = zeros (b .keys) (b₁ .keys) (z .keys) (w .rooms .same .keys) (ends .keys);
-          events = ends .events ∙ ap (λ (n : ℕ). replicate n 0) (w .rooms .same .events);
+          keys = zeros (b .keys) (b₁ .keys) (z .keys) (w .kept .same .keys) (ends .keys);
+          events = ends .events ∙ ap (λ (n : ℕ). replicate n 0) (w .kept .same .events);
           cuts = ends .cuts ∙ (λ i. record {
-            pts = replicate (w .rooms .same .pts i) zero64;
-            out = replicate (w .rooms .same .out i) zero64;
-            keep = replicate (w .rooms .same .keep i) zero64;
-            next = replicate (w .rooms .same .next i) zero64;
+            pts = replicate (w .kept .same .pts i) zero64;
+            out = replicate (w .kept .same .out i) zero64;
+            keep = replicate (w .kept .same .keep i) zero64;
+            next = replicate (w .kept .same .next i) zero64;
           });
-          entry-words = only .1 .1 ∙ ap (λ (n : ℕ). entryWords n xs) (w .rooms .same .entry-words);
-          scratch = w .rooms .scratch;
-          other-scratch = w .rooms .other-scratch;
+          entry-words = only .1 .1 ∙ ap (λ (n : ℕ). entryWords n xs) (w .kept .same .entry-words);
+          scratch = w .kept .scratch;
+          other-scratch = w .kept .other-scratch;
         }
 
     -- ---- what it kept
@@ -104,16 +104,16 @@ module _ (built : MeshBuffers) (mesh : EdgeData) (edges : ℕ) (counts : Counts)
     windows-held =
         subst (λ (f : List Float). HoldsWindows (counts .made) (s .wins) (links (z .edges) (z .words)) f (s .live)) (sym (ends .reals))
         (subst (λ (l : Links). HoldsWindows (counts .made) (s .wins) l (b₁ .reals) (s .live)) (λ i. links (sym (ends .edges) i) (sym (ends .words) i))
-        (windows-stand (built .edge-words) (b₁ .mesh .edge-words) (w .rooms .edge-length) (counts .made) (s .wins) (b₁ .words) (b₁ .reals) (s .live) (w .holds) (w .fresh .scratch) (λ i ne. w .untouched .edges i (λ e u. ne e))))
+        (windows-stand (built .edge-words) (b₁ .mesh .edge-words) (w .kept .edge-length) (counts .made) (s .wins) (b₁ .words) (b₁ .reals) (s .live) (w .holds) (w .fresh .scratch) (λ i ne. w .untouched .edges i (λ e u. ne e))))
 
     pub mesh-worked : Worked built (afterFinish b₁ z c .mesh)
     mesh-worked = record {
-      vertex-words = w .rooms .vertex-words;
+      vertex-words = w .kept .vertex-words;
       edge-words = λ i ne. ap (λ (l : List ℕ). getD l i 0) (ends .edges) ∙ kept (length (b₁ .mesh .edge-words) / wordsPerEdge) (b₁ .mesh .edge-words) i (λ e l. ne e .1) ∙ w .untouched .edges i (λ e u. ne e);
-      edge-reals = w .rooms .edge-reals;
-      round = w .rooms .round;
+      edge-reals = w .kept .edge-reals;
+      round = w .kept .round;
       triangle-words = w .entries .others;
-      triangle-reals = w .rooms .triangle-reals;
+      triangle-reals = w .kept .triangle-reals;
     }
 
     pub mesh-held : (v : List Float) (triangles flags : List ℕ) → Held v triangles flags built → Held v triangles flags (afterFinish b₁ z c .mesh)
@@ -129,25 +129,25 @@ edge-data-held v triangles flags built m h k e l =
 -- `WorkIn` from what insertion and the main loop say of the buffers, for a mesh that was built from a job
 module _ (v : List Float) (triangles flags : List ℕ) (built : MeshBuffers) (fresh : Fresh built) (held : Held v triangles flags built) (limit : Float) (past : List Candidate)
     (counts : Counts) (entered : ℕ) (s : State) (xs : List FaceEntry) (kinds : List ℕ) (coords : List Float) (b b₁ : FieldBuffers) (start : Slices)
-    (rooms : RoomsKept built kinds coords b b₁)
+    (kept : BuffersKept built kinds coords b b₁)
     (fits : counts .made ≤ capacityOf (length (b₁ .words)) (length (b₁ .reals)))
     (stands : StandsFor limit (edgeData v triangles) past s (snapshotAt counts (slicesOf b₁)))
     (untouched : Untouched (λ e. Unit {0}) (noWindows built b start) (snapshotAt counts (slicesOf b₁)))
     (entries : HoldsOnly (built .triangle-words) entered (b₁ .mesh .triangle-words) (b₁ .entry-words) xs) where
   work-done : Worked built (b₁ .mesh)
   work-done = record {
-    vertex-words = rooms .vertex-words;
+    vertex-words = kept .vertex-words;
     edge-words = λ i ne. untouched .edges i (λ e u. ne e);
-    edge-reals = rooms .edge-reals;
-    round = rooms .round;
+    edge-reals = kept .edge-reals;
+    round = kept .round;
     triangle-words = entries .others;
-    triangle-reals = rooms .triangle-reals;
+    triangle-reals = kept .triangle-reals;
   }
 
   pub work-in : WorkIn built (edgeData v triangles) (length (edges triangles)) counts entered s xs kinds coords b b₁
   work-in = record {
     fresh = fresh;
-    rooms = rooms;
+    kept = kept;
     fits = fits;
     start = start;
     untouched = untouched;

@@ -5,10 +5,10 @@ use Rattle.float64.specs.Scalar.{zero64}
 use Rattle.mesh.specs.Topology.{meshBuffers}
 use Rattle.cut_lists.specs.Buffers.{cutBuffers}
 use Rattle.finish.specs.Contents.{FieldBuffers}
-use Rattle.finish.specs.Refused.{zeroField, AllRooms}
+use Rattle.finish.specs.Refused.{zeroField, FieldLengths}
 
-pub zero-rooms : (b b₁ : FieldBuffers) → AllRooms b b₁ → zeroField b₁ ≡ zeroField b
-zero-rooms b b₁ h = λ i. record {
+pub zero-lengths : (b b₁ : FieldBuffers) → FieldLengths b b₁ → zeroField b₁ ≡ zeroField b
+zero-lengths b b₁ h = λ i. record {
   mesh = meshBuffers (replicate (h .vertex-words i) 0) (replicate (h .edge-words i) 0) (replicate (h .edge-reals i) zero64) (replicate (h .round i) 0) (replicate (h .triangle-words i) 0) (replicate (h .triangle-reals i) zero64);
   vertex = replicate (h .vertex i) zero64;
   piece-words = replicate (h .piece-words i) 0;

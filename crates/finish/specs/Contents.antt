@@ -78,7 +78,7 @@ module _ (built : MeshBuffers) (mesh : EdgeData) (edges : ℕ) (s : State) (xs :
 
 -- ---- what the work before `finish` leaves
 -- slices as long as they were lent
-pub record SameRooms (b b₁ : FieldBuffers) : Type 0 where
+pub record WorkLengths (b b₁ : FieldBuffers) : Type 0 where
   pub words : length (b₁ .words) ≡ length (b .words)
   pub reals : length (b₁ .reals) ≡ length (b .reals)
   pub keys : length (b₁ .keys) ≡ length (b .keys)
@@ -90,8 +90,8 @@ pub record SameRooms (b b₁ : FieldBuffers) : Type 0 where
   pub entry-words : length (b₁ .entry-words) ≡ length (b .entry-words)
 
 -- they are so, and those that no work writes to hold what they did; b₁ has the mesh as it was built but for words of edges and triangles
-pub record RoomsKept (built : MeshBuffers) (kinds : List ℕ) (coords : List Float) (b b₁ : FieldBuffers) : Type 0 where
-  pub same : SameRooms b b₁
+pub record BuffersKept (built : MeshBuffers) (kinds : List ℕ) (coords : List Float) (b b₁ : FieldBuffers) : Type 0 where
+  pub same : WorkLengths b b₁
   pub edge-length : length (b₁ .mesh .edge-words) ≡ length (built .edge-words)
   pub vertex-words : b₁ .mesh .vertex-words ≡ built .vertex-words
   pub edge-reals : b₁ .mesh .edge-reals ≡ built .edge-reals
@@ -110,7 +110,7 @@ module _ (built : MeshBuffers) (mesh : EdgeData) (edges : ℕ) (counts : Counts)
   -- b₁ holds the state and the entries; since the mesh was built nothing of edges but chain heads and scratch words has changed, and behind the windows made are zeros
   pub record WorkIn (b₁ : FieldBuffers) : Type 0 where
     pub fresh : Fresh built
-    pub rooms : RoomsKept built kinds coords b b₁
+    pub kept : BuffersKept built kinds coords b b₁
     pub fits : counts .made ≤ capacityOf (length (b₁ .words)) (length (b₁ .reals))
     pub start : Slices
     pub untouched : Untouched (λ e. Unit {0}) (noWindows built b start) (snapshotAt counts (slicesOf b₁))

@@ -3,7 +3,7 @@ use mathlib.Core.Bool.{Bool, true}
 use mathlib.Core.Path.{_≡_}
 use lib.ListN.{length}
 use Rattle.zero_buffers.specs.ZeroIf.{wordsIf, realsIf, meshIf, cutsIf}
-use Rattle.finish.specs.Contents.{FieldBuffers, SameRooms}
+use Rattle.finish.specs.Contents.{FieldBuffers, WorkLengths}
 
 -- all groups of crate zero_buffers
 abbrev pub fieldIf : Bool → FieldBuffers → FieldBuffers
@@ -26,8 +26,8 @@ abbrev pub zeroField : FieldBuffers → FieldBuffers
 zeroField b = fieldIf true b
 
 -- every slice as long as it was lent
-pub record AllRooms (b b₁ : FieldBuffers) : Type 0 where
-  pub same : SameRooms b b₁
+pub record FieldLengths (b b₁ : FieldBuffers) : Type 0 where
+  pub same : WorkLengths b b₁
   pub vertex-words : length (b₁ .mesh .vertex-words) ≡ length (b .mesh .vertex-words)
   pub edge-words : length (b₁ .mesh .edge-words) ≡ length (b .mesh .edge-words)
   pub edge-reals : length (b₁ .mesh .edge-reals) ≡ length (b .mesh .edge-reals)

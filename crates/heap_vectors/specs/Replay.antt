@@ -23,29 +23,29 @@ sameEvent a b =
     cond (eqb (toBits binary64 (a .key)) (toBits binary64 (b .key))) (cond (eqb (itemNumber (a .item)) (itemNumber (b .item))) (eqb (kindOf (a .item)) (kindOf (b .item))) false) false
 
 -- how many events there are then, whether the answer differs (1) or not (0), and the buffers
-abbrev pub Replayed : Type 0
-Replayed = ℕ × (ℕ × Queue)
+abbrev pub ReplayOutcome : Type 0
+ReplayOutcome = ℕ × (ℕ × Queue)
 
 -- `found` is the stored answer: that the push found a slot, that the pop found an event
-unfoldable pub afterPush : Bool → ℕ → Pushed × Queue → Replayed
-afterPush found n (Full, q) = (n, (cond found 1 0, q))
-afterPush found n (Queued m, q) = (m, (cond (not found) 1 0, q))
+unfoldable pub replayPush : Bool → ℕ → Pushed × Queue → ReplayOutcome
+replayPush found n (Full, q) = (n, (cond found 1 0, q))
+replayPush found n (Queued m, q) = (m, (cond (not found) 1 0, q))
 
 unfoldable pub popDiffers : Bool → Event → Event → ℕ
 popDiffers found x e = cond found (cond (not (sameEvent x e)) 1 0) 1
 
-unfoldable pub afterPop : Bool → Event → ℕ → Popped × Queue → Replayed
+unfoldable pub replayPop : Bool → Event → ℕ → Popped × Queue → ReplayOutcome
 unfolding popDiffers
-afterPop found e n (Empty, q) = (n, (cond found 1 0, q))
-afterPop found e n (First x m, q) = (m, (popDiffers found x e, q))
+replayPop found e n (Empty, q) = (n, (cond found 1 0, q))
+replayPop found e n (First x m, q) = (m, (popDiffers found x e, q))
 
-unfoldable pub afterRecord : List ℕ → ℕ → ℕ → Queue → Replayed
-afterRecord s k n q =
+unfoldable pub replayRecord : List ℕ → ℕ → ℕ → Queue → ReplayOutcome
+replayRecord s k n q =
     cond (ltb (wordAt s (4 * k)) 2)
-    (afterPush (eqb (wordAt s (4 * k)) 0) n (pushing q n (eventAt s k)))
-    (afterPop (eqb (wordAt s (4 * k)) 2) (eventAt s k) n (popping q n))
+    (replayPush (eqb (wordAt s (4 * k)) 0) n (pushing q n (eventAt s k)))
+    (replayPop (eqb (wordAt s (4 * k)) 2) (eventAt s k) n (popping q n))
 
 -- m records from record k on, where d differed before
-unfoldable pub afterRecords : ℕ → List ℕ → ℕ → ℕ → ℕ → Queue → Replayed
-afterRecords zero s k n d q = (n, (d, q))
-afterRecords (suc m) s k n d q = let t = afterRecord s k n q in afterRecords m s (k + 1) (t .0) (d + t .1 .0) (t .1 .1)
+unfoldable pub replayRecords : ℕ → List ℕ → ℕ → ℕ → ℕ → Queue → ReplayOutcome
+replayRecords zero s k n d q = (n, (d, q))
+replayRecords (suc m) s k n d q = let t = replayRecord s k n q in replayRecords m s (k + 1) (t .0) (d + t .1 .0) (t .1 .1)

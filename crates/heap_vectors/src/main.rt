@@ -13,7 +13,7 @@ ghost use mathlib.Core.Bool.{cond};
 ghost use Prim.Native.Nat.{_+_, _*_, _/_, _%_, _≤_, _<_};
 ghost use lib.ListN.{length};
 ghost use Rattle.heap.specs.Queue.{queue, pushing, popping};
-ghost use Rattle.heap_vectors.specs.Replay.{eventAt, sameEvent, afterPush, popDiffers, afterPop, afterRecord, afterRecords};
+ghost use Rattle.heap_vectors.specs.Replay.{eventAt, sameEvent, replayPush, popDiffers, replayPop, replayRecord, replayRecords};
 ghost use Rattle.buffers.specs.Lent.{given, left};
 
 // How many events the queue has, how many operations were replayed and how many differed.
@@ -77,7 +77,7 @@ struct Outcome {
 }
 
 fn replay_push(keys: &mut [f64], events: &mut [u32], n: u32, e: Event, found: bool) -> Outcome
-    ensures { λ r. ⌜ (r .n, (r .differs, queue (left keys) (left events))) ≡ afterPush found n (pushing (queue (given keys) (given events)) n e) ⌝ }
+    ensures { λ r. ⌜ (r .n, (r .differs, queue (left keys) (left events))) ≡ replayPush found n (pushing (queue (given keys) (given events)) n e) ⌝ }
 {
     match push(keys, events, n, e) {
         Pushed::Full => Outcome {
@@ -102,7 +102,7 @@ fn pop_differs(found: bool, x: Event, e: Event) -> u64
 }
 
 fn replay_pop(keys: &mut [f64], events: &mut [u32], n: u32, e: Event, found: bool) -> Outcome
-    ensures { λ r. ⌜ (r .n, (r .differs, queue (left keys) (left events))) ≡ afterPop found e n (popping (queue (given keys) (given events)) n) ⌝ }
+    ensures { λ r. ⌜ (r .n, (r .differs, queue (left keys) (left events))) ≡ replayPop found e n (popping (queue (given keys) (given events)) n) ⌝ }
 {
     match pop(keys, events, n) {
         Popped::Empty => Outcome {
@@ -119,7 +119,7 @@ fn replay_pop(keys: &mut [f64], events: &mut [u32], n: u32, e: Event, found: boo
 // Record k of s.
 fn replay_record(keys: &mut [f64], events: &mut [u32], n: u32, s: &[u8], k: usize) -> Outcome
     requires { ⌜ 32 * k + 32 ≤ length (now s) ⌝ }
-    ensures { λ r. ⌜ (r .n, (r .differs, queue (left keys) (left events))) ≡ afterRecord (given s) k n (queue (given keys) (given events)) ⌝ }
+    ensures { λ r. ⌜ (r .n, (r .differs, queue (left keys) (left events))) ≡ replayRecord (given s) k n (queue (given keys) (given events)) ⌝ }
 {
     let what = vectors::word(s, 4 * k);
     let e = event(s, k);
@@ -132,7 +132,7 @@ fn replay_record(keys: &mut [f64], events: &mut [u32], n: u32, s: &[u8], k: usiz
 // The records of a chunk, from a queue of n events on.
 fn replay_records(keys: &mut [f64], events: &mut [u32], n: u32, s: &[u8]) -> State
     requires { ⌜ length (now s) ≤ 32768 ⌝ }
-    ensures { λ r. ⌜ (r .n, (r .differences, queue (left keys) (left events))) ≡ afterRecords (length (given s) / 32) (given s) 0 n 0 (queue (given keys) (given events)) ⌝ }
+    ensures { λ r. ⌜ (r .n, (r .differences, queue (left keys) (left events))) ≡ replayRecords (length (given s) / 32) (given s) 0 n 0 (queue (given keys) (given events)) ⌝ }
     ensures { λ r. ⌜ (r .cases ≡ length (given s) / 32) × (r .differences ≤ r .cases) ⌝ }
 {
     let mut n = n;

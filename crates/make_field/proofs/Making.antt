@@ -28,13 +28,13 @@ use Rattle.run_steps.specs.Run.{refused, field}
 use Rattle.run_steps.specs.Contract.{WorkWithin}
 use Rattle.field_work.specs.Contract.{WorksTo, JobWorked, FieldDone}
 use Rattle.finish.specs.Finish.{FinishesTo}
-use Rattle.finish.specs.Contents.{FieldBuffers, FieldContents, SameRooms, afterFinish}
+use Rattle.finish.specs.Contents.{FieldBuffers, FieldContents, WorkLengths, afterFinish}
 use Rattle.finish_work.specs.FinishWork.{FinishesWork}
 use Rattle.offers.specs.Walks.{edgeData}
-use Rattle.compute_spec.specs.Compute.{otherCounts, fieldBuffers, Leaves}
+use Rattle.compute_spec.specs.Compute.{otherCounts, fieldBuffers, LeavesByHeap}
 use Rattle.compute_spec.proofs.Refusals.{built-is}
 use Rattle.compute_spec.proofs.Contents.{afterWork, field-left, computed}
-use Rattle.make_field.specs.Contract.{FieldMade, Makes, MakesField}
+use Rattle.make_field.specs.Contract.{FieldMade, MadeOrRefused, MakesField}
 
 -- ---- one job, its mesh answered and not refused; b are the buffers as they were lent
 module _ (j : Job) (m : MeshBuffers) (s : WorkSlices) (c : Cuts) (most : ℕ) (meshed : Meshed) (before : MeshBuffers) (scratch other : List ℕ) where
@@ -50,14 +50,14 @@ module _ (j : Job) (m : MeshBuffers) (s : WorkSlices) (c : Cuts) (most : ℕ) (m
     abbrev left : FieldBuffers
     left = afterFinish (afterWork b m pw pr z t c₁) z′ c′
 
-    made-refused : (k : ℕ) → JobWorked j m s cut most (Refused k) z t → 9 < k → Makes j b most (Refused k) left
+    made-refused : (k : ℕ) → JobWorked j m s cut most (Refused k) z t → 9 < k → MadeOrRefused j b most (Refused k) left
     made-refused k is above = (computed j b meshed m answered passed most (refused k) is, above)
 
     -- the field, of so many edges
     module _ (pieces : pw ≡ pieceWords (j .kinds) (j .coords) (length (s .piece-words))) (directions : pr ≡ pieceReals (j .kinds) (j .coords) (length (s .piece-reals)))
-        (same : SameRooms b (afterWork b m pw pr z t c₁)) (same-edges : length (z .edges) ≡ length (m .edge-words))
+        (same : WorkLengths b (afterWork b m pw pr z t c₁)) (same-edges : length (z .edges) ≡ length (m .edge-words))
         (n : InsertCounts) (steps : ℕ) (fits : n .trim .made ≤ capacityOf (length (s .words)) (length (s .reals))) (done : FieldDone j m s cut most n steps z t) where
-      made-contents : FinishesTo (length (edges (j .triangles))) (n .trim .made) (m .edge-reals) z c₁ z′ c′ → Leaves j b (field (done .inserted) steps) left
+      made-contents : FinishesTo (length (edges (j .triangles))) (n .trim .made) (m .edge-reals) z c₁ z′ c′ → LeavesByHeap j b (field (done .inserted) steps) left
       made-contents ends =
           subst (λ (x : MeshBuffers). FieldContents x (edgeData (j .vertices) (j .triangles)) (length (edges (j .triangles))) (done .inserted .state) (done .inserted .entries) (j .kinds) (j .coords) b left)
           (built-is j (otherCounts b) meshed before m answered passed)
@@ -73,8 +73,8 @@ module _ (j : Job) (m : MeshBuffers) (s : WorkSlices) (c : Cuts) (most : ℕ) (m
 
     made-each : (r : FieldWork) → JobWorked j m s cut most r z t → WorkWithin (capacityOf (length (s .words)) (length (s .reals))) r
         → pw ≡ pieceWords (j .kinds) (j .coords) (length (s .piece-words)) → pr ≡ pieceReals (j .kinds) (j .coords) (length (s .piece-reals))
-        → SameRooms b (afterWork b m pw pr z t c₁) → length (z .edges) ≡ length (m .edge-words)
-        → FinishesWork r (length (edges (j .triangles))) (m .edge-reals) z c₁ z′ c′ → Makes j b most r left
+        → WorkLengths b (afterWork b m pw pr z t c₁) → length (z .edges) ≡ length (m .edge-words)
+        → FinishesWork r (length (edges (j .triangles))) (m .edge-reals) z c₁ z′ c′ → MadeOrRefused j b most r left
     made-each (Refused k) w within pieces directions same same-edges ends = made-refused k w within
     made-each (Done n steps) w within pieces directions same same-edges ends = made-done pieces directions same same-edges n steps within w ends
 
@@ -82,7 +82,7 @@ module _ (j : Job) (m : MeshBuffers) (s : WorkSlices) (c : Cuts) (most : ℕ) (m
 module _ (count : ℕ) (v : List Float) (triangles kinds faces : List ℕ) (coords : List Float) (limit : Float) (m : MeshBuffers) (s : WorkSlices) (c : Cuts) (most : ℕ) where
   pub makes-field : (number : ℕ) → number ≤ 0 → (x : ℕ) → x ≡ cutCount c → (r : FieldWork) (pw : List ℕ) (pr : List Float) (z : Slices) (t : EntryBuffers) (c₁ : Cuts) (z′ : Slices) (c′ : Cuts)
       → WorksTo v triangles kinds faces coords limit m s (cutTo x c) most r pw pr z t
-      → SameRooms (fieldBuffers m s c [] []) (afterWork (fieldBuffers m s c [] []) m pw pr z t c₁) → length (z .edges) ≡ length (m .edge-words)
+      → WorkLengths (fieldBuffers m s c [] []) (afterWork (fieldBuffers m s c [] []) m pw pr z t c₁) → length (z .edges) ≡ length (m .edge-words)
       → FinishesWork r count (m .edge-reals) z c₁ z′ c′
       → MakesField number count v triangles kinds faces coords limit m s c most r
       (meshBuffers (m .vertex-words) (z′ .edges) (m .edge-reals) (m .round) (t .triangles) (m .triangle-reals))

@@ -20,7 +20,7 @@ use Rattle.run_steps.specs.declared.FieldWork.{FieldWork}
 use Rattle.run_steps.specs.declared.FieldWork.the-variants.{Refused, Done}
 use Rattle.run_steps.specs.Run.{refused, field}
 use Rattle.finish.specs.Contents.{FieldBuffers}
-use Rattle.compute_spec.specs.Compute.{otherCounts, fieldBuffers, computeOf, Leaves}
+use Rattle.compute_spec.specs.Compute.{otherCounts, fieldBuffers, computeByHeap, LeavesByHeap}
 
 -- where the mesh was not refused, the lengths are those of a job within its bounds, and so many edges have slots
 abbrev pub WorkFits : ℕ → ℕ → List Float → List ℕ → List ℕ → List ℕ → Type 0
@@ -31,14 +31,14 @@ module _ (j : Job) (b : FieldBuffers) (most : ℕ) where
   -- the definition's field stands in b′, so many windows being made
   pub record FieldMade (n : InsertCounts) (steps : ℕ) (b′ : FieldBuffers) : Type 0 where
     pub inserted : Inserted
-    pub is : computeOf j b most ≡ field inserted steps
+    pub is : computeByHeap j b most ≡ field inserted steps
     pub made : n .trim .made ≡ length (inserted .state .wins)
-    pub leaves : Leaves j b (field inserted steps) b′
+    pub leaves : LeavesByHeap j b (field inserted steps) b′
 
   -- or the definition refuses the job, by none of 1 to 9
-  abbrev pub Makes : FieldWork → FieldBuffers → Type 0
-  Makes (Refused k) b′ = (computeOf j b most ≡ refused k) × (9 < k)
-  Makes (Done n steps) b′ = FieldMade n steps b′
+  abbrev pub MadeOrRefused : FieldWork → FieldBuffers → Type 0
+  MadeOrRefused (Refused k) b′ = (computeByHeap j b most ≡ refused k) × (9 < k)
+  MadeOrRefused (Done n steps) b′ = FieldMade n steps b′
 
 -- the contract: m, s and c at the call, m′, s′ and c′ at the return; the mesh was refused by this number, or it has `count` edges and stands in m
 pub record MakesField (number count : ℕ) (v : List Float) (triangles kinds faces : List ℕ) (coords : List Float) (limit : Float) (m : MeshBuffers) (s : WorkSlices) (c : Cuts) (most : ℕ)
@@ -52,4 +52,4 @@ pub record MakesField (number count : ℕ) (v : List Float) (triangles kinds fac
       Answered j (otherCounts b) meshed before m
       → meshRefusal j (countsIn before (otherCounts b)) ≡ 0
       → count ≡ length (edges triangles)
-      → Makes j b most r (fieldBuffers m′ s′ c′ (zeroWords scratch) (zeroWords other))
+      → MadeOrRefused j b most r (fieldBuffers m′ s′ c′ (zeroWords scratch) (zeroWords other))

@@ -92,7 +92,7 @@ module _ (j : Job) (b : FieldBuffers) (x : Finished) (b′ : FieldBuffers) (L : 
   held-slots : HeldSlots f (lentField b′)
   held-slots =
       let B = S .buffers in
-      let R = L .rooms in
+      let R = L .lengths in
       let es : f .edges ≤ countsIn (b .mesh) (otherCounts b) .edges = omega (arith, B .edges-fit, edge-count (j .triangles), S .whole .whole-triangles, k .edge-count) in
       let ts : f .triangles ≤ countsIn (b .mesh) (otherCounts b) .triangles = omega (arith, B .triangles-fit, k .triangles) in
       let vs : f .vertices ≤ slotsOf (length (b .vertex)) realsPerVertex = omega (arith, B .vertices-fit, k .vertices) in
@@ -162,7 +162,7 @@ module _ (j : Job) (b : FieldBuffers) (most : ℕ) (f : Field) (b′ : FieldBuff
         entries = R .finished .entries;
         held = held-field j b (R .finished) b′ (R .laws) f
             (record { vertices = R .vertices; triangles = R .triangles; pieces = R .pieces; edge-count = R .edge-count })
-            (R .windows) (subst (λ (z : ℕ). length (R .finished .entries) ≤ entryCapacity z) (sym (R .laws .rooms .same .entry-words)) slots);
+            (R .windows) (subst (λ (z : ℕ). length (R .finished .entries) ≤ entryCapacity z) (sym (R .laws .lengths .same .entry-words)) slots);
       }
 
   pub returned-passes : meets20 (isField f) (lentJob j) (lentField b′) ≡ false

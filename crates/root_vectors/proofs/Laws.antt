@@ -3,7 +3,7 @@ use mathlib.Core.Path.{_≡_, ap, subst}
 use Prim.Native.Nat.{ℕ, _+_, _*_, _/_, _≤_, _<_}
 use native.Mathlib.Nat.{mul-assoc, mul-div-le}
 use native.Mathlib.Omega.{arith}
-use Rattle.root_vectors.specs.Replay.{arity, width}
+use Rattle.root_vectors.specs.Replay.{arity, numbersPerRecord}
 use Rattle.root_vectors.specs.declared.Function.{Function}
 use Rattle.root_vectors.specs.declared.Function.the-variants.{Sqrt, Hypot}
 
@@ -12,7 +12,7 @@ arity-small Sqrt = omega arith
 arity-small Hypot = omega arith
 
 -- the number at which record k begins, as the code has it
-pub begins : {n : ℕ} (f : Function) (k : ℕ) → n ≡ arity f → (n + 1) * k ≡ width f * k
+pub begins : {n : ℕ} (f : Function) (k : ℕ) → n ≡ arity f → (n + 1) * k ≡ numbersPerRecord f * k
 begins f k e = ap (λ (x : ℕ). (x + 1) * k) e
 
 -- n records of 8 * w bytes fit in the length that n was counted from

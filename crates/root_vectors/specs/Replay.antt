@@ -15,8 +15,8 @@ arity Sqrt = 1
 arity Hypot = 2
 
 -- a record is the arguments and the answer
-abbrev pub width : Function → ℕ
-width f = arity f + 1
+abbrev pub numbersPerRecord : Function → ℕ
+numbersPerRecord f = arity f + 1
 
 -- what the function answers at the arguments that begin at number i
 unfoldable pub answerAt : Function → List ℕ → ℕ → Float
@@ -25,11 +25,11 @@ answerAt Hypot s i = hypotOf binary64 (floatAt s i) (floatAt s (i + 1))
 
 -- whether the answer is the one that record k has
 unfoldable pub holdsAt : Function → List ℕ → ℕ → Bool
-holdsAt f s k = agrees (answerAt f s (width f * k)) (wordAt s (width f * k + arity f))
+holdsAt f s k = agrees (answerAt f s (numbersPerRecord f * k)) (wordAt s (numbersPerRecord f * k + arity f))
 
 -- how many whole records there are
 unfoldable pub recordsIn : Function → List ℕ → ℕ
-recordsIn f s = length s / (8 * width f)
+recordsIn f s = length s / (8 * numbersPerRecord f)
 
 -- how many of the first n records differ
 abbrev pub differing : Function → List ℕ → ℕ → ℕ

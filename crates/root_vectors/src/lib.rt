@@ -5,7 +5,7 @@ ghost use mathlib.Core.Path.{_≡_};
 ghost use Prim.Native.Nat.{_+_, _*_, _≤_, _<_};
 ghost use lib.ListN.{length};
 ghost use Rattle.root_vectors.specs.Replay.{answerAt, holdsAt, recordsIn, differing};
-ghost use Rattle.root_vectors.specs.Replay.{arity as Replay·arity, width as Replay·width};
+ghost use Rattle.root_vectors.specs.Replay.{arity as Replay·arity, numbersPerRecord};
 
 // Which root the records are of.
 pub enum Function {
@@ -24,7 +24,7 @@ pub fn arity(f: Function) -> usize
 
 // What the function answers at the arguments that begin at number i of s.
 pub fn answer(f: Function, s: &[u8], i: usize) -> f64
-    requires { ⌜ 8 * (i + Replay·width f) ≤ length (now s) ⌝ }
+    requires { ⌜ 8 * (i + numbersPerRecord f) ≤ length (now s) ⌝ }
     ensures { λ r. ⌜ r ≡ answerAt f (now (s .entry)) i ⌝ }
 {
     match f {
@@ -37,7 +37,7 @@ pub fn answer(f: Function, s: &[u8], i: usize) -> f64
 
 // Whether the answer is the one that record k of s has.
 pub fn holds(f: Function, s: &[u8], k: usize) -> bool
-    requires { ⌜ 8 * (Replay·width f * k + Replay·width f) ≤ length (now s) ⌝ }
+    requires { ⌜ 8 * (numbersPerRecord f * k + numbersPerRecord f) ≤ length (now s) ⌝ }
     ensures { λ r. ⌜ r ≡ holdsAt f (now (s .entry)) k ⌝ }
 {
     let n = arity(f);
@@ -47,7 +47,7 @@ pub fn holds(f: Function, s: &[u8], k: usize) -> bool
 
 // How many whole records s has.
 pub fn records(f: Function, s: &[u8]) -> usize
-    ensures { λ r. ⌜ (r ≡ recordsIn f (now (s .entry))) × (8 * (Replay·width f * r) ≤ length (now (s .entry))) ⌝ }
+    ensures { λ r. ⌜ (r ≡ recordsIn f (now (s .entry))) × (8 * (numbersPerRecord f * r) ≤ length (now (s .entry))) ⌝ }
 {
     s.len() / (8 * (arity(f) + 1))
 }
@@ -70,7 +70,7 @@ pub fn differences(f: Function, s: &[u8]) -> u64
 
 // Prints record k of s and, after it, the answer that differs.
 fn print_difference(f: Function, s: &[u8], k: usize)
-    requires { ⌜ 8 * (Replay·width f * k + Replay·width f) ≤ length (now s) ⌝ }
+    requires { ⌜ 8 * (numbersPerRecord f * k + numbersPerRecord f) ≤ length (now s) ⌝ }
 {
     let n = arity(f) + 1;
     let i = n * k;

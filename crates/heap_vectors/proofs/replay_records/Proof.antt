@@ -4,13 +4,13 @@ use native.Mathlib.Omega.{arith}
 use mathlib.Core.Path.{_≡_, refl, sym, _∙_}
 use lib.ListN.{length}
 use Rattle.heap.specs.Queue.{queue}
-use Rattle.heap_vectors.specs.Replay.{afterRecords}
+use Rattle.heap_vectors.specs.Replay.{replayRecords}
 use Rattle.heap_vectors.proofs.Outcomes.{answer-le, records-start, records-more, records-end}
 use Rattle.heap_vectors.proofs.replay_records.Statement.{statement}
 use Rattle.heap_vectors.proofs.replay_records.Tie as tie
 
 abbrev Inv-loop : tie.InvT-loop
-Inv-loop keys₀ events₀ n s n₀ differences₀ k₀ keys events n' differences k = (length keys ≡ length keys₀) × ((length events ≡ length events₀) × ((k ≤ length s / 32) × ((differences ≤ k) × (afterRecords (length s / 32) s 0 n 0 (queue keys₀ events₀) ≡ afterRecords (length s / 32 - k) s k n' differences (queue keys events)))))
+Inv-loop keys₀ events₀ n s n₀ differences₀ k₀ keys events n' differences k = (length keys ≡ length keys₀) × ((length events ≡ length events₀) × ((k ≤ length s / 32) × ((differences ≤ k) × (replayRecords (length s / 32) s 0 n 0 (queue keys₀ events₀) ≡ replayRecords (length s / 32 - k) s k n' differences (queue keys events)))))
 
 abbrev μ-loop : tie.MeasureT-loop
 μ-loop keys₀ events₀ n s n₀ differences₀ k₀ keys events n' differences k = length s / 32 - k

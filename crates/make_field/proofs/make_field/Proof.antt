@@ -1,8 +1,6 @@
 -- `make_field::make_field` meets its contract. Assumes nothing.
-use Prim.Native.Nat.{ℕ}
 use native.Mathlib.Omega.{arith}
 use mathlib.Core.Path.{_∙_}
-use lib.ListN.{length}
 use Rattle.mesh.specs.Topology.{meshBuffers}
 use Rattle.cut_lists.specs.Buffers.{cutBuffers}
 use Rattle.trim.specs.Buffers.{slices}

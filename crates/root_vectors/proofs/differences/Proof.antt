@@ -6,7 +6,7 @@ use Prim.Native.Nat.{ℕ, _+_, _-_, _*_, _≤_}
 use native.Mathlib.Nat.{add-mul, one-mul}
 use native.Mathlib.Omega.{arith}
 use borrow.Author.Tests.{not-true, not-false}
-use Rattle.root_vectors.specs.Replay.{arity, width, recordsIn, differing}
+use Rattle.root_vectors.specs.Replay.{arity, numbersPerRecord, recordsIn, differing}
 use Rattle.vectors.specs.Records.{failing}
 use Rattle.vectors.proofs.Laws.{same-count, one-more}
 use Rattle.nat_laws.proofs.Ring.{run-within}
@@ -29,7 +29,7 @@ loop-holds c = (omega arith, omega arith, refl)
 holds-requires : tie.Need-holds-requires Inv-loop μ-loop
 holds-requires c κs =
     let r = c .before .before in
-    omega (arith, run-within (width (r .before .before .args .f)) {k = c .before .loop .k} {n = r .records .result} (omega arith), r .records .ensures .1)
+    omega (arith, run-within (numbersPerRecord (r .before .before .args .f)) {k = c .before .loop .k} {n = r .records .result} (omega arith), r .records .ensures .1)
 
 add-count : tie.Need-add-count Inv-loop μ-loop
 add-count c = omega arith

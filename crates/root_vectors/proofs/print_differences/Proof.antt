@@ -2,7 +2,7 @@
 use Prim.Native.Nat.{_+_, _-_, _*_, _≤_}
 use lib.ListN.{length}
 use native.Mathlib.Omega.{arith}
-use Rattle.root_vectors.specs.Replay.{width}
+use Rattle.root_vectors.specs.Replay.{numbersPerRecord}
 use Rattle.nat_laws.proofs.Ring.{run-within}
 use borrow.Author.Needs.{needs}
 use Rattle.root_vectors.proofs.print_differences.Statement.{statement}
@@ -15,10 +15,10 @@ abbrev μ-loop : tie.MeasureT-loop
 μ-loop f s n left₀ k₀ left k = n - k
 
 -- the record that a turn looks at
-inside : (c : tie.In-loop Inv-loop μ-loop) → 8 * (width (c .before .before .before .before .args .f) * c .before .loop .k + width (c .before .before .before .before .args .f)) ≤ length (c .before .before .before .before .args .s .now)
+inside : (c : tie.In-loop Inv-loop μ-loop) → 8 * (numbersPerRecord (c .before .before .before .before .args .f) * c .before .loop .k + numbersPerRecord (c .before .before .before .before .args .f)) ≤ length (c .before .before .before .before .args .s .now)
 inside c =
     let r = c .before .before in
-    omega (arith, run-within (width (r .before .before .args .f)) {k = c .before .loop .k} {n = r .records .result} (omega arith), r .records .ensures .1)
+    omega (arith, run-within (numbersPerRecord (r .before .before .args .f)) {k = c .before .loop .k} {n = r .records .result} (omega arith), r .records .ensures .1)
 
 records-requires : tie.Need-records-requires Inv-loop μ-loop
 records-requires c κs = search needs

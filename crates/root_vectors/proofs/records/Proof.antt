@@ -3,7 +3,7 @@ use mathlib.Core.Path.{ap}
 use Prim.Native.Nat.{ℕ, _+_, _*_, _/_}
 use native.Mathlib.Omega.{arith}
 use lib.ListN.{length}
-use Rattle.root_vectors.specs.Replay.{arity, width, recordsIn}
+use Rattle.root_vectors.specs.Replay.{arity, numbersPerRecord, recordsIn}
 use Rattle.root_vectors.proofs.Laws.{arity-small, records-fit}
 use borrow.Author.Needs.{needs}
 use Rattle.root_vectors.proofs.records.Statement.{statement}
@@ -25,7 +25,7 @@ returns : tie.Need-returns
 unfolding recordsIn
 returns c =
     let e = ap (λ (n : ℕ). length (c .before .before .args .s .now) / (8 * (n + 1))) (c .arity .ensures) in
-    (e, rw e (records-fit (width (c .before .before .args .f)) (length (c .before .before .args .s .now))))
+    (e, rw e (records-fit (numbersPerRecord (c .before .before .args .f)) (length (c .before .before .args .s .now))))
 
 pub records-spec : {M : Type 1} → statement M
 records-spec = tie.close (tie.spec arity-requires add-result mul-result div-result returns)

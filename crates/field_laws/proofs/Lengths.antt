@@ -1,15 +1,13 @@
--- Every slice of a field is as long as it was lent: field-rooms. Assumes nothing.
-use Prim.Native.Nat.{ℕ, suc, _+_, _*_, _-_, _/_, _≤_, _<_}
+-- Every slice of a field is as long as it was lent: field-lengths. Assumes nothing.
+use Prim.Native.Nat.{ℕ, suc, _*_, _-_, _/_, _≤_}
 use native.Mathlib.Omega.{arith}
-use mathlib.Core.List.{List, [], _∷_, _++_}
+use mathlib.Core.List.{List, [], _∷_}
 use mathlib.Core.Path.{_≡_, refl, sym, ap, subst, _∙_}
-use lib.ListN.{length, length-append, getD, replicate, length-replicate}
+use lib.ListN.{length, length-append, replicate, length-replicate}
 use lib.Ieee.{Float}
-use Rattle.layout.specs.Layout.{wordsPerVertex, realsPerVertex, wordsPerEdge, realsPerEdge, wordsPerTriangle, realsPerNormal, wordsPerPiece, realsPerPiece, wordsPerEntry}
+use Rattle.layout.specs.Layout.{realsPerVertex, wordsPerEdge, realsPerEdge, wordsPerTriangle, realsPerNormal, wordsPerPiece, realsPerPiece, wordsPerEntry}
 use Rattle.float64.specs.Scalar.{zero64}
-use Rattle.nat_laws.specs.Lists.{listOf}
 use Rattle.nat_laws.proofs.Lists.{length-listOf}
-use Rattle.windows.specs.declared.WindowRecord.{WindowRecord}
 use Rattle.job_checks.specs.Job.{Job, vertexCount}
 use Rattle.job_checks.specs.Sound.{ValidTriangles}
 use Rattle.topology.specs.Edges.{edges, vertexFaces}
@@ -19,23 +17,22 @@ use Rattle.edge_table.proofs.Holding as table
 use Rattle.vertex_faces.specs.Ranges.{startOf, endOf, roundOf, withFlags}
 use Rattle.vertex_faces.proofs.Ranges.{length-ranges, length-flags}
 use Rattle.vertex_faces.proofs.Sides.{total-is}
-use Rattle.frames.specs.Stored.{lengthRow, withRows, row3, normalOf}
+use Rattle.frames.specs.Stored.{lengthRow}
 use Rattle.frames.proofs.Rows.{length-rows}
 use Rattle.mesh.specs.Topology.{MeshBuffers, vertexWords, filled}
 use Rattle.piece_ends.specs.Table.{pieceWords}
 use Rattle.piece_ends.specs.Directions.{pieceReals}
 use Rattle.begin.specs.Begin.{unreached, vertexReals}
-use Rattle.trim_model.specs.Windows.{Window}
 use Rattle.trim_state.specs.State.{State}
-use Rattle.contents.specs.Contents.{padded, wordsFrom, realsFrom}
-use Rattle.face_entries.specs.Entries.{FaceEntry, wordWith, trianglesWith, entryWordsFrom, entryWords}
+use Rattle.contents.specs.Contents.{wordsFrom, realsFrom}
+use Rattle.face_entries.specs.Entries.{FaceEntry, wordWith, entryWordsFrom}
 use Rattle.insertion.specs.Insertion.{Inserted}
 use Rattle.last_pass.proofs.Held.{length-lowered}
 use Rattle.offers.specs.Walks.{edgeData}
 use Rattle.run_steps.specs.Run.{field}
-use Rattle.finish.specs.Contents.{FieldBuffers, FieldContents, edgeWordWith, edgesWith, SameRooms}
-use Rattle.finish.specs.Refused.{AllRooms}
-use Rattle.compute_spec.specs.Compute.{computeOf}
+use Rattle.finish.specs.Contents.{FieldBuffers, FieldContents, edgeWordWith, WorkLengths}
+use Rattle.finish.specs.Refused.{FieldLengths}
+use Rattle.compute_spec.specs.Compute.{computeByHeap}
 use Rattle.field_laws.proofs.Held.{length-words, length-reals}
 use Rattle.field_laws.proofs.Job.{built, sound-job, laws, entries-fit}
 use Rattle.field_laws.proofs.Field.{padded-length}
@@ -89,13 +86,13 @@ unfolding entryWordsFrom
 entries-from i [] = refl
 entries-from i (x ∷ xs) = omega (arith, entries-from (suc i) xs)
 
-module _ (j : Job) (b : FieldBuffers) (most : ℕ) (x : Inserted) (n : ℕ) (is : computeOf j b most ≡ field x n) (b′ : FieldBuffers)
+module _ (j : Job) (b : FieldBuffers) (most : ℕ) (x : Inserted) (n : ℕ) (is : computeByHeap j b most ≡ field x n) (b′ : FieldBuffers)
     (c : FieldContents (built j b most x n is) (edgeData (j .vertices) (j .triangles)) (length (edges (j .triangles))) (x .state) (x .entries) (j .kinds) (j .coords) b b′) where
   abbrev s : State
   s = x .state
 
-  same-rooms : SameRooms b b′
-  same-rooms =
+  work-lengths : WorkLengths b b′
+  work-lengths =
       let L = laws j b most x n is in
       let fits = L .fits in
       let count = L .recorded .count in
@@ -115,14 +112,14 @@ module _ (j : Job) (b : FieldBuffers) (most : ℕ) (x : Inserted) (n : ℕ) (is 
             ap length (c .entry-words) ∙ omega (arith, long, length-append w (replicate k 0), length-replicate {A = ℕ} k 0, entries-fit j b most x n is);
       }
 
-  pub field-rooms : AllRooms b b′
-  field-rooms =
+  pub field-lengths : FieldLengths b b′
+  field-lengths =
       let v = j .vertices in
       let ts = j .triangles in
       let m = built j b most x n is in
       let sound = sound-job j b most x n is in
       record {
-        same = same-rooms;
+        same = work-lengths;
         vertex-words = ap length (c .vertex-words) ∙ built-vertices v ts (j .flags) (b .mesh);
         edge-words = ap length (c .edge-words) ∙ length-listOf (length (m .edge-words)) (edgeWordWith (m .edge-words) (s .live)) ∙ built-edges v ts (j .flags) (b .mesh);
         edge-reals = ap length (c .edge-reals) ∙ built-lengths v ts (j .flags) (b .mesh);
