@@ -27,7 +27,7 @@ use Rattle.zero_buffers.specs.ZeroIf.{zeroWords}
 use Rattle.insertion.specs.Insertion.{Inserted}
 use Rattle.run_steps.specs.Run.{WorkResult, field}
 use Rattle.field_work.specs.Work.{workOf, workCandidates}
-use Rattle.run_operations.specs.Lists.{cutCount, cutTo}
+use Rattle.cut_slots.specs.Slots.{cutCount, cutTo}
 use Rattle.compute_spec.specs.Compute.{otherCounts, workIn, computeByHeap, LeavesByHeap}
 use Rattle.compute_spec.proofs.Refusals.{compute-worked, built-is}
 

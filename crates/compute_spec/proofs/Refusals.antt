@@ -17,7 +17,7 @@ use Rattle.mesh.specs.Answer.{countsIn, meshRefusals, meshRefusal, afterwards, 
 use Rattle.run_steps.specs.Run.{WorkResult, refused}
 use Rattle.field_work.specs.Work.{workOf}
 use Rattle.finish.specs.Contents.{FieldBuffers}
-use Rattle.run_operations.specs.Lists.{cutCount, cutTo}
+use Rattle.cut_slots.specs.Slots.{cutCount, cutTo}
 use Rattle.compute_spec.specs.Compute.{otherCounts, workIn, unlessRefused, computeByHeap}
 
 -- ---- the definition

@@ -16,7 +16,7 @@ use Rattle.mesh.specs.declared.OtherCounts.{OtherCounts}
 use Rattle.mesh.specs.Topology.{MeshBuffers, before, after, filled}
 use Rattle.mesh.specs.Answer.{countsIn, meshRefusal}
 use Rattle.cut_lists.specs.Buffers.{Cuts, cutsBefore, cutsAfter}
-use Rattle.run_operations.specs.Lists.{cutCount, cutTo}
+use Rattle.cut_slots.specs.Slots.{cutCount, cutTo}
 use Rattle.offers.specs.Walks.{edgeData}
 use Rattle.begin.specs.Begin.{WorkSlices, workSlices, workBefore, workAfter}
 use Rattle.run_steps.specs.Run.{WorkResult, refused, field}

@@ -4,8 +4,7 @@ use native.Mathlib.Omega.{arith}
 use native.Mathlib.Decide.{ℕ-discrete}
 use mathlib.Core.Bool.{Bool, true, false, cond}
 use mathlib.Core.List.{List, [], _∷_, _++_, append-assoc, append-nil}
-use mathlib.Core.Logic.{_≢_}
-use mathlib.Core.Path.{_≡_, refl, sym, ap, subst, _∙_}
+use mathlib.Core.Path.{_≡_, refl, sym, ap, _∙_}
 use borrow.Author.Tests.{eq-eqb, ne-eqb}
 use lib.Dec.{eqb}
 use lib.ListN.{length, getD, take, drop, replicate, take-append-drop}
@@ -18,8 +17,7 @@ use Rattle.buffers.proofs.Strides.{slot-at, length-slot}
 use Rattle.float64.specs.Scalar.{zero64}
 use Rattle.windows.specs.declared.WindowRecord.{WindowRecord}
 use Rattle.windows.specs.Windows.{isLine, realsOf, srcOf, flagsOf, hasFlag, edgeStored, intoOf, flagsAt, linkOf, winAt, windowAt, relinked}
-use Rattle.windows.proofs.WindowList.{length-realsOf}
-use Rattle.chains.specs.Chains.{links, headOf, nextLink, Path, Out, firstLink}
+use Rattle.chains.specs.Chains.{links, headOf, nextLink, Path, firstLink}
 use Rattle.chains.proofs.Paths.{path-first}
 use Rattle.trim_model.specs.Windows.{Window}
 use Rattle.live_windows.specs.Live.{nums, Among, HoldsWindows, bare, winsOf}

@@ -37,7 +37,7 @@ use Rattle.face_entries.proofs.Numbers.{numbers-few}
 use Rattle.face_entries.proofs.Content.{FaceThere, content-only}
 use Rattle.face_entries.proofs.Keeping.{fresh-none}
 use Rattle.insertion.specs.Insertion.{Inserted}
-use Rattle.run_operations.specs.Lists.{cutCount, cutTo}
+use Rattle.cut_slots.specs.Slots.{cutCount, cutTo}
 use Rattle.run_steps.specs.Run as run
 use Rattle.run_steps.specs.Run.{WorkResult, field}
 use Rattle.field_work.specs.Work.{workOf}

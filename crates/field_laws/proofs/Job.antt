@@ -38,7 +38,7 @@ use Rattle.windows_there.proofs.Inserted.{job-into}
 use Rattle.field_step.specs.Step.{idleOf}
 use Rattle.insert_job.specs.Field.{begunJob, insertsOf}
 use Rattle.insert_job.proofs.Begun.{checked, begun-proper, begun-job}
-use Rattle.run_operations.specs.Lists.{cutCount, cutTo}
+use Rattle.cut_slots.specs.Slots.{cutCount, cutTo}
 use Rattle.run_steps.specs.Run.{WorkResult, refused, field}
 use Rattle.field_work.specs.Work.{workOf, workCandidates}
 use Rattle.finish.specs.Contents.{FieldBuffers}

@@ -21,7 +21,7 @@ use Rattle.insertion.specs.Insertion.{InsertResult}
 use Rattle.begin.specs.Begin.{WorkSlices}
 use Rattle.insert_job.specs.Field.{begunJob, emptyField, insertsOf, insertedField}
 use Rattle.insert_job.specs.Job.{wedgeIn}
-use Rattle.run_operations.specs.Lists.{cutCount, cutTo}
+use Rattle.cut_slots.specs.Slots.{cutCount, cutTo}
 use Rattle.run_steps.specs.Run as run
 use Rattle.advance.specs.Advance.{advanceOf, stepsOf}
 use Rattle.run_steps.specs.Run.{WorkResult, budgeted, loopOf}

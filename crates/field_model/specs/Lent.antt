@@ -18,7 +18,7 @@ use Rattle.mesh.specs.Topology.{filled}
 use Rattle.mesh.specs.Answer.{countsIn}
 use Rattle.offers.specs.Walks.{edgeData}
 use Rattle.face_entries.specs.Buffers.{entryCapacity}
-use Rattle.run_operations.specs.Lists.{cutCount}
+use Rattle.cut_slots.specs.Slots.{cutCount}
 use Rattle.run_steps.specs.Run as run
 use Rattle.run_steps.specs.Run.{WorkResult}
 use Rattle.finish.specs.Contents.{FieldBuffers, FieldContents}

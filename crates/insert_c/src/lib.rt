@@ -15,7 +15,7 @@ ghost use Rattle.layout.specs.Layout.{wordsPerPiece};
 ghost use Rattle.buffers.specs.Lent.{given, left};
 ghost use Rattle.cut_lists.specs.Buffers.{cutBuffers, cutsBefore};
 ghost use Rattle.trim.specs.Buffers.{after as Buffers·after};
-ghost use Rattle.run_operations.specs.Lists.{cutCount, cutTo};
+ghost use Rattle.cut_slots.specs.Slots.{cutCount, cutTo};
 ghost use Rattle.job_checks.specs.Job.{job};
 ghost use Rattle.mesh.specs.Topology.{meshBuffers, before, after};
 ghost use Rattle.insertion.specs.Places.{entriesAfter};
@@ -201,7 +201,7 @@ pub extern "C" fn sirmolaat_insert(
         return number;
     }
     let edges = edges_told(meshed);
-    let x = run_operations::cut_count(pts, out, keep, next);
+    let x = cut_slots::cut_count(pts, out, keep, next);
     let inserted = insert_parts(
         x,
         vertices,

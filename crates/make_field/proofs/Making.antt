@@ -16,7 +16,7 @@ use Rattle.mesh.specs.Answer.{countsIn, meshRefusal, Answered}
 use Rattle.cut_lists.specs.Buffers.{Cuts}
 use Rattle.trim.specs.Buffers.{Slices}
 use Rattle.live_windows.proofs.Stored.{length-wins}
-use Rattle.run_operations.specs.Lists.{cutCount, cutTo}
+use Rattle.cut_slots.specs.Slots.{cutCount, cutTo}
 use Rattle.face_entries.specs.Buffers.{EntryBuffers}
 use Rattle.piece_ends.specs.Table.{pieceWords}
 use Rattle.piece_ends.specs.Directions.{pieceReals}

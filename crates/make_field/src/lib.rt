@@ -46,7 +46,7 @@ pub fn make_field(
     if number > 0 {
         return FieldWork::Refused(number);
     }
-    let x = run_operations::cut_count(pts, out, keep, next);
+    let x = cut_slots::cut_count(pts, out, keep, next);
     let worked = work_parts::work_parts(
         x,
         vertices,

@@ -1,5 +1,5 @@
 -- A candidate: it is refused by its number, or it is added. Assumes nothing.
-use Prim.Native.Nat.{ℕ, _*_, _+_, _≤_, _<_}
+use Prim.Native.Nat.{ℕ, _*_, _+_, _<_}
 use native.Mathlib.Omega.{arith}
 use mathlib.Core.Bool.{Bool, true, false, cond, _&&_}
 use mathlib.Core.List.{List}
@@ -10,7 +10,6 @@ use lib.ListN.{length, getD}
 use lib.Ieee.{Float, nan, binary64, fits}
 use lib.Ieee.Fits.{and-l, and-r}
 use Rattle.layout.specs.Layout.{wordsPerEnds, endsLow, endsHigh}
-use Rattle.buffers.specs.Slots.{slotsOf}
 use Rattle.buffers.specs.declared.EdgeId.{EdgeId}
 use Rattle.buffers.specs.declared.Lack.{Lack}
 use Rattle.buffers.specs.Lack.{lackNumber}
@@ -19,7 +18,7 @@ use Rattle.windows.specs.declared.NewWindow.{NewWindow}
 use Rattle.heap.specs.Queue.{queue}
 use Rattle.chains.specs.Chains.{links}
 use Rattle.trim_model.specs.Model.{Candidate}
-use Rattle.trim_state.specs.State.{State, Result, stopped, went, addOf}
+use Rattle.trim_state.specs.State.{State, Result, stopped, addOf}
 use Rattle.trim_state.specs.Follows.{Follows}
 use Rattle.cut_lists.specs.Cut.{Sizes}
 use Rattle.trim_split.proofs.Untouched.{untouched-wider}
@@ -29,11 +28,11 @@ use Rattle.trim.specs.declared.Added.{Added}
 use Rattle.trim.specs.declared.Added.the-variants.{Stopped as Added·Stopped, Went as Added·Went}
 use Rattle.trim.specs.Adding.{Given, AddsFrom, AddedWithin, addedEnd}
 use Rattle.trim_operations.specs.Operations.{add, asCandidate, Doubles}
-use Rattle.trim_operations.specs.Run.{hasLength, isOnEdge, operationRefusal, tryAdd, operate}
+use Rattle.trim_operations.specs.Run.{hasLength, isOnEdge, tryAdd, operate}
 use Rattle.trim_operations.specs.Represents.{CheckedCandidate}
 use Rattle.trim_operations.proofs.Follow.{proper}
 use Rattle.run_operations.specs.declared.Step.the-variants.{Stopped, Went}
-use Rattle.run_operations.specs.Lists.{Setting, settingOf, ReadyToRun, StandsIn, snapshotIn, StepSays, Operated}
+use Rattle.run_operations.specs.Lists.{Setting, settingOf, ReadyToRun, StandsIn, snapshotIn, Operated}
 use Rattle.trim.specs.Buffers.{Slices}
 use Rattle.cut_lists.specs.Buffers.{Cuts}
 

@@ -19,7 +19,7 @@ use Rattle.trim_split.specs.Running.{Snapshot, Untouched}
 use Rattle.trim_split.proofs.Untouched.{untouched-same, untouched-then}
 use Rattle.trim_operations.specs.declared.Op.{Op}
 use Rattle.trim_operations.specs.Operations.{Operation, operationAt, operations, candidatesOf, candidates, asOperation, DoublesOf}
-use Rattle.trim_operations.specs.Run.{operate, Run, onward, runFrom, start}
+use Rattle.trim_operations.specs.Run.{operate, Run, thenRun, runFrom, startState}
 use Rattle.trim_operations.specs.Run.{ran as Run·ran}
 use Rattle.trim_operations.specs.Run.{ended as Run·ended}
 use Rattle.trim_operations.specs.Demand3.{Demand3}
@@ -95,20 +95,20 @@ module _ (g : Setting) (ops : List ℕ) (args : List Float) (n : ℕ) (p : Snaps
     pub so-far : runOf g ops args n p k ≡ Run·ran state
 
   turn : (k j : ℕ) (s t : State) → result k s ≡ went t → runOn k (rest ops args k (suc j)) s ≡ runOn (suc k) (rest ops args (suc k) j) t
-  unfolding runFrom onward rest
-  turn k j s t h = ap (λ (r : Result). onward (g .cuts) (g .windows) (g .limit) (g .flags) (g .mesh) (g .edges) (g .vertices) k s r (runOn (suc k) (rest ops args (suc k) j))) h
+  unfolding runFrom thenRun rest
+  turn k j s t h = ap (λ (r : Result). thenRun (g .cuts) (g .windows) (g .limit) (g .flags) (g .mesh) (g .edges) (g .vertices) k s r (runOn (suc k) (rest ops args (suc k) j))) h
 
   halt : (k j number : ℕ) (s : State) → result k s ≡ stopped number → runOn k (rest ops args k (suc j)) s ≡ Run·ended k number s
-  unfolding runFrom onward rest
-  halt k j number s h = ap (λ (r : Result). onward (g .cuts) (g .windows) (g .limit) (g .flags) (g .mesh) (g .edges) (g .vertices) k s r (runOn (suc k) (rest ops args (suc k) j))) h
+  unfolding runFrom thenRun rest
+  halt k j number s h = ap (λ (r : Result). thenRun (g .cuts) (g .windows) (g .limit) (g .flags) (g .mesh) (g .edges) (g .vertices) k s r (runOn (suc k) (rest ops args (suc k) j))) h
 
   -- one operation more
   run-snoc : (k : ℕ) (os : List Operation) (o : Operation) (s t u : State) → runOn k os s ≡ Run·ran t → operate (g .cuts) (g .windows) (g .limit) (g .flags) (g .mesh) (g .edges) (g .vertices) o t ≡ went u → runOn k (os ++ (o ∷ [])) s ≡ Run·ran u
-  unfolding runFrom onward
-  run-snoc k [] o s t u h d = ap (λ (r : Result). onward (g .cuts) (g .windows) (g .limit) (g .flags) (g .mesh) (g .edges) (g .vertices) k s r (runOn (suc k) [])) (ap (operate (g .cuts) (g .windows) (g .limit) (g .flags) (g .mesh) (g .edges) (g .vertices) o) (ran-same s t h) ∙ d)
+  unfolding runFrom thenRun
+  run-snoc k [] o s t u h d = ap (λ (r : Result). thenRun (g .cuts) (g .windows) (g .limit) (g .flags) (g .mesh) (g .edges) (g .vertices) k s r (runOn (suc k) [])) (ap (operate (g .cuts) (g .windows) (g .limit) (g .flags) (g .mesh) (g .edges) (g .vertices) o) (ran-same s t h) ∙ d)
   run-snoc k (x ∷ os) o s t u h d = step (operate (g .cuts) (g .windows) (g .limit) (g .flags) (g .mesh) (g .edges) (g .vertices) x s) (λ v i. run-snoc (suc k) os o v t u i d) h where
     step : (r : Result) → ((v : State) → runOn (suc k) os v ≡ Run·ran t → runOn (suc k) (os ++ (o ∷ [])) v ≡ Run·ran u)
-        → onward (g .cuts) (g .windows) (g .limit) (g .flags) (g .mesh) (g .edges) (g .vertices) k s r (runOn (suc k) os) ≡ Run·ran t → onward (g .cuts) (g .windows) (g .limit) (g .flags) (g .mesh) (g .edges) (g .vertices) k s r (runOn (suc k) (os ++ (o ∷ []))) ≡ Run·ran u
+        → thenRun (g .cuts) (g .windows) (g .limit) (g .flags) (g .mesh) (g .edges) (g .vertices) k s r (runOn (suc k) os) ≡ Run·ran t → thenRun (g .cuts) (g .windows) (g .limit) (g .flags) (g .mesh) (g .edges) (g .vertices) k s r (runOn (suc k) (os ++ (o ∷ []))) ≡ Run·ran u
     step (stopped n) ih h = absurd (never-ran k n s t h)
     step (went v) ih h = ih v h
 
@@ -124,7 +124,7 @@ module _ (g : Setting) (ops : List ℕ) (args : List Float) (n : ℕ) (p : Snaps
 
     more : (t : State) → result k (A .state) ≡ went t → runOf g ops args n p (suc k) ≡ Run·ran t
     unfolding operations
-    more t h = run-snoc 0 (operations ops args k) (operationAt ops args k) (start (p .queue) (p .vertex)) (A .state) t (A .so-far) h
+    more t h = run-snoc 0 (operations ops args k) (operationAt ops args k) (startState (p .queue) (p .vertex)) (A .state) t (A .so-far) h
 
     module _ (before : k < n) where
       along-next : (made′ queued′ : ℕ) (b′ : Slices) → DoublesOf (g .mesh .len) (operationAt ops args k) → Goes (g .edges) (snapshotIn made queued b) made′ queued′ b′ (result k (A .state)) → Along (suc k) made′ queued′ b′
@@ -189,13 +189,13 @@ module _ (limit : Float) (flags ends : List ℕ) (lens : List Float) (m : ℕ) w
     unfolding operations candidates runFrom
     inv-start r h = record {
       along = record {
-        state = start (queue (b₀ .keys) (b₀ .events)) (b₀ .vertex);
+        state = startState (queue (b₀ .keys) (b₀ .events)) (b₀ .vertex);
         left = n;
         count = omega arith;
         stands = record { holds = no-live (links (b₀ .edges) (b₀ .words)) (b₀ .reals) h; stock = refl };
         untouched = untouched-same (λ e. e < m) (snapshotIn 0 0 b₀) 0 0 (queue (b₀ .keys) (b₀ .events)) (b₀ .vertex);
         follows = follows-empty;
-        same = ap (λ (os : List Operation). runFrom (setting .cuts) (setting .windows) limit flags (setting .mesh) m (setting .vertices) 0 os (start (queue (b₀ .keys) (b₀ .events)) (b₀ .vertex))) (rest-all ops args n);
+        same = ap (λ (os : List Operation). runFrom (setting .cuts) (setting .windows) limit flags (setting .mesh) m (setting .vertices) 0 os (startState (queue (b₀ .keys) (b₀ .events)) (b₀ .vertex))) (rest-all ops args n);
         so-far = refl;
       };
       fits = omega arith;

@@ -1,10 +1,9 @@
 -- Whole slices as they are lent: their counts, the parts that are used, and zeros. Assumes nothing.
-use Prim.Native.Nat.{ℕ, _+_, _*_, _-_, _/_, _≤_, _<_, min}
+use Prim.Native.Nat.{ℕ, _+_, _*_, _-_, _/_, _≤_, min}
 use native.Mathlib.Omega.{arith}
 use mathlib.Core.List.{List}
 use mathlib.Core.Path.{_≡_, refl, sym, ap, subst, _∙_}
 use lib.ListN.{length, take, replicate, length-replicate}
-use lib.Seq.{length-take-le}
 use lib.Ieee.{Float}
 use Rattle.layout.specs.Layout.{realsPerVertex, wordsPerEdge, edgeHead, wordsPerWindow, realsPerWindow, wordsPerEnds, realsPerLen}
 use Rattle.float64.specs.Scalar.{zero64}
@@ -18,70 +17,29 @@ use Rattle.contents.proofs.Held.{drop-zeros, words-are, reals-are-all}
 use Rattle.contents.proofs.Forgotten.{heads-only}
 use Rattle.run_operations.specs.declared.Ran.{Ran}
 use Rattle.run_operations.specs.declared.Ran.the-variants.{Done, Ended}
-use Rattle.run_operations.specs.Lists.{meshOf, Setting, settingOf, ReadyToRun, Finishes, Ends, Runs, snapshotIn, edgeCount, operationCount, cutCount, cutTo, lentSetting, cleared, ZeroSlices, ZeroCuts, RunWhole}
+use Rattle.run_operations.specs.Lists.{meshOf, Setting, settingOf, ReadyToRun, Finishes, Ends, Runs, snapshotIn, edgeCount, operationCount, lentSetting, cleared, ZeroSlices, ZeroCuts, RunWhole}
 use Rattle.trim.specs.Buffers.{Slices, slices}
 use Rattle.cut_lists.specs.Buffers.{Cuts}
+use Rattle.cut_slots.specs.Slots.{cutCount, cutTo}
+use Rattle.cut_slots.proofs.Parts.{pts-length, parts-sizes}
 use Rattle.run_operations.proofs.Loop.{SameLengths, SameCuts}
 
 -- ---- counts
-pub least-left : (x y a b : ℕ) → a ≡ x → b ≡ y → a ≤ b → a ≡ min x y
-least-left x y a b h k l = omega (arith, h, k, l)
-
-pub least-right : (x y a b : ℕ) → a ≡ x → b ≡ y → b < a → b ≡ min x y
-least-right x y a b h k l = omega (arith, h, k, l)
-
--- the least of four is no more than each
-least-first : (a b c d x : ℕ) → x ≡ min (min a b) (min c d) → x ≤ a
-least-first a b c d x h = omega (arith, h)
-
-least-second : (a b c d x : ℕ) → x ≡ min (min a b) (min c d) → x ≤ b
-least-second a b c d x h = omega (arith, h)
-
-least-third : (a b c d x : ℕ) → x ≡ min (min a b) (min c d) → x ≤ c
-least-third a b c d x h = omega (arith, h)
-
-least-fourth : (a b c d x : ℕ) → x ≡ min (min a b) (min c d) → x ≤ d
-least-fourth a b c d x h = omega (arith, h)
-
 least-last : (a b x : ℕ) → x ≡ min a b → x ≤ b
 least-last a b x h = omega (arith, h)
 
 pub edges-same : (ends : List ℕ) (lens : List Float) (edges zeroed : List ℕ) (m : ℕ) → length zeroed ≡ length edges → m ≡ edgeCount ends lens edges → m ≡ edgeCount ends lens zeroed
 edges-same ends lens edges zeroed m h k = rw h k
 
-one-slot : (x n : ℕ) → x ≤ slotsOf n 1 → x ≤ n
-one-slot x n h = omega (arith, h)
-
-two-slots : (x n : ℕ) → x ≤ slotsOf n 2 → 2 * x ≤ n
-two-slots x n h = omega (arith, h)
-
-pub pts-fit : (c : Cuts) (x : ℕ) → x ≡ cutCount c → x ≤ length (c .pts)
-pts-fit c x h = one-slot x (length (c .pts)) (least-first (slotsOf (length (c .pts)) 1) (slotsOf (length (c .out)) 2) (slotsOf (length (c .keep)) 2) (slotsOf (length (c .next)) 2) x h)
-
-pub out-fit : (c : Cuts) (x : ℕ) → x ≡ cutCount c → 2 * x ≤ length (c .out)
-out-fit c x h = two-slots x (length (c .out)) (least-second (slotsOf (length (c .pts)) 1) (slotsOf (length (c .out)) 2) (slotsOf (length (c .keep)) 2) (slotsOf (length (c .next)) 2) x h)
-
-pub keep-fit : (c : Cuts) (x : ℕ) → x ≡ cutCount c → 2 * x ≤ length (c .keep)
-keep-fit c x h = two-slots x (length (c .keep)) (least-third (slotsOf (length (c .pts)) 1) (slotsOf (length (c .out)) 2) (slotsOf (length (c .keep)) 2) (slotsOf (length (c .next)) 2) x h)
-
-pub next-fit : (c : Cuts) (x : ℕ) → x ≡ cutCount c → 2 * x ≤ length (c .next)
-next-fit c x h = two-slots x (length (c .next)) (least-fourth (slotsOf (length (c .pts)) 1) (slotsOf (length (c .out)) 2) (slotsOf (length (c .keep)) 2) (slotsOf (length (c .next)) 2) x h)
-
 -- ---- the parts of the cut buffers that are used
-twice : (x a b : ℕ) → a ≡ 2 * x → b ≡ x → a ≡ b + b
-twice x a b h k = omega (arith, h, k)
-
 module _ (ends : List ℕ) (lens : List Float) (b : Slices) (c : Cuts) (m x : ℕ) (isEdges : m ≡ edgeCount ends lens (b .edges)) (isCuts : x ≡ cutCount c) where
-  pts-length : length (take x (c .pts)) ≡ x
-  pts-length = length-take-le x (c .pts) (pts-fit c x isCuts)
-
   pub parts-ready : ReadyToRun m 0 b (cutTo x c)
   parts-ready = record {
     fits = omega arith;
     edges = least-last (min (slotsOf (length ends) wordsPerEnds) (slotsOf (length lens) realsPerLen)) (slotsOf (length (b .edges)) wordsPerEdge) m isEdges;
-    outs = twice x _ _ (length-take-le (2 * x) (c .out) (out-fit c x isCuts)) pts-length;
-    keeps = twice x _ _ (length-take-le (2 * x) (c .keep) (keep-fit c x isCuts)) pts-length;
-    nexts = twice x _ _ (length-take-le (2 * x) (c .next) (next-fit c x isCuts)) pts-length;
+    outs = parts-sizes c x isCuts .outs;
+    keeps = parts-sizes c x isCuts .keeps;
+    nexts = parts-sizes c x isCuts .nexts;
   }
 
   module _ (limit : Float) (flags : List ℕ) where
@@ -89,7 +47,7 @@ module _ (ends : List ℕ) (lens : List Float) (b : Slices) (c : Cuts) (m x : �
     settingAt k e = record { cuts = k; windows = capacityOf (length (b .words)) (length (b .reals)); limit = limit; flags = flags; mesh = meshOf ends lens; edges = e; vertices = slotsOf (length (b .vertex)) realsPerVertex }
 
     same-setting : settingOf (cutTo x c) b limit flags ends lens m ≡ lentSetting c b limit flags ends lens
-    same-setting = let p : length (take x (c .pts)) ≡ cutCount c = pts-length ∙ isCuts in λ t. settingAt (p t) (isEdges t)
+    same-setting = let p : length (take x (c .pts)) ≡ cutCount c = pts-length c x isCuts ∙ isCuts in λ t. settingAt (p t) (isEdges t)
 
     pub parts-run : (ops : List ℕ) (args : List Float) (n : ℕ) → n ≡ operationCount ops args → (p : Snapshot) (r : Ran) (b′ : Slices) → Runs (settingOf (cutTo x c) b limit flags ends lens m) ops args n p r b′
         → Runs (lentSetting c b limit flags ends lens) ops args (operationCount ops args) p r b′

@@ -2,7 +2,7 @@
 use Prim.Native.Nat.{ℕ, _+_, _*_, _≤_, _<_, min}
 use mathlib.Core.List.{List}
 use mathlib.Core.Path.{_≡_}
-use lib.ListN.{length, getD, replicate, take}
+use lib.ListN.{length, getD, replicate}
 use lib.Ieee.{Float, nan}
 use Rattle.layout.specs.Layout.{realsPerVertex, wordsPerEdge, wordsPerOperation, realsPerOperation, wordsPerEnds, endsLow, endsHigh, realsPerLen}
 use Rattle.float64.specs.Scalar.{zero64}
@@ -19,9 +19,10 @@ use Rattle.trim_state.specs.State.{State, Result, stopped, went, EdgeData}
 use Rattle.trim_state.specs.Follows.{Follows}
 use Rattle.trim_split.specs.Running.{Snapshot, snapshot, Untouched}
 use Rattle.trim.specs.Buffers.{Slices, slices}
-use Rattle.cut_lists.specs.Buffers.{Cuts, cutBuffers}
+use Rattle.cut_lists.specs.Buffers.{Cuts}
+use Rattle.cut_slots.specs.Slots.{cutCount}
 use Rattle.trim_operations.specs.Operations.{Operation, touch, operations, candidates, DoublesOf}
-use Rattle.trim_operations.specs.Run.{operate, Run, ran, ended, runFrom, start}
+use Rattle.trim_operations.specs.Run.{operate, Run, ran, ended, runFrom, startState}
 use Rattle.trim_operations.specs.Demand3.{Demand3}
 use Rattle.contents.specs.Contents.{headsIn, wordsOf, realsOfAll}
 use Rattle.trim_operations.specs.Represents.{Represents}
@@ -115,7 +116,7 @@ pub record Operated (g : Setting) (o : Operation) (made queued : ℕ) (b : Slice
 module _ (g : Setting) (ops : List ℕ) (args : List Float) (n : ℕ) (p : Snapshot) where
   -- what the first k of them come to
   abbrev pub runOf : ℕ → Run
-  runOf k = runFrom (g .cuts) (g .windows) (g .limit) (g .flags) (g .mesh) (g .edges) (g .vertices) 0 (operations ops args k) (start (p .queue) (p .vertex))
+  runOf k = runFrom (g .cuts) (g .windows) (g .limit) (g .flags) (g .mesh) (g .edges) (g .vertices) 0 (operations ops args k) (startState (p .queue) (p .vertex))
 
   -- demand 3 for the first k operations
   abbrev pub Claim : ℕ → State → Type 0
@@ -147,13 +148,6 @@ edgeCount ends lens edges = min (min (slotsOf (length ends) wordsPerEnds) (slots
 
 abbrev pub operationCount : List ℕ → List Float → ℕ
 operationCount ops args = min (slotsOf (length ops) wordsPerOperation) (slotsOf (length args) realsPerOperation)
-
-abbrev pub cutCount : Cuts → ℕ
-cutCount c = min (min (slotsOf (length (c .pts)) 1) (slotsOf (length (c .out)) 2)) (min (slotsOf (length (c .keep)) 2) (slotsOf (length (c .next)) 2))
-
--- the first x slots of each
-abbrev pub cutTo : ℕ → Cuts → Cuts
-cutTo x c = cutBuffers (take x (c .pts)) (take (2 * x) (c .out)) (take (2 * x) (c .keep)) (take (2 * x) (c .next))
 
 abbrev pub lentSetting : Cuts → Slices → Float → List ℕ → List ℕ → List Float → Setting
 lentSetting c b limit flags ends lens = record {
@@ -210,10 +204,10 @@ module _ (limit : Float) (flags ends : List ℕ) (lens : List Float) (ops : List
     pub before : Ends lentSettingOf ops args count (snapshotIn 0 0 b) k number
     pub zeros : ZeroSlices b b′
 
-  abbrev pub Whole : Ran → Slices → Type 0
-  Whole (Done made queued) b′ = WholeDone made queued b′
-  Whole (Ended k number) b′ = WholeEnded k number b′
+  abbrev pub WholeRun : Ran → Slices → Type 0
+  WholeRun (Done made queued) b′ = WholeDone made queued b′
+  WholeRun (Ended k number) b′ = WholeEnded k number b′
 
   pub record RunWhole (r : Ran) (b′ : Slices) (c′ : Cuts) : Type 0 where
-    pub whole : Whole r b′
+    pub whole : WholeRun r b′
     pub cuts : ZeroCuts c c′

@@ -23,10 +23,11 @@ ghost use mathlib.Core.Path.{_≡_};
 ghost use Rattle.chains.specs.Chains.{headOf};
 ghost use Rattle.trim_operations.specs.Operations.{asCandidate, asOperation};
 ghost use Rattle.trim_operations.specs.Operations.{add as Operations·add};
-ghost use Rattle.run_operations.specs.Lists.{settingOf, ReadyToRun, Operated, Runs, snapshotIn, Touches, PopsFirst, edgeCount, cutCount, operationCount, lentSetting, ZeroSlices, ZeroCuts, RunWhole};
+ghost use Rattle.run_operations.specs.Lists.{settingOf, ReadyToRun, Operated, Runs, snapshotIn, Touches, PopsFirst, edgeCount, operationCount, lentSetting, ZeroSlices, ZeroCuts, RunWhole};
 ghost use Rattle.buffers.specs.Lent.{given, left};
 ghost use Rattle.trim.specs.Buffers.{slices, before, after};
 ghost use Rattle.cut_lists.specs.Buffers.{cutBuffers, cutsBefore, cutsAfter};
+ghost use Rattle.cut_slots.specs.Slots.{cutCount};
 
 // An operation is refused by its number; or so many windows are made and so many events queued.
 pub enum Step {
@@ -85,18 +86,6 @@ fn edge_count(ends: &[u32], lens: &[f64], edges: &[u32]) -> u32
         return n;
     }
     heads
-}
-
-// How many entries the lists of an addition can have.
-pub fn cut_count(pts: &[f64], out: &[f64], keep: &[f64], next: &[f64]) -> u32
-    ensures { λ r. ⌜ r ≡ cutCount (cutsBefore pts out keep next) ⌝ }
-{
-    let a = buffers::count(pts.len(), 1, out.len(), 2);
-    let b = buffers::count(keep.len(), 2, next.len(), 2);
-    if a <= b {
-        return a;
-    }
-    b
 }
 
 fn zero_cuts(pts: &mut [f64], out: &mut [f64], keep: &mut [f64], next: &mut [f64])
@@ -396,7 +385,7 @@ pub fn run(
         r (after edges words reals keys events vertex) (cutsAfter pts out keep next) ⌝ }
 {
     let m = edge_count(ends, lens, edges);
-    let x = cut_count(pts, out, keep, next);
+    let x = cut_slots::cut_count(pts, out, keep, next);
     let n = buffers::count(
         ops.len(),
         WORDS_PER_OPERATION,

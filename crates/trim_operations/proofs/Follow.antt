@@ -27,7 +27,7 @@ use Rattle.trim_state.proofs.Follows.{follows-unqueue, follows-demand3}
 use Rattle.trim_state.proofs.Made.{Made, act-made, After, finish-after, add-after}
 use Rattle.pop.specs.State.{winsClaimed, liveClaimed, afterPop}
 use Rattle.pop.proofs.Answers.{live-claimed}
-use Rattle.trim_operations.specs.Operations.{Operation, add, pop, touch, unknown, candidatesOf, candidates, Doubles, DoublesOf}
+use Rattle.trim_operations.specs.Operations.{Operation, add, pop, touch, unknown, candidatesOf, Doubles, DoublesOf}
 use Rattle.trim_operations.specs.Run.{hasLength, isOnEdge, tryAdd, operate}
 use Rattle.trim_operations.specs.Demand3.{Demand3}
 

@@ -2,13 +2,12 @@
 -- An operation has four u32: its kind, its edge or vertex, the face that a candidate goes into, whether a candidate is queued; and five f64: a candidate's ends and the
 -- three numbers of its source, or the distance of a touch.
 use Prim.Native.Nat.{ℕ, zero, suc, _+_, _*_}
-use mathlib.Core.Bool.{Bool, cond, _&&_}
+use mathlib.Core.Bool.{Bool, cond}
 use mathlib.Core.List.{List, [], _∷_, _++_}
 use lib.Dec.{T, eqb}
 use lib.ListN.{getD}
 use lib.Ieee.{Float, nan, binary64, fits}
 use Rattle.layout.specs.Layout.{wordsPerOperation, operationKind, operationNumber, operationInto, operationQueued, realsPerOperation, operationB0, operationB1, operationS0, operationS1, operationS2}
-use Rattle.float64.specs.Notation.{if_then_else_}
 use Rattle.source.specs.declared.Src.{Src}
 use Rattle.source.specs.declared.Src.the-variants.{Point, Line}
 use Rattle.windows.specs.Windows.{srcOf}

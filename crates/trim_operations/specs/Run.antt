@@ -1,7 +1,7 @@
 -- A list of operations on values, from empty edges on. Definitions only.
 use Prim.Native.Nat.{ℕ, suc}
 use mathlib.Core.Bool.{Bool, cond, _&&_}
-use mathlib.Core.List.{List, [], _∷_, _++_}
+use mathlib.Core.List.{List, [], _∷_}
 use lib.Dec.{ltb}
 use lib.Ieee.{Float, lt, le}
 use lib.Ieee.Scale.{finite}
@@ -9,7 +9,6 @@ use Rattle.float64.specs.Scalar.{zero64}
 use Rattle.heap.specs.Queue.{Queue, popping}
 use Rattle.actions.specs.Actions as actions
 use Rattle.actions.specs.Actions.{stock, act}
-use Rattle.trim_model.specs.Windows.{Window}
 use Rattle.trim_model.specs.Model.{Candidate}
 use Rattle.trim_state.specs.State.{State, Result, stopped, went, finish, EdgeData, addOf}
 use Rattle.pop.specs.State.{afterPop}
@@ -49,16 +48,16 @@ pub data Run : Type 0 where
   ran : State → Run
 
 module _ (cuts windows : ℕ) (limit : Float) (flags : List ℕ) (mesh : EdgeData) (edges vertices : ℕ) where
-  unfoldable pub onward : ℕ → State → Result → (State → Run) → Run
-  onward k s (stopped n) next = ended k n s
-  onward k s (went t) next = next t
+  unfoldable pub thenRun : ℕ → State → Result → (State → Run) → Run
+  thenRun k s (stopped n) next = ended k n s
+  thenRun k s (went t) next = next t
 
   -- the operations, the first of which is number k of the list
   unfoldable pub runFrom : ℕ → List Operation → State → Run
-  unfolding operate onward
+  unfolding operate thenRun
   runFrom k [] s = ran s
-  runFrom k (o ∷ ops) s = onward k s (operate cuts windows limit flags mesh edges vertices o s) (runFrom (suc k) ops)
+  runFrom k (o ∷ ops) s = thenRun k s (operate cuts windows limit flags mesh edges vertices o s) (runFrom (suc k) ops)
 
 -- at first there are no windows and no events
-abbrev pub start : Queue → List Float → State
-start queue vertex = record { wins = []; live = λ (e : ℕ). []; stock = stock 0 0 queue vertex }
+abbrev pub startState : Queue → List Float → State
+startState queue vertex = record { wins = []; live = λ (e : ℕ). []; stock = stock 0 0 queue vertex }

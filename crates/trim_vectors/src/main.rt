@@ -29,7 +29,7 @@ use stored_numbers::visit;
 use stored_numbers::visit_double;
 use stored_numbers::wrong;
 use vectors::Tally;
-ghost use Prim.Native.Nat.{_≤_, _<_};
+ghost use Prim.Native.Nat.{_<_};
 
 // The first fields of slot i.
 fn visit_reals(s: &[u8], w: Walk, reals: &[f64], stride: u32, i: u32, fields: u32) -> Walk {

@@ -12,10 +12,9 @@ use lib.Ieee.{Float, le}
 use Rattle.float64.specs.Scalar.{zero64}
 use Rattle.float64.specs.Notation.{_⊖_, _⊗_}
 use Rattle.source.specs.Distance.{lowestOf, evalOf}
-use Rattle.better.specs.Claim.{All, Pairs}
+use Rattle.better.specs.Claim.{All}
 use Rattle.better.specs.Points.{ptsOf, walkOf}
 use Rattle.better.specs.Stretches.{Interval, betterOf}
-use Rattle.heap.specs.declared.Event.{Event}
 use Rattle.heap.specs.declared.Item.{Item}
 use Rattle.heap.specs.declared.Item.the-variants.{Window as Item·Window, Vertex as Item·Vertex}
 use Rattle.heap.specs.declared.Popped.{Popped}
@@ -38,7 +37,7 @@ use Rattle.trim_model.proofs.Lists.{all-map, all-map2, all-append, all-left, al
 use Rattle.trim_model.proofs.Windows.{parted}
 use Rattle.trim_state.specs.Trace.{windowEvent, winOf, recordOf, making, makings, splitting, losing, visiting, visitings, near, touching, keeping, adding}
 use Rattle.trim_state.specs.State as state
-use Rattle.trim_state.specs.State.{State, Result, EdgeData, edgeIn, put, finish, admitOf, addOf}
+use Rattle.trim_state.specs.State.{State, EdgeData, edgeIn, put, finish, admitOf, addOf}
 use Rattle.trim_state.specs.Follows.{Follows}
 use Rattle.trim_state.proofs.Follows.{follows-differ, follows-apart}
 use Rattle.chains.specs.Chains.{Out}

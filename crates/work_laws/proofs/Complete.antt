@@ -5,9 +5,9 @@ use native.Mathlib.Decide.{ℕ-discrete, decLe}
 use mathlib.Core.Bool.{Bool, true, false, cond}
 use mathlib.Core.List.{List, [], _∷_, _++_, append-nil, append-assoc}
 use mathlib.Core.Logic.{⊎-elim, _⊎_, inl, inr}
-use mathlib.Core.Path.{_≡_, refl, sym, ap, subst, _∙_}
+use mathlib.Core.Path.{_≡_, sym, ap, subst, _∙_}
 use lib.Dec.{T}
-use lib.ListN.{length, length-append, getD, List·getD-append}
+use lib.ListN.{length, length-append, getD}
 use lib.Ieee.{Float, le}
 use Rattle.source.specs.Distance.{lowestOf}
 use Rattle.nat_laws.specs.Lists.{insertBy, sortBy}
@@ -18,13 +18,13 @@ use Rattle.better.specs.Stretches.{Interval, betterOf}
 use Rattle.windows.specs.declared.Edge.{Edge}
 use Rattle.windows.specs.declared.WindowRecord.{WindowRecord}
 use Rattle.windows.specs.Windows.{trimmed, reflagged, relinked, dead, adjust}
-use Rattle.actions.specs.Actions.{Action, list, make, trim, kill, push, touch, winsWith, winsAfter}
-use Rattle.trim_model.specs.Intervals.{width, tinyOf, pushIf, next, pieces, wideOf}
+use Rattle.actions.specs.Actions.{Action, list, trim, kill, winsWith, winsAfter}
+use Rattle.trim_model.specs.Intervals.{width, tinyOf, next, pieces, wideOf}
 use Rattle.trim_model.specs.Windows.{Window, part, fresh, split, insert, sorted}
 use Rattle.trim_model.specs.Add.{Walk, run, sharedLo, sharedHi, start, untouched, meet, visit, visits}
 use Rattle.trim_model.proofs.Ranks.{by-cases}
 use Rattle.trim_model.proofs.Lists.{all-append, all-left, all-right}
-use Rattle.trim_state.specs.Trace.{windowEvent, recordOf, making, makings, splitting, losing, visiting, visitings, touching, keeping, adding}
+use Rattle.trim_state.specs.Trace.{recordOf, making, makings, splitting, losing, visiting, visitings, touching, keeping, adding}
 use Rattle.work_laws.proofs.Recorded.{Spares, after-append, after-spared, length-adjust, adjust-here, making-wins, making-spares, makings-length, touching-wins, touching-spares}
 
 -- no window of the list has number i; not none of them has it

@@ -1,7 +1,7 @@
 -- What holds of every state of the work on a job, and so of its field: state-laws. Assumes nothing.
 use Prim.Native.Nat.{ℕ, _+_, _*_, _≤_, _<_}
 use native.Mathlib.Omega.{arith}
-use mathlib.Core.Bool.{Bool, true}
+use mathlib.Core.Bool.{true}
 use mathlib.Core.List.{List, [], _∷_, _++_}
 use mathlib.Core.Path.{_≡_, refl, ap, subst, _∙_}
 use lib.ListN.{length, getD, length-set}
@@ -19,7 +19,6 @@ use Rattle.topology.specs.Edges.{edges}
 use Rattle.topology.specs.Frames.{len}
 use Rattle.mesh_laws.specs.Bounds.{EdgeLength}
 use Rattle.trim_model.specs.Model.{Candidate}
-use Rattle.trim_model.specs.Claim.{AdmittedProper}
 use Rattle.trim_state.specs.State as state
 use Rattle.trim_state.specs.State.{State, Result, addOf}
 use Rattle.trim_state.specs.Follows.{Follows}
@@ -35,12 +34,11 @@ use Rattle.insertion.specs.Insertion.{Inserted, entriesIn}
 use Rattle.spread_offers.specs.Spreading.{SpreadOf}
 use Rattle.spread_offers.specs.declared.Spread.{Spread}
 use Rattle.spread_offers.specs.declared.Spread.the-variants.{Window, Vertex}
-use Rattle.windows_there.specs.There.{GoesInto, CandidateThere, EndsThere, EventsThere}
+use Rattle.windows_there.specs.There.{GoesInto}
 use Rattle.windows_there.proofs.Sides.{into-ends}
 use Rattle.windows_there.proofs.Kept.{there-none, there-stock, there-add, there-pop}
 use Rattle.windows_there.proofs.Events.{events-none, events-add, events-pop}
 use Rattle.field_step.specs.Step.{markedVertex, marked, idleOf}
-use Rattle.field_tests.specs.Tests.{withEmitted}
 use Rattle.last_pass.proofs.Recorded.{recorded-none, recorded-stock, recorded-add, recorded-pop}
 use Rattle.actions.specs.Actions.{stock}
 use Rattle.begin.specs.Begin.{WorkSlices, unreached, vertexReals}
@@ -49,7 +47,7 @@ use Rattle.run_steps.specs.Run.{field}
 use Rattle.field_work.specs.Work.{workOf, workCandidates}
 use Rattle.work_laws.specs.Kept.{EndsIn, SoundCandidate, WorkKeeps}
 use Rattle.work_laws.specs.Laws.{StateLaws}
-use Rattle.work_laws.proofs.Work.{FieldKept, work-kept}
+use Rattle.work_laws.proofs.Work.{work-kept}
 use Rattle.work_laws.proofs.Account.{accounted-none, accounted-stock, accounted-add, accounted-pop}
 use Rattle.work_laws.proofs.Zeros.{rows-zero}
 use Rattle.work_laws.proofs.Beyond.{Beyond, beyond-add, beyond-mark}

@@ -2,7 +2,7 @@
 use Prim.Native.Nat.{ℕ, zero, suc, _+_, _*_, _≤_, _<_, pred}
 use native.Mathlib.Omega.{arith}
 use mathlib.Core.Bool.{Bool, true, false, cond, _&&_}
-use mathlib.Core.List.{List, [], _∷_, _++_, append-nil, append-assoc}
+use mathlib.Core.List.{List, [], _∷_, _++_}
 use mathlib.Core.Logic.{⊎-elim, _⊎_, inl, inr}
 use mathlib.Core.Path.{_≡_, refl, sym, ap, subst, _∙_}
 use borrow.Author.Tests.{ltb-true, eq-eqb}
@@ -23,7 +23,7 @@ use Rattle.heap.specs.Queue.{Queue, slots, pushed, pushing}
 use Rattle.heap.proofs.SameAnswers.{push-adds}
 use Rattle.windows.specs.declared.Edge.{Edge}
 use Rattle.windows.specs.declared.WindowRecord.{WindowRecord}
-use Rattle.windows.specs.Windows.{trimmed, trimmedWin, reflagged, relinked, dead, adjust}
+use Rattle.windows.specs.Windows.{trimmed, trimmedWin, dead, adjust}
 use Rattle.actions.specs.Actions.{Action, list, make, trim, kill, push, touch, winsWith, winsAfter, Stock, stock, Outcome, stopped, went, distanceOf, withDistance, queueing, andThen, act, play}
 use Rattle.trim_model.specs.Intervals.{width, tinyOf, pushIf, next, pieces, wideOf}
 use Rattle.trim_model.specs.Windows.{Window, part, fresh, split, sorted}

@@ -22,7 +22,6 @@ use Rattle.mesh_laws.specs.Bounds.{EdgeLength}
 use Rattle.windows.specs.Windows.{capacityOf}
 use Rattle.trim_model.specs.Model.{Candidate}
 use Rattle.trim_model.specs.Claim.{AdmittedProper}
-use Rattle.trim_model.proofs.Ranks.{by-cases}
 use Rattle.trim_model.proofs.Lists.{all-left, all-right}
 use Rattle.trim_state.specs.State as state
 use Rattle.trim_state.specs.State.{State, Result, addOf}
@@ -46,7 +45,7 @@ use Rattle.windows_there.proofs.Passed.{spread-into}
 use Rattle.windows_there.proofs.Events.{popped-there}
 use Rattle.field_step.specs.declared.Turn.{Turn}
 use Rattle.field_step.specs.declared.Turn.the-variants.{Skip, Pass}
-use Rattle.field_step.specs.Step.{turnOf, marked, afterTurn, stepWith, stepOf, isEmpty, idleOf, turnCandidates, candidatesWith, stepCandidates}
+use Rattle.field_step.specs.Step.{turnOf, marked, afterTurn, stepWith, stepOf, idleOf, turnCandidates, candidatesWith, stepCandidates}
 use Rattle.field_step.proofs.Turns.{turn-there}
 use Rattle.advance.specs.Advance.{ofState, advanceOf, stepsOf, advanceCandidates}
 use Rattle.begin.specs.Begin.{WorkSlices}

@@ -7,7 +7,7 @@ ghost use Rattle.layout.specs.Layout.{wordsPerPiece};
 ghost use Rattle.buffers.specs.Lent.{given, left};
 ghost use Rattle.cut_lists.specs.Buffers.{cutBuffers, cutsBefore};
 ghost use Rattle.trim.specs.Buffers.{after};
-ghost use Rattle.run_operations.specs.Lists.{cutCount, cutTo};
+ghost use Rattle.cut_slots.specs.Slots.{cutCount, cutTo};
 ghost use Rattle.mesh.specs.Topology.{meshBuffers};
 ghost use Rattle.insertion.specs.Places.{entriesAfter};
 ghost use Rattle.begin.specs.Begin.{workBefore};

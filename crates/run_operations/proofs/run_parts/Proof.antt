@@ -5,7 +5,8 @@ use lib.Seq.{length-take-le}
 use Rattle.run_operations.specs.Lists.{snapshotIn}
 use Rattle.trim.specs.Buffers.{slices}
 use Rattle.cut_lists.specs.Buffers.{cutBuffers}
-use Rattle.run_operations.proofs.Whole.{pts-fit, out-fit, keep-fit, next-fit, parts-ready, parts-run}
+use Rattle.cut_slots.proofs.Parts.{pts-fit, out-fit, keep-fit, next-fit}
+use Rattle.run_operations.proofs.Whole.{parts-ready, parts-run}
 use borrow.Author.Needs.{needs}
 use Rattle.run_operations.proofs.run_parts.Statement.{statement}
 use Rattle.run_operations.proofs.run_parts.Tie as tie

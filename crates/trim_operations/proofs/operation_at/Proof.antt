@@ -1,5 +1,3 @@
-use mathlib.Core.Path.{_≡_, ap, _∙_}
-use Rattle.trim_operations.specs.Operations.{operationWord, asCandidate, newWindowAt, sourceAt, candidateAt}
 use Rattle.trim_operations.proofs.Reading.{read-point, read-line, read-pop, read-touch, read-unknown, read-candidate}
 use borrow.Author.Needs.{needs}
 use Rattle.trim_operations.proofs.operation_at.Statement.{statement}

@@ -3,8 +3,7 @@ use Prim.Native.Nat.{_*_}
 use mathlib.Core.Path.{sym}
 use lib.Seq.{length-take-le}
 use Rattle.cut_lists.specs.Buffers.{cutBuffers}
-use Rattle.run_operations.proofs.Whole.{pts-fit, out-fit, keep-fit, next-fit}
-use Rattle.work_parts.proofs.Parts.{parts-sizes}
+use Rattle.cut_slots.proofs.Parts.{pts-fit, out-fit, keep-fit, next-fit, parts-sizes}
 use borrow.Author.Needs.{needs}
 use Rattle.work_parts.proofs.work_parts.Statement.{statement}
 use Rattle.work_parts.proofs.work_parts.Tie as tie

@@ -1,7 +1,7 @@
-use Rattle.run_operations.proofs.Whole.{least-left, least-right}
+use Rattle.cut_slots.proofs.Parts.{least-left, least-right}
 use borrow.Author.Needs.{needs}
-use Rattle.run_operations.proofs.cut_count.Statement.{statement}
-use Rattle.run_operations.proofs.cut_count.Tie as tie
+use Rattle.cut_slots.proofs.cut_count.Statement.{statement}
+use Rattle.cut_slots.proofs.cut_count.Tie as tie
 
 count-requires : tie.Need-count-requires
 count-requires c κs = search needs
