@@ -81,35 +81,15 @@ reals-slot (x ∷ wins) zero d a l h =
 reals-slot (x ∷ wins) (suc i) d a l h = past-six (realsOf (x .win .src)) (realsFrom wins) nan _ _ _ (length-three (x .win .src)) i a ∙ reals-slot wins i d a (omega (arith, l)) h
 
 -- ---- flags
-flag-line : (l a q : Bool) → hasFlag (flagsOf l a q) lineFlag ≡ l
-flag-line true true true = refl
-flag-line true true false = refl
-flag-line true false true = refl
-flag-line true false false = refl
-flag-line false true true = refl
-flag-line false true false = refl
-flag-line false false true = refl
-flag-line false false false = refl
-
-flag-alive : (l a q : Bool) → hasFlag (flagsOf l a q) aliveFlag ≡ a
-flag-alive true true true = refl
-flag-alive true true false = refl
-flag-alive true false true = refl
-flag-alive true false false = refl
-flag-alive false true true = refl
-flag-alive false true false = refl
-flag-alive false false true = refl
-flag-alive false false false = refl
-
-flag-queued : (l a q : Bool) → hasFlag (flagsOf l a q) queuedFlag ≡ q
-flag-queued true true true = refl
-flag-queued true true false = refl
-flag-queued true false true = refl
-flag-queued true false false = refl
-flag-queued false true true = refl
-flag-queued false true false = refl
-flag-queued false false true = refl
-flag-queued false false false = refl
+decoded : (l a q : Bool) → (hasFlag (flagsOf l a q) lineFlag ≡ l) × ((hasFlag (flagsOf l a q) aliveFlag ≡ a) × (hasFlag (flagsOf l a q) queuedFlag ≡ q))
+decoded true true true = (refl, (refl, refl))
+decoded true true false = (refl, (refl, refl))
+decoded true false true = (refl, (refl, refl))
+decoded true false false = (refl, (refl, refl))
+decoded false true true = (refl, (refl, refl))
+decoded false true false = (refl, (refl, refl))
+decoded false false true = (refl, (refl, refl))
+decoded false false false = (refl, (refl, refl))
 
 few-flags : (l a q : Bool) → flagsOf l a q < 8
 few-flags true true true = omega arith
@@ -192,7 +172,7 @@ module _ (wins : List WindowRecord) (live : ℕ → List Window) (events : ℕ �
           b0 = real-at 0 (omega arith) k;
           b1 = real-at 1 (omega arith) k;
           low = real-at 2 (omega arith) k;
-          src = srcOf ((ap (λ (z : ℕ). hasFlag z lineFlag) flags-are ∙ flag-line (isLine (x .win .src)) (x .alive) (x .carried .queued)) k) (real-at 3 (omega arith) k) (real-at 4 (omega arith) k) (real-at 5 (omega arith) k);
+          src = srcOf ((ap (λ (z : ℕ). hasFlag z lineFlag) flags-are ∙ decoded (isLine (x .win .src)) (x .alive) (x .carried .queued) .0) k) (real-at 3 (omega arith) k) (real-at 4 (omega arith) k) (real-at 5 (omega arith) k);
         })
         ∙ sym (win-read (x .win))
 
@@ -200,8 +180,8 @@ module _ (wins : List WindowRecord) (live : ℕ → List Window) (events : ℕ �
     unfolding windowAt relinked
     window-is = λ k. record {
       edge = record { 0 = word-at 0 (omega arith) k };
-      carried = record { into = record { 0 = word-at 1 (omega arith) k }; queued = (ap (λ (z : ℕ). hasFlag z queuedFlag) flags-are ∙ flag-queued (isLine (x .win .src)) (x .alive) (x .carried .queued)) k };
-      alive = (ap (λ (z : ℕ). hasFlag z aliveFlag) flags-are ∙ flag-alive (isLine (x .win .src)) (x .alive) (x .carried .queued)) k;
+      carried = record { into = record { 0 = word-at 1 (omega arith) k }; queued = (ap (λ (z : ℕ). hasFlag z queuedFlag) flags-are ∙ decoded (isLine (x .win .src)) (x .alive) (x .carried .queued) .1 .1) k };
+      alive = (ap (λ (z : ℕ). hasFlag z aliveFlag) flags-are ∙ decoded (isLine (x .win .src)) (x .alive) (x .carried .queued) .1 .0) k;
       link = word-at 3 (omega arith) k;
       win = win-is k;
     }
