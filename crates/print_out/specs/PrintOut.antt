@@ -1,13 +1,12 @@
 -- Document 01's print-out. Definitions only.
-use Prim.Native.Nat.{ℕ, zero, suc, _+_, _*_, _%_}
-use mathlib.Core.Bool.{Bool, cond, _&&_}
+use Prim.Native.Nat.{ℕ, zero, suc, _+_, _*_}
+use mathlib.Core.Bool.{Bool, true, false, cond, _&&_}
 use mathlib.Core.List.{List, [], _∷_, _++_}
-use lib.Dec.{ltb, leb, eqb}
+use lib.Dec.{ltb}
 use lib.ListN.{getD}
-use lib.Ieee.{Float, nan, binary64, toBits}
+use lib.Ieee.{Float, nan, inf, fin}
 use Rattle.layout.specs.Layout.{realsPerVertex, vertexDistance, aliveFlag}
 use Rattle.windows.specs.Windows.{flagsAt, hasFlag}
-use Rattle.float64.specs.Scalar.{absOf}
 use Rattle.text_out.specs.Text.{decimal}
 use Rattle.thousandths.specs.Thousandths.{thousandthsOf}
 use Rattle.computed.specs.declared.Field.{Field}
@@ -32,6 +31,10 @@ farText = 102 ∷ 97 ∷ 114 ∷ []
 -- "nan"
 abbrev pub nanText : List ℕ
 nanText = 110 ∷ 97 ∷ 110 ∷ []
+
+-- "-"
+abbrev pub minusText : List ℕ
+minusText = 45 ∷ []
 
 -- "corner "
 abbrev pub cornerText : List ℕ
@@ -71,15 +74,17 @@ refusedText = 114 ∷ 101 ∷ 102 ∷ 117 ∷ 115 ∷ 101 ∷ 100 ∷ 32 ∷ []
 
 -- ---- the lines
 
--- A distance in thousandths, or `far` where it is infinite. What a distance cannot be is `nan`: no number, 2 ^ 52 or more in size, or below zero in
--- thousandths. The bit patterns from 2 ^ 63 on are those with the minus sign, and without it they rise with the size.
+-- a number of thousandths of that size, below zero or not
+unfoldable pub signed : Bool → ℕ → List ℕ
+signed minus t = cond (minus && ltb 0 t) minusText [] ++ decimal t
+
+-- a distance in thousandths, or `far` where it is infinite; no distance, a NaN or minus infinity, is `nan`
 unfoldable pub distanceText : Float → List ℕ
-distanceText x =
-    let b = toBits binary64 x in
-    let t = thousandthsOf (absOf x) in
-    cond (eqb b 0x7ff0_0000_0000_0000) farText
-    (cond (leb 0x4330_0000_0000_0000 (b % 0x8000_0000_0000_0000)) nanText
-    (cond (leb 0x8000_0000_0000_0000 b && ltb 0 t) nanText (decimal t)))
+unfolding signed
+distanceText nan = nanText
+distanceText (inf false) = farText
+distanceText (inf true) = nanText
+distanceText (fin s m e) = signed s (thousandthsOf s (fin s m e))
 
 unfoldable pub counted : List ℕ → ℕ → List ℕ
 counted word n = word ++ decimal n

@@ -3,6 +3,7 @@ use buffers::read_f64;
 use buffers::read_u32;
 use computed::Computed;
 use computed::Field;
+use large_decimal::put_large;
 use layout::ALIVE_FLAG;
 use layout::REALS_PER_VERTEX;
 use layout::VERTEX_DISTANCE;
@@ -13,13 +14,14 @@ use text_out::put_text;
 ghost use mathlib.Core.Path.{_≡_};
 ghost use mathlib.Core.Bool.{cond, _&&_};
 ghost use lib.Dec.{leb, ltb};
-ghost use lib.Ieee.{binary64, ofBits, toBits};
-ghost use Rattle.float64.specs.Scalar.{absOf};
-ghost use Prim.Native.Nat.{_+_, _*_, _%_, _≤_, _<_};
+ghost use lib.Ieee.{binary64, ofBits};
+ghost use mathlib.Core.List.{[]};
+ghost use Prim.Native.Nat.{_+_, _*_, _≤_, _<_};
 ghost use lib.ListN.{length};
 ghost use Rattle.buffers.specs.Lent.{given, left};
 ghost use Rattle.text_out.specs.Text.{Puts};
-ghost use Rattle.print_out.specs.PrintOut.{isLive, liveCount, counted, distanceText, cornerLine, cornerLines, edgesLine, windowsLine, refusedLine, fieldText, textOf};
+ghost use Rattle.thousandths.specs.Thousandths.{thousandthsOf};
+ghost use Rattle.print_out.specs.PrintOut.{isLive, liveCount, minusText, signed, counted, distanceText, cornerLine, cornerLines, edgesLine, windowsLine, refusedLine, fieldText, textOf};
 
 fn one_if(b: bool) -> u32
     ensures { λ r. ⌜ (r ≡ cond b 1 0) × (r ≤ 1) ⌝ }
@@ -60,48 +62,71 @@ fn put_count(out: &mut [u8], i: usize, word: &[u8], n: u32) -> usize
     put_decimal(out, j, n as u64)
 }
 
-// The pattern of a double without its sign: below 2^52 it is that of the double's size.
-fn size_pattern(x: f64) -> u64
-    ensures { λ r. ⌜ (r ≡ toBits binary64 x % 0x8000_0000_0000_0000) × (r < 0x4330_0000_0000_0000 → ofBits binary64 r ≡ absOf x) ⌝ }
-{
-    little_endian::pattern(x) % 0x8000_0000_0000_0000
-}
-
-// Whether a pattern has the minus sign and there are thousandths.
-fn is_below_zero(b: u64, thousandths: u64) -> bool
-    ensures { λ r. ⌜ r ≡ (leb 0x8000_0000_0000_0000 b && ltb 0 thousandths) ⌝ }
+// Whether a pattern has the minus sign.
+fn is_minus(b: u64) -> bool
+    ensures { λ r. ⌜ r ≡ leb 0x8000_0000_0000_0000 b ⌝ }
 {
     if b < 0x8000_0000_0000_0000 {
         return false;
     }
-    if 0 < thousandths {
-        return true;
+    true
+}
+
+// Whether thousandths are below zero: of none there is no minus.
+fn is_below_zero(minus: bool, thousandths: u64) -> bool
+    ensures { λ r. ⌜ r ≡ (minus && ltb 0 thousandths) ⌝ }
+{
+    if minus {
+        if 0 < thousandths {
+            return true;
+        }
     }
     false
 }
 
+fn put_sign(out: &mut [u8], i: usize, minus: bool) -> usize
+    requires { ⌜ i < 8_600_000_000_000_000_000 ⌝ }
+    ensures { λ r. ⌜ Puts (given out) i (cond minus minusText []) (left out) r × (r ≤ i + 1) ⌝ }
+{
+    if minus {
+        return put_text(out, i, b"-");
+    }
+    i
+}
+
+// The thousandths of the double whose pattern is b, a number, or of its negative.
+fn put_thousandths(out: &mut [u8], i: usize, minus: bool, b: u64) -> usize
+    requires { ⌜ (i < 8_500_000_000_000_000_000) × (b < 0x7ff0_0000_0000_0000) ⌝ }
+    ensures { λ r. ⌜ Puts (given out) i (signed minus (thousandthsOf minus (ofBits binary64 b))) (left out) r × (r ≤ i + 346) ⌝ }
+{
+    if 0x4330_0000_0000_0000 <= b {
+        let j = put_sign(out, i, minus);
+        let m = 1000 * (b % 0x10_0000_0000_0000 + 0x10_0000_0000_0000);
+        return put_large(out, j, m, b / 0x10_0000_0000_0000 - 1075);
+    }
+    let t = thousandths::thousandths(minus, b);
+    let j = put_sign(out, i, is_below_zero(minus, t));
+    put_decimal(out, j, t)
+}
+
 fn put_distance(out: &mut [u8], i: usize, x: f64) -> usize
     requires { ⌜ i < 8_500_000_000_000_000_000 ⌝ }
-    ensures { λ r. ⌜ Puts (given out) i (distanceText x) (left out) r × (r ≤ i + 20) ⌝ }
+    ensures { λ r. ⌜ Puts (given out) i (distanceText x) (left out) r × (r ≤ i + 346) ⌝ }
 {
     let b = little_endian::pattern(x);
     if b == 0x7ff0_0000_0000_0000 {
         return put_text(out, i, b"far");
     }
-    let size = size_pattern(x);
-    if 0x4330_0000_0000_0000 <= size {
+    let size = b % 0x8000_0000_0000_0000;
+    if 0x7ff0_0000_0000_0000 <= size {
         return put_text(out, i, b"nan");
     }
-    let t = thousandths::thousandths(size);
-    if is_below_zero(b, t) {
-        return put_text(out, i, b"nan");
-    }
-    put_decimal(out, i, t)
+    put_thousandths(out, i, is_minus(b), size)
 }
 
 fn put_corner(out: &mut [u8], i: usize, k: u32, x: f64) -> usize
     requires { ⌜ i < 7_000_000_000_000_000_000 ⌝ }
-    ensures { λ r. ⌜ Puts (given out) i (cornerLine k x) (left out) r × (r ≤ i + 62) ⌝ }
+    ensures { λ r. ⌜ Puts (given out) i (cornerLine k x) (left out) r × (r ≤ i + 388) ⌝ }
 {
     let a = put_count(out, i, b"corner ", k);
     let b = put_text(out, a, b" ");
@@ -112,7 +137,7 @@ fn put_corner(out: &mut [u8], i: usize, k: u32, x: f64) -> usize
 // A line for each of the n vertices.
 fn put_corners(out: &mut [u8], i: usize, n: u32, vertex: &[f64]) -> usize
     requires { ⌜ i < 6_000_000_000_000_000_000 ⌝ }
-    ensures { λ r. ⌜ Puts (given out) i (cornerLines (given vertex) n) (left out) r × (r ≤ i + 62 * n) ⌝ }
+    ensures { λ r. ⌜ Puts (given out) i (cornerLines (given vertex) n) (left out) r × (r ≤ i + 388 * n) ⌝ }
 {
     let mut at = i;
     let mut k: u32 = 0;

@@ -4,3 +4,5 @@ pub mod Pieces
 pub mod Walk
 pub mod RoundTrip
 pub mod Written
+pub mod Stands
+pub mod Back

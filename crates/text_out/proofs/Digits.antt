@@ -36,6 +36,17 @@ digits-are (suc zero) (suc most) n h f = rw (digit n, lt-ltb n 10 (f .1))
 digits-are (suc (suc j)) (suc most) n h f =
     let m = more j n f in rw (digit n, le-ltb n 10 (m .0)) (ap (λ t. t ++ ((48 + n % 10) ∷ [])) (digits-are (suc j) most (n / 10) (omega arith) (m .1)))
 
+-- no number has more digits than its size and one
+below-power : (j : ℕ) → j < 10 ^ j
+below-power zero = omega arith
+below-power (suc j) = rw (pow-succ' 10 j) (omega (arith, below-power j))
+
+pub at-most-all : (k n : ℕ) → Fewest 10 1 n k → k ≤ suc n
+at-most-all k n f = go (decLe k 1) where
+  go : Dec (k ≤ 1) → k ≤ suc n
+  go (yes l) = omega arith
+  go (no l) = omega (arith, l, below-power (k - 1), f .2 (omega (arith, l)))
+
 -- a number of 64 bits has at most 20
 pub at-most-20 : (k n : ℕ) → n < 2 ^ 64 → Fewest 10 1 n k → k ≤ 20
 at-most-20 k n h f = go (decLe k 20) where

@@ -12,10 +12,10 @@ unfoldable pub digitsOf : ℕ → ℕ → List ℕ
 digitsOf zero n = []
 digitsOf (suc most) n = cond (ltb n 10) [] (digitsOf most (n / 10)) ++ ((48 + n % 10) ∷ [])
 
--- of any number below 10 ^ 20
+-- of any number: none has more digits than its size and one
 unfoldable pub decimal : ℕ → List ℕ
 unfolding digitsOf
-decimal n = digitsOf 20 n
+decimal n = digitsOf (suc n) n
 
 -- `after` is the list `before` with the text in it from place i on, as far as it goes, and j is the place behind the text
 pub record Puts (before : List ℕ) (i : ℕ) (text : List ℕ) (after : List ℕ) (j : ℕ) : Type 0 where

@@ -12,7 +12,7 @@ use Rattle.print_out.proofs.put_corners.Statement.{statement}
 use Rattle.print_out.proofs.put_corners.Tie as tie
 
 abbrev Inv-loop : tie.InvT-loop
-Inv-loop out₀ i n vertex at₀ k₀ out at k = (k ≤ n) × ((at ≤ i + 62 * k) × ((length out ≡ length out₀) × Puts out₀ i (cornerLines vertex k) out at))
+Inv-loop out₀ i n vertex at₀ k₀ out at k = (k ≤ n) × ((at ≤ i + 388 * k) × ((length out ≡ length out₀) × Puts out₀ i (cornerLines vertex k) out at))
 
 abbrev μ-loop : tie.MeasureT-loop
 μ-loop out₀ i n vertex at₀ k₀ out at k = n - k

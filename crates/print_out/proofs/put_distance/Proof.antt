@@ -1,8 +1,8 @@
 -- `print_out::put_distance` meets its contract. Assumes nothing.
-use Rattle.print_out.proofs.Distance.{far, large, below, plain}
-use Rattle.thousandths.specs.Thousandths.{thousandthsOf}
+use Rattle.print_out.proofs.Distance.{far-is, nan-is, number-is}
+use lib.Dec.{T}
+use mathlib.Core.Path.{sym, subst, _∙_}
 use native.Mathlib.Omega.{arith}
-use mathlib.Core.Path.{sym, ap, _∙_}
 use borrow.Author.Needs.{needs}
 use Rattle.print_out.proofs.put_distance.Statement.{statement}
 use Rattle.print_out.proofs.put_distance.Tie as tie
@@ -24,12 +24,10 @@ returns c =
     let at-put-text = c .before .before in
     let at-if1 = at-put-text .before .before .before in
     let at-pattern = at-if1 .before in
-    let a = at-pattern .before .before .args in
-    let p = at-put-text .put-text .ensures in
-    (far (a .x) (sym (at-pattern .pattern .ensures) ∙ at-if1 .if1 .taken) p, omega (arith, p .ends))
-
-size-pattern-requires : tie.Need-size-pattern-requires
-size-pattern-requires c κs = search needs
+    let start = at-pattern .before .before in
+    let put = at-put-text .put-text .ensures in
+    let fits = subst T (sym (start .good .1 .1 .0 .1)) tt in
+    (rw (far-is (start .args .x) fits (sym (at-pattern .pattern .ensures) ∙ at-if1 .if1 .taken)) put, omega (arith, put .ends))
 
 slice-aggregate-put-text-2 : tie.Need-slice-aggregate-put-text-2
 slice-aggregate-put-text-2 c = search needs
@@ -42,67 +40,36 @@ same-length-2 c = search needs
 
 returns-2 : tie.Need-returns-2
 returns-2 c =
-    let at-put-text2 = c .before .before in
-    let at-if2 = at-put-text2 .before .before .before in
-    let at-size-pattern = at-if2 .before in
-    let at-if1 = at-size-pattern .before in
+    let at-put-text = c .before .before in
+    let at-if2 = at-put-text .before .before .before in
+    let at-if1 = at-if2 .before in
     let at-pattern = at-if1 .before in
-    let a = at-pattern .before .before .args in
-    let p = at-put-text2 .put-text2 .ensures in
-    (large (a .x) (λ q. at-if1 .if1 .left (at-pattern .pattern .ensures ∙ q)) (omega (arith, at-if2 .if2 .taken, at-size-pattern .size-pattern .ensures .0)) p, omega (arith, p .ends))
+    let start = at-pattern .before .before in
+    let put = at-put-text .put-text2 .ensures in
+    let fits = subst T (sym (start .good .1 .1 .0 .1)) tt in
+    let e = at-pattern .pattern .ensures in
+    (rw (nan-is (start .args .x) fits (λ q. at-if1 .if1 .left (e ∙ q)) (rw e at (at-if2 .if2 .taken))) put, omega (arith, put .ends))
 
-thousandths-requires : tie.Need-thousandths-requires
-thousandths-requires c κs = search needs
+is-minus-requires : tie.Need-is-minus-requires
+is-minus-requires c κs = search needs
 
-is-below-zero-requires : tie.Need-is-below-zero-requires
-is-below-zero-requires c κs = search needs
-
-slice-aggregate-put-text-3 : tie.Need-slice-aggregate-put-text-3
-slice-aggregate-put-text-3 c = search needs
-
-put-text-requires-3 : tie.Need-put-text-requires-3
-put-text-requires-3 c κs = search needs
+put-thousandths-requires : tie.Need-put-thousandths-requires
+put-thousandths-requires c κs = search needs
 
 same-length-3 : tie.Need-same-length-3
 same-length-3 c = search needs
 
 returns-3 : tie.Need-returns-3
 returns-3 c =
-    let at-put-text3 = c .before .before in
-    let at-if3 = at-put-text3 .before .before .before in
-    let at-is-below-zero = at-if3 .before in
-    let at-thousandths = at-is-below-zero .before in
-    let at-if2 = at-thousandths .before in
-    let at-size-pattern = at-if2 .before in
-    let at-if1 = at-size-pattern .before in
-    let at-pattern = at-if1 .before in
-    let a = at-pattern .before .before .args in
-    let p = at-put-text3 .put-text3 .ensures in
-    let e = at-thousandths .thousandths .ensures ∙ ap thousandthsOf (at-size-pattern .size-pattern .ensures .1 (at-if2 .if2 .left)) in
-    let b = rw (at-pattern .pattern .ensures) at (sym (at-is-below-zero .is-below-zero .ensures) ∙ at-if3 .if3 .taken) in
-    (below (a .x) (λ q. at-if1 .if1 .left (at-pattern .pattern .ensures ∙ q)) (omega (arith, at-if2 .if2 .left, at-size-pattern .size-pattern .ensures .0)) (at-thousandths .thousandths .result) e b p, omega (arith, p .ends))
-
-put-decimal-requires : tie.Need-put-decimal-requires
-put-decimal-requires c κs = search needs
-
-same-length-4 : tie.Need-same-length-4
-same-length-4 c = search needs
-
-returns-4 : tie.Need-returns-4
-returns-4 c =
-    let at-put-decimal = c .before .before in
-    let at-if3 = at-put-decimal .before .before in
-    let at-is-below-zero = at-if3 .before in
-    let at-thousandths = at-is-below-zero .before in
-    let at-if2 = at-thousandths .before in
-    let at-size-pattern = at-if2 .before in
-    let at-if1 = at-size-pattern .before in
-    let at-pattern = at-if1 .before in
-    let a = at-pattern .before .before .args in
-    let p = at-put-decimal .put-decimal .ensures in
-    let e = at-thousandths .thousandths .ensures ∙ ap thousandthsOf (at-size-pattern .size-pattern .ensures .1 (at-if2 .if2 .left)) in
-    let b = rw (at-pattern .pattern .ensures) at (sym (at-is-below-zero .is-below-zero .ensures) ∙ at-if3 .if3 .left) in
-    (plain (a .x) (λ q. at-if1 .if1 .left (at-pattern .pattern .ensures ∙ q)) (omega (arith, at-if2 .if2 .left, at-size-pattern .size-pattern .ensures .0)) (at-thousandths .thousandths .result) e b (p .0), p .1)
+    let at-put-thousandths = c .before .before in
+    let at-is-minus = at-put-thousandths .before in
+    let at-if2 = at-is-minus .before .before in
+    let at-pattern = at-if2 .before .before in
+    let start = at-pattern .before .before in
+    let put = at-put-thousandths .put-thousandths .ensures in
+    let fits = subst T (sym (start .good .1 .1 .0 .1)) tt in
+    let e = at-pattern .pattern .ensures in
+    (rw (sym (number-is (start .args .x) fits (rw e at (at-if2 .if2 .left)))) (rw (at-is-minus .is-minus .ensures, e) at (put .0)), put .1)
 
 pub put-distance-spec : {M : Type 1} → statement M
 put-distance-spec =
@@ -113,17 +80,11 @@ put-distance-spec =
     put-text-requires
     same-length
     returns
-    size-pattern-requires
     slice-aggregate-put-text-2
     put-text-requires-2
     same-length-2
     returns-2
-    thousandths-requires
-    is-below-zero-requires
-    slice-aggregate-put-text-3
-    put-text-requires-3
+    is-minus-requires
+    put-thousandths-requires
     same-length-3
-    returns-3
-    put-decimal-requires
-    same-length-4
-    returns-4)
+    returns-3)

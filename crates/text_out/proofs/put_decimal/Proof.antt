@@ -1,5 +1,6 @@
 -- `text_out::put_decimal` meets its contract. Assumes nothing.
-use Rattle.text_out.proofs.Digits.{digits-are, at-most-20}
+use Rattle.text_out.proofs.Digits.{digits-are, at-most-all, at-most-20}
+use Prim.Native.Nat.{suc}
 use Rattle.text_out.specs.Text.{decimal}
 use mathlib.Core.Path.{_∙_}
 use native.Mathlib.Omega.{arith}
@@ -35,7 +36,7 @@ returns c =
     let k = at-decimal .decimal .result in
     let most = at-most-20 k (a .n) (omega arith) fewest in
     let put = at-put-text .put-text .ensures in
-    (rw (at-decimal .decimal .ensures .1 .1 ∙ digits-are k 20 (a .n) most fewest) at put, omega (arith, most, put .ends, at-decimal .decimal .ensures .0 .1))
+    (rw (at-decimal .decimal .ensures .1 .1 ∙ digits-are k (suc (a .n)) (a .n) (at-most-all k (a .n) fewest) fewest) at put, omega (arith, most, put .ends, at-decimal .decimal .ensures .0 .1))
 
 pub put-decimal-spec : {M : Type 1} → statement M
 put-decimal-spec =
