@@ -1,11 +1,13 @@
-//! The whole job of the static library field_c, called with a job and rooms of the oracle.
+//! The whole job of the static library field_c and single questions to its field, called with a job and rooms of the oracle.
+// each program that has this file calls a part of it
+#![allow(dead_code)]
 use oracle::job::Job;
 use oracle::rooms::{Rooms, Told};
 
 /// A function of the library, and the same for slices: each goes over as its first element and its length.
 macro_rules! export {
     (fn $name:ident($($read:ident: $r:ty),*; $($number:ident: $n:ty),*; $($write:ident: $w:ty),*)) => {
-        mod export {
+        mod $name {
             unsafe extern "C" {
                 pub fn $name($($read: *const $r, _: usize,)* $($number: $n,)* $($write: *mut $w, _: usize),*) -> u32;
             }
@@ -14,7 +16,7 @@ macro_rules! export {
         #[allow(clippy::too_many_arguments)]
         fn $name($($read: &[$r],)* $($number: $n,)* $($write: &mut [$w]),*) -> u32 {
             unsafe {
-                export::$name(
+                $name::$name(
                     $($read.as_ptr(), $read.len(),)*
                     $($number,)*
                     $($write.as_mut_ptr(), $write.len()),*
@@ -31,6 +33,51 @@ export!(fn sirmolaat_compute(
     piece_words: u32, piece_reals: f64, vertex: f64, words: u32, reals: f64, keys: f64, events: u32, entry_words: u32,
     pts: f64, out: f64, keep: f64, next: f64, scratch: u32, other_scratch: u32, told: u32
 ));
+
+export!(fn sirmolaat_at(
+    told: u32, vertices: f64, triangles: u32, kinds: u8, faces: u32, coords: f64,
+    edge_words: u32, edge_reals: f64, triangle_words: u32, triangle_reals: f64, vertex: f64, words: u32, reals: f64, entry_words: u32;
+    f: u32, x: f64, y: f64, z: f64; distance: f64
+));
+export!(fn sirmolaat_edge_at(
+    told: u32, vertices: f64, triangles: u32, kinds: u8, faces: u32, coords: f64,
+    edge_words: u32, edge_reals: f64, triangle_words: u32, triangle_reals: f64, vertex: f64, words: u32, reals: f64, entry_words: u32;
+    e: u32, x: f64; distance: f64
+));
+
+/// A single question: its number and its distance.
+macro_rules! ask {
+    ($name:ident, $told:ident, $job:ident, $rooms:ident, $($asked:expr),*) => {{
+        let mut distance = [77.];
+        let number = $name(
+            $told,
+            &$job.vertices,
+            &$job.triangles,
+            &$job.piece_kinds,
+            &$job.piece_faces,
+            &$job.piece_coords,
+            &$rooms.edge_words,
+            &$rooms.edge_reals,
+            &$rooms.triangle_words,
+            &$rooms.triangle_reals,
+            &$rooms.vertex,
+            &$rooms.words,
+            &$rooms.reals,
+            &$rooms.entry_words,
+            $($asked,)*
+            &mut distance,
+        );
+        (number, distance[0])
+    }};
+}
+
+pub fn at(told: &Told, job: &Job, rooms: &Rooms, f: u32, [x, y, z]: [f64; 3]) -> (u32, f64) {
+    ask!(sirmolaat_at, told, job, rooms, f, x, y, z)
+}
+
+pub fn edge_at(told: &Told, job: &Job, rooms: &Rooms, e: u32, x: f64) -> (u32, f64) {
+    ask!(sirmolaat_edge_at, told, job, rooms, e, x)
+}
 
 /// What the job comes to: its counts, or the refusal's number.
 pub fn compute(job: &Job, rooms: &mut Rooms) -> Result<Told, u32> {

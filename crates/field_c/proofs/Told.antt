@@ -9,7 +9,7 @@ use Rattle.computed.specs.declared.Computed.the-variants as computed
 use Rattle.field_c.specs.Exports.{fieldTold}
 
 -- each number is written over the one before
-set-both : (n m : ℕ) {t₀ t₁ t₂ : List ℕ} → t₁ ≡ set t₀ n m → t₀ ≡ t₂ → t₁ ≡ set t₂ n m
+pub set-both : (n m : ℕ) {t₀ t₁ t₂ : List ℕ} → t₁ ≡ set t₀ n m → t₀ ≡ t₂ → t₁ ≡ set t₂ n m
 set-both n m h e = h ∙ (λ i. set (e i) n m)
 
 module _ (t : List ℕ) {x : Computed} where

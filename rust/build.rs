@@ -1,0 +1,56 @@
+//! Links the proved static libraries. `SIRMOLAAT_ARCHIVES` names a folder that has them; without it `rt staticlib` of the Rattle kit proves and makes them.
+use std::path::{Path, PathBuf};
+use std::process::{Command, exit};
+
+/// The crates whose exports src/ffi.rs declares.
+const LIBRARIES: [&str; 2] = ["field_c", "query_c"];
+
+/// A plain sentence, and no panic's trace.
+fn fail(sentence: &str) -> ! {
+    println!("cargo::error={sentence}");
+    exit(1)
+}
+
+fn make(root: &Path) -> PathBuf {
+    for path in ["crates", "crates.txt"] {
+        println!("cargo::rerun-if-changed={}", root.join(path).display());
+    }
+    for name in LIBRARIES {
+        let run = Command::new("rt")
+            .args(["staticlib", name])
+            .current_dir(root)
+            .output();
+        match run {
+            Ok(run) if run.status.success() => {}
+            Ok(run) => fail(&format!(
+                "rt staticlib {name} failed ({}); run it in the repository to see why",
+                run.status
+            )),
+            Err(error) => fail(&format!(
+                "rt cannot be run ({error}): put the Rattle kit's rt on the path, or set SIRMOLAAT_ARCHIVES to a folder with the archives"
+            )),
+        }
+    }
+    root.join("target/staticlib")
+}
+
+fn main() {
+    println!("cargo::rerun-if-env-changed=SIRMOLAAT_ARCHIVES");
+    println!("cargo::rerun-if-changed=build.rs");
+    let folder = match std::env::var_os("SIRMOLAAT_ARCHIVES") {
+        Some(folder) => PathBuf::from(folder),
+        None => match Path::new(env!("CARGO_MANIFEST_DIR")).parent() {
+            Some(root) => make(root),
+            None => fail("this package stands in no repository: set SIRMOLAAT_ARCHIVES"),
+        },
+    };
+    for name in LIBRARIES {
+        let archive = folder.join(format!("lib{name}.a"));
+        if !archive.is_file() {
+            fail(&format!("there is no archive {}", archive.display()));
+        }
+        println!("cargo::rerun-if-changed={}", archive.display());
+        println!("cargo::rustc-link-lib=static={name}");
+    }
+    println!("cargo::rustc-link-search=native={}", folder.display());
+}

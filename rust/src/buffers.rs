@@ -1,0 +1,234 @@
+//! The memory of a job, document 01's rooms: twenty slices, how long they must be, and how they grow. crates/layout of the repository says where each number stands.
+use crate::input::Input;
+
+/// The slots of the four buffers that a job may outgrow.
+#[derive(Clone, Copy, Debug, PartialEq, Eq)]
+pub struct Slots {
+    /// All windows that are made, dead ones too; refusal 12.
+    pub windows: u32,
+    /// Events that wait at one time; refusal 13.
+    pub events: u32,
+    /// Entries of each list of an addition; refusal 14.
+    pub cuts: u32,
+    /// Entries of pieces in faces; refusal 17.
+    pub entries: u32,
+}
+
+/// Bytes of a slot: what its slices have, and for a window the two scratch rows too.
+const WINDOW_BYTES: u64 = 4 * 4 + 6 * 8 + 2 * 4;
+const EVENT_BYTES: u64 = 8 + 2 * 4;
+const CUT_BYTES: u64 = 7 * 8;
+const ENTRY_BYTES: u64 = 3 * 4;
+const VERTEX_BYTES: u64 = 3 * 4 + 2 * 8;
+const TRIANGLE_BYTES: u64 = 3 * (6 * 4 + 4 * 8 + 4) + 6 * 4 + 9 * 8;
+const PIECE_BYTES: u64 = 3 * 4 + 3 * 8;
+
+/// A buffer that was outgrown becomes so many times as large.
+const GROWTH: u32 = 3;
+
+impl Slots {
+    /// What a job is lent at first. Few pieces on many triangles make the most windows: the waves of each go far.
+    pub(crate) fn first(triangles: usize, pieces: usize) -> Slots {
+        let number = |n: usize| u32::try_from(n).unwrap_or(u32::MAX);
+        let each = if pieces.saturating_mul(20) < triangles {
+            40
+        } else {
+            24
+        };
+        let windows = number(triangles)
+            .saturating_mul(each)
+            .saturating_add(number(pieces).saturating_mul(8));
+        Slots {
+            windows: windows.saturating_add(256),
+            events: (windows / 3).saturating_add(256),
+            cuts: 256,
+            entries: number(pieces).saturating_mul(8).saturating_add(64),
+        }
+    }
+
+    /// With more slots where the job was refused for the lack of one; none where that number says nothing of them, or there can be no more.
+    pub(crate) fn grown(self, number: u32) -> Option<Slots> {
+        let more = |n: u32| n.saturating_mul(GROWTH).max(16);
+        let grown = match number {
+            12 => Slots {
+                windows: more(self.windows),
+                events: more(self.events),
+                ..self
+            },
+            13 => Slots {
+                events: more(self.events),
+                ..self
+            },
+            14 => Slots {
+                cuts: more(self.cuts),
+                ..self
+            },
+            17 => Slots {
+                entries: more(self.entries),
+                ..self
+            },
+            _ => return None,
+        };
+        (grown != self).then_some(grown)
+    }
+
+    /// The bytes of all buffers of a job with these slots.
+    pub(crate) fn bytes(&self, vertices: usize, triangles: usize, pieces: usize) -> u64 {
+        let fixed = [
+            (vertices, VERTEX_BYTES),
+            (triangles, TRIANGLE_BYTES),
+            (pieces, PIECE_BYTES),
+        ];
+        let grown = [
+            (self.windows, WINDOW_BYTES),
+            (self.events, EVENT_BYTES),
+            (self.cuts, CUT_BYTES),
+            (self.entries, ENTRY_BYTES),
+        ];
+        let fixed = fixed
+            .iter()
+            .map(|&(n, bytes)| (n as u64).saturating_mul(bytes));
+        let grown = grown.iter().map(|&(n, bytes)| u64::from(n) * bytes);
+        fixed.chain(grown).fold(0, u64::saturating_add)
+    }
+}
+
+/// In the order in which the library takes them.
+#[derive(Debug, Default)]
+pub(crate) struct Buffers {
+    pub vertex_words: Vec<u32>,
+    pub edge_words: Vec<u32>,
+    pub edge_reals: Vec<f64>,
+    pub round: Vec<u32>,
+    pub triangle_words: Vec<u32>,
+    pub triangle_reals: Vec<f64>,
+    pub piece_words: Vec<u32>,
+    pub piece_reals: Vec<f64>,
+    pub vertex: Vec<f64>,
+    pub words: Vec<u32>,
+    pub reals: Vec<f64>,
+    pub keys: Vec<f64>,
+    pub events: Vec<u32>,
+    pub entry_words: Vec<u32>,
+    pub pts: Vec<f64>,
+    pub out: Vec<f64>,
+    pub keep: Vec<f64>,
+    pub next: Vec<f64>,
+    pub scratch: Vec<u32>,
+    pub other_scratch: Vec<u32>,
+}
+
+/// The memory is not to be had from the system.
+#[derive(Debug)]
+pub(crate) struct NoMemory;
+
+fn zeros<T: Clone + Default>(stride: usize, slots: usize) -> Result<Vec<T>, NoMemory> {
+    let length = stride.checked_mul(slots).ok_or(NoMemory)?;
+    let mut made = Vec::new();
+    made.try_reserve_exact(length).map_err(|_| NoMemory)?;
+    made.resize(length, T::default());
+    Ok(made)
+}
+
+impl Buffers {
+    pub(crate) fn new(input: &Input, slots: Slots) -> Result<Buffers, NoMemory> {
+        let (vertices, pieces) = (
+            input.flags.len().max(input.vertices.len() / 3),
+            input.kinds.len(),
+        );
+        let sides = input.triangles.len();
+        let triangles = sides / 3;
+        let [windows, events, cuts, entries] =
+            [slots.windows, slots.events, slots.cuts, slots.entries].map(|n| n as usize);
+        Ok(Buffers {
+            vertex_words: zeros(3, vertices)?,
+            edge_words: zeros(6, sides)?,
+            edge_reals: zeros(4, sides)?,
+            round: zeros(1, sides)?,
+            triangle_words: zeros(6, triangles)?,
+            triangle_reals: zeros(9, triangles)?,
+            piece_words: zeros(3, pieces)?,
+            piece_reals: zeros(3, pieces)?,
+            vertex: zeros(2, vertices)?,
+            words: zeros(4, windows)?,
+            reals: zeros(6, windows)?,
+            keys: zeros(1, events)?,
+            events: zeros(2, events)?,
+            entry_words: zeros(3, entries)?,
+            pts: zeros(1, cuts)?,
+            out: zeros(2, cuts)?,
+            keep: zeros(2, cuts)?,
+            next: zeros(2, cuts)?,
+            scratch: zeros(1, windows)?,
+            other_scratch: zeros(1, windows)?,
+        })
+    }
+
+    /// Gives back what no query reads: slots never taken, the queue, the cut lists, the scratch rows and the pieces' table.
+    pub(crate) fn shrink(&mut self, edges: usize, windows: usize) {
+        fn cut<T>(list: &mut Vec<T>, length: usize) {
+            list.truncate(length);
+            list.shrink_to_fit();
+        }
+        cut(&mut self.edge_words, 6 * edges);
+        cut(&mut self.edge_reals, 4 * edges);
+        cut(&mut self.words, 4 * windows);
+        cut(&mut self.reals, 6 * windows);
+        let entries = 3 * self.entry_count();
+        cut(&mut self.entry_words, entries);
+        for list in [
+            &mut self.keys,
+            &mut self.pts,
+            &mut self.out,
+            &mut self.keep,
+            &mut self.next,
+            &mut self.piece_reals,
+        ] {
+            cut(list, 0);
+        }
+        for list in [
+            &mut self.events,
+            &mut self.scratch,
+            &mut self.other_scratch,
+            &mut self.piece_words,
+        ] {
+            cut(list, 0);
+        }
+    }
+
+    /// Entries are numbered as they are made, so the last of some face is the last of all.
+    fn entry_count(&self) -> usize {
+        let last = |triangle: &[u32]| triangle.get(4).map_or(0, |&link| link as usize);
+        self.triangle_words.chunks(6).map(last).max().unwrap_or(0)
+    }
+
+    pub(crate) fn bytes(&self) -> usize {
+        let words = [
+            &self.vertex_words,
+            &self.edge_words,
+            &self.round,
+            &self.triangle_words,
+            &self.piece_words,
+            &self.words,
+            &self.events,
+            &self.entry_words,
+            &self.scratch,
+            &self.other_scratch,
+        ];
+        let reals = [
+            &self.edge_reals,
+            &self.triangle_reals,
+            &self.piece_reals,
+            &self.vertex,
+            &self.reals,
+            &self.keys,
+            &self.pts,
+            &self.out,
+            &self.keep,
+            &self.next,
+        ];
+        let words: usize = words.iter().map(|list| 4 * list.capacity()).sum();
+        let reals: usize = reals.iter().map(|list| 8 * list.capacity()).sum();
+        words + reals
+    }
+}
