@@ -8,8 +8,8 @@ use Rattle.source.specs.declared.Src.{Src}
 use Rattle.source.specs.Distance.{edgeOf}
 use Rattle.better.specs.declared.Cut.{Cut}
 use Rattle.better.specs.declared.Cut.the-variants.{Nowhere, At}
-use Rattle.better.specs.declared.Turn.{Turn}
-use Rattle.better.specs.declared.Turn.the-variants.{Settled, CutAt}
+use Rattle.better.specs.declared.Resolved.{Resolved}
+use Rattle.better.specs.declared.Resolved.the-variants.{Settled, CutAt}
 use Rattle.better.specs.Cutting.{shorter, cutOf}
 use Rattle.better.specs.Points.{ptsOf, walkOf}
 
@@ -35,11 +35,11 @@ shorterBetween p q x0 x1 =
     shorter (edgeOf p m) (edgeOf q m)
 
 -- a turn of the walk and of the loop over neighbours, between x0 and x1: the cut, if there is one; else p is shorter there or not
-abbrev pub settling : Cut → Bool → Turn
+abbrev pub settling : Cut → Bool → Resolved
 settling Nowhere b = Settled b
 settling (At c) b = CutAt c
 
-unfoldable pub turnOf : Src → Src → Float → Float → Turn
+unfoldable pub turnOf : Src → Src → Float → Float → Resolved
 turnOf p q x0 x1 = settling (cutOf p q x0 x1) (shorterBetween p q x0 x1)
 
 -- the loop over neighbours x0 and x1

@@ -2,6 +2,8 @@
 // The frame is the edge's: x along it from its first vertex, y across it, away from the source's side.
 
 ghost use mathlib.Core.Path.{_≡_};
+ghost use Rattle.float64.specs.Scalar.{minOf};
+ghost use Rattle.source.specs.declared.Src.the-variants.{Point};
 ghost use Rattle.source.specs.Quadratic.{rootsOf};
 ghost use Rattle.source.specs.Distance.{edgeOf, freeOf, footOf, lowestOf, tiesOfPoints, tiesOfPointLine, tiesOf, evalOf};
 
@@ -97,6 +99,31 @@ pub fn foot(src: Src, x: f64, y: f64) -> f64
     }
 }
 
+// The lesser of a point's distances at b0 and b1. Where both lie on one side of its foot, that is the distance at the nearer end, with one root. Both may be equal: then
+// the first is given, so the second is to be above zero, for the sign of a zero.
+fn lowest_end(x: f64, y: f64, s: f64, b0: f64, b1: f64) -> f64
+    ensures { λ r. ⌜ r ≡ minOf (edgeOf (Point x y s) b0) (edgeOf (Point x y s) b1) ⌝ }
+{
+    let src = Src::Point { x, y, s };
+    if b0 <= b1 {
+        if x < b0 {
+            let d = edge(src, b0);
+            if float64::is_finite(d) {
+                return d;
+            }
+        }
+        if b1 < x {
+            let d = edge(src, b1);
+            if d > 0.0 {
+                if float64::is_finite(d) {
+                    return d;
+                }
+            }
+        }
+    }
+    float64::min(edge(src, b0), edge(src, b1))
+}
+
 // The least distance from b0 to b1 on the edge.
 pub fn lowest(src: Src, b0: f64, b1: f64) -> f64
     ensures { λ r. ⌜ r ≡ lowestOf src b0 b1 ⌝ }
@@ -105,6 +132,7 @@ pub fn lowest(src: Src, b0: f64, b1: f64) -> f64
         if b0 <= x && x <= b1 {
             return float64::abs(y) + s;
         }
+        return lowest_end(x, y, s, b0, b1);
     }
     float64::min(edge(src, b0), edge(src, b1))
 }

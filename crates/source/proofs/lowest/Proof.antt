@@ -15,6 +15,15 @@ returns : tie.Need-returns
 unfolding lowestOf
 returns c = rw (c .before .before .before .before .src .given .1, c .before .before .if1 .taken, c .before .if2 .taken, c .abs .ensures)
 
+lowest-end-requires : tie.Need-lowest-end-requires
+lowest-end-requires c κs = search needs
+
+returns-2 : tie.Need-returns-2
+unfolding lowestOf
+returns-2 c =
+    rw (c .lowest-end .ensures, c .before .before .before .src .given .1)
+    (⊎-elim (λ v. rw (v .0 .taken, v .1 .left)) (λ v. rw (v .left)) (c .before .if1 .came))
+
 enum-told : tie.Need-enum-told
 enum-told c = search needs
 
@@ -27,15 +36,9 @@ edge-requires-2 c κs = search needs
 min-requires : tie.Need-min-requires
 min-requires c κs = search needs
 
-returns-2 : tie.Need-returns-2
+returns-3 : tie.Need-returns-3
 unfolding lowestOf
-returns-2 c =
-    let j = c .before .before .before in
-    rw (c .min .ensures, c .before .edge2 .ensures, c .before .before .edge .ensures)
-    (⊎-elim
-    (λ w. rw (w .4, w .1 .given .1) (⊎-elim (λ v. rw (v .0 .taken, v .1 .left)) (λ v. rw (v .left)) (w .3 .came)))
-    (λ w. rw (w .2, w .1 .given .1))
-    (j .match .came))
+returns-3 c = rw (c .min .ensures, c .before .edge2 .ensures, c .before .before .edge .ensures, c .before .before .before .enum-told .given .1)
 
 pub lowest-spec : {M : Type 1} → statement M
 lowest-spec =
@@ -44,8 +47,10 @@ lowest-spec =
     enum-known-src
     abs-requires
     returns
+    lowest-end-requires
+    returns-2
     enum-told
     edge-requires
     edge-requires-2
     min-requires
-    returns-2)
+    returns-3)
