@@ -1,0 +1,4 @@
+pub mod Same
+pub mod Agreeing
+pub mod Written
+pub mod Meshes
