@@ -109,6 +109,7 @@ pub fn make(leaf: &str, seed: u64, count: u32) -> Result<Vec<u8>, String> {
             "lowest" => leaves::lowest(&mut rng, &mut out),
             "eval" => leaves::eval(&mut rng, &mut out),
             "better" => leaves::better(&mut rng, &mut out),
+            "ranges" => leaves::ranges(&mut rng, &mut out),
             "add" => candidates::list(&mut rng, &mut out, 40, true),
             "add-long" => candidates::list(&mut rng, &mut out, 3_000, false),
             "add-scope" => candidates::example(k as usize, &mut out),

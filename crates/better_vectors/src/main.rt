@@ -1,4 +1,4 @@
-// Replays the stored cases of `better`: how many there are, and how many are answered otherwise.
+// Replays the stored cases of `better`: how many there are, and how many are answered otherwise, with no test of ranges before it and with each of the two.
 // The file is a count of 4 bytes and packed records: two sources of 25 bytes, lo and hi, the capacity of the lists (4 bytes), the refusal (1 byte, 0 or 14),
 // the count of stretches (4 bytes), and their ends.
 use better::Listed;
@@ -64,8 +64,15 @@ fn same_listed(listed: Listed, out: &[f64], s: &[u8], i: usize) -> bool
     }
 }
 
-// Whether `better` answers as that record says, in these buffers.
-fn better_holds(s: &[u8], i: usize, pts: &mut [f64], out: &mut [f64]) -> bool
+// Whether `better` answers as that record says, in these buffers, by the test of ranges that the lows choose.
+fn better_holds(
+    s: &[u8],
+    i: usize,
+    pts: &mut [f64],
+    out: &mut [f64],
+    p_low: f64,
+    q_low: f64,
+) -> bool
     requires { ⌜ i + 75 + 16 * stretchesOf (now s) i ≤ length (now s) ⌝ }
     ensures { λ b. ⌜ Decides (now (s .entry)) i (length (now (pts .entry))) (now (out .exit)) b ⌝ }
 {
@@ -73,12 +80,19 @@ fn better_holds(s: &[u8], i: usize, pts: &mut [f64], out: &mut [f64]) -> bool
     let q = src_from(s, i + 25);
     let lo = float_from(s, i + 50);
     let hi = float_from(s, i + 58);
-    let listed = better::better(p, q, lo, hi, pts, out);
+    let listed = range_test::better(p, q, lo, hi, pts, out, p_low, 0.0, q_low, 0.0);
     same_listed(listed, out, s, i)
 }
 
 // The same, in lists of the record's capacity. A record whose capacity is above the buffers' counts as a difference.
-fn better_replays(s: &[u8], i: usize, pts: &mut [f64], out: &mut [f64]) -> bool
+fn better_replays(
+    s: &[u8],
+    i: usize,
+    pts: &mut [f64],
+    out: &mut [f64],
+    p_low: f64,
+    q_low: f64,
+) -> bool
     requires { ⌜ i + 75 + 16 * stretchesOf (now s) i ≤ length (now s) ⌝ }
     ensures { λ b. ⌜ Replays (now (s .entry)) i (now (pts .entry)) (now (out .entry)) b ⌝ }
 {
@@ -89,11 +103,11 @@ fn better_replays(s: &[u8], i: usize, pts: &mut [f64], out: &mut [f64]) -> bool
     if out.len() < 2 * most {
         return false;
     }
-    better_holds(s, i, &mut pts[..most], &mut out[..2 * most])
+    better_holds(s, i, &mut pts[..most], &mut out[..2 * most], p_low, q_low)
 }
 
 // The whole records of s.
-fn replay(s: &[u8], pts: &mut [f64], out: &mut [f64]) -> Tally {
+fn replay(s: &[u8], pts: &mut [f64], out: &mut [f64], p_low: f64, q_low: f64) -> Tally {
     let mut cases: u64 = 0;
     let mut differences: u64 = 0;
     let mut i: usize = 0;
@@ -102,7 +116,7 @@ fn replay(s: &[u8], pts: &mut [f64], out: &mut [f64]) -> Tally {
         if s.len() - i < 75 + 16 * n {
             break;
         }
-        if !better_replays(s, i, pts, out) {
+        if !better_replays(s, i, pts, out, p_low, q_low) {
             differences += 1;
         }
         cases += 1;
@@ -117,6 +131,10 @@ fn main() {
     let got = read_records(name, &mut buf);
     let mut pts = [0.0f64; 2048];
     let mut out = [0.0f64; 4096];
-    let t = replay(&buf[..got], &mut pts, &mut out);
-    vectors::report(name, t.cases, t.differences);
+    let plain = replay(&buf[..got], &mut pts, &mut out, 0.0, 0.0);
+    vectors::report(name, plain.cases, plain.differences);
+    let above = replay(&buf[..got], &mut pts, &mut out, 1.0, 0.0);
+    vectors::report(b"range above", above.cases, above.differences);
+    let below = replay(&buf[..got], &mut pts, &mut out, 0.0, 1.0);
+    vectors::report(b"range below", below.cases, below.differences);
 }

@@ -180,7 +180,7 @@ pub enum Met {
 
 // The new window, whose source is p, and an existing one from b0 to b1, whose source is q, share the stretch from lo to hi. The k intervals of `keep` become
 // what the new one keeps; `out` has then the stretches where it is shorter, and `next`, if there are any, the pieces of the other. What else `pts`, `out` and
-// `next` hold then is left free: they are scratch space.
+// `next` hold then is left free: they are scratch space. The lows of the two windows and the width of the new one are hints for the test of ranges.
 pub fn cut(
     p: Src,
     q: Src,
@@ -194,11 +194,14 @@ pub fn cut(
     keep: &mut [f64],
     k: usize,
     next: &mut [f64],
+    p_low: f64,
+    p_wide: f64,
+    q_low: f64,
 ) -> Met
     requires { ⌜ Sizes (length (now pts)) (now out) (now keep) (now next) × (k ≤ length (now pts)) ⌝ }
     ensures { λ r. ⌜ Meets p q lo hi b0 b1 tiny (length (given pts)) (pairs k (given keep)) r (left keep) (left next) ⌝ }
 {
-    let better = better::better(p, q, lo, hi, pts, out);
+    let better = range_test::better(p, q, lo, hi, pts, out, p_low, p_wide, q_low, b1 - b0);
     let Listed::Entries(m) = better else {
         return Met::Full;
     };

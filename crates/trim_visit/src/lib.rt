@@ -64,7 +64,23 @@ fn visit(
     }
     let p = new.src;
     let q = old.src;
-    let met = cut_lists::cut(p, q, lo, hi, old.b0, old.b1, tiny, pts, out, keep, k, next);
+    let met = cut_lists::cut(
+        p,
+        q,
+        lo,
+        hi,
+        old.b0,
+        old.b1,
+        tiny,
+        pts,
+        out,
+        keep,
+        k,
+        next,
+        new.low,
+        new.b1 - new.b0,
+        old.low,
+    );
     let Met::Left { kept, lost, pieces } = met else {
         return Visited::Stopped(Lack::Cuts);
     };

@@ -318,8 +318,55 @@ pub fn better(rng: &mut Rng, out: &mut Out) {
             (p, q, a.min(b), a.max(b))
         }
     };
+    better_record(rng, out, p, q, lo, hi);
+}
+
+/// The source with `by` more at every place.
+fn lifted(src: &Src, by: f64) -> Src {
+    match *src {
+        Src::Point { x, y, s } => Src::Point { x, y, s: s + by },
+        Src::Line { ux, uy, c } => Src::Line { ux, uy, c: c + by },
+    }
+}
+
+/// Two sources whose ranges along the stretch are apart, touch or just overlap, some of them at and below -1, where the tolerance turns its sign.
+pub fn ranges(rng: &mut Rng, out: &mut Out) {
+    let (a, b) = (modest(rng), modest(rng));
+    let (lo, hi) = match rng.below(8) {
+        0 => (a, b),
+        1 => (number(rng), number(rng)),
+        2 => (0., a.abs() * 1e-9),
+        _ => (a.min(b), a.max(b)),
+    };
+    let p = if rng.one_in(8) { src(rng) } else { likely(rng) };
+    let q = match rng.below(4) {
+        0 => near(rng, &p),
+        1 => src(rng),
+        _ => likely(rng),
+    };
+    let ends = |s: &Src| [s.edge::<Patched>(lo), s.edge::<Patched>(hi)];
+    let high = |s: &Src| ends(s)[0].max(ends(s)[1]);
+    // A common level, and the least of one beside the greatest of the other.
+    let level = rng.pick(&[0., 0., 0., -1., -1. - f64::EPSILON, -2., -1e4, 1e6]);
+    let q = if level == 0. { q } else { lifted(&q, level - high(&q)) };
+    let gap = match rng.below(8) {
+        0 => 0.,
+        1 => f64::EPSILON * (rng.below(9) as f64 - 4.) * (1. + high(&q).abs()),
+        2 => 1e-10 * (1. + high(&q)) * rng.between(-3., 3.),
+        3 => 1e-10 * (1. + high(&q)),
+        _ => rng.between(-1., 4.),
+    };
+    let p = lifted(&p, high(&q) + gap - p.lowest::<Patched>(lo, hi));
+    if rng.one_in(2) {
+        better_record(rng, out, p, q, lo, hi);
+    } else {
+        better_record(rng, out, q, p, lo, hi);
+    }
+}
+
+/// The answer in lists of the least capacity that suffices, or beside it.
+fn better_record(rng: &mut Rng, out: &mut Out, p: Src, q: Src, lo: f64, hi: f64) {
     let run = |capacity: u32| Field::<Patched>::better(&p, &q, lo, hi, capacity);
-    // The least capacity that suffices, and beside it.
     let need = run(MOST).map_or(MOST, |(_, most)| most as u32);
     let capacity = rng.pick(&[need, need, need + 1, need - 1, need.min(3), 0, MOST]);
     out.src(&p);

@@ -9,10 +9,10 @@ use Rattle.better_vectors.proofs.replay.Statement.{statement}
 use Rattle.better_vectors.proofs.replay.Tie as tie
 
 abbrev Inv-loop : tie.InvT-loop
-Inv-loop s pts₀ out₀ cases₀ differences₀ i₀ pts out cases differences i = (cases ≤ i) × (differences ≤ cases) × (i ≤ length s) × (length pts ≡ length pts₀) × (length out ≡ length out₀)
+Inv-loop s pts₀ out₀ p-low q-low cases₀ differences₀ i₀ pts out cases differences i = (cases ≤ i) × (differences ≤ cases) × (i ≤ length s) × (length pts ≡ length pts₀) × (length out ≡ length out₀)
 
 abbrev μ-loop : tie.MeasureT-loop
-μ-loop s pts₀ out₀ cases₀ differences₀ i₀ pts out cases differences i = length s - i
+μ-loop s pts₀ out₀ p-low q-low cases₀ differences₀ i₀ pts out cases differences i = length s - i
 
 loop-holds : tie.Need-loop-holds Inv-loop μ-loop
 loop-holds c = search needs

@@ -66,7 +66,7 @@ same-length-4 c = search needs
 returns-2 : tie.Need-returns-2
 returns-2 c =
     let at-cut = c .before .before .before .before .before .before .before .before .before .before in
-    let at-if1 = at-cut .before .before .before .before .before in
+    let at-if1 = at-cut .before .before .before .before .before .before in
     let at-min = at-if1 .before in
     let at-max = at-min .before in
     let start = at-max .before .before .before .before .before .before .before .before .before .before .before .before in
@@ -81,7 +81,7 @@ returns-2 c =
 
 add-t44 : tie.Need-add-t44
 add-t44 c =
-    let start = c .before .before .before .before .before .before .before .before .before .before .before .before .before .before .before .before .before .before .before .before .before .before .before .before .before .before .before .before .before .before .before .before in
+    let start = c .before .before .before .before .before .before .before .before .before .before .before .before .before .before .before .before .before .before .before .before .before .before .before .before .before .before .before .before .before .before .before .before .before in
     omega (arith, start .pre .1 .0, start .pre .0 .fits)
 
 same-length-5 : tie.Need-same-length-5
@@ -101,7 +101,7 @@ returns-3 c =
     let at-if2 = c .before in
     let at-met = at-if2 .before .before in
     let at-cut = at-met .before .before .before .before .before .before .before .before .before .before in
-    let at-if1 = at-cut .before .before .before .before .before in
+    let at-if1 = at-cut .before .before .before .before .before .before in
     let at-min = at-if1 .before in
     let at-max = at-min .before in
     let start = at-max .before .before .before .before .before .before .before .before .before .before .before .before in
@@ -128,7 +128,7 @@ split-window-requires c κs =
     let at-if2 = c .before .before .before .before .before .before in
     let at-met = at-if2 .before .before in
     let at-cut = at-met .before .before .before .before .before .before .before .before .before .before in
-    let at-if1 = at-cut .before .before .before .before .before in
+    let at-if1 = at-cut .before .before .before .before .before .before in
     let at-min = at-if1 .before in
     let at-max = at-min .before in
     let start = at-max .before .before .before .before .before .before .before .before .before .before .before .before in
@@ -188,7 +188,7 @@ returns-4 c =
     let at-if2 = at-split-window .before .before .before .before .before .before .before in
     let at-met = at-if2 .before .before in
     let at-cut = at-met .before .before .before .before .before .before .before .before .before .before in
-    let at-if1 = at-cut .before .before .before .before .before in
+    let at-if1 = at-cut .before .before .before .before .before .before in
     let at-min = at-if1 .before in
     let at-max = at-min .before in
     let start = at-max .before .before .before .before .before .before .before .before .before .before .before .before in
@@ -240,7 +240,7 @@ returns-5 c =
     let at-if2 = at-split-window .before .before .before .before .before .before .before in
     let at-met = at-if2 .before .before in
     let at-cut = at-met .before .before .before .before .before .before .before .before .before .before in
-    let at-if1 = at-cut .before .before .before .before .before in
+    let at-if1 = at-cut .before .before .before .before .before .before in
     let at-min = at-if1 .before in
     let at-max = at-min .before in
     let start = at-max .before .before .before .before .before .before .before .before .before .before .before .before in
