@@ -3,7 +3,7 @@ use std::path::{Path, PathBuf};
 use std::process::{Command, exit};
 
 /// The crates whose exports src/ffi.rs declares.
-const LIBRARIES: [&str; 2] = ["field_c", "query_c"];
+const LIBRARIES: [&str; 4] = ["field_c", "query_c", "insert_c", "advance_c"];
 
 /// A plain sentence, and no panic's trace.
 fn fail(sentence: &str) -> ! {

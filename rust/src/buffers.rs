@@ -1,5 +1,7 @@
 //! The memory of a job, document 01's rooms: twenty slices, how long they must be, and how they grow. crates/layout of the repository says where each number stands.
+use crate::culprit;
 use crate::input::Input;
+use crate::refusal::{About, Refusal};
 
 /// The slots of the four buffers that a job may outgrow.
 #[derive(Clone, Copy, Debug, PartialEq, Eq)]
@@ -27,17 +29,12 @@ const PIECE_BYTES: u64 = 3 * 4 + 3 * 8;
 const GROWTH: u32 = 3;
 
 impl Slots {
-    /// What a job is lent at first. Few pieces on many triangles make the most windows: the waves of each go far.
+    /// What a job is lent at first: the fewer pieces, the farther the waves of each go, and the more windows they make.
     pub(crate) fn first(triangles: usize, pieces: usize) -> Slots {
         let number = |n: usize| u32::try_from(n).unwrap_or(u32::MAX);
-        let each = if pieces.saturating_mul(20) < triangles {
-            40
-        } else {
-            24
-        };
-        let windows = number(triangles)
-            .saturating_mul(each)
-            .saturating_add(number(pieces).saturating_mul(8));
+        let density = pieces as f64 / triangles.max(1) as f64;
+        let each = (6. / density.sqrt()).clamp(14., 42.);
+        let windows = (each * triangles as f64) as u32;
         Slots {
             windows: windows.saturating_add(256),
             events: (windows / 3).saturating_add(256),
@@ -46,8 +43,40 @@ impl Slots {
         }
     }
 
+    /// The bytes of all buffers of this job.
+    pub(crate) fn bytes_of(&self, input: &Input) -> u64 {
+        self.bytes(
+            input.vertices.len() / 3,
+            input.triangles.len() / 3,
+            input.kinds.len(),
+        )
+    }
+
+    /// With more slots where a job was refused for the lack of one, within so many bytes; else the refusal, with what it is about.
+    pub(crate) fn grown_within(
+        self,
+        number: u32,
+        input: &Input,
+        memory: u64,
+    ) -> Result<Slots, Refusal> {
+        let Some(grown) = self.grown(number) else {
+            return Err(culprit::find(number, input));
+        };
+        let bytes = grown.bytes_of(input);
+        if bytes <= memory {
+            return Ok(grown);
+        }
+        let (name, slots) = match number {
+            12 => ("windows", self.windows),
+            13 => ("events", self.events),
+            14 => ("cuts", self.cuts),
+            _ => ("face entries", self.entries),
+        };
+        Err(Refusal::new(number, About::Buffer(name, slots, bytes)))
+    }
+
     /// With more slots where the job was refused for the lack of one; none where that number says nothing of them, or there can be no more.
-    pub(crate) fn grown(self, number: u32) -> Option<Slots> {
+    fn grown(self, number: u32) -> Option<Slots> {
         let more = |n: u32| n.saturating_mul(GROWTH).max(16);
         let grown = match number {
             12 => Slots {
@@ -73,7 +102,7 @@ impl Slots {
     }
 
     /// The bytes of all buffers of a job with these slots.
-    pub(crate) fn bytes(&self, vertices: usize, triangles: usize, pieces: usize) -> u64 {
+    fn bytes(&self, vertices: usize, triangles: usize, pieces: usize) -> u64 {
         let fixed = [
             (vertices, VERTEX_BYTES),
             (triangles, TRIANGLE_BYTES),

@@ -163,13 +163,3 @@ impl Input<'_> {
 pub(crate) fn find(number: u32, input: &Input) -> Refusal {
     Refusal::new(number, input.culprit(number).unwrap_or(About::Job))
 }
-
-/// The name of the buffer that was outgrown.
-pub(crate) fn buffer(number: u32) -> &'static str {
-    match number {
-        12 => "windows",
-        13 => "events",
-        14 => "cuts",
-        _ => "face entries",
-    }
-}

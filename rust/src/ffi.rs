@@ -71,6 +71,21 @@ export!(sirmolaat_write_slip(;
 ) -> usize);
 export!(sirmolaat_print_out(refusal: u32; told: u32, words: u32, vertex: f64;; out: u8) -> usize);
 
+export!(sirmolaat_insert(;
+    vertices: f64, triangles: u32, flags: u8, kinds: u8, faces: u32, coords: f64;
+    limit: f64;
+    vertex_words: u32, edge_words: u32, edge_reals: f64, round: u32, triangle_words: u32, triangle_reals: f64,
+    piece_words: u32, piece_reals: f64, vertex: f64, words: u32, reals: f64, keys: f64, events: u32, entry_words: u32,
+    pts: f64, out: f64, keep: f64, next: f64, told: u32
+) -> u32);
+export!(sirmolaat_advance(limit: f64, n: u32, most: u32;
+    vertices: f64, triangles: u32, vertex_words: u32, edge_reals: f64, round: u32, triangle_words: u32, triangle_reals: f64;;
+    edge_words: u32, vertex: f64, words: u32, reals: f64, keys: f64, events: u32, pts: f64, out: f64, keep: f64, next: f64, told: u32
+) -> u32);
+export!(sirmolaat_finish(edges: u32, made: u32; edge_reals: f64, words: u32, reals: f64;;
+    edge_words: u32, vertex: f64, keys: f64, events: u32, pts: f64, out: f64, keep: f64, next: f64
+) -> u32);
+
 export!(sirmolaat_interface(;;;) -> u32);
 
 /// The interface that is declared here.
@@ -121,6 +136,97 @@ pub(crate) fn compute(job: &Input, buffers: &mut Buffers) -> Result<Told, u32> {
         &mut told,
     );
     if number == 0 { Ok(told) } else { Err(number) }
+}
+
+/// The mesh and the insertion of a job: edges, windows made, events that wait and face entries; or the refusal's number.
+pub(crate) fn insert(job: &Input, b: &mut Buffers) -> Result<[u32; 4], u32> {
+    if !same_version() {
+        return Err(OTHER_VERSION);
+    }
+    let mut told = [0; 4];
+    let number = sirmolaat_insert(
+        job.vertices,
+        job.triangles,
+        &job.flags,
+        &job.kinds,
+        &job.faces,
+        &job.coords,
+        job.limit,
+        &mut b.vertex_words,
+        &mut b.edge_words,
+        &mut b.edge_reals,
+        &mut b.round,
+        &mut b.triangle_words,
+        &mut b.triangle_reals,
+        &mut b.piece_words,
+        &mut b.piece_reals,
+        &mut b.vertex,
+        &mut b.words,
+        &mut b.reals,
+        &mut b.keys,
+        &mut b.events,
+        &mut b.entry_words,
+        &mut b.pts,
+        &mut b.out,
+        &mut b.keep,
+        &mut b.next,
+        &mut told,
+    );
+    if number == 0 { Ok(told) } else { Err(number) }
+}
+
+/// At most so many turns of the main loop, from so many windows made and events that wait: as many as there are then, and the steps; or the refusal's number.
+pub(crate) fn advance(
+    job: &Input,
+    b: &mut Buffers,
+    most: u32,
+    counts: [u32; 2],
+) -> Result<[u32; 3], u32> {
+    let mut told = [counts[0], counts[1], 0];
+    let number = sirmolaat_advance(
+        job.limit,
+        job.flags.len() as u32,
+        most,
+        job.vertices,
+        job.triangles,
+        &b.vertex_words,
+        &b.edge_reals,
+        &b.round,
+        &b.triangle_words,
+        &b.triangle_reals,
+        &mut b.edge_words,
+        &mut b.vertex,
+        &mut b.words,
+        &mut b.reals,
+        &mut b.keys,
+        &mut b.events,
+        &mut b.pts,
+        &mut b.out,
+        &mut b.keep,
+        &mut b.next,
+        &mut told,
+    );
+    if number == 0 { Ok(told) } else { Err(number) }
+}
+
+/// The end of a job of so many edges and windows, where no event waits.
+pub(crate) fn finish(b: &mut Buffers, edges: u32, made: u32) -> Result<(), u32> {
+    let number = sirmolaat_finish(
+        edges,
+        made,
+        &b.edge_reals,
+        &b.words,
+        &b.reals,
+        &mut b.edge_words,
+        &mut b.vertex,
+        &mut b.keys,
+        &mut b.events,
+        &mut b.pts,
+        &mut b.out,
+        &mut b.keep,
+        &mut b.next,
+    );
+    if number == 0 { Ok(()) } else { Err(number) }
 }
 
 /// A field as it is lent for queries.

@@ -3,7 +3,7 @@ use crate::buffers::{Buffers, Slots};
 use crate::ffi::{self, Lent, Told};
 use crate::input::Input;
 use crate::refusal::{About, Refusal};
-use crate::{Piece, Topology, Vec3, culprit};
+use crate::{Piece, Topology, Vec3};
 
 /// What a job is allowed.
 #[derive(Clone, Copy, Debug, PartialEq, Eq)]
@@ -132,32 +132,22 @@ impl<'a> Field<'a> {
         let mut slots = options
             .slots
             .unwrap_or(Slots::first(t.len(), sources.len()));
-        let bytes = |slots: &Slots| slots.bytes(v.len(), t.len(), sources.len());
         loop {
-            let mut buffers =
-                Buffers::new(&input, slots).map_err(|_| Refusal::no_memory(bytes(&slots)))?;
-            let number = match ffi::compute(&input, &mut buffers) {
+            let no_memory = |_| Refusal::no_memory(slots.bytes_of(&input));
+            let mut buffers = Buffers::new(&input, slots).map_err(no_memory)?;
+            match ffi::compute(&input, &mut buffers) {
                 Ok(told) => return Ok(Field::held(input, topo, buffers, told)),
-                Err(number) => number,
-            };
-            let Some(grown) = slots.grown(number) else {
-                return Err(culprit::find(number, &input));
-            };
-            if bytes(&grown) > options.memory {
-                let held = match number {
-                    12 => slots.windows,
-                    13 => slots.events,
-                    14 => slots.cuts,
-                    _ => slots.entries,
-                };
-                let about = About::Buffer(culprit::buffer(number), held, bytes(&grown));
-                return Err(Refusal::new(number, about));
+                Err(number) => slots = slots.grown_within(number, &input, options.memory)?,
             }
-            slots = grown;
         }
     }
 
-    fn held(input: Input<'a>, topo: &'a Topology, mut buffers: Buffers, told: Told) -> Self {
+    pub(crate) fn held(
+        input: Input<'a>,
+        topo: &'a Topology,
+        mut buffers: Buffers,
+        told: Told,
+    ) -> Self {
         let entries = buffers.entry_words.len() / 3;
         let slots = Slots {
             windows: told[4],

@@ -42,8 +42,8 @@ impl Topology {
             cuts: 0,
             entries: 0,
         };
-        let mut buffers = Buffers::new(&input, none)
-            .map_err(|_| Refusal::no_memory(none.bytes(v.len(), t.len(), 0)))?;
+        let mut buffers =
+            Buffers::new(&input, none).map_err(|_| Refusal::no_memory(none.bytes_of(&input)))?;
         let told =
             ffi::compute(&input, &mut buffers).map_err(|number| culprit::find(number, &input))?;
         Ok(Topology::held(&buffers, told[3] as usize, pseudo))

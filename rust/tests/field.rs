@@ -3,7 +3,9 @@ mod meshes;
 
 use meshes::{grid, plane};
 use sirmolaat::slip::{Slip, read_slip, write_slip};
-use sirmolaat::{Field, NONE, Options, Piece, Slots, Src, Topology, Vec3, boundary, saddles};
+use sirmolaat::{
+    Field, Job, NONE, Options, Piece, Slots, Src, Topology, Turn, Vec3, boundary, saddles,
+};
 
 fn distance(a: Vec3, b: Vec3) -> f64 {
     let square = |k: usize| (a[k] - b[k]) * (a[k] - b[k]);
@@ -212,4 +214,59 @@ fn threads_have_nothing_in_common() {
             });
         }
     });
+}
+
+/// A job in turns comes to the field of a single run, whatever the turns are, and can be given up between them.
+#[test]
+fn a_job_in_turns() {
+    let (v, t) = grid(12, |x, y| 0.4 * (0.8 * x).sin() * y.cos());
+    let topo = topology(&v, &t);
+    let pieces = [
+        Piece::Point(17, v[t[17][0] as usize]),
+        Piece::Point(100, v[t[100][2] as usize]),
+    ];
+    let whole = Field::compute(&v, &t, &topo, &pieces, 1e7, &Options::default()).expect("a field");
+    let begin =
+        |options: &Options| Job::begin(&v, &t, &topo, &pieces, 1e7, options).expect("a sound job");
+    for steps in [1, 7, 1000, u32::MAX] {
+        let mut told = 0;
+        let field = begin(&Options::default()).run(steps, |progress| {
+            assert!(progress.steps > told && progress.waiting > 0);
+            told = progress.steps;
+            true
+        });
+        let field = field.expect("no refusal").expect("not given up");
+        assert_eq!(
+            (field.steps(), field.windows(), &field.vertex),
+            (whole.steps(), whole.windows(), &whole.vertex)
+        );
+        for i in 0..whole.windows() {
+            assert_eq!(field.window(i), whole.window(i));
+        }
+        for e in 0..topo.edges.len() as u32 {
+            assert!(field.on_edge(e).eq(whole.on_edge(e)));
+        }
+        assert!(field.edges_at(&[0], &[0.]).is_ok(), "refusal 20 passes it");
+    }
+    let given_up = begin(&Options::default()).run(5, |progress| progress.steps < 20);
+    assert!(given_up.expect("no refusal").is_none());
+    let spent = begin(&Options::default().steps(whole.steps() - 1)).run(9, |_| true);
+    assert_eq!(spent.expect_err("a step is lacking").number(), 15);
+    let few = Slots {
+        windows: 50,
+        events: 20,
+        cuts: 4,
+        entries: 1,
+    };
+    let mut job = begin(&Options::default().slots(few));
+    let mut restarts = 0;
+    let field = loop {
+        restarts = restarts.max(job.progress().restarts);
+        match job.advance(40).expect("no refusal") {
+            Turn::On(on) => job = on,
+            Turn::Done(field) => break field,
+        }
+    };
+    assert!(restarts > 1);
+    assert_eq!(field.vertex, whole.vertex);
 }

@@ -6,7 +6,7 @@ use args::{Args, Asked, HELP, Kind};
 use sirmolaat::files::{Mesh, read_mesh, read_sources};
 use sirmolaat::picture::{self, Style};
 use sirmolaat::slip::{Slip, read_slip};
-use sirmolaat::{Field, Options, Piece, Topology, boundary, saddles};
+use sirmolaat::{Field, Job, Options, Piece, Topology, boundary, saddles};
 use std::io::{Read, Write};
 use std::process::ExitCode;
 
@@ -104,17 +104,20 @@ fn written(args: &Args, work: &Work, field: &Field) -> String {
 fn run(args: &Args) -> Result<(), String> {
     let work = work(args)?;
     let options = Options::default().steps(args.steps).memory(args.memory);
-    let field = progress::watched(|| {
-        Field::compute(
-            &work.mesh.v,
-            &work.mesh.t,
-            &work.topo,
-            &work.pieces,
-            work.limit,
-            &options,
-        )
-    });
-    let text = written(args, &work, &field.map_err(|refusal| refusal.to_string())?);
+    let job = Job::begin(
+        &work.mesh.v,
+        &work.mesh.t,
+        &work.topo,
+        &work.pieces,
+        work.limit,
+        &options,
+    );
+    let field = job.and_then(progress::watched);
+    let text = match field {
+        Ok(Some(field)) => written(args, &work, &field),
+        Ok(None) => return Err("the job was given up".into()),
+        Err(refusal) => return Err(refusal.to_string()),
+    };
     match &args.out {
         Some(path) => {
             std::fs::write(path, text).map_err(|error| format!("{path} cannot be written: {error}"))

@@ -1,34 +1,34 @@
-//! A line on standard error while work goes on, where that is a terminal and the work takes over a second.
+//! A line on standard error while a field is computed, where that is a terminal and the work takes over a second.
+use sirmolaat::{Field, Job, Progress, Refusal};
 use std::io::{IsTerminal, Write};
-use std::sync::mpsc::{RecvTimeoutError, channel};
 use std::time::{Duration, Instant};
 
+/// So many steps take some hundredths of a second.
+const TURN: u32 = 16_384;
 const SECOND: Duration = Duration::from_secs(1);
 
-/// Does the work; shows each second how long it has taken.
-pub fn watched<T>(work: impl FnOnce() -> T) -> T {
-    if !std::io::stderr().is_terminal() {
-        return work();
+/// Runs the job to its end; shows each second how far it is.
+pub fn watched(job: Job) -> Result<Option<Field>, Refusal> {
+    let terminal = std::io::stderr().is_terminal();
+    let (start, mut last, mut shown) = (Instant::now(), Instant::now(), false);
+    let show = |progress: Progress| {
+        if terminal && last.elapsed() >= SECOND {
+            last = Instant::now();
+            shown = true;
+            let _ = write!(
+                std::io::stderr(),
+                "\r{} s: {} steps, {} windows, {} events wait   ",
+                start.elapsed().as_secs(),
+                progress.steps,
+                progress.windows,
+                progress.waiting
+            );
+        }
+        true
+    };
+    let field = job.run(TURN, show);
+    if shown {
+        let _ = writeln!(std::io::stderr());
     }
-    let (done, waits) = channel::<()>();
-    std::thread::scope(|scope| {
-        scope.spawn(move || {
-            let start = Instant::now();
-            let mut shown = false;
-            while waits.recv_timeout(SECOND) == Err(RecvTimeoutError::Timeout) {
-                shown = true;
-                let _ = write!(
-                    std::io::stderr(),
-                    "\rcomputing the field, {} s",
-                    start.elapsed().as_secs()
-                );
-            }
-            if shown {
-                let _ = writeln!(std::io::stderr());
-            }
-        });
-        let made = work();
-        drop(done);
-        made
-    })
+    field
 }
