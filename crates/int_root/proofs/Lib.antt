@@ -1,2 +1,3 @@
 pub mod Residue
 pub mod Decimal
+pub mod Start
