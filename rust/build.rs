@@ -1,6 +1,6 @@
 //! Links the proved static libraries. `SIRMOLAAT_ARCHIVES` names a folder that has them; without it `rt staticlib` of the Rattle kit proves and makes them.
 use std::path::{Path, PathBuf};
-use std::process::{Command, exit};
+use std::process::{Child, Command, Stdio, exit};
 
 /// The crates whose exports src/ffi.rs declares.
 const LIBRARIES: [&str; 4] = ["field_c", "query_c", "insert_c", "advance_c"];
@@ -11,24 +11,44 @@ fn fail(sentence: &str) -> ! {
     exit(1)
 }
 
+/// How many archives are made at once: as `rt` itself, by RT_JOBS, and two at most, for each takes gigabytes.
+fn jobs() -> usize {
+    let named = std::env::var("RT_JOBS").ok().and_then(|n| n.parse().ok());
+    named.unwrap_or(2).clamp(1, 2)
+}
+
+fn start(root: &Path, words: &[&str]) -> Child {
+    let mut command = Command::new("rt");
+    command.args(words).current_dir(root);
+    match command.stdout(Stdio::null()).stderr(Stdio::null()).spawn() {
+        Ok(child) => child,
+        Err(error) => fail(&format!(
+            "rt cannot be run ({error}): put the Rattle kit's rt on the path, or set SIRMOLAAT_ARCHIVES to a folder with the archives"
+        )),
+    }
+}
+
+fn end(mut child: Child, words: &[&str]) {
+    if !child.wait().is_ok_and(|status| status.success()) {
+        fail(&format!(
+            "rt {} failed: run it in the repository to see why",
+            words.join(" ")
+        ));
+    }
+}
+
 fn make(root: &Path) -> PathBuf {
     for path in ["crates", "crates.txt"] {
         println!("cargo::rerun-if-changed={}", root.join(path).display());
     }
-    for name in LIBRARIES {
-        let run = Command::new("rt")
-            .args(["staticlib", name])
-            .current_dir(root)
-            .output();
-        match run {
-            Ok(run) if run.status.success() => {}
-            Ok(run) => fail(&format!(
-                "rt staticlib {name} failed ({}); run it in the repository to see why",
-                run.status
-            )),
-            Err(error) => fail(&format!(
-                "rt cannot be run ({error}): put the Rattle kit's rt on the path, or set SIRMOLAAT_ARCHIVES to a folder with the archives"
-            )),
+    // what is not proved yet is proved first, by one rt alone
+    let check = [&["check"], &LIBRARIES[..]].concat();
+    end(start(root, &check), &check);
+    for names in LIBRARIES.chunks(jobs()) {
+        let commands: Vec<_> = names.iter().map(|name| ["staticlib", name]).collect();
+        let running: Vec<Child> = commands.iter().map(|words| start(root, words)).collect();
+        for (words, child) in commands.iter().zip(running) {
+            end(child, words);
         }
     }
     root.join("target/staticlib")

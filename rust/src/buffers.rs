@@ -33,7 +33,7 @@ impl Slots {
     pub(crate) fn first(triangles: usize, pieces: usize) -> Slots {
         let number = |n: usize| u32::try_from(n).unwrap_or(u32::MAX);
         let density = pieces as f64 / triangles.max(1) as f64;
-        let each = (6. / density.sqrt()).clamp(14., 42.);
+        let each = (6. / density.sqrt()).clamp(20., 48.);
         let windows = (each * triangles as f64) as u32;
         Slots {
             windows: windows.saturating_add(256),

@@ -1,5 +1,9 @@
 //! A night of the workshop: fields over meshes of 2,000 to 60,000 triangles on two threads, by the package in rust/ and by the published Rust, each in a process of its own.
 //! Usage: night [MESHES FIELDS]
+#[path = "../../clock.rs"]
+mod clock;
+
+use clock::{clock, print_load};
 use oracle::exact::Piece as TheirPiece;
 use oracle::generate::workshop::{self, Shape};
 use oracle::job::{Job, Mesh};
@@ -8,7 +12,6 @@ use sirmolaat::{Field, Options, Piece, Topology};
 use std::hint::black_box;
 use std::process::Command;
 use std::sync::atomic::{AtomicU64, AtomicUsize, Ordering::Relaxed};
-use std::time::Instant;
 
 const THREADS: usize = 2;
 const LINES: [usize; 4] = [1, 10, 100, 300];
@@ -72,9 +75,9 @@ fn run(meshes: usize, fields: usize, solve: fn(&Mesh, f64) -> u64) {
                     }
                     let job = job(k, meshes);
                     let mesh = Mesh::new(&job).expect("a sound job");
-                    let start = Instant::now();
+                    let start = clock();
                     made.fetch_add(solve(&mesh, job.limit), Relaxed);
-                    busy.fetch_add(start.elapsed().as_micros() as u64, Relaxed);
+                    busy.fetch_add((1e6 * (clock() - start)) as u64, Relaxed);
                 }
             });
         }
@@ -102,6 +105,7 @@ fn alone(who: &str, meshes: usize, fields: usize) -> (f64, u64, u64) {
 }
 
 fn both(meshes: usize, fields: usize) {
+    print_load();
     println!("| meshes | fields | threads | program | seconds | peak, MiB |");
     println!("|---:|---:|---:|---|---:|---:|");
     let [published, ours] = ["theirs", "ours"].map(|who| alone(who, meshes, fields));
