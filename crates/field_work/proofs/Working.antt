@@ -1,5 +1,5 @@
 -- The work on a job, from what insertion and the main loop say of the buffers. Assumes nothing.
-use Prim.Native.Nat.{ℕ, _+_, _/_, _<_, _≤_}
+use Prim.Native.Nat.{ℕ, _+_, _/_, _≤_}
 use native.Mathlib.Omega.{arith}
 use mathlib.Core.Bool.{Bool, true, false}
 use mathlib.Core.List.{List, _++_}
@@ -8,7 +8,6 @@ use lib.ListN.{length}
 use lib.Ieee.{Float}
 use Rattle.float64.specs.Notation.{if_then_else_}
 use Rattle.layout.specs.Layout.{wordsPerEdge}
-use Rattle.buffers.specs.declared.Lack.{Lack}
 use Rattle.buffers.specs.Slots.{slotsOf}
 use Rattle.windows.specs.Windows.{capacityOf}
 use Rattle.job_checks.specs.Job.{Job, job, vertexCount}
@@ -27,11 +26,11 @@ use Rattle.trim_model.specs.Model.{Candidate}
 use Rattle.offers.specs.Offers.{StandsFor}
 use Rattle.offers.specs.Walks.{edgeData}
 use Rattle.face_entries.specs.Buffers.{EntryBuffers, entryCapacity}
-use Rattle.face_entries.specs.Entries.{FaceEntry, HoldsOnly}
+use Rattle.face_entries.specs.Entries.{HoldsOnly}
 use Rattle.source_inserts.specs.Inserts.{candidatesIn}
 use Rattle.insertion.specs.declared.InsertCounts.{InsertCounts}
 use Rattle.insertion.specs.Insertion.{Inserted, InsertResult, stopped, went}
-use Rattle.insertion.specs.Places.{InsertEnd, at, placeAt}
+use Rattle.insertion.specs.Snapshots.{at, insertSnapshot}
 use Rattle.begin.specs.Begin.{WorkSlices}
 use Rattle.windows_there.specs.There.{GoesInto, WindowsThere, EventsThere}
 use Rattle.windows_there.proofs.Kept.{there-none}
@@ -42,16 +41,16 @@ use Rattle.advance.specs.Advance.{advanceCandidates}
 use Rattle.advance.proofs.Begin.{inserted-there}
 use Rattle.insert_job.specs.declared.InsertedJob.{InsertedJob}
 use Rattle.insert_job.specs.declared.InsertedJob.the-variants.{Wedge, Stopped, Went}
-use Rattle.insert_job.specs.Field.{trimSlices, entrySlices, begunJob, noCounts, PiecesCounted, emptyField, insertsOf, insertedField, FieldInserted}
+use Rattle.insert_job.specs.Field.{trimSlices, begunJob, noCounts, PiecesCounted, emptyField, insertsOf, insertedField, FieldInserted}
 use Rattle.insert_job.specs.Job.{wedgeIn, JobInserted, JobWithin, InsertsJob}
 use Rattle.insert_job.proofs.Begun.{checked, begun-job}
 use Rattle.insert_job.proofs.Kept.{inserted-mesh}
 use Rattle.run_steps.specs.declared.FieldWork.{FieldWork}
 use Rattle.run_steps.specs.declared.FieldWork.the-variants.{Refused, Done}
-use Rattle.run_steps.specs.Run.{WorkResult, refused, field, loopOf}
-use Rattle.run_steps.specs.Contract.{WorkWithin, RunEnds, RunComesTo, RunsOn, RunsTo}
+use Rattle.run_steps.specs.Run.{WorkResult, refused, loopOf}
+use Rattle.run_steps.specs.Contract.{WorkWithin, RunEnds, RunsOn, RunsTo}
 use Rattle.field_work.specs.Work.{andLoop, thenOffered, workOf, workCandidates}
-use Rattle.field_work.specs.Contract.{FieldDone, JobWorked, WorksTo}
+use Rattle.field_work.specs.Contract.{JobWorked, WorksTo}
 
 -- slices as long as they were
 pub sizes-kept : (a a′ : ℕ) (out keep next out′ keep′ next′ : List Float) → a′ ≡ a → length out′ ≡ length out → length keep′ ≡ length keep → length next′ ≡ length next → Sizes a out keep next → Sizes a′ out′ keep′ next′
@@ -84,14 +83,14 @@ module _ (j : Job) (flags : List ℕ) (s : WorkSlices) (c : Cuts) (most : ℕ) w
 module _ (j : Job) (others : OtherCounts) (meshed : Meshed) (before m : MeshBuffers) (answered : Answered j others meshed before m) (passed : meshRefusal j (countsIn before others) ≡ 0)
     (s : WorkSlices) (c : Cuts) (most : ℕ) (counted : PiecesCounted others s) (b₁ : Slices) (t₁ : EntryBuffers) (c₁ : Cuts)
     (se : length (b₁ .edges) ≡ length (m .edge-words)) (sw : length (b₁ .words) ≡ length (s .words)) (sr : length (b₁ .reals) ≡ length (s .reals)) (sc : length (c₁ .pts) ≡ length (c .pts))
-    (k : InsertCounts) (no-wedge : wedgeIn j ≡ false) (G : FieldInserted j m s c (at (placeAt k b₁ t₁))) where
+    (k : InsertCounts) (no-wedge : wedgeIn j ≡ false) (G : FieldInserted j m s c (at (insertSnapshot k b₁ t₁))) where
   field-mesh : FieldMesh (j .vertices) (j .triangles) (vertexCount j) (j .triangles) (b₁ .edges) (m .edge-reals) (t₁ .triangles) (m .triangle-reals) (m .vertex-words) (m .round)
   field-mesh =
       let stood = begun-job j others meshed before m answered passed s counted in
       let sound = checked j others meshed before m answered passed in
       record {
         mesh = record {
-          mesh = inserted-mesh j m s c (placeAt k b₁ t₁) G others meshed before answered passed;
+          mesh = inserted-mesh j m s c (insertSnapshot k b₁ t₁) G others meshed before answered passed;
           slots = subst (λ (z : ℕ). length (edges (j .triangles)) ≤ slotsOf z wordsPerEdge) (sym se) (stood .edge-slots);
         };
         same = refl;

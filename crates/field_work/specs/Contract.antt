@@ -20,7 +20,7 @@ use Rattle.piece_ends.specs.Table.{pieceWords}
 use Rattle.piece_ends.specs.Directions.{pieceReals}
 use Rattle.insertion.specs.declared.InsertCounts.{InsertCounts}
 use Rattle.insertion.specs.Insertion.{Inserted}
-use Rattle.insertion.specs.Places.{placeAt, HoldsInserted}
+use Rattle.insertion.specs.Snapshots.{insertSnapshot, HoldsInserted}
 use Rattle.begin.specs.Begin.{WorkSlices}
 use Rattle.insert_job.specs.Field.{trimSlices, begunJob, noCounts, PiecesCounted}
 use Rattle.run_steps.specs.declared.FieldWork.{FieldWork}
@@ -35,7 +35,7 @@ module _ (j : Job) (m : MeshBuffers) (s : WorkSlices) (c : Cuts) (most : ℕ) wh
   pub record FieldDone (n : InsertCounts) (steps : ℕ) (b′ : Slices) (t′ : EntryBuffers) : Type 0 where
     pub inserted : Inserted
     pub is : workOf j (m .vertex-words) s c most ≡ field inserted steps
-    pub stands : HoldsInserted (j .limit) (edgeData (j .vertices) (j .triangles)) (m .triangle-words) (workCandidates j (m .vertex-words) s c most) inserted (placeAt n b′ t′)
+    pub stands : HoldsInserted (j .limit) (edgeData (j .vertices) (j .triangles)) (m .triangle-words) (workCandidates j (m .vertex-words) s c most) inserted (insertSnapshot n b′ t′)
     pub untouched : Untouched (λ e. Unit {0}) (snapshotAt (noCounts .trim) (trimSlices m (begunJob j s))) (snapshotAt (n .trim) b′)
 
   abbrev pub JobWorked : FieldWork → Slices → EntryBuffers → Type 0

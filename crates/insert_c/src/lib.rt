@@ -18,7 +18,7 @@ ghost use Rattle.trim.specs.Buffers.{after as Buffers·after};
 ghost use Rattle.cut_slots.specs.Slots.{cutCount, cutTo};
 ghost use Rattle.job_checks.specs.Job.{job};
 ghost use Rattle.mesh.specs.Topology.{meshBuffers, before, after};
-ghost use Rattle.insertion.specs.Places.{entriesAfter};
+ghost use Rattle.insertion.specs.Snapshots.{entriesAfter};
 ghost use Rattle.begin.specs.Begin.{workBefore, workAfter};
 ghost use Rattle.insert_job.specs.Job.{InsertsJob};
 ghost use Rattle.insert_c.specs.Exports.{lentCounts, edgesTold, insertTold, InsertAnswers};

@@ -18,7 +18,7 @@ use Rattle.source_inserts.specs.Inserts.{jobInserts}
 use Rattle.insertion.specs.declared.InsertCounts.{InsertCounts}
 use Rattle.insertion.specs.declared.InsertAnswer.{InsertAnswer}
 use Rattle.insertion.specs.declared.InsertAnswer.the-variants as answer
-use Rattle.insert_sources.specs.Job.{jobSlices, InsertsAll}
+use Rattle.insert_sources.specs.Job.{insertionSlices, InsertsAll}
 use Rattle.begin.specs.Begin.{WorkSlices, begun}
 use Rattle.insert_job.specs.declared.InsertedJob.{InsertedJob}
 use Rattle.insert_job.specs.declared.InsertedJob.the-variants.{Wedge, Stopped, Went}
@@ -42,7 +42,7 @@ module _ (v : List Float) (triangles kinds faces : List ℕ) (coords : List Floa
 
   abbrev pub InsertsFrom : WorkSlices → InsertAnswer → Slices → EntryBuffers → Type 0
   InsertsFrom w a b′ t′ =
-      InsertsAll limit (jobSlices v (m .vertex-words) (m .edge-reals) (m .triangle-reals) (m .round) kinds faces coords (w .piece-words) (w .piece-reals))
+      InsertsAll limit (insertionSlices v (m .vertex-words) (m .edge-reals) (m .triangle-reals) (m .round) kinds faces coords (w .piece-words) (w .piece-reals))
       (λ (ts : List ℕ). jobInserts v ts kinds faces coords) noCounts (trimSlices m w) (entrySlices m w) c a b′ t′
 
   module _ (w : WorkSlices) (is : w ≡ first) (b′ : Slices) (t′ : EntryBuffers) where

@@ -24,9 +24,8 @@ use Rattle.edge_table.proofs.Holding.{length-words}
 use Rattle.frames.proofs.Rows.{length-rows}
 use Rattle.mesh.specs.declared.OtherCounts.{OtherCounts}
 use Rattle.mesh.specs.declared.Meshed.{Meshed}
-use Rattle.mesh.specs.declared.Meshed.the-variants.{Edges}
 use Rattle.mesh.specs.Topology.{MeshBuffers, filled, topologyOf}
-use Rattle.mesh.specs.Answer.{meshedNumber, countsIn, meshRefusals, meshRefusal, afterwards, Answered}
+use Rattle.mesh.specs.Answer.{countsIn, meshRefusals, meshRefusal, afterwards, Answered}
 use Rattle.mesh.specs.Held.{Held, Fresh}
 use Rattle.mesh.proofs.Fields.{held, fresh}
 use Rattle.mesh_readers.specs.Held.{HoldsMesh}
@@ -51,7 +50,7 @@ use Rattle.source_inserts.specs.Inserts.{jobInserts, candidatesIn}
 use Rattle.source_inserts.proofs.Proper.{job-proper}
 use Rattle.insertion.specs.declared.InsertAnswer.{InsertAnswer}
 use Rattle.insertion.specs.Insertion.{insertEach}
-use Rattle.insertion.specs.Places.{placeAt, HoldsInserted, InsertEnds, insertEnd}
+use Rattle.insertion.specs.Snapshots.{insertSnapshot, HoldsInserted, InsertEnds, insertEnd}
 use Rattle.insert_sources.specs.Job.{JobIn, InsertsAll}
 use Rattle.begin.specs.Begin.{WorkSlices}
 use Rattle.insert_job.specs.Field.{readSlices, trimSlices, entrySlices, begunJob, noCounts, PiecesCounted, emptyField, insertsOf, insertedField, FieldInserted}
@@ -71,10 +70,6 @@ filled-triangles v triangles flags m = length-words (length (m .triangle-words))
 length-directions : (kinds : List ℕ) (coords : List Float) (n : ℕ) → length (pieceReals kinds coords n) ≡ n
 unfolding pieceReals
 length-directions kinds coords n = length-rows realsPerPiece _ (λ k. refl) (length kinds) (replicate n zero64) ∙ length-replicate n zero64
-
--- an answer with edges is no refusal
-pub edges-passed : (j : Job) (others : OtherCounts) (r : Meshed) (before m : MeshBuffers) → Answered j others r before m → (n : ℕ) → r ≡ Edges n → meshRefusal j (countsIn before others) ≡ 0
-edges-passed j others r before m answered n e = sym (answered .number) ∙ ap meshedNumber e
 
 -- a job, what `mesh::build` answered and left in m, and that it was not refused
 module _ (j : Job) (others : OtherCounts) (r : Meshed) (before m : MeshBuffers) (answered : Answered j others r before m) (passed : meshRefusal j (countsIn before others) ≡ 0) where
@@ -116,7 +111,7 @@ module _ (j : Job) (others : OtherCounts) (r : Meshed) (before m : MeshBuffers) 
     same-slots c = λ i.
         insertEach (length (c .pts)) (capacityOf (length-replicate {A = ℕ} (length (s .words)) 0 i) (length-replicate (length (s .reals)) zero64 i)) (entryCapacity (length-replicate {A = ℕ} (length (s .entries)) 0 i)) (j .limit) (m .vertex-words) (edgeData (j .vertices) (j .triangles)) (insertsOf j) (emptyField (begunJob j s))
 
-    pub begun-stands : HoldsInserted (j .limit) (edgeData (j .vertices) (j .triangles)) (m .triangle-words) [] (emptyField (begunJob j s)) (placeAt noCounts (trimSlices m (begunJob j s)) (entrySlices m (begunJob j s)))
+    pub begun-stands : HoldsInserted (j .limit) (edgeData (j .vertices) (j .triangles)) (m .triangle-words) [] (emptyField (begunJob j s)) (insertSnapshot noCounts (trimSlices m (begunJob j s)) (entrySlices m (begunJob j s)))
     begun-stands = record {
       trim = record {
         holds = no-live (links (m .edge-words) (replicate (length (s .words)) 0)) (replicate (length (s .reals)) zero64) (at-first .no-windows);
@@ -169,6 +164,6 @@ module _ (j : Job) (others : OtherCounts) (r : Meshed) (before m : MeshBuffers) 
           → FieldInserted j m s c (insertEnd a b′ t′)
       inserted c a b′ t′ h =
           subst
-          (InsertEnds (j .limit) (edgeData (j .vertices) (j .triangles)) (m .triangle-words) (candidatesIn (insertsOf j)) (placeAt noCounts (trimSlices m (begunJob j s)) (entrySlices m (begunJob j s))) (insertEnd a b′ t′))
+          (InsertEnds (j .limit) (edgeData (j .vertices) (j .triangles)) (m .triangle-words) (candidatesIn (insertsOf j)) (insertSnapshot noCounts (trimSlices m (begunJob j s)) (entrySlices m (begunJob j s))) (insertEnd a b′ t′))
           (same-slots c)
           (h .inserts (j .triangles) (vertexCount j) begun-job (m .triangle-words) [] (emptyField (begunJob j s)) begun-stands begun-proper)

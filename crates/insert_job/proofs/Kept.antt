@@ -13,7 +13,7 @@ use Rattle.mesh.specs.Answer.{countsIn, meshRefusal, Answered}
 use Rattle.mesh_readers.specs.Held.{HoldsMesh}
 use Rattle.mesh_readers.proofs.Mesh.{mesh-stays, mesh-entered}
 use Rattle.cut_lists.specs.Buffers.{Cuts}
-use Rattle.insertion.specs.Places.{Place, at}
+use Rattle.insertion.specs.Snapshots.{InsertSnapshot, at}
 use Rattle.begin.specs.Begin.{WorkSlices}
 use Rattle.insert_job.specs.Field.{FieldInserted}
 use Rattle.insert_job.proofs.Begun.{begun-mesh}
@@ -23,7 +23,7 @@ drop-zeros z zero m = let e : m ≡ m - zero = omega arith in ap (λ (k : ℕ). 
 drop-zeros z (suc n) zero = let e : zero ≡ zero - suc n = omega arith in ap (λ (k : ℕ). replicate k z) e
 drop-zeros z (suc n) (suc m) = let e : m - n ≡ suc m - suc n = omega arith in drop-zeros z n m ∙ ap (λ (k : ℕ). replicate k z) e
 
-module _ (j : Job) (m : MeshBuffers) (s : WorkSlices) (c : Cuts) (p : Place) (h : FieldInserted j m s c (at p)) where
+module _ (j : Job) (m : MeshBuffers) (s : WorkSlices) (c : Cuts) (p : InsertSnapshot) (h : FieldInserted j m s c (at p)) where
   pub inserted-mesh : (others : OtherCounts) (r : Meshed) (before : MeshBuffers) → Answered j others r before m → meshRefusal j (countsIn before others) ≡ 0
       → HoldsMesh (j .vertices) (j .triangles) (vertexCount j) (p .trim .links .edges) (m .edge-reals) (p .entries .triangles) (m .triangle-reals)
   inserted-mesh others r before answered passed =

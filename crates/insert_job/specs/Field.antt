@@ -18,13 +18,13 @@ use Rattle.source_inserts.specs.declared.Insert.{Insert}
 use Rattle.source_inserts.specs.Inserts.{jobInserts, candidatesIn}
 use Rattle.insertion.specs.declared.InsertCounts.{InsertCounts}
 use Rattle.insertion.specs.Insertion.{Inserted, InsertResult, insertEach}
-use Rattle.insertion.specs.Places.{InsertEnd, InsertEnds, placeAt}
-use Rattle.insert_sources.specs.Job.{JobSlices, jobSlices}
+use Rattle.insertion.specs.Snapshots.{InsertEnd, InsertEnds, insertSnapshot}
+use Rattle.insert_sources.specs.Job.{InsertionSlices, insertionSlices}
 use Rattle.begin.specs.Begin.{WorkSlices, begun}
 
 -- ---- the slices of a job whose mesh stands in m, for those who insert
-abbrev pub readSlices : Job → MeshBuffers → WorkSlices → JobSlices
-readSlices j m s = jobSlices (j .vertices) (m .vertex-words) (m .edge-reals) (m .triangle-reals) (m .round) (j .kinds) (j .faces) (j .coords) (s .piece-words) (s .piece-reals)
+abbrev pub readSlices : Job → MeshBuffers → WorkSlices → InsertionSlices
+readSlices j m s = insertionSlices (j .vertices) (m .vertex-words) (m .edge-reals) (m .triangle-reals) (m .round) (j .kinds) (j .faces) (j .coords) (s .piece-words) (s .piece-reals)
 
 abbrev pub trimSlices : MeshBuffers → WorkSlices → Slices
 trimSlices m s = slices (m .edge-words) (s .words) (s .reals) (s .keys) (s .events) (s .vertex)
@@ -64,4 +64,4 @@ insertedField j vertexWords s c =
 abbrev pub FieldInserted : Job → MeshBuffers → WorkSlices → Cuts → InsertEnd → Type 0
 FieldInserted j m s c end =
     InsertEnds (j .limit) (edgeData (j .vertices) (j .triangles)) (m .triangle-words) (candidatesIn (insertsOf j))
-    (placeAt noCounts (trimSlices m (begunJob j s)) (entrySlices m (begunJob j s))) end (insertedField j (m .vertex-words) s c)
+    (insertSnapshot noCounts (trimSlices m (begunJob j s)) (entrySlices m (begunJob j s))) end (insertedField j (m .vertex-words) s c)

@@ -20,7 +20,7 @@ use Rattle.piece_ends.specs.Directions.{pieceReals}
 use Rattle.wedge_refusal.specs.Wedge.{anyWedge}
 use Rattle.insertion.specs.declared.InsertAnswer.{InsertAnswer}
 use Rattle.insertion.specs.declared.InsertAnswer.the-variants as answer
-use Rattle.insertion.specs.Places.{insertEnd}
+use Rattle.insertion.specs.Snapshots.{insertEnd}
 use Rattle.begin.specs.Begin.{WorkSlices}
 use Rattle.insert_job.specs.declared.InsertedJob.{InsertedJob}
 use Rattle.insert_job.specs.declared.InsertedJob.the-variants.{Wedge, Stopped, Went}

@@ -1,8 +1,8 @@
 -- A loop that inserts, turn by turn: what it keeps, and what it comes to. Assumes nothing.
-use Prim.Native.Nat.{ℕ, suc, _+_, _-_, _*_, _/_, _≤_, _<_}
+use Prim.Native.Nat.{ℕ, suc, _+_, _-_, _/_, _≤_, _<_}
 use native.Mathlib.Omega.{arith}
 use native.Mathlib.Numerals.{add-one}
-use mathlib.Core.List.{List, [], _∷_, _++_}
+use mathlib.Core.List.{List}
 use mathlib.Core.Path.{_≡_, refl, sym, ap, _∙_, subst}
 use lib.ListN.{length, getD}
 use lib.Ieee.{Float}
@@ -22,12 +22,10 @@ use Rattle.face_entries.specs.Buffers.{EntryBuffers, entryCapacity}
 use Rattle.source_inserts.specs.declared.Insert.{Insert}
 use Rattle.offers.specs.Each.{eachOf}
 use Rattle.insertion.specs.declared.InsertCounts.{InsertCounts}
-use Rattle.insertion.specs.declared.InsertAnswer.{InsertAnswer}
-use Rattle.insertion.specs.declared.InsertAnswer.the-variants.{Stopped, Went}
-use Rattle.insertion.specs.Places as place
-use Rattle.insertion.specs.Places.{Place, InsertEnd, SidesKept, placeAt, insertEnd, InsertsFrom}
+use Rattle.insertion.specs.Snapshots as snapshots
+use Rattle.insertion.specs.Snapshots.{InsertSnapshot, InsertEnd, SidesKept, insertSnapshot, InsertsFrom}
 use Rattle.insertion.proofs.Inserts.{inserts-none, inserts-stop, inserts-then}
-use Rattle.insert_sources.specs.Job.{JobSlices, JobIn, InsertsAll}
+use Rattle.insert_sources.specs.Job.{InsertionSlices, JobIn}
 use Rattle.offers.proofs.Each.{each-more}
 use Rattle.insert_sources.proofs.Lists.{each-next}
 
@@ -48,7 +46,7 @@ abbrev pub slotsIn : EntryBuffers → ℕ
 slotsIn T = entryCapacity (length (T .words))
 
 -- ---- insertion keeps the job
-job-kept : (k : JobSlices) (triangles : List ℕ) (n : ℕ) (ew ew′ tw tw′ : List ℕ) (p p′ : Place) → length ew′ ≡ length ew → length tw′ ≡ length tw
+job-kept : (k : InsertionSlices) (triangles : List ℕ) (n : ℕ) (ew ew′ tw tw′ : List ℕ) (p p′ : InsertSnapshot) → length ew′ ≡ length ew → length tw′ ≡ length tw
     → p .trim .links .edges ≡ ew → p′ .trim .links .edges ≡ ew′ → Untouched (λ e. Unit {0}) (p .trim) (p′ .trim) → SidesKept tw tw′ → JobIn k triangles n ew tw → JobIn k triangles n ew′ tw′
 job-kept k triangles n ew ew′ tw tw′ p p′ long wide is is′ u kept J = record {
   job = record {
@@ -65,19 +63,19 @@ job-kept k triangles n ew ew′ tw tw′ p p′ long wide is is′ u kept J = re
 }
 
 -- ---- the loop: f i is what turn i inserts
-module _ (limit : Float) (k : JobSlices) (f : List ℕ → ℕ → List Insert) (counts : InsertCounts) (B : Slices) (T : EntryBuffers) (c : Cuts) where
-  abbrev Does : List ℕ → List Insert → Place → InsertEnd → Type 0
+module _ (limit : Float) (k : InsertionSlices) (f : List ℕ → ℕ → List Insert) (counts : InsertCounts) (B : Slices) (T : EntryBuffers) (c : Cuts) where
+  abbrev Does : List ℕ → List Insert → InsertSnapshot → InsertEnd → Type 0
   Does triangles = InsertsFrom (length (c .pts)) (windowsIn B) (slotsIn T) limit (k .vertex-words) (edgeData (k .vertices) triangles)
 
   -- of every job that the buffers hold at first
   abbrev pub Done : ℕ → InsertEnd → Type 0
-  Done i end = (triangles : List ℕ) (n : ℕ) → JobIn k triangles n (B .edges) (T .triangles) → Does triangles (eachOf (f triangles) i) (placeAt counts B T) end
+  Done i end = (triangles : List ℕ) (n : ℕ) → JobIn k triangles n (B .edges) (T .triangles) → Does triangles (eachOf (f triangles) i) (insertSnapshot counts B T) end
 
   pub record InsertInv (turns : ℕ) (B′ : Slices) (T′ : EntryBuffers) (c′ : Cuts) (now : InsertCounts) (i : ℕ) : Type 0 where
     pub same : LengthsKept B B′ T T′ c c′
     pub fits : now .trim .made ≤ windowsIn B
     pub few : i ≤ turns
-    pub done : Done i (place.at (placeAt now B′ T′))
+    pub done : Done i (snapshots.at (insertSnapshot now B′ T′))
 
   pub insert-start : (turns : ℕ) → counts .trim .made ≤ windowsIn B → InsertInv turns B T c counts 0
   unfolding eachOf
@@ -85,11 +83,11 @@ module _ (limit : Float) (k : JobSlices) (f : List ℕ → ℕ → List Insert) 
     same = lengths-refl B T c;
     fits = fits;
     few = omega arith;
-    done = λ triangles n J. inserts-none (length (c .pts)) (windowsIn B) (slotsIn T) limit (k .vertex-words) (edgeData (k .vertices) triangles) (placeAt counts B T);
+    done = λ triangles n J. inserts-none (length (c .pts)) (windowsIn B) (slotsIn T) limit (k .vertex-words) (edgeData (k .vertices) triangles) (insertSnapshot counts B T);
   }
 
-  pub insert-over : (turns : ℕ) (B′ : Slices) (T′ : EntryBuffers) (c′ : Cuts) (now : InsertCounts) (i : ℕ) → InsertInv turns B′ T′ c′ now i → turns ≤ i → Done turns (place.at (placeAt now B′ T′))
-  insert-over turns B′ T′ c′ now i inv end = let z : i ≡ turns = omega (arith, end, inv .few) in subst (λ (j : ℕ). Done j (place.at (placeAt now B′ T′))) z (inv .done)
+  pub insert-over : (turns : ℕ) (B′ : Slices) (T′ : EntryBuffers) (c′ : Cuts) (now : InsertCounts) (i : ℕ) → InsertInv turns B′ T′ c′ now i → turns ≤ i → Done turns (snapshots.at (insertSnapshot now B′ T′))
+  insert-over turns B′ T′ c′ now i inv end = let z : i ≡ turns = omega (arith, end, inv .few) in subst (λ (j : ℕ). Done j (snapshots.at (insertSnapshot now B′ T′))) z (inv .done)
 
   -- a turn
   module _ (turns : ℕ) (B₁ : Slices) (T₁ : EntryBuffers) (c₁ : Cuts) (now : InsertCounts) (i : ℕ) (inv : InsertInv turns B₁ T₁ c₁ now i) (q : i < turns) where
@@ -108,31 +106,31 @@ module _ (limit : Float) (k : JobSlices) (f : List ℕ → ℕ → List Insert) 
     -- what it does, of a job that the buffers held at first and hold now
     abbrev pub Turn : InsertEnd → Type 0
     Turn end = (triangles : List ℕ) (n : ℕ) → JobIn k triangles n (B .edges) (T .triangles) → JobIn k triangles n (B₁ .edges) (T₁ .triangles)
-        → InsertsFrom (length (c₁ .pts)) (windowsIn B₁) (slotsIn T₁) limit (k .vertex-words) (edgeData (k .vertices) triangles) (f triangles i) (placeAt now B₁ T₁) end
+        → InsertsFrom (length (c₁ .pts)) (windowsIn B₁) (slotsIn T₁) limit (k .vertex-words) (edgeData (k .vertices) triangles) (f triangles i) (insertSnapshot now B₁ T₁) end
 
     turn : (end : InsertEnd) → Turn end → Done (suc i) end
     turn end h triangles n J =
-        subst (λ (l : List Insert). Does triangles l (placeAt counts B T) end) (sym (each-next (f triangles) i))
-        (inserts-then (length (c .pts)) (windowsIn B) (slotsIn T) limit (k .vertex-words) (edgeData (k .vertices) triangles) (eachOf (f triangles) i) (f triangles i) (placeAt counts B T) (placeAt now B₁ T₁)
+        subst (λ (l : List Insert). Does triangles l (insertSnapshot counts B T) end) (sym (each-next (f triangles) i))
+        (inserts-then (length (c .pts)) (windowsIn B) (slotsIn T) limit (k .vertex-words) (edgeData (k .vertices) triangles) (eachOf (f triangles) i) (f triangles i) (insertSnapshot counts B T) (insertSnapshot now B₁ T₁)
         (inv .done triangles n J) end
-        (λ u kept. subst (λ (z : ℕ). InsertsFrom z (windowsIn B) (slotsIn T) limit (k .vertex-words) (edgeData (k .vertices) triangles) (f triangles i) (placeAt now B₁ T₁) end) (inv .same .trim .pts)
-        (subst (λ (z : ℕ). InsertsFrom (length (c₁ .pts)) z (slotsIn T) limit (k .vertex-words) (edgeData (k .vertices) triangles) (f triangles i) (placeAt now B₁ T₁) end) windows₁
-        (subst (λ (z : ℕ). InsertsFrom (length (c₁ .pts)) (windowsIn B₁) z limit (k .vertex-words) (edgeData (k .vertices) triangles) (f triangles i) (placeAt now B₁ T₁) end) slots₁
+        (λ u kept. subst (λ (z : ℕ). InsertsFrom z (windowsIn B) (slotsIn T) limit (k .vertex-words) (edgeData (k .vertices) triangles) (f triangles i) (insertSnapshot now B₁ T₁) end) (inv .same .trim .pts)
+        (subst (λ (z : ℕ). InsertsFrom (length (c₁ .pts)) z (slotsIn T) limit (k .vertex-words) (edgeData (k .vertices) triangles) (f triangles i) (insertSnapshot now B₁ T₁) end) windows₁
+        (subst (λ (z : ℕ). InsertsFrom (length (c₁ .pts)) (windowsIn B₁) z limit (k .vertex-words) (edgeData (k .vertices) triangles) (f triangles i) (insertSnapshot now B₁ T₁) end) slots₁
         (h triangles n J
-        (job-kept k triangles n (B .edges) (B₁ .edges) (T .triangles) (T₁ .triangles) (placeAt counts B T) (placeAt now B₁ T₁) (inv .same .trim .edges) (inv .same .triangles) refl refl u kept J))))))
+        (job-kept k triangles n (B .edges) (B₁ .edges) (T .triangles) (T₁ .triangles) (insertSnapshot counts B T) (insertSnapshot now B₁ T₁) (inv .same .trim .edges) (inv .same .triangles) refl refl u kept J))))))
 
-    pub insert-stopped : (lack : Lack) → Turn (place.stopped (lackNumber lack)) → Done turns (place.stopped (lackNumber lack))
+    pub insert-stopped : (lack : Lack) → Turn (snapshots.stopped (lackNumber lack)) → Done turns (snapshots.stopped (lackNumber lack))
     insert-stopped lack h triangles n J =
         let z : suc i + (turns - suc i) ≡ turns = omega (arith, q) in
-        subst (λ (j : ℕ). Does triangles (eachOf (f triangles) j) (placeAt counts B T) (place.stopped (lackNumber lack))) z
-        (subst (λ (l : List Insert). Does triangles l (placeAt counts B T) (place.stopped (lackNumber lack))) (sym (each-more (f triangles) (suc i) (turns - suc i)))
-        (inserts-stop (length (c .pts)) (windowsIn B) (slotsIn T) limit (k .vertex-words) (edgeData (k .vertices) triangles) (eachOf (f triangles) (suc i)) (eachOf (λ (a : ℕ). f triangles (suc i + a)) (turns - suc i)) (placeAt counts B T) (lackNumber lack)
-        (turn (place.stopped (lackNumber lack)) h triangles n J)))
+        subst (λ (j : ℕ). Does triangles (eachOf (f triangles) j) (insertSnapshot counts B T) (snapshots.stopped (lackNumber lack))) z
+        (subst (λ (l : List Insert). Does triangles l (insertSnapshot counts B T) (snapshots.stopped (lackNumber lack))) (sym (each-more (f triangles) (suc i) (turns - suc i)))
+        (inserts-stop (length (c .pts)) (windowsIn B) (slotsIn T) limit (k .vertex-words) (edgeData (k .vertices) triangles) (eachOf (f triangles) (suc i)) (eachOf (λ (a : ℕ). f triangles (suc i + a)) (turns - suc i)) (insertSnapshot counts B T) (lackNumber lack)
+        (turn (snapshots.stopped (lackNumber lack)) h triangles n J)))
 
-    pub insert-next : (now₂ : InsertCounts) (B₂ : Slices) (T₂ : EntryBuffers) (c₂ : Cuts) → LengthsKept B₁ B₂ T₁ T₂ c₁ c₂ → now₂ .trim .made ≤ windowsIn B₁ → Turn (place.at (placeAt now₂ B₂ T₂)) → InsertInv turns B₂ T₂ c₂ now₂ (i + 1)
+    pub insert-next : (now₂ : InsertCounts) (B₂ : Slices) (T₂ : EntryBuffers) (c₂ : Cuts) → LengthsKept B₁ B₂ T₁ T₂ c₁ c₂ → now₂ .trim .made ≤ windowsIn B₁ → Turn (snapshots.at (insertSnapshot now₂ B₂ T₂)) → InsertInv turns B₂ T₂ c₂ now₂ (i + 1)
     insert-next now₂ B₂ T₂ c₂ same fits h = record {
       same = lengths-trans B B₁ B₂ T T₁ T₂ c c₁ c₂ (inv .same) same;
       fits = subst (λ (z : ℕ). now₂ .trim .made ≤ z) windows₁ fits;
       few = omega (arith, q);
-      done = subst (λ (j : ℕ). Done j (place.at (placeAt now₂ B₂ T₂))) (sym (add-one i)) (turn (place.at (placeAt now₂ B₂ T₂)) h);
+      done = subst (λ (j : ℕ). Done j (snapshots.at (insertSnapshot now₂ B₂ T₂))) (sym (add-one i)) (turn (snapshots.at (insertSnapshot now₂ B₂ T₂)) h);
     }

@@ -1,14 +1,12 @@
 -- What a source does, and all of a job, by what their turns do. Assumes nothing.
-use Prim.Native.Nat.{ℕ, _+_, _*_, _/_, _≤_, _<_}
+use Prim.Native.Nat.{ℕ, _+_, _*_, _≤_, _<_}
 use native.Mathlib.Omega.{arith}
 use mathlib.Core.List.{List, [], _∷_}
-use mathlib.Core.Path.{_≡_, refl, sym, ap, _∙_, subst}
+use mathlib.Core.Path.{_≡_, sym, ap, _∙_, subst}
 use lib.ListN.{length, getD}
 use lib.Ieee.{Float}
-use Rattle.layout.specs.Layout.{wordsPerTriangle, triangleLastEntry}
-use Rattle.nat_laws.specs.Lists.{All}
+use Rattle.layout.specs.Layout.{wordsPerTriangle}
 use Rattle.buffers.specs.declared.Lack.{Lack}
-use Rattle.buffers.specs.Lack.{lackNumber}
 use Rattle.buffers.proofs.Strides.{in-slots}
 use Rattle.cut_lists.specs.Buffers.{Cuts}
 use Rattle.mesh_readers.proofs.Held.{trim-edge-held}
@@ -19,7 +17,6 @@ use Rattle.offers.specs.Offers.{EdgeThere}
 use Rattle.offers.specs.Walks.{edgeData}
 use Rattle.offers.proofs.Walks.{windowsIn}
 use Rattle.face_entries.specs.Buffers.{EntryBuffers}
-use Rattle.piece_ends.specs.Directions.{pieceReals}
 use Rattle.source_inserts.specs.declared.Insert.{Insert}
 use Rattle.source_inserts.specs.declared.Insert.the-variants.{Entry, Offer}
 use Rattle.source_inserts.specs.declared.Source.{Source}
@@ -32,14 +29,14 @@ use Rattle.source_inserts.proofs.There.{source-there}
 use Rattle.insertion.specs.declared.InsertCounts.{InsertCounts}
 use Rattle.insertion.specs.declared.InsertAnswer.{InsertAnswer}
 use Rattle.insertion.specs.declared.InsertAnswer.the-variants.{Stopped, Went}
-use Rattle.insertion.specs.Places as place
-use Rattle.insertion.specs.Places.{placeAt, insertEnd, InsertsFrom, InsertThere, InsertsTo}
-use Rattle.insert_sources.specs.Job.{JobSlices, JobIn, InsertsAll}
+use Rattle.insertion.specs.Snapshots as snapshots
+use Rattle.insertion.specs.Snapshots.{insertSnapshot, insertEnd, InsertsFrom, InsertThere, InsertsTo}
+use Rattle.insert_sources.specs.Job.{InsertionSlices, JobIn, InsertsAll}
 use Rattle.insert_sources.proofs.Lists.{made-length, made-at, made-again, all-at}
 use Rattle.insert_sources.proofs.Loop.{slotsIn, Done, InsertInv, LengthsKept, Turn, insert-stopped, insert-next, insert-over}
 
 -- ---- what is inserted is there in the buffers
-module _ (k : JobSlices) (triangles : List ℕ) (n : ℕ) (ew tw : List ℕ) (J : JobIn k triangles n ew tw) where
+module _ (k : InsertionSlices) (triangles : List ℕ) (n : ℕ) (ew tw : List ℕ) (J : JobIn k triangles n ew tw) where
   offer-there : (o : Offered) → OfferThere triangles o → EdgeThere (edgeData (k .vertices) triangles) ew (k .edge-reals) o
   offer-there Nothing h = tt
   offer-there (Window e w) h =
@@ -55,7 +52,7 @@ abbrev none : Insert
 none = Offer Nothing
 
 -- ---- source j of a job
-module _ (k : JobSlices) (j : ℕ) where
+module _ (k : InsertionSlices) (j : ℕ) where
   abbrev pub ofSource : List ℕ → List Insert
   ofSource triangles = sourceInserts (k .vertices) triangles (k .kinds) (k .faces) (k .coords) j
 
@@ -64,10 +61,10 @@ module _ (k : JobSlices) (j : ℕ) where
   oneOf triangles i = getD (ofSource triangles) i none ∷ []
 
 -- as it is read: of so many pieces, the i-th of source s
-abbrev pub readAt : JobSlices → ℕ → Source → List ℕ → List ℕ → ℕ → Insert
+abbrev pub readAt : InsertionSlices → ℕ → Source → List ℕ → List ℕ → ℕ → Insert
 readAt k pieces s ew tw i = insertAt (k .vertices) ew (k .edge-reals) tw (k .triangle-reals) (k .vertex-words) (k .round) (k .kinds) (k .faces) (k .coords) (k .piece-words) (k .piece-reals) pieces s i
 
-module _ (limit : Float) (k : JobSlices) (pieces : ℕ) (few : pieces ≡ length (k .kinds)) (j : ℕ) (l : j < 3 * length (k .kinds)) (counts : InsertCounts) (B : Slices) (T : EntryBuffers) (c : Cuts) (s : Source)
+module _ (limit : Float) (k : InsertionSlices) (pieces : ℕ) (few : pieces ≡ length (k .kinds)) (j : ℕ) (l : j < 3 * length (k .kinds)) (counts : InsertCounts) (B : Slices) (T : EntryBuffers) (c : Cuts) (s : Source)
     (is : s ≡ jobSourceAt (k .vertices) (B .edges) (k .edge-reals) (T .triangles) (k .triangle-reals) (k .kinds) (k .faces) (k .coords) (k .piece-words) pieces j)
     (turns : ℕ) (counted : turns ≡ insertCountAt (B .edges) (k .vertex-words) s) where
   abbrev turnsAt : List ℕ → ℕ
@@ -114,7 +111,7 @@ module _ (limit : Float) (k : JobSlices) (pieces : ℕ) (few : pieces ≡ length
     turn-does triangles n J J₁ =
         let short : i < length (ofSource k j triangles) = omega (arith, q, turns-same triangles n J) in
         let x = read-is triangles n J (B₁ .edges) (T₁ .triangles) J₁ i short in
-        subst (λ (z : Insert). InsertsFrom (length (c₁ .pts)) (windowsIn B₁) (slotsIn T₁) limit (k .vertex-words) (edgeData (k .vertices) triangles) (z ∷ []) (placeAt now B₁ T₁) (insertEnd r B₂ T₂)) x
+        subst (λ (z : Insert). InsertsFrom (length (c₁ .pts)) (windowsIn B₁) (slotsIn T₁) limit (k .vertex-words) (edgeData (k .vertices) triangles) (z ∷ []) (insertSnapshot now B₁ T₁) (insertEnd r B₂ T₂)) x
         (h .inserts (edgeData (k .vertices) triangles)
         (subst (λ (z : Insert). InsertThere (edgeData (k .vertices) triangles) (B₁ .edges) (k .edge-reals) (T₁ .triangles) z) (sym x) (there triangles n J (B₁ .edges) (T₁ .triangles) J₁ i short)))
 
@@ -122,9 +119,9 @@ module _ (limit : Float) (k : JobSlices) (pieces : ℕ) (few : pieces ≡ length
   OfAll r B′ T′ = InsertsAll limit k (ofSource k j) counts B T c r B′ T′
 
   whole : (r : InsertAnswer) (B′ : Slices) (T′ : EntryBuffers) → Done limit k (oneOf k j) counts B T c turns (insertEnd r B′ T′) → (triangles : List ℕ) (n : ℕ) → JobIn k triangles n (B .edges) (T .triangles)
-      → InsertsFrom (length (c .pts)) (windowsIn B) (slotsIn T) limit (k .vertex-words) (edgeData (k .vertices) triangles) (ofSource k j triangles) (placeAt counts B T) (insertEnd r B′ T′)
+      → InsertsFrom (length (c .pts)) (windowsIn B) (slotsIn T) limit (k .vertex-words) (edgeData (k .vertices) triangles) (ofSource k j triangles) (insertSnapshot counts B T) (insertEnd r B′ T′)
   whole r B′ T′ d triangles n J =
-      subst (λ (z : List Insert). InsertsFrom (length (c .pts)) (windowsIn B) (slotsIn T) limit (k .vertex-words) (edgeData (k .vertices) triangles) z (placeAt counts B T) (insertEnd r B′ T′)) (ap (eachOf (oneOf k j triangles)) counted ∙ again triangles n J (B .edges) (T .triangles) J) (d triangles n J)
+      subst (λ (z : List Insert). InsertsFrom (length (c .pts)) (windowsIn B) (slotsIn T) limit (k .vertex-words) (edgeData (k .vertices) triangles) z (insertSnapshot counts B T) (insertEnd r B′ T′)) (ap (eachOf (oneOf k j triangles)) counted ∙ again triangles n J (B .edges) (T .triangles) J) (d triangles n J)
 
   module _ (B₁ : Slices) (T₁ : EntryBuffers) (c₁ : Cuts) (now : InsertCounts) (i : ℕ) (inv : InsertInv limit k (oneOf k j) counts B T c turns B₁ T₁ c₁ now i) where
     pub source-over : turns ≤ i → OfAll (Went now) B₁ T₁
@@ -144,7 +141,7 @@ module _ (limit : Float) (k : JobSlices) (pieces : ℕ) (few : pieces ≡ length
           insert-next limit k (oneOf k j) counts B T c turns B₁ T₁ c₁ now i inv q now₂ B₂ T₂ c₂ same (h .bounded) (turn-does B₁ T₁ c₁ now i inv q (Went now₂) B₂ T₂ h)
 
 -- ---- all sources
-module _ (limit : Float) (k : JobSlices) (counts : InsertCounts) (B : Slices) (T : EntryBuffers) (c : Cuts) where
+module _ (limit : Float) (k : InsertionSlices) (counts : InsertCounts) (B : Slices) (T : EntryBuffers) (c : Cuts) where
   abbrev pub sourceOf : List ℕ → ℕ → List Insert
   sourceOf triangles j = sourceInserts (k .vertices) triangles (k .kinds) (k .faces) (k .coords) j
 
@@ -155,9 +152,9 @@ module _ (limit : Float) (k : JobSlices) (counts : InsertCounts) (B : Slices) (T
   OfJob r B′ T′ = InsertsAll limit k (λ triangles. jobInserts (k .vertices) triangles (k .kinds) (k .faces) (k .coords)) counts B T c r B′ T′
 
   whole-job : (r : InsertAnswer) (B′ : Slices) (T′ : EntryBuffers) → Done limit k sourceOf counts B T c sources (insertEnd r B′ T′) → (triangles : List ℕ) (n : ℕ) → JobIn k triangles n (B .edges) (T .triangles)
-      → InsertsFrom (length (c .pts)) (windowsIn B) (slotsIn T) limit (k .vertex-words) (edgeData (k .vertices) triangles) (jobInserts (k .vertices) triangles (k .kinds) (k .faces) (k .coords)) (placeAt counts B T) (insertEnd r B′ T′)
+      → InsertsFrom (length (c .pts)) (windowsIn B) (slotsIn T) limit (k .vertex-words) (edgeData (k .vertices) triangles) (jobInserts (k .vertices) triangles (k .kinds) (k .faces) (k .coords)) (insertSnapshot counts B T) (insertEnd r B′ T′)
   whole-job r B′ T′ d triangles n J =
-      subst (λ (z : List Insert). InsertsFrom (length (c .pts)) (windowsIn B) (slotsIn T) limit (k .vertex-words) (edgeData (k .vertices) triangles) z (placeAt counts B T) (insertEnd r B′ T′)) (job-inserts (k .vertices) triangles (k .kinds) (k .faces) (k .coords)) (d triangles n J)
+      subst (λ (z : List Insert). InsertsFrom (length (c .pts)) (windowsIn B) (slotsIn T) limit (k .vertex-words) (edgeData (k .vertices) triangles) z (insertSnapshot counts B T) (insertEnd r B′ T′)) (job-inserts (k .vertices) triangles (k .kinds) (k .faces) (k .coords)) (d triangles n J)
 
   module _ (B₁ : Slices) (T₁ : EntryBuffers) (c₁ : Cuts) (now : InsertCounts) (j : ℕ) (inv : InsertInv limit k sourceOf counts B T c sources B₁ T₁ c₁ now j) where
     pub job-over : sources ≤ j → OfJob (Went now) B₁ T₁

@@ -3,7 +3,6 @@ use insertion::InsertAnswer;
 use insertion::InsertCounts;
 use source_inserts::Source;
 ghost use Prim.Native.Nat.{_≤_, _<_, _*_};
-ghost use mathlib.Core.List.{_∷_, []};
 ghost use mathlib.Core.Path.{_≡_};
 ghost use lib.ListN.{length};
 ghost use Rattle.buffers.specs.Lent.{given};
@@ -13,8 +12,8 @@ ghost use Rattle.trim.specs.Buffers.{before, after};
 ghost use Rattle.windows.specs.Windows.{capacityOf};
 ghost use Rattle.source_inserts.specs.Inserts.{sourceInserts, jobInserts};
 ghost use Rattle.source_inserts.specs.Read.{insertAt};
-ghost use Rattle.insertion.specs.Places.{InsertsTo, entriesBefore, entriesAfter};
-ghost use Rattle.insert_sources.specs.Job.{jobSlices, InsertsAll};
+ghost use Rattle.insertion.specs.Snapshots.{InsertsTo, entriesBefore, entriesAfter};
+ghost use Rattle.insert_sources.specs.Job.{insertionSlices, InsertsAll};
 
 // The i-th of what source s does, in a job of so many pieces.
 fn insert_number(
@@ -123,7 +122,8 @@ fn insert_source(
     requires { ⌜ (counts .trim .made ≤ capacityOf (length (now words)) (length (now reals))) × (Sizes (length (now pts)) (now out) (now keep) (now next)
         × ((pieces ≡ length (now kinds)) × (j < 3 * length (now kinds)))) ⌝ }
     ensures { λ r. ⌜ InsertsAll limit
-        (jobSlices (given vertices) (given «vertex_words») (given «edge_reals») (given «triangle_reals») (given round) (given kinds) (given faces) (given coords) (given «piece_words») (given «piece_reals»))
+        (insertionSlices (given vertices) (given «vertex_words») (given «edge_reals») (given «triangle_reals») (given round)
+        (given kinds) (given faces) (given coords) (given «piece_words») (given «piece_reals»))
         (λ triangles. sourceInserts (given vertices) triangles (given kinds) (given faces) (given coords) j)
         counts (before «edge_words» words reals keys events vertex) (entriesBefore «triangle_words» «entry_words») (cutsBefore pts out keep next)
         r (after «edge_words» words reals keys events vertex) (entriesAfter «triangle_words» «entry_words») ⌝ }
@@ -215,7 +215,8 @@ pub fn insert_all(
     requires { ⌜ (counts .trim .made ≤ capacityOf (length (now words)) (length (now reals))) × (Sizes (length (now pts)) (now out) (now keep) (now next)
         × (length (now kinds) ≤ 65535)) ⌝ }
     ensures { λ r. ⌜ InsertsAll limit
-        (jobSlices (given vertices) (given «vertex_words») (given «edge_reals») (given «triangle_reals») (given round) (given kinds) (given faces) (given coords) (given «piece_words») (given «piece_reals»))
+        (insertionSlices (given vertices) (given «vertex_words») (given «edge_reals») (given «triangle_reals») (given round)
+        (given kinds) (given faces) (given coords) (given «piece_words») (given «piece_reals»))
         (λ triangles. jobInserts (given vertices) triangles (given kinds) (given faces) (given coords))
         counts (before «edge_words» words reals keys events vertex) (entriesBefore «triangle_words» «entry_words») (cutsBefore pts out keep next)
         r (after «edge_words» words reals keys events vertex) (entriesAfter «triangle_words» «entry_words») ⌝ }

@@ -27,7 +27,7 @@ use Rattle.source_inserts.specs.declared.Insert.the-variants.{Entry, Offer}
 use Rattle.insertion.specs.declared.InsertCounts.{InsertCounts}
 use Rattle.insertion.specs.declared.InsertAnswer.{InsertAnswer}
 use Rattle.insertion.specs.declared.InsertAnswer.the-variants.{Stopped, Went}
-use Rattle.insertion.specs.Places.{placeAt, enterAnswer, EntersTo, offerAnswer, OfferedTo, InsertsTo}
+use Rattle.insertion.specs.Snapshots.{insertSnapshot, enterAnswer, EntersTo, offerAnswer, OfferedTo, InsertsTo}
 use Rattle.insertion.proofs.Inserts.{inserts-offer, inserts-full, inserts-entry}
 
 -- ---- of `enter`
@@ -61,11 +61,11 @@ module _ (limit : Float) (vw : List ℕ) (er : List Float) (x : Insert) (counts 
     offered-as : (a : Added) → OffersTo limit vw er o (counts .trim) b c a b′ c′ → Done (offerAnswer counts a)
     offered-as (added.Stopped lack) h = record {
       bounded = tt;
-      inserts = λ mesh there. inserts-offer (length (c .pts)) windows slots limit vw mesh o (placeAt counts b t) (running.stopped (lackNumber lack)) (h .offers mesh there);
+      inserts = λ mesh there. inserts-offer (length (c .pts)) windows slots limit vw mesh o (insertSnapshot counts b t) (running.stopped (lackNumber lack)) (h .offers mesh there);
     }
     offered-as (added.Went k) h = record {
       bounded = h .bounded;
-      inserts = λ mesh there. inserts-offer (length (c .pts)) windows slots limit vw mesh o (placeAt counts b t) (running.at (snapshotAt k b′)) (h .offers mesh there);
+      inserts = λ mesh there. inserts-offer (length (c .pts)) windows slots limit vw mesh o (insertSnapshot counts b t) (running.at (snapshotAt k b′)) (h .offers mesh there);
     }
 
     pub insert-offered : (r : InsertAnswer) → OfferedTo limit vw er o counts b c r b′ c′ → InsertsTo limit vw er x counts b t c r b′ t
@@ -78,8 +78,8 @@ module _ (limit : Float) (vw : List ℕ) (er : List Float) (x : Insert) (counts 
     Entered-so r = InsertsTo limit vw er (Entry f part) counts b t c r b t′
 
     entered-as : (e : Entered) → (e, t′) ≡ entering t (counts .entries) (f .0) part → Entered-so (enterAnswer counts e)
-    entered-as Full said = record { bounded = tt; inserts = λ mesh there. inserts-full (length (c .pts)) windows slots limit vw mesh f part (placeAt counts b t) refl t′ said }
-    entered-as (Count n) said = record { bounded = fits; inserts = λ mesh there. inserts-entry (length (c .pts)) windows slots limit vw mesh f part (placeAt counts b t) refl t′ n said there }
+    entered-as Full said = record { bounded = tt; inserts = λ mesh there. inserts-full (length (c .pts)) windows slots limit vw mesh f part (insertSnapshot counts b t) refl t′ said }
+    entered-as (Count n) said = record { bounded = fits; inserts = λ mesh there. inserts-entry (length (c .pts)) windows slots limit vw mesh f part (insertSnapshot counts b t) refl t′ n said there }
 
     pub insert-entered : (r : InsertAnswer) → EntersTo counts f part t r t′ → InsertsTo limit vw er x counts b t c r b t′
     insert-entered r h =

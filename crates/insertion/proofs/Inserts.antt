@@ -1,11 +1,8 @@
 -- Lists of inserts are done piece by piece: none, a window that is offered, an entry in a face, and one list behind another. Assumes nothing.
 use Prim.Native.Nat.{ℕ, _+_, _*_, _≤_, _<_}
-use native.Mathlib.Omega.{arith}
-use mathlib.Core.Bool.{Bool, true, false, cond}
 use mathlib.Core.List.{List, [], _∷_, _++_, append-nil, append-assoc}
 use mathlib.Core.Path.{_≡_, refl, sym, ap, _∙_, subst}
 use borrow.Author.Tests.{lt-ltb, le-ltb}
-use lib.Dec.{ltb}
 use lib.ListN.{length, getD}
 use lib.Ieee.{Float}
 use Rattle.layout.specs.Layout.{wordsPerTriangle, triangleLastEntry}
@@ -19,7 +16,7 @@ use Rattle.trim_model.proofs.Lists.{all-left, all-right}
 use Rattle.trim_state.specs.State.{EdgeData}
 use Rattle.trim_state.specs.State as state
 use Rattle.trim_split.specs.Running as running
-use Rattle.trim_split.specs.Running.{Snapshot, End, Untouched}
+use Rattle.trim_split.specs.Running.{End, Untouched}
 use Rattle.trim_split.proofs.Untouched.{untouched-same, untouched-then}
 use Rattle.offers.specs.declared.Offered.{Offered}
 use Rattle.offers.specs.Offers.{addAll, offerList, Offers}
@@ -27,15 +24,15 @@ use Rattle.face_entries.specs.declared.PiecePart.{PiecePart}
 use Rattle.face_entries.specs.declared.Entered.{Entered}
 use Rattle.face_entries.specs.declared.Entered.the-variants.{Full, Count}
 use Rattle.face_entries.specs.Buffers.{EntryBuffers, entryCapacity, entering}
-use Rattle.face_entries.specs.Entries.{FaceEntry, HoldsOnly}
+use Rattle.face_entries.specs.Entries.{FaceEntry}
 use Rattle.face_entries.proofs.Answers.{was-free, was-full, call-only}
 use Rattle.face_entries.proofs.Keeping.{enter-others}
 use Rattle.source_inserts.specs.declared.Insert.{Insert}
 use Rattle.source_inserts.specs.declared.Insert.the-variants.{Entry, Offer}
 use Rattle.source_inserts.specs.Inserts.{candidatesAt, candidatesIn}
 use Rattle.insertion.specs.Insertion.{Inserted, InsertResult, stopped, went, andInsert, withEntries, insertOne, insertEach}
-use Rattle.insertion.specs.Places as place
-use Rattle.insertion.specs.Places.{Place, InsertEnd, SidesKept, HoldsInserted, ComesIn, InsertsFrom}
+use Rattle.insertion.specs.Snapshots as snapshots
+use Rattle.insertion.specs.Snapshots.{InsertSnapshot, InsertEnd, SidesKept, HoldsInserted, InsertsFrom}
 
 -- ---- results
 next-went : (r : InsertResult) → andInsert r went ≡ r
@@ -97,11 +94,11 @@ module _ (cuts windows slots : ℕ) (limit : Float) (flags : List ℕ) (mesh : E
   unfolding insertEach
   insert-one x s = next-went (one x s)
 
-  abbrev Does : List Insert → Place → InsertEnd → Type 0
+  abbrev Does : List Insert → InsertSnapshot → InsertEnd → Type 0
   Does = InsertsFrom cuts windows slots limit flags mesh
 
   -- nothing is inserted
-  pub inserts-none : (p : Place) → Does [] p (place.at p)
+  pub inserts-none : (p : InsertSnapshot) → Does [] p (snapshots.at p)
   unfolding insertEach candidatesIn
   inserts-none p t₀ past s S a = record {
     inserted = s;
@@ -112,7 +109,7 @@ module _ (cuts windows slots : ℕ) (limit : Float) (flags : List ℕ) (mesh : E
   }
 
   -- a window is offered
-  module _ (o : Offered) (p : Place) where
+  module _ (o : Offered) (p : InsertSnapshot) where
     offer-stopped : (s : Inserted) (n : ℕ) → addAll cuts windows limit flags mesh (offerList o) (s .state) ≡ state.stopped n → one (Offer o) s ≡ stopped n
     unfolding insertOne withEntries
     offer-stopped s n h = ap (withEntries (s .entries)) h
@@ -123,8 +120,8 @@ module _ (cuts windows slots : ℕ) (limit : Float) (flags : List ℕ) (mesh : E
 
     -- where it ends, the entries being as they are
     abbrev offerEnd : End → InsertEnd
-    offerEnd (running.stopped n) = place.stopped n
-    offerEnd (running.at q) = place.at (record { trim = q; entered = p .entered; entries = p .entries })
+    offerEnd (running.stopped n) = snapshots.stopped n
+    offerEnd (running.at q) = snapshots.at (record { trim = q; entered = p .entered; entries = p .entries })
 
     pub inserts-offer : (end : End) → Offers cuts windows limit flags mesh (offerList o) (p .trim) end → Does (Offer o ∷ []) p (offerEnd end)
     inserts-offer (running.stopped n) h t₀ past s S a =
@@ -142,7 +139,7 @@ module _ (cuts windows slots : ℕ) (limit : Float) (flags : List ℕ) (mesh : E
         }
 
   -- a part of a piece is entered
-  module _ (f : FaceId) (x : PiecePart) (p : Place) (fits : slots ≡ entryCapacity (length (p .entries .words))) (t′ : EntryBuffers) where
+  module _ (f : FaceId) (x : PiecePart) (p : InsertSnapshot) (fits : slots ≡ entryCapacity (length (p .entries .words))) (t′ : EntryBuffers) where
     abbrev new : FaceEntry
     new = record { face = f .0; entry = x }
 
@@ -154,13 +151,13 @@ module _ (cuts windows slots : ℕ) (limit : Float) (flags : List ℕ) (mesh : E
     unfolding insertOne
     entry-free s c h = rw (c, lt-ltb (p .entered) slots h) refl
 
-    pub inserts-full : (Full, t′) ≡ entering (p .entries) (p .entered) (f .0) x → Does (Entry f x ∷ []) p (place.stopped (lackNumber Entries))
+    pub inserts-full : (Full, t′) ≡ entering (p .entries) (p .entered) (f .0) x → Does (Entry f x ∷ []) p (snapshots.stopped (lackNumber Entries))
     inserts-full said t₀ past s S a =
         insert-one (Entry f x) s
         ∙ entry-full s (S .entries .holds .counted) (subst (λ (z : ℕ). z ≤ p .entered) (sym fits) (was-full (p .entries) t′ (p .entered) (f .0) x Full said refl .1))
 
     pub inserts-entry : (n : ℕ) → (Count n, t′) ≡ entering (p .entries) (p .entered) (f .0) x → wordsPerTriangle * f .0 + triangleLastEntry < length (p .entries .triangles)
-        → Does (Entry f x ∷ []) p (place.at (record { trim = p .trim; entered = n; entries = t′ }))
+        → Does (Entry f x ∷ []) p (snapshots.at (record { trim = p .trim; entered = n; entries = t′ }))
     unfolding candidatesIn
     inserts-entry n said there t₀ past s S a =
         let w = was-free (p .entries) t′ (p .entered) (f .0) x (Count n) said n refl in
@@ -176,25 +173,25 @@ module _ (cuts windows slots : ℕ) (limit : Float) (flags : List ℕ) (mesh : E
         }
 
   -- a list that stops, and a list behind one that went: what it inserts may depend on what was kept
-  module _ (xs ys : List Insert) (p : Place) where
+  module _ (xs ys : List Insert) (p : InsertSnapshot) where
     proper-left : Proper (candidatesIn (xs ++ ys)) → Proper (candidatesIn xs)
     proper-left a = all-left (AdmittedProper limit (mesh .len)) (candidatesIn xs) (candidatesIn ys) (subst Proper (candidates-append xs ys) a)
 
     proper-right : Proper (candidatesIn (xs ++ ys)) → Proper (candidatesIn ys)
     proper-right a = all-right (AdmittedProper limit (mesh .len)) (candidatesIn xs) (candidatesIn ys) (subst Proper (candidates-append xs ys) a)
 
-    pub inserts-stop : (n : ℕ) → Does xs p (place.stopped n) → Does (xs ++ ys) p (place.stopped n)
+    pub inserts-stop : (n : ℕ) → Does xs p (snapshots.stopped n) → Does (xs ++ ys) p (snapshots.stopped n)
     inserts-stop n h t₀ past s S a = insert-append xs ys s ∙ next-stopped (all xs s) n (all ys) (h t₀ past s S (proper-left a))
 
     past-is : (past : List Candidate) → (past ++ candidatesIn xs) ++ candidatesIn ys ≡ past ++ candidatesIn (xs ++ ys)
     past-is past = append-assoc past (candidatesIn xs) (candidatesIn ys) ∙ ap (λ (l : List Candidate). past ++ l) (sym (candidates-append xs ys))
 
-    module _ (p′ : Place) (h : Does xs p (place.at p′)) where
+    module _ (p′ : InsertSnapshot) (h : Does xs p (snapshots.at p′)) where
       pub inserts-then : (end : InsertEnd) → (Untouched (λ e. Unit {0}) (p .trim) (p′ .trim) → SidesKept (p .entries .triangles) (p′ .entries .triangles) → Does ys p′ end) → Does (xs ++ ys) p end
-      inserts-then (place.stopped n) g t₀ past s S a =
+      inserts-then (snapshots.stopped n) g t₀ past s S a =
           let r = h t₀ past s S (proper-left a) in
           insert-append xs ys s ∙ next-inserted (all xs s) (r .inserted) (all ys) (r .is) ∙ g (r .untouched) (r .kept) t₀ (past ++ candidatesIn xs) (r .inserted) (r .stands) (proper-right a)
-      inserts-then (place.at q) g t₀ past s S a =
+      inserts-then (snapshots.at q) g t₀ past s S a =
           let r = h t₀ past s S (proper-left a) in
           let o = g (r .untouched) (r .kept) t₀ (past ++ candidatesIn xs) (r .inserted) (r .stands) (proper-right a) in
           record {

@@ -1,9 +1,9 @@
 -- Windows and entries don't meet: where a list of inserts goes to its end, the windows are what its candidates alone come to, and the entries are its own, in order. Assumes nothing.
-use Prim.Native.Nat.{ℕ, _<_}
+use Prim.Native.Nat.{ℕ}
 use native.Mathlib.Omega.{arith}
 use mathlib.Core.Bool.{Bool, true, false, cond}
 use mathlib.Core.List.{List, [], _∷_, _++_, append-nil, append-assoc}
-use mathlib.Core.Path.{_≡_, refl, sym, ap, _∙_, subst}
+use mathlib.Core.Path.{_≡_, refl, sym, ap, _∙_}
 use lib.Dec.{ltb}
 use lib.ListN.{length}
 use lib.Ieee.{Float}
@@ -16,7 +16,6 @@ use Rattle.offers.specs.declared.Offered.{Offered}
 use Rattle.offers.specs.Offers.{andNext, addAll, offerList}
 use Rattle.offers.proofs.Offers.{add-append}
 use Rattle.face_entries.specs.declared.PiecePart.{PiecePart}
-use Rattle.face_entries.specs.Entries.{FaceEntry}
 use Rattle.source_inserts.specs.declared.Insert.{Insert}
 use Rattle.source_inserts.specs.declared.Insert.the-variants.{Entry, Offer}
 use Rattle.source_inserts.specs.Inserts.{candidatesIn}

@@ -1,2 +1,2 @@
 pub mod Insertion
-pub mod Places
+pub mod Snapshots

@@ -14,7 +14,7 @@ ghost use Rattle.cut_lists.specs.Buffers.{cutsBefore, cutsAfter};
 ghost use Rattle.cut_lists.specs.Cut.{Sizes};
 ghost use Rattle.trim.specs.Buffers.{before, after};
 ghost use Rattle.windows.specs.Windows.{capacityOf};
-ghost use Rattle.insertion.specs.Places.{EntersTo, OfferedTo, InsertsTo, entriesBefore, entriesAfter};
+ghost use Rattle.insertion.specs.Snapshots.{EntersTo, OfferedTo, InsertsTo, entriesBefore, entriesAfter};
 
 // How many windows are made and events queued, and how many entries there are.
 pub struct InsertCounts {

@@ -1,7 +1,7 @@
 -- The main loop within its budget, from what `advance` answers. Assumes nothing.
 use Prim.Native.Nat.{ℕ, _-_, _<_, _≤_}
 use mathlib.Core.Bool.{Bool, true, false, cond}
-use mathlib.Core.List.{List, _++_}
+use mathlib.Core.List.{List}
 use mathlib.Core.Path.{_≡_, refl, sym, ap, subst, _∙_}
 use native.Mathlib.Omega.{arith}
 use lib.ListN.{length}
@@ -15,7 +15,7 @@ use Rattle.heap.specs.Queue.{Queue, at, slots, popped, popping}
 use Rattle.heap.proofs.Turns.{pop-empty, pop-past, pop-done}
 use Rattle.actions.specs.Actions.{Stock}
 use Rattle.trim_model.specs.Model.{Candidate}
-use Rattle.trim_state.specs.State.{State, Result, went}
+use Rattle.trim_state.specs.State.{State, went}
 use Rattle.cut_lists.specs.Buffers.{Cuts}
 use Rattle.trim_split.specs.declared.Counts.{Counts}
 use Rattle.trim.specs.Buffers.{Slices}
@@ -26,14 +26,14 @@ use Rattle.insert_job.specs.declared.InsertedJob.{InsertedJob}
 use Rattle.insert_job.specs.declared.InsertedJob.the-variants as job
 use Rattle.insert_job.specs.Job.{JobWithin}
 use Rattle.field_step.specs.Step.{isEmpty, idleOf}
-use Rattle.field_step.specs.Contract.{FieldMesh, FieldStands, FieldComesTo}
+use Rattle.field_step.specs.Contract.{FieldStands}
 use Rattle.advance.specs.declared.Advanced.{Advanced}
 use Rattle.advance.specs.declared.Advanced.the-variants as advanced
-use Rattle.advance.specs.Advance.{advanceOf, stepsOf, advanceCandidates}
+use Rattle.advance.specs.Advance.{stepsOf}
 use Rattle.advance.specs.Contract.{AdvancesTo}
 use Rattle.run_steps.specs.declared.FieldWork.{FieldWork}
 use Rattle.run_steps.specs.declared.FieldWork.the-variants.{Refused, Done}
-use Rattle.run_steps.specs.Run.{WorkResult, refused, field, budgeted, loopOf}
+use Rattle.run_steps.specs.Run.{refused, field, budgeted}
 use Rattle.run_steps.specs.Contract.{noneWaits, workAnswer, RunsTo}
 
 -- ---- whether an event waits

@@ -9,7 +9,7 @@ ghost use Rattle.cut_lists.specs.Buffers.{cutBuffers, cutsBefore};
 ghost use Rattle.trim.specs.Buffers.{after};
 ghost use Rattle.cut_slots.specs.Slots.{cutCount, cutTo};
 ghost use Rattle.mesh.specs.Topology.{meshBuffers};
-ghost use Rattle.insertion.specs.Places.{entriesAfter};
+ghost use Rattle.insertion.specs.Snapshots.{entriesAfter};
 ghost use Rattle.begin.specs.Begin.{workBefore};
 ghost use Rattle.field_work.specs.Contract.{WorksTo};
 

@@ -1,5 +1,4 @@
 -- `field_work::work` meets its contract. Assumes nothing.
-use native.Mathlib.Omega.{arith}
 use mathlib.Core.Path.{_∙_}
 use lib.ListN.{length}
 use Rattle.cut_lists.specs.Buffers.{cutBuffers}

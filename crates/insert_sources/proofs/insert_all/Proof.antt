@@ -6,7 +6,7 @@ use lib.ListN.{length}
 use Rattle.cut_lists.specs.Buffers.{cutBuffers}
 use Rattle.trim.specs.Buffers.{slices}
 use Rattle.face_entries.specs.Buffers.{entryBuffers}
-use Rattle.insert_sources.specs.Job.{jobSlices}
+use Rattle.insert_sources.specs.Job.{insertionSlices}
 use Rattle.insert_sources.proofs.Loop.{InsertInv, insert-start, insert-fits, insert-sizes}
 use Rattle.insert_sources.proofs.Sources.{sourceOf, job-over, job-stopped, job-next}
 use borrow.Author.Needs.{needs}
@@ -15,8 +15,8 @@ use Rattle.insert_sources.proofs.insert_all.Tie as tie
 
 abbrev Inv-loop : tie.InvT-loop
 Inv-loop vertices edge-words₀ words₀ reals₀ keys₀ events₀ vertex₀ vertex-words edge-reals triangle-reals round kinds faces coords piece-words piece-reals pts₀ out₀ keep₀ next₀ triangle-words₀ entry-words₀ limit pieces sources now₀ j₀ edge-words words reals keys events vertex pts out keep next triangle-words entry-words now j =
-    InsertInv limit (jobSlices vertices vertex-words edge-reals triangle-reals round kinds faces coords piece-words piece-reals)
-    (sourceOf limit (jobSlices vertices vertex-words edge-reals triangle-reals round kinds faces coords piece-words piece-reals) now₀ (slices edge-words₀ words₀ reals₀ keys₀ events₀ vertex₀) (entryBuffers triangle-words₀ entry-words₀) (cutBuffers pts₀ out₀ keep₀ next₀))
+    InsertInv limit (insertionSlices vertices vertex-words edge-reals triangle-reals round kinds faces coords piece-words piece-reals)
+    (sourceOf limit (insertionSlices vertices vertex-words edge-reals triangle-reals round kinds faces coords piece-words piece-reals) now₀ (slices edge-words₀ words₀ reals₀ keys₀ events₀ vertex₀) (entryBuffers triangle-words₀ entry-words₀) (cutBuffers pts₀ out₀ keep₀ next₀))
     now₀ (slices edge-words₀ words₀ reals₀ keys₀ events₀ vertex₀) (entryBuffers triangle-words₀ entry-words₀) (cutBuffers pts₀ out₀ keep₀ next₀) (3 * length kinds)
     (slices edge-words words reals keys events vertex) (entryBuffers triangle-words entry-words) (cutBuffers pts out keep next) now j
 
@@ -34,7 +34,7 @@ loop-holds : tie.Need-loop-holds Inv-loop μ-loop
 loop-holds c =
     let start = c .before .before .before .before .before .before .before .before .before .before .before .before .before .before .before .before .before .before .before .before .before .before in
     let a = start .args in
-    let k = (jobSlices (a .vertices .now) (a .vertex-words .now) (a .edge-reals .now) (a .triangle-reals .now) (a .round .now) (a .kinds .now) (a .faces .now) (a .coords .now) (a .piece-words .now) (a .piece-reals .now)) in
+    let k = (insertionSlices (a .vertices .now) (a .vertex-words .now) (a .edge-reals .now) (a .triangle-reals .now) (a .round .now) (a .kinds .now) (a .faces .now) (a .coords .now) (a .piece-words .now) (a .piece-reals .now)) in
     insert-start (a .limit) k
     (sourceOf (a .limit) k (a .counts) (slices (a .edge-words .now) (a .words .now) (a .reals .now) (a .keys .now) (a .events .now) (a .vertex .now)) (entryBuffers (a .triangle-words .now) (a .entry-words .now)) (cutBuffers (a .pts .now) (a .out .now) (a .keep .now) (a .next .now)))
     (a .counts) (slices (a .edge-words .now) (a .words .now) (a .reals .now) (a .keys .now) (a .events .now) (a .vertex .now)) (entryBuffers (a .triangle-words .now) (a .entry-words .now))
@@ -47,7 +47,7 @@ insert-source-requires c κs =
     let start = loop .before .before .before .before .before .before .before .before .before .before .before .before .before .before .before .before .before .before .before .before .before .before .before in
     let a = start .args in
     let l = loop .loop in
-    let k = (jobSlices (a .vertices .now) (a .vertex-words .now) (a .edge-reals .now) (a .triangle-reals .now) (a .round .now) (a .kinds .now) (a .faces .now) (a .coords .now) (a .piece-words .now) (a .piece-reals .now)) in
+    let k = (insertionSlices (a .vertices .now) (a .vertex-words .now) (a .edge-reals .now) (a .triangle-reals .now) (a .round .now) (a .kinds .now) (a .faces .now) (a .coords .now) (a .piece-words .now) (a .piece-reals .now)) in
     let q : l .j < 3 * length (a .kinds .now) = omega (arith, tested .loop-test .taken) in (
       insert-fits (a .limit) k
           (sourceOf (a .limit) k (a .counts) (slices (a .edge-words .now) (a .words .now) (a .reals .now) (a .keys .now) (a .events .now) (a .vertex .now)) (entryBuffers (a .triangle-words .now) (a .entry-words .now)) (cutBuffers (a .pts .now) (a .out .now) (a .keep .now) (a .next .now)))
@@ -147,7 +147,7 @@ returns c =
     let a = start .args in
     let l = loop .loop in
     let r = made .insert-source in
-    let k = (jobSlices (a .vertices .now) (a .vertex-words .now) (a .edge-reals .now) (a .triangle-reals .now) (a .round .now) (a .kinds .now) (a .faces .now) (a .coords .now) (a .piece-words .now) (a .piece-reals .now)) in
+    let k = (insertionSlices (a .vertices .now) (a .vertex-words .now) (a .edge-reals .now) (a .triangle-reals .now) (a .round .now) (a .kinds .now) (a .faces .now) (a .coords .now) (a .piece-words .now) (a .piece-reals .now)) in
     let e = c .before .one .given in
     let q : l .j < 3 * length (a .kinds .now) = omega (arith, tested .loop-test .taken) in
     job-stopped (a .limit) k (a .counts) (slices (a .edge-words .now) (a .words .now) (a .reals .now) (a .keys .now) (a .events .now) (a .vertex .now)) (entryBuffers (a .triangle-words .now) (a .entry-words .now))
@@ -178,7 +178,7 @@ loop-again c =
     let a = start .args in
     let l = loop .loop in
     let r = made .insert-source in
-    let k = (jobSlices (a .vertices .now) (a .vertex-words .now) (a .edge-reals .now) (a .triangle-reals .now) (a .round .now) (a .kinds .now) (a .faces .now) (a .coords .now) (a .piece-words .now) (a .piece-reals .now)) in
+    let k = (insertionSlices (a .vertices .now) (a .vertex-words .now) (a .edge-reals .now) (a .triangle-reals .now) (a .round .now) (a .kinds .now) (a .faces .now) (a .coords .now) (a .piece-words .now) (a .piece-reals .now)) in
     let e = c .before .one2 .given in
     let q : l .j < 3 * length (a .kinds .now) = omega (arith, tested .loop-test .taken) in
     job-next (a .limit) k (a .counts) (slices (a .edge-words .now) (a .words .now) (a .reals .now) (a .keys .now) (a .events .now) (a .vertex .now)) (entryBuffers (a .triangle-words .now) (a .entry-words .now))
@@ -245,7 +245,7 @@ returns-2 c =
     let start = loop .before .before .before .before .before .before .before .before .before .before .before .before .before .before .before .before .before .before .before .before .before .before .before in
     let a = start .args in
     let l = loop .loop in
-    let k = (jobSlices (a .vertices .now) (a .vertex-words .now) (a .edge-reals .now) (a .triangle-reals .now) (a .round .now) (a .kinds .now) (a .faces .now) (a .coords .now) (a .piece-words .now) (a .piece-reals .now)) in
+    let k = (insertionSlices (a .vertices .now) (a .vertex-words .now) (a .edge-reals .now) (a .triangle-reals .now) (a .round .now) (a .kinds .now) (a .faces .now) (a .coords .now) (a .piece-words .now) (a .piece-reals .now)) in
     job-over (a .limit) k (a .counts) (slices (a .edge-words .now) (a .words .now) (a .reals .now) (a .keys .now) (a .events .now) (a .vertex .now)) (entryBuffers (a .triangle-words .now) (a .entry-words .now))
     (cutBuffers (a .pts .now) (a .out .now) (a .keep .now) (a .next .now))
     (slices (l .edge-words) (l .words) (l .reals) (l .keys) (l .events) (l .vertex)) (entryBuffers (l .triangle-words) (l .entry-words)) (cutBuffers (l .pts) (l .out) (l .keep) (l .next)) (l .now) (l .j) (l .inv) (omega (arith, c .loop-test .left))

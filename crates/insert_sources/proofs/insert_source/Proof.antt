@@ -5,7 +5,7 @@ use mathlib.Core.Path.{_∙_}
 use Rattle.cut_lists.specs.Buffers.{cutBuffers}
 use Rattle.trim.specs.Buffers.{slices}
 use Rattle.face_entries.specs.Buffers.{entryBuffers}
-use Rattle.insert_sources.specs.Job.{jobSlices}
+use Rattle.insert_sources.specs.Job.{insertionSlices}
 use Rattle.insert_sources.proofs.Loop.{InsertInv, insert-start, insert-fits, insert-sizes}
 use Rattle.insert_sources.proofs.Sources.{oneOf, source-over, source-stopped, source-next}
 use borrow.Author.Needs.{needs}
@@ -14,7 +14,7 @@ use Rattle.insert_sources.proofs.insert_source.Tie as tie
 
 abbrev Inv-loop : tie.InvT-loop
 Inv-loop vertices edge-words₀ words₀ reals₀ keys₀ events₀ vertex₀ vertex-words edge-reals triangle-reals round kinds faces coords piece-words piece-reals pts₀ out₀ keep₀ next₀ triangle-words₀ entry-words₀ pieces j limit s count now₀ i₀ edge-words words reals keys events vertex pts out keep next triangle-words entry-words now i =
-    InsertInv limit (jobSlices vertices vertex-words edge-reals triangle-reals round kinds faces coords piece-words piece-reals) (oneOf (jobSlices vertices vertex-words edge-reals triangle-reals round kinds faces coords piece-words piece-reals) j)
+    InsertInv limit (insertionSlices vertices vertex-words edge-reals triangle-reals round kinds faces coords piece-words piece-reals) (oneOf (insertionSlices vertices vertex-words edge-reals triangle-reals round kinds faces coords piece-words piece-reals) j)
     now₀ (slices edge-words₀ words₀ reals₀ keys₀ events₀ vertex₀) (entryBuffers triangle-words₀ entry-words₀) (cutBuffers pts₀ out₀ keep₀ next₀) count
     (slices edge-words words reals keys events vertex) (entryBuffers triangle-words entry-words) (cutBuffers pts out keep next) now i
 
@@ -32,7 +32,7 @@ loop-holds : tie.Need-loop-holds Inv-loop μ-loop
 loop-holds c =
     let start = c .before .before .before .before .before .before .before .before .before .before .before .before .before .before .before .before .before .before .before .before .before .before .before .before .before .before .before in
     let a = start .args in
-    let k = (jobSlices (a .vertices .now) (a .vertex-words .now) (a .edge-reals .now) (a .triangle-reals .now) (a .round .now) (a .kinds .now) (a .faces .now) (a .coords .now) (a .piece-words .now) (a .piece-reals .now)) in
+    let k = (insertionSlices (a .vertices .now) (a .vertex-words .now) (a .edge-reals .now) (a .triangle-reals .now) (a .round .now) (a .kinds .now) (a .faces .now) (a .coords .now) (a .piece-words .now) (a .piece-reals .now)) in
     insert-start (a .limit) k (oneOf k (a .j)) (a .counts) (slices (a .edge-words .now) (a .words .now) (a .reals .now) (a .keys .now) (a .events .now) (a .vertex .now)) (entryBuffers (a .triangle-words .now) (a .entry-words .now))
     (cutBuffers (a .pts .now) (a .out .now) (a .keep .now) (a .next .now)) (c .insert-count .result) (start .pre .0)
 
@@ -43,7 +43,7 @@ insert-number-requires c κs =
     let start = tested .before .before .before .before .before .before .before .before .before .before .before .before .before .before .before .before .before .before .before .before .before .before .before .before .before .before .before .before .before in
     let a = start .args in
     let l = loop .loop in
-    let k = (jobSlices (a .vertices .now) (a .vertex-words .now) (a .edge-reals .now) (a .triangle-reals .now) (a .round .now) (a .kinds .now) (a .faces .now) (a .coords .now) (a .piece-words .now) (a .piece-reals .now)) in
+    let k = (insertionSlices (a .vertices .now) (a .vertex-words .now) (a .edge-reals .now) (a .triangle-reals .now) (a .round .now) (a .kinds .now) (a .faces .now) (a .coords .now) (a .piece-words .now) (a .piece-reals .now)) in
     let n = loop .before .insert-count .result in (
       insert-fits (a .limit) k (oneOf k (a .j)) (a .counts) (slices (a .edge-words .now) (a .words .now) (a .reals .now) (a .keys .now) (a .events .now) (a .vertex .now)) (entryBuffers (a .triangle-words .now) (a .entry-words .now))
           (cutBuffers (a .pts .now) (a .out .now) (a .keep .now) (a .next .now)) n (slices (l .edge-words) (l .words) (l .reals) (l .keys) (l .events) (l .vertex)) (entryBuffers (l .triangle-words) (l .entry-words)) (cutBuffers (l .pts) (l .out) (l .keep) (l .next)) (l .now) (l .i) (l .inv) (tested .loop-test .taken),
@@ -138,7 +138,7 @@ returns c =
     let a = start .args in
     let l = loop .loop in
     let r = made .insert-number in
-    let k = (jobSlices (a .vertices .now) (a .vertex-words .now) (a .edge-reals .now) (a .triangle-reals .now) (a .round .now) (a .kinds .now) (a .faces .now) (a .coords .now) (a .piece-words .now) (a .piece-reals .now)) in
+    let k = (insertionSlices (a .vertices .now) (a .vertex-words .now) (a .edge-reals .now) (a .triangle-reals .now) (a .round .now) (a .kinds .now) (a .faces .now) (a .coords .now) (a .piece-words .now) (a .piece-reals .now)) in
     let e = c .before .one .given in
     source-stopped (a .limit) k (a .pieces) (start .pre .1 .1 .0) (a .j) (start .pre .1 .1 .1) (a .counts) (slices (a .edge-words .now) (a .words .now) (a .reals .now) (a .keys .now) (a .events .now) (a .vertex .now)) (entryBuffers (a .triangle-words .now) (a .entry-words .now))
     (cutBuffers (a .pts .now) (a .out .now) (a .keep .now) (a .next .now)) (read .job-source .result) (read .job-source .ensures) (counted .insert-count .result) (counted .insert-count .ensures)
@@ -169,7 +169,7 @@ loop-again c =
     let a = start .args in
     let l = loop .loop in
     let r = made .insert-number in
-    let k = (jobSlices (a .vertices .now) (a .vertex-words .now) (a .edge-reals .now) (a .triangle-reals .now) (a .round .now) (a .kinds .now) (a .faces .now) (a .coords .now) (a .piece-words .now) (a .piece-reals .now)) in
+    let k = (insertionSlices (a .vertices .now) (a .vertex-words .now) (a .edge-reals .now) (a .triangle-reals .now) (a .round .now) (a .kinds .now) (a .faces .now) (a .coords .now) (a .piece-words .now) (a .piece-reals .now)) in
     let e = c .before .one2 .given in
     source-next (a .limit) k (a .pieces) (start .pre .1 .1 .0) (a .j) (start .pre .1 .1 .1) (a .counts) (slices (a .edge-words .now) (a .words .now) (a .reals .now) (a .keys .now) (a .events .now) (a .vertex .now)) (entryBuffers (a .triangle-words .now) (a .entry-words .now))
     (cutBuffers (a .pts .now) (a .out .now) (a .keep .now) (a .next .now)) (read .job-source .result) (read .job-source .ensures) (counted .insert-count .result) (counted .insert-count .ensures)
@@ -237,7 +237,7 @@ returns-2 c =
     let start = read .before .before .before .before .before .before .before .before .before .before .before .before .before .before .before .before .before .before .before .before .before .before .before .before .before in
     let a = start .args in
     let l = loop .loop in
-    let k = (jobSlices (a .vertices .now) (a .vertex-words .now) (a .edge-reals .now) (a .triangle-reals .now) (a .round .now) (a .kinds .now) (a .faces .now) (a .coords .now) (a .piece-words .now) (a .piece-reals .now)) in
+    let k = (insertionSlices (a .vertices .now) (a .vertex-words .now) (a .edge-reals .now) (a .triangle-reals .now) (a .round .now) (a .kinds .now) (a .faces .now) (a .coords .now) (a .piece-words .now) (a .piece-reals .now)) in
     source-over (a .limit) k (a .pieces) (start .pre .1 .1 .0) (a .j) (start .pre .1 .1 .1) (a .counts) (slices (a .edge-words .now) (a .words .now) (a .reals .now) (a .keys .now) (a .events .now) (a .vertex .now)) (entryBuffers (a .triangle-words .now) (a .entry-words .now))
     (cutBuffers (a .pts .now) (a .out .now) (a .keep .now) (a .next .now)) (read .job-source .result) (read .job-source .ensures) (counted .insert-count .result) (counted .insert-count .ensures)
     (slices (l .edge-words) (l .words) (l .reals) (l .keys) (l .events) (l .vertex)) (entryBuffers (l .triangle-words) (l .entry-words)) (cutBuffers (l .pts) (l .out) (l .keep) (l .next)) (l .now) (l .i) (l .inv) (omega (arith, c .loop-test .left))

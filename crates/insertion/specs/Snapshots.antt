@@ -38,22 +38,22 @@ use Rattle.insertion.specs.Insertion.{Inserted, InsertResult, insertEach
 use Rattle.insertion.specs.Insertion as insertion
 
 -- what the buffers hold, and how many windows, events and entries there are
-pub record Place : Type 0 where
+pub record InsertSnapshot : Type 0 where
   pub trim : Snapshot
   pub entered : ℕ
   pub entries : EntryBuffers
 
-abbrev pub placeAt : InsertCounts → Slices → EntryBuffers → Place
-placeAt n b t = record { trim = snapshotAt (n .trim) b; entered = n .entries; entries = t }
+abbrev pub insertSnapshot : InsertCounts → Slices → EntryBuffers → InsertSnapshot
+insertSnapshot n b t = record { trim = snapshotAt (n .trim) b; entered = n .entries; entries = t }
 
 -- a refusal by its number in 01, or where it ends
 pub data InsertEnd : Type 0 where
   stopped : ℕ → InsertEnd
-  at : Place → InsertEnd
+  at : InsertSnapshot → InsertEnd
 
 abbrev pub insertEnd : InsertAnswer → Slices → EntryBuffers → InsertEnd
 insertEnd (Stopped lack) b t = stopped (lackNumber lack)
-insertEnd (Went n) b t = at (placeAt n b t)
+insertEnd (Went n) b t = at (insertSnapshot n b t)
 
 -- words of triangles stay but for their first and last entries
 abbrev pub SidesKept : List ℕ → List ℕ → Type 0
@@ -61,25 +61,25 @@ SidesKept t t′ = (i : ℕ) → ((f : ℕ) → (i ≢ wordsPerTriangle * f + tr
 
 module _ (limit : Float) (mesh : EdgeData) where
   -- the buffers at p hold s, whose state follows the reference model with the candidates so far; t₀ are the triangles' words before the first entry
-  pub record HoldsInserted (t₀ : List ℕ) (past : List Candidate) (s : Inserted) (p : Place) : Type 0 where
+  pub record HoldsInserted (t₀ : List ℕ) (past : List Candidate) (s : Inserted) (p : InsertSnapshot) : Type 0 where
     pub trim : StandsFor limit mesh past (s .state) (p .trim)
     pub entries : HoldsOnly t₀ (p .entered) (p .entries .triangles) (p .entries .words) (s .entries)
 
   -- from p₀ to p the buffers have come to hold a result; the mesh is as it was
-  pub record ComesIn (t₀ : List ℕ) (past : List Candidate) (p₀ p : Place) (r : InsertResult) : Type 0 where
+  pub record ComesIn (t₀ : List ℕ) (past : List Candidate) (p₀ p : InsertSnapshot) (r : InsertResult) : Type 0 where
     pub inserted : Inserted
     pub is : r ≡ insertion.went inserted
     pub stands : HoldsInserted t₀ past inserted p
     pub untouched : Untouched (λ e. Unit {0}) (p₀ .trim) (p .trim)
     pub kept : SidesKept (p₀ .entries .triangles) (p .entries .triangles)
 
-  abbrev pub InsertEnds : List ℕ → List Candidate → Place → InsertEnd → InsertResult → Type 0
+  abbrev pub InsertEnds : List ℕ → List Candidate → InsertSnapshot → InsertEnd → InsertResult → Type 0
   InsertEnds t₀ past p₀ (stopped n) r = r ≡ insertion.stopped n
   InsertEnds t₀ past p₀ (at p) r = ComesIn t₀ past p₀ p r
 
 -- from p on all of xs are inserted, whatever the buffers hold that follows the model; a candidate must be proper only if it is admitted
 module _ (cuts windows slots : ℕ) (limit : Float) (flags : List ℕ) (mesh : EdgeData) where
-  abbrev pub InsertsFrom : List Insert → Place → InsertEnd → Type 0
+  abbrev pub InsertsFrom : List Insert → InsertSnapshot → InsertEnd → Type 0
   InsertsFrom xs p end =
       (t₀ : List ℕ) (past : List Candidate) (s : Inserted) → HoldsInserted limit mesh t₀ past s p → All (AdmittedProper limit (mesh .len)) (candidatesIn xs)
       → InsertEnds limit mesh t₀ (past ++ candidatesIn xs) p end (insertEach cuts windows slots limit flags mesh xs s)
@@ -119,7 +119,7 @@ InsertedWithin windows (Went n) = n .trim .made ≤ windows
 pub record InsertsTo (limit : Float) (vertexWords : List ℕ) (edgeReals : List Float) (x : Insert) (counts : InsertCounts) (b : Slices) (t : EntryBuffers) (c : Cuts) (r : InsertAnswer) (b′ : Slices) (t′ : EntryBuffers) : Type 0 where
   pub bounded : InsertedWithin (capacityOf (length (b .words)) (length (b .reals))) r
   pub inserts : (mesh : EdgeData) → InsertThere mesh (b .edges) edgeReals (t .triangles) x
-      → InsertsFrom (length (c .pts)) (capacityOf (length (b .words)) (length (b .reals))) (entryCapacity (length (t .words))) limit vertexWords mesh (x ∷ []) (placeAt counts b t) (insertEnd r b′ t′)
+      → InsertsFrom (length (c .pts)) (capacityOf (length (b .words)) (length (b .reals))) (entryCapacity (length (t .words))) limit vertexWords mesh (x ∷ []) (insertSnapshot counts b t) (insertEnd r b′ t′)
 
 -- of lent slices, at the call and at the return
 abbrev pub entriesBefore : Lent ℕ → Lent ℕ → EntryBuffers
