@@ -18,10 +18,10 @@ use Rattle.nat_laws.specs.Lists.{listOf}
 use Rattle.nat_laws.proofs.Lists.{listOf-same}
 use Rattle.stl_format.specs.declared.Stl.{Stl}
 use Rattle.stl_format.specs.declared.Stl.the-variants as stl
-use Rattle.stl_format.specs.Format.{StlMesh, recordCount, fileLength, pointFrom, coordinate, notFinite, samePoint, linkAmong, firstPoints, vertexPoints, vertexOf, meshIn}
-use Rattle.stl_format.specs.Answers.{tooMany, readAnswer, afterReading, lists, reading}
-use Rattle.stl_table.specs.Keys.{sameAt, bucketAt}
-use Rattle.stl_table.specs.Table.{HasPoint, HasPoints, foundAt, Findable, Table, Built}
+use Rattle.stl_format.specs.Format.{StlMesh, recordCount, fileLength, pointFrom, coordinate, notFinite, samePoint, linkAmong, firstPoints, vertexPoints, vertexOfPoint, meshIn}
+use Rattle.stl_format.specs.Answers.{tooMany, readAnswer, afterReading, meshLists, stlReading}
+use Rattle.stl_table.specs.Keys.{sameAt, keyBucketAt}
+use Rattle.stl_table.specs.Table.{HasPoint, HasPoints, foundAt, Findable, VertexTable, TableBuilt}
 use Rattle.stl_table.proofs.Following.{link-take}
 use Rattle.stl_table.proofs.Entering.{walk, link-found, bucket-below}
 use Rattle.stl.specs.Parts.{CheckedFile}
@@ -32,8 +32,8 @@ use Rattle.stl.proofs.Agreeing.{first-agree, vertex-agree}
 pub has-points : (s : List ℕ) (n : ℕ) → length s ≡ fileLength n → HasPoints s (3 * n)
 has-points s n e h l = omega arith
 
-pub answered : (s : List ℕ) (m : StlMesh) (a : Stl) → readAnswer s (length (m .vertices) / 3) (length (m .triangles) / 3) ≡ a → (a, afterReading s a m) ≡ reading s m
-unfolding reading
+pub answered : (s : List ℕ) (m : StlMesh) (a : Stl) → readAnswer s (length (m .vertices) / 3) (length (m .triangles) / 3) ≡ a → (a, afterReading s a m) ≡ stlReading s m
+unfolding stlReading
 answered s m a e = ap (λ x. (x, afterReading s x m)) (sym e)
 
 -- ---- 40 to 43, for any number of slots
@@ -93,7 +93,7 @@ module _ (s : List ℕ) (bytes : Bytes s) (n : ℕ) (c : CheckedFile s n) where
   finite-all : anyBelow (notFinite s) (3 * recordCount s) ≡ false
   finite-all = subst (λ (k : ℕ). anyBelow (notFinite s) (3 * k) ≡ false) (c .counted) (c .finite)
 
-  module _ (r : ℕ) (heads links firsts : List ℕ) (b : Built s (3 * n) r heads links firsts) where
+  module _ (r : ℕ) (heads links firsts : List ℕ) (b : TableBuilt s (3 * n) r heads links firsts) where
     pub over-many : (v t : ℕ) → 65535 < r → readAnswer s v t ≡ stl.TooMany
     unfolding tooMany
     over-many v t l =
@@ -101,7 +101,7 @@ module _ (s : List ℕ) (bytes : Bytes s) (n : ℕ) (c : CheckedFile s n) where
         is-many s v t long-enough long-is finite-all (rw (lt-ltb maxVertices (length (vertexPoints s)) k) (or-true (ltb maxTriangles (recordCount s))))
 
     module _ (l : r ≤ 65535) where
-      table : Table s r heads links firsts
+      table : VertexTable s r heads links firsts
       table = b .few l .0
 
       front : take r firsts ≡ vertexPoints s
@@ -135,13 +135,13 @@ module _ (s : List ℕ) (bytes : Bytes s) (n : ℕ) (c : CheckedFile s n) where
           ∙ ap (λ (k : ℕ). listOf (3 * k) (λ j. coordinate s (getD (vertexPoints s) (j / 3) 0) (j % 3))) count-is
 
       pub findable : (h : ℕ) → h < 3 * n → Findable s heads links firsts h
-      findable h k = (has-points s n (c .long) h k, (table .heads-fit, walk s r heads links firsts table (bucketAt s h) (bucket-below s h)))
+      findable h k = (has-points s n (c .long) h k, (table .heads-fit, walk s r heads links firsts table (keyBucketAt s h) (bucket-below s h)))
 
-      vertex-is : (h : ℕ) → h < 3 * n → foundAt s heads links firsts h - 1 ≡ vertexOf s h
-      unfolding vertexOf
+      vertex-is : (h : ℕ) → h < 3 * n → foundAt s heads links firsts h - 1 ≡ vertexOfPoint s h
+      unfolding vertexOfPoint
       vertex-is h k =
           let vs = vertexPoints s in
-          let a : foundAt s heads links firsts h ≡ linkAmong (sameAt s) firsts r h = link-found s r heads links firsts table h (getD heads (bucketAt s h) 0) (bucket-below s h) refl in
+          let a : foundAt s heads links firsts h ≡ linkAmong (sameAt s) firsts r h = link-found s r heads links firsts table h (getD heads (keyBucketAt s h) 0) (bucket-below s h) refl in
           let d : linkAmong (sameAt s) firsts r h ≡ linkAmong (sameAt s) vs (length vs) h =
           sym (link-take (sameAt s) h firsts r r (omega arith)) ∙ (ap (λ us. linkAmong (sameAt s) us r h) front ∙ ap (λ (j : ℕ). linkAmong (sameAt s) vs j h) count-is) in
           let e : linkAmong (sameAt s) vs (length vs) h ≡ linkAmong (samePoint s) vs (length vs) h = vertex-agree (sameAt s) (samePoint s) (3 * n) agree vs h (sym points-are) k in
@@ -150,16 +150,16 @@ module _ (s : List ℕ) (bytes : Bytes s) (n : ℕ) (c : CheckedFile s n) where
       triangles-are : listOf (3 * n) (λ h. foundAt s heads links firsts h - 1) ≡ meshIn s .triangles
       unfolding meshIn
       triangles-are =
-          listOf-same (3 * n) (λ h. vertexOf s h) (λ h. foundAt s heads links firsts h - 1) vertex-is ∙ ap (λ (k : ℕ). listOf (3 * k) (λ h. vertexOf s h)) (c .counted)
+          listOf-same (3 * n) (λ h. vertexOfPoint s h) (λ h. foundAt s heads links firsts h - 1) vertex-is ∙ ap (λ (k : ℕ). listOf (3 * k) (λ h. vertexOfPoint s h)) (c .counted)
 
       -- both lists are written
       pub read-done : (m : StlMesh) (vs : List Float) (ts : List ℕ) → r ≤ length (m .vertices) / 3 → n ≤ length (m .triangles) / 3
           → vs ≡ atFront (listOf (3 * r) (λ j. coordinate s (getD firsts (j / 3) 0) (j % 3))) (m .vertices) → ts ≡ atFront (listOf (3 * n) (λ h. foundAt s heads links firsts h - 1)) (m .triangles)
-          → (stl.Mesh (record { vertices = r; triangles = n }), lists vs ts) ≡ reading s m
+          → (stl.Mesh (record { vertices = r; triangles = n }), meshLists vs ts) ≡ stlReading s m
       unfolding afterReading
       read-done m vs ts j k ev et =
           ap (λ x. (stl.Mesh (record { vertices = r; triangles = n }), x))
-          (λ i. lists ((ev ∙ ap (λ l. atFront l (m .vertices)) vertices-are) i) ((et ∙ ap (λ l. atFront l (m .triangles)) triangles-are) i))
+          (λ i. meshLists ((ev ∙ ap (λ l. atFront l (m .vertices)) vertices-are) i) ((et ∙ ap (λ l. atFront l (m .triangles)) triangles-are) i))
           ∙ answered s m (stl.Mesh (record { vertices = r; triangles = n })) (mesh-answer (length (m .vertices) / 3) (length (m .triangles) / 3) j k)
 
       pub there : (i : ℕ) → i < r → HasPoint s (getD firsts i 0)

@@ -107,7 +107,7 @@ module _ (b c : ℕ) (lb : b < 4294967296) (lc : c < 4294967296) (fb : T (finite
 abbrev pub Bytes : List ℕ → Type 0
 Bytes s = (i : ℕ) → getD s i 0 < 256
 
-number-below : (s : List ℕ) → Bytes s → (i : ℕ) → numberFrom s i < 4294967296
+pub number-below : (s : List ℕ) → Bytes s → (i : ℕ) → numberFrom s i < 4294967296
 unfolding numberFrom
 number-below s h i = omega (arith, h i, h (i + 1), h (i + 2), h (i + 3))
 

@@ -19,7 +19,7 @@ use Rattle.single.specs.Single.{isSingle}
 use Rattle.text_out.specs.Text.{Puts}
 use Rattle.stl_format.specs.declared.Stl.the-variants as stl
 use Rattle.stl_format.specs.Format.{fileLength, singleBytes, vertexBytes, recordBytes, recordsBytes, fileOf}
-use Rattle.stl_format.specs.Answers.{wrongSizes, notSingle, writeAnswer, afterWriting, writing}
+use Rattle.stl_format.specs.Answers.{wrongSizes, notSingle, writeAnswer, afterWriting, stlWriting}
 use Rattle.stl.specs.Parts.{Writable, WritableTriangles}
 
 pub length-single : (x : Float) → length (singleBytes x) ≡ 4
@@ -76,27 +76,27 @@ writable v t m s h l =
 -- ---- the answers
 
 module _ (v : List Float) (t out : List ℕ) where
-  pub wrong : wrongSizes (length v) (length t) ≡ true → (stl.Malformed, out) ≡ writing v t out
-  unfolding writing writeAnswer afterWriting
+  pub wrong : wrongSizes (length v) (length t) ≡ true → (stl.Malformed, out) ≡ stlWriting v t out
+  unfolding stlWriting writeAnswer afterWriting
   wrong h = rw h
 
   module _ (h : wrongSizes (length v) (length t) ≡ false) where
-    pub names-none : missingVertex v t ≡ true → (stl.MissingVertex, out) ≡ writing v t out
-    unfolding writing writeAnswer afterWriting
+    pub names-none : missingVertex v t ≡ true → (stl.MissingVertex, out) ≡ stlWriting v t out
+    unfolding stlWriting writeAnswer afterWriting
     names-none m = rw (h, m)
 
     module _ (m : missingVertex v t ≡ false) where
-      pub no-single : anyBelow (notSingle v) (length v) ≡ true → (stl.NotSingle, out) ≡ writing v t out
-      unfolding writing writeAnswer afterWriting
+      pub no-single : anyBelow (notSingle v) (length v) ≡ true → (stl.NotSingle, out) ≡ stlWriting v t out
+      unfolding stlWriting writeAnswer afterWriting
       no-single s = rw (h, m, s)
 
       module _ (s : anyBelow (notSingle v) (length v) ≡ false) where
-        pub too-short : length out < fileLength (length t / 3) → (stl.ShortBuffer, out) ≡ writing v t out
-        unfolding writing writeAnswer afterWriting
+        pub too-short : length out < fileLength (length t / 3) → (stl.ShortBuffer, out) ≡ stlWriting v t out
+        unfolding stlWriting writeAnswer afterWriting
         too-short l = rw (h, m, s, lt-ltb _ _ l)
 
-        pub written : fileLength (length t / 3) ≤ length out → (left : List ℕ) (r : ℕ) → Puts out 0 (fileOf v t) left r → (stl.File (fileLength (length t / 3)), left) ≡ writing v t out
-        unfolding writing writeAnswer afterWriting atFront
+        pub written : fileLength (length t / 3) ≤ length out → (left : List ℕ) (r : ℕ) → Puts out 0 (fileOf v t) left r → (stl.File (fileLength (length t / 3)), left) ≡ stlWriting v t out
+        unfolding stlWriting writeAnswer afterWriting atFront
         written l left r p =
             let e : left ≡ atFront (fileOf v t) out = p .holds ∙ (sets-eq (fileOf v t) out 0 (rw (zero-add, length-file v t) l) ∙ rw zero-add) in
             rw (h, m, s, le-ltb _ _ l) (ap (λ o. (stl.File (fileLength (length t / 3)), o)) e)

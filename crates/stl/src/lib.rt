@@ -23,7 +23,7 @@ ghost use Rattle.nat_laws.specs.Lists.{listOf};
 ghost use Rattle.single.specs.Single.{isSingle};
 ghost use Rattle.text_out.specs.Text.{Puts};
 ghost use Rattle.stl_format.specs.Format.{coordinate, notFinite, singleBytes, vertexBytes, recordBytes, recordsBytes, fileOf};
-ghost use Rattle.stl_format.specs.Answers.{lists, reading, wrongSizes, notSingle, writing};
+ghost use Rattle.stl_format.specs.Answers.{meshLists, stlReading, wrongSizes, notSingle, stlWriting};
 ghost use Rattle.stl_table.specs.Table.{HasPoint, HasPoints, foundAt, Findable};
 ghost use Rattle.stl.specs.Parts.{Writable, WritableTriangles, CheckedFile};
 
@@ -137,7 +137,7 @@ fn put_file(out: &mut [u8], vertices: &[f64], triangles: &[u32]) -> usize
 
 // The file of a mesh to the front of a slice. Refused, it writes nothing.
 pub fn write(vertices: &[f64], triangles: &[u32], out: &mut [u8]) -> Stl
-    ensures { λ r. ⌜ (r, left out) ≡ writing (given vertices) (given triangles) (given out) ⌝ }
+    ensures { λ r. ⌜ (r, left out) ≡ stlWriting (given vertices) (given triangles) (given out) ⌝ }
 {
     if has_wrong_sizes(vertices.len(), triangles.len()) {
         return Stl::Malformed;
@@ -232,7 +232,7 @@ fn write_triangles(
 // The mesh of a file of n records that 40 to 42 passed. Its vertices are counted in arrays of its own before anything is written.
 fn read_mesh(s: &[u8], n: u32, vertices: &mut [f64], triangles: &mut [u32]) -> Stl
     requires { ⌜ CheckedFile (now s) n ⌝ }
-    ensures { λ r. ⌜ (r, lists (left vertices) (left triangles)) ≡ reading (given s) (lists (given vertices) (given triangles)) ⌝ }
+    ensures { λ r. ⌜ (r, meshLists (left vertices) (left triangles)) ≡ stlReading (given s) (meshLists (given vertices) (given triangles)) ⌝ }
 {
     let mut heads = [0u32; 131072];
     let mut links = [0u32; 65536];
@@ -257,7 +257,7 @@ fn read_mesh(s: &[u8], n: u32, vertices: &mut [f64], triangles: &mut [u32]) -> S
 
 // Reads a file: its mesh to the fronts of the two slices, where there is room for it. Refused, it writes nothing.
 pub fn read(s: &[u8], vertices: &mut [f64], triangles: &mut [u32]) -> Stl
-    ensures { λ r. ⌜ (r, lists (left vertices) (left triangles)) ≡ reading (given s) (lists (given vertices) (given triangles)) ⌝ }
+    ensures { λ r. ⌜ (r, meshLists (left vertices) (left triangles)) ≡ stlReading (given s) (meshLists (given vertices) (given triangles)) ⌝ }
 {
     if s.len() < 84 {
         return Stl::TooShort;

@@ -57,12 +57,12 @@ afterReading s stl.NotSingle b = b
 afterReading s stl.ShortBuffer b = b
 afterReading s (stl.File bytes) b = b
 
-abbrev pub lists : List Float → List ℕ → StlMesh
-lists v t = record { vertices = v; triangles = t }
+abbrev pub meshLists : List Float → List ℕ → StlMesh
+meshLists v t = record { vertices = v; triangles = t }
 
-unfoldable pub reading : List ℕ → StlMesh → Stl × StlMesh
+unfoldable pub stlReading : List ℕ → StlMesh → Stl × StlMesh
 unfolding readAnswer afterReading
-reading s b =
+stlReading s b =
     let answer = readAnswer s (length (b .vertices) / 3) (length (b .triangles) / 3) in
     (answer, afterReading s answer b)
 
@@ -101,8 +101,8 @@ afterWriting v t stl.NotSingle out = out
 afterWriting v t stl.ShortBuffer out = out
 afterWriting v t (stl.Mesh counts) out = out
 
-unfoldable pub writing : List Float → List ℕ → List ℕ → Stl × List ℕ
+unfoldable pub stlWriting : List Float → List ℕ → List ℕ → Stl × List ℕ
 unfolding writeAnswer afterWriting
-writing v t out =
+stlWriting v t out =
     let answer = writeAnswer v t (length out) in
     (answer, afterWriting v t answer out)

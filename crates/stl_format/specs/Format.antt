@@ -60,15 +60,15 @@ unfoldable pub vertexPoints : List ℕ → List ℕ
 unfolding samePoint firstPoints
 vertexPoints s = firstPoints (samePoint s) (3 * recordCount s)
 
-unfoldable pub vertexOf : List ℕ → ℕ → ℕ
+unfoldable pub vertexOfPoint : List ℕ → ℕ → ℕ
 unfolding samePoint linkAmong vertexPoints
-vertexOf s h = linkAmong (samePoint s) (vertexPoints s) (length (vertexPoints s)) h - 1
+vertexOfPoint s h = linkAmong (samePoint s) (vertexPoints s) (length (vertexPoints s)) h - 1
 
 unfoldable pub meshIn : List ℕ → StlMesh
-unfolding coordinate vertexPoints vertexOf
+unfolding coordinate vertexPoints vertexOfPoint
 meshIn s = record {
   vertices = listOf (3 * length (vertexPoints s)) (λ j. coordinate s (getD (vertexPoints s) (j / 3) 0) (j % 3));
-  triangles = listOf (3 * recordCount s) (λ h. vertexOf s h);
+  triangles = listOf (3 * recordCount s) (λ h. vertexOfPoint s h);
 }
 
 -- ---- the file of a mesh: all but the count and the points is zero

@@ -27,14 +27,14 @@ unfolding keyAt sameKey
 sameAt s g h = sameKey (keyAt s g) (keyAt s h)
 
 -- the two halves of a product, added
-unfoldable pub mixed : ℕ → ℕ → ℕ
-mixed h x = let p = (h + x) % 4294967296 * 2654435769 in (p / 4294967296 + p % 4294967296) % 4294967296
+unfoldable pub mixedKey : ℕ → ℕ → ℕ
+mixedKey h x = let p = (h + x) % 4294967296 * 2654435769 in (p / 4294967296 + p % 4294967296) % 4294967296
 
 -- one of 131,072 buckets
-unfoldable pub bucketOf : PointKey → ℕ
-unfolding mixed
-bucketOf k = mixed (mixed (mixed 0 (k .x)) (k .y)) (k .z) / 32768
+unfoldable pub keyBucket : PointKey → ℕ
+unfolding mixedKey
+keyBucket k = mixedKey (mixedKey (mixedKey 0 (k .x)) (k .y)) (k .z) / 32768
 
-unfoldable pub bucketAt : List ℕ → ℕ → ℕ
-unfolding keyAt bucketOf
-bucketAt s h = bucketOf (keyAt s h)
+unfoldable pub keyBucketAt : List ℕ → ℕ → ℕ
+unfolding keyAt keyBucket
+keyBucketAt s h = keyBucket (keyAt s h)

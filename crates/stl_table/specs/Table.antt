@@ -7,7 +7,7 @@ use mathlib.Core.List.{List}
 use lib.Dec.{eqb}
 use lib.ListN.{length, getD, set, take}
 use Rattle.stl_format.specs.Format.{pointFrom, linkAmong, firstPoints}
-use Rattle.stl_table.specs.Keys.{keyAt, sameKey, sameAt, bucketAt}
+use Rattle.stl_table.specs.Keys.{keyAt, sameKey, sameAt, keyBucketAt}
 
 -- the bytes of point h are there; those of the first n points
 abbrev pub HasPoint : List ℕ → ℕ → Type 0
@@ -17,15 +17,15 @@ abbrev pub HasPoints : List ℕ → ℕ → Type 0
 HasPoints s n = (h : ℕ) → h < n → HasPoint s h
 
 -- the link to the last of the first n vertices that is in bucket b
-unfoldable pub lastIn : (ℕ → ℕ) → List ℕ → ℕ → ℕ → ℕ
-lastIn bucket fs b zero = 0
-lastIn bucket fs b (suc n) = cond (eqb (bucket (getD fs n 0)) b) (suc n) (lastIn bucket fs b n)
+unfoldable pub lastVertexIn : (ℕ → ℕ) → List ℕ → ℕ → ℕ → ℕ
+lastVertexIn bucket fs b zero = 0
+lastVertexIn bucket fs b (suc n) = cond (eqb (bucket (getD fs n 0)) b) (suc n) (lastVertexIn bucket fs b n)
 
 -- the link to the first vertex that passes a test, along the links from one on; the first number is how many are followed at most
-unfoldable pub follow : (ℕ → Bool) → List ℕ → ℕ → ℕ → ℕ
-follow passes links zero at = 0
-follow passes links (suc n) zero = 0
-follow passes links (suc n) (suc i) = cond (passes i) (suc i) (follow passes links n (getD links i 0))
+unfoldable pub followLinks : (ℕ → Bool) → List ℕ → ℕ → ℕ → ℕ
+followLinks passes links zero at = 0
+followLinks passes links (suc n) zero = 0
+followLinks passes links (suc n) (suc i) = cond (passes i) (suc i) (followLinks passes links n (getD links i 0))
 
 -- From a link on, links fall and lead to points that are there.
 pub record Walkable (s links firsts : List ℕ) (head : ℕ) : Type 0 where
@@ -36,30 +36,30 @@ pub record Walkable (s links firsts : List ℕ) (head : ℕ) : Type 0 where
 
 -- the link that is found for point h from the head of its bucket, and where it can be looked for
 abbrev pub foundAt : List ℕ → List ℕ → List ℕ → List ℕ → ℕ → ℕ
-foundAt s heads links firsts h = follow (λ i. sameKey (keyAt s (getD firsts i 0)) (keyAt s h)) links (getD heads (bucketAt s h) 0) (getD heads (bucketAt s h) 0)
+foundAt s heads links firsts h = followLinks (λ i. sameKey (keyAt s (getD firsts i 0)) (keyAt s h)) links (getD heads (keyBucketAt s h) 0) (getD heads (keyBucketAt s h) 0)
 
 abbrev pub Findable : List ℕ → List ℕ → List ℕ → List ℕ → ℕ → Type 0
-Findable s heads links firsts h = HasPoint s h × ((131072 ≤ length heads) × Walkable s links firsts (getD heads (bucketAt s h) 0))
+Findable s heads links firsts h = HasPoint s h × ((131072 ≤ length heads) × Walkable s links firsts (getD heads (keyBucketAt s h) 0))
 
-pub record Table (s : List ℕ) (count : ℕ) (heads links firsts : List ℕ) : Type 0 where
+pub record VertexTable (s : List ℕ) (count : ℕ) (heads links firsts : List ℕ) : Type 0 where
   pub heads-fit : 131072 ≤ length heads
   pub links-fit : 65536 ≤ length links
   pub firsts-fit : 65536 ≤ length firsts
   pub few : count ≤ 65536
-  pub head : (b : ℕ) → b < 131072 → getD heads b 0 ≡ lastIn (bucketAt s) firsts b count
-  pub link : (i : ℕ) → i < count → getD links i 0 ≡ lastIn (bucketAt s) firsts (bucketAt s (getD firsts i 0)) i
+  pub head : (b : ℕ) → b < 131072 → getD heads b 0 ≡ lastVertexIn (keyBucketAt s) firsts b count
+  pub link : (i : ℕ) → i < count → getD links i 0 ≡ lastVertexIn (keyBucketAt s) firsts (keyBucketAt s (getD firsts i 0)) i
   pub there : (i : ℕ) → i < count → HasPoint s (getD firsts i 0)
 
 -- point h is the same as a vertex, or becomes the next one
 abbrev pub isNew : List ℕ → List ℕ → ℕ → ℕ → Bool
 isNew s firsts count h = eqb (linkAmong (sameAt s) firsts count h) 0
 
-pub record Entered (s : List ℕ) (h count : ℕ) (firsts₀ : List ℕ) (r : ℕ) (heads links firsts : List ℕ) : Type 0 where
+pub record PointEntered (s : List ℕ) (h count : ℕ) (firsts₀ : List ℕ) (r : ℕ) (heads links firsts : List ℕ) : Type 0 where
   pub counted : r ≡ cond (isNew s firsts₀ count h) (count + 1) count
   pub points : firsts ≡ cond (isNew s firsts₀ count h) (set firsts₀ count h) firsts₀
-  pub table : Table s r heads links firsts
+  pub table : VertexTable s r heads links firsts
 
 -- The table of the first n points, or more vertices than document 01 allows.
-pub record Built (s : List ℕ) (n r : ℕ) (heads links firsts : List ℕ) : Type 0 where
-  pub few : r ≤ 65535 → Table s r heads links firsts × ((take r firsts ≡ firstPoints (sameAt s) n) × (r ≡ length (firstPoints (sameAt s) n)))
+pub record TableBuilt (s : List ℕ) (n r : ℕ) (heads links firsts : List ℕ) : Type 0 where
+  pub few : r ≤ 65535 → VertexTable s r heads links firsts × ((take r firsts ≡ firstPoints (sameAt s) n) × (r ≡ length (firstPoints (sameAt s) n)))
   pub many : 65535 < r → 65535 < length (firstPoints (sameAt s) n)

@@ -1,5 +1,5 @@
 // The vertices of an STL file: points with the same coordinates are found through buckets, 131,072 of them, each a chain of vertices, the newest first.
-// `bucketOf` in specs/ spreads them. Points that are chosen to meet in one bucket make a step for each vertex before: at worst 3 n points of v vertices take
+// `keyBucket` in specs/ spreads them. Points that are chosen to meet in one bucket make a step for each vertex before: at worst 3 n points of v vertices take
 // 3 n v steps.
 use buffers::zero_u32;
 use stl_format::point_from;
@@ -9,8 +9,8 @@ ghost use Prim.Native.Nat.{_+_, _≤_, _<_};
 ghost use lib.ListN.{length, getD};
 ghost use Rattle.buffers.specs.Lent.{given, left};
 ghost use Rattle.little_endian.specs.Bytes.{numberFrom};
-ghost use Rattle.stl_table.specs.Keys.{zeroUnsigned, keyAt, sameKey, mixed, bucketOf};
-ghost use Rattle.stl_table.specs.Table.{HasPoint, HasPoints, follow, Walkable, foundAt, Findable, Table, Entered, Built};
+ghost use Rattle.stl_table.specs.Keys.{zeroUnsigned, keyAt, sameKey, mixedKey, keyBucket};
+ghost use Rattle.stl_table.specs.Table.{HasPoint, HasPoints, followLinks, Walkable, foundAt, Findable, VertexTable, PointEntered, TableBuilt};
 
 // The bits of a point's three coordinates, minus zero's as zero's.
 pub struct PointKey {
@@ -58,14 +58,14 @@ fn same_key(a: PointKey, b: PointKey) -> bool
 }
 
 fn mix(h: u32, x: u32) -> u32
-    ensures { λ r. ⌜ r ≡ mixed h x ⌝ }
+    ensures { λ r. ⌜ r ≡ mixedKey h x ⌝ }
 {
     let p = ((h as u64) + (x as u64)) % 4294967296 * 2654435769;
     ((p / 4294967296 + p % 4294967296) % 4294967296) as u32
 }
 
 fn bucket_of(k: PointKey) -> usize
-    ensures { λ r. ⌜ (r ≡ bucketOf k) × (r < 131072) ⌝ }
+    ensures { λ r. ⌜ (r ≡ keyBucket k) × (r < 131072) ⌝ }
 {
     (mix(mix(mix(0, k.x), k.y), k.z) / 32768) as usize
 }
@@ -73,7 +73,7 @@ fn bucket_of(k: PointKey) -> usize
 // The link to the vertex with key k along the links from one on, or 0.
 fn seek(s: &[u8], links: &[u32], firsts: &[u32], k: PointKey, head: u32) -> u32
     requires { ⌜ Walkable (now s) (now links) (now firsts) head ⌝ }
-    ensures { λ r. ⌜ r ≡ follow (λ i. sameKey (keyAt (given s) (getD (given firsts) i 0)) k) (given links) head head ⌝ }
+    ensures { λ r. ⌜ r ≡ followLinks (λ i. sameKey (keyAt (given s) (getD (given firsts) i 0)) k) (given links) head head ⌝ }
 {
     let mut at = head;
     while at != 0 {
@@ -105,8 +105,8 @@ fn enter(
     h: u32,
     count: u32,
 ) -> u32
-    requires { ⌜ HasPoint (now s) h × ((count ≤ 65535) × Table (now s) count (now heads) (now links) (now firsts)) ⌝ }
-    ensures { λ r. ⌜ Entered (given s) h count (given firsts) r (left heads) (left links) (left firsts) ⌝ }
+    requires { ⌜ HasPoint (now s) h × ((count ≤ 65535) × VertexTable (now s) count (now heads) (now links) (now firsts)) ⌝ }
+    ensures { λ r. ⌜ PointEntered (given s) h count (given firsts) r (left heads) (left links) (left firsts) ⌝ }
 {
     let k = key_at(s, h);
     let b = bucket_of(k);
@@ -124,7 +124,7 @@ fn enter(
 // The first so many points: answers how many vertices they have, and stops at 65,536.
 pub fn build(s: &[u8], points: u32, heads: &mut [u32], links: &mut [u32], firsts: &mut [u32]) -> u32
     requires { ⌜ HasPoints (now s) points × ((131072 ≤ length (now heads)) × ((65536 ≤ length (now links)) × (65536 ≤ length (now firsts)))) ⌝ }
-    ensures { λ r. ⌜ Built (given s) points r (left heads) (left links) (left firsts) ⌝ }
+    ensures { λ r. ⌜ TableBuilt (given s) points r (left heads) (left links) (left firsts) ⌝ }
 {
     zero_u32(heads);
     let mut count: u32 = 0;

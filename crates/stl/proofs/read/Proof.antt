@@ -6,7 +6,7 @@ use lib.ListN.{length}
 use Rattle.job_checks.specs.Any.{anyBelow}
 use Rattle.stl_format.specs.declared.Stl.the-variants.{TooShort, WrongLength, NotFinite, TooMany}
 use Rattle.stl_format.specs.Format.{notFinite}
-use Rattle.stl_format.specs.Answers.{afterReading, lists}
+use Rattle.stl_format.specs.Answers.{afterReading, meshLists}
 use Rattle.stl.proofs.Meshes.{answered, is-short, is-wrong, is-infinite, is-many, many-records}
 use borrow.Author.Needs.{needs}
 use Rattle.stl.proofs.read.Statement.{statement}
@@ -16,7 +16,7 @@ returns : tie.Need-returns
 unfolding afterReading
 returns c =
     let a = c .before .before .before .before .args in
-    answered (a .s .now) (lists (a .vertices .now) (a .triangles .now)) TooShort (is-short (a .s .now) (length (a .vertices .now) / 3) (length (a .triangles .now) / 3) (c .if1 .taken))
+    answered (a .s .now) (meshLists (a .vertices .now) (a .triangles .now)) TooShort (is-short (a .s .now) (length (a .vertices .now) / 3) (length (a .triangles .now) / 3) (c .if1 .taken))
 
 word-at-requires : tie.Need-word-at-requires
 word-at-requires c κs = search needs
@@ -37,7 +37,7 @@ returns-2 c =
     let first = word .before in
     let a = first .before .before .before .before .args in
     let s = a .s .now in
-    answered s (lists (a .vertices .now) (a .triangles .now)) WrongLength (is-wrong s (length (a .vertices .now) / 3) (length (a .triangles .now) / 3) (first .if1 .left) (λ z. c .if2 .taken (z ∙ ap (λ (k : ℕ). 84 + 50 * k) (sym (word .word-at .ensures)))))
+    answered s (meshLists (a .vertices .now) (a .triangles .now)) WrongLength (is-wrong s (length (a .vertices .now) / 3) (length (a .triangles .now) / 3) (first .if1 .left) (λ z. c .if2 .taken (z ∙ ap (λ (k : ℕ). 84 + 50 * k) (sym (word .word-at .ensures)))))
 
 mul-any-not-finite : tie.Need-mul-any-not-finite
 mul-any-not-finite c = search needs
@@ -54,7 +54,7 @@ returns-3 c =
     let first = word .before in
     let a = first .before .before .before .before .args in
     let s = a .s .now in
-    answered s (lists (a .vertices .now) (a .triangles .now)) NotFinite (is-infinite s (length (a .vertices .now) / 3) (length (a .triangles .now) / 3) (first .if1 .left) (second .if2 .left ∙ ap (λ (k : ℕ). 84 + 50 * k) (word .word-at .ensures)) (subst (λ (k : ℕ). anyBelow (notFinite s) (3 * k) ≡ true) (word .word-at .ensures) (sym (any .any-not-finite .ensures) ∙ c .if3 .taken)))
+    answered s (meshLists (a .vertices .now) (a .triangles .now)) NotFinite (is-infinite s (length (a .vertices .now) / 3) (length (a .triangles .now) / 3) (first .if1 .left) (second .if2 .left ∙ ap (λ (k : ℕ). 84 + 50 * k) (word .word-at .ensures)) (subst (λ (k : ℕ). anyBelow (notFinite s) (3 * k) ≡ true) (word .word-at .ensures) (sym (any .any-not-finite .ensures) ∙ c .if3 .taken)))
 
 returns-4 : tie.Need-returns-4
 unfolding afterReading
@@ -65,7 +65,7 @@ returns-4 c =
     let first = word .before in
     let a = first .before .before .before .before .args in
     let s = a .s .now in
-    answered s (lists (a .vertices .now) (a .triangles .now)) TooMany (is-many s (length (a .vertices .now) / 3) (length (a .triangles .now) / 3) (first .if1 .left) (second .if2 .left ∙ ap (λ (k : ℕ). 84 + 50 * k) (word .word-at .ensures)) (subst (λ (k : ℕ). anyBelow (notFinite s) (3 * k) ≡ false) (word .word-at .ensures) (sym (any .any-not-finite .ensures) ∙ c .before .if3 .left)) (many-records s (rw (word .word-at .ensures) at (c .if4 .taken))))
+    answered s (meshLists (a .vertices .now) (a .triangles .now)) TooMany (is-many s (length (a .vertices .now) / 3) (length (a .triangles .now) / 3) (first .if1 .left) (second .if2 .left ∙ ap (λ (k : ℕ). 84 + 50 * k) (word .word-at .ensures)) (subst (λ (k : ℕ). anyBelow (notFinite s) (3 * k) ≡ false) (word .word-at .ensures) (sym (any .any-not-finite .ensures) ∙ c .before .if3 .left)) (many-records s (rw (word .word-at .ensures) at (c .if4 .taken))))
 
 cast-read-mesh : tie.Need-cast-read-mesh
 cast-read-mesh c = search needs

@@ -3,7 +3,7 @@ use Prim.Native.Nat.{_/_}
 use native.Mathlib.Omega.{arith}
 use lib.ListN.{length}
 use Rattle.stl_format.specs.declared.Stl.the-variants.{TooMany, ShortBuffer}
-use Rattle.stl_format.specs.Answers.{afterReading, lists}
+use Rattle.stl_format.specs.Answers.{afterReading, meshLists}
 use Rattle.stl.proofs.Same.{Bytes}
 use Rattle.stl.proofs.Meshes.{answered, over-many, no-vertices, no-triangles, firsts-fit, there, findable, read-done}
 use borrow.Author.Needs.{needs}
@@ -35,7 +35,7 @@ returns c =
     let build = c .before .before .before .before in
     let a = build .before .before .before .before .before .before .before .args in
     let f = build .before .before .before .before .before .before .before .pre in
-    answered (a .s .now) (lists (a .vertices .now) (a .triangles .now)) TooMany (over-many (a .s .now) (bytes build) (a .n) f (build .build .result) _ _ _ (build .build .ensures) (length (a .vertices .now) / 3) (length (a .triangles .now) / 3) (c .if1 .taken))
+    answered (a .s .now) (meshLists (a .vertices .now) (a .triangles .now)) TooMany (over-many (a .s .now) (bytes build) (a .n) f (build .build .result) _ _ _ (build .build .ensures) (length (a .vertices .now) / 3) (length (a .triangles .now) / 3) (c .if1 .taken))
 
 cast-if2 : tie.Need-cast-if2
 cast-if2 c = search needs
@@ -46,7 +46,7 @@ returns-2 c =
     let build = c .before .before .before .before .before in
     let a = build .before .before .before .before .before .before .before .args in
     let f = build .before .before .before .before .before .before .before .pre in
-    answered (a .s .now) (lists (a .vertices .now) (a .triangles .now)) ShortBuffer (no-vertices (a .s .now) (bytes build) (a .n) f (build .build .result) _ _ _ (build .build .ensures) (c .before .if1 .left) (length (a .vertices .now) / 3) (length (a .triangles .now) / 3) (c .if2 .taken))
+    answered (a .s .now) (meshLists (a .vertices .now) (a .triangles .now)) ShortBuffer (no-vertices (a .s .now) (bytes build) (a .n) f (build .build .result) _ _ _ (build .build .ensures) (c .before .if1 .left) (length (a .vertices .now) / 3) (length (a .triangles .now) / 3) (c .if2 .taken))
 
 returns-3 : tie.Need-returns-3
 unfolding afterReading
@@ -54,7 +54,7 @@ returns-3 c =
     let build = c .before .before .before .before .before .before in
     let a = build .before .before .before .before .before .before .before .args in
     let f = build .before .before .before .before .before .before .before .pre in
-    answered (a .s .now) (lists (a .vertices .now) (a .triangles .now)) ShortBuffer (no-triangles (a .s .now) (bytes build) (a .n) f (build .build .result) _ _ _ (build .build .ensures) (c .before .before .if1 .left) (length (a .vertices .now) / 3) (length (a .triangles .now) / 3) (c .before .if2 .left) (c .if3 .taken))
+    answered (a .s .now) (meshLists (a .vertices .now) (a .triangles .now)) ShortBuffer (no-triangles (a .s .now) (bytes build) (a .n) f (build .build .result) _ _ _ (build .build .ensures) (c .before .before .if1 .left) (length (a .vertices .now) / 3) (length (a .triangles .now) / 3) (c .before .if2 .left) (c .if3 .taken))
 
 slice-aggregate-write-vertices : tie.Need-slice-aggregate-write-vertices
 slice-aggregate-write-vertices c = search needs
@@ -106,7 +106,7 @@ returns-4 c =
     let start = build .before .before .before .before .before .before .before in
     let a = start .args in
     read-done (a .s .now) (bytes build) (a .n) (start .pre) (build .build .result) _ _ _ (build .build .ensures) (first .if1 .left)
-    (lists (a .vertices .now) (a .triangles .now)) _ _ (second .if2 .left) (third .if3 .left) (vertices .write-vertices .ensures) (triangles .write-triangles .ensures)
+    (meshLists (a .vertices .now) (a .triangles .now)) _ _ (second .if2 .left) (third .if3 .left) (vertices .write-vertices .ensures) (triangles .write-triangles .ensures)
 
 pub read-mesh-spec : {M : Type 1} → statement M
 read-mesh-spec =

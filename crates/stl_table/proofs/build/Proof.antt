@@ -6,7 +6,7 @@ use lib.ListN.{length, take, length-replicate}
 use borrow.Author.Needs.{needs}
 use Rattle.stl_format.specs.Format.{firstPoints}
 use Rattle.stl_table.specs.Keys.{sameAt}
-use Rattle.stl_table.specs.Table.{Table, isNew}
+use Rattle.stl_table.specs.Table.{VertexTable, isNew}
 use Rattle.stl_table.proofs.Entering.{none-entered, none-first, points-more, built-all, built-many}
 use Rattle.stl_table.proofs.build.Statement.{statement}
 use Rattle.stl_table.proofs.build.Tie as tie
@@ -16,7 +16,7 @@ Inv-loop s points heads₀ links₀ firsts₀ count₀ h₀ heads links firsts c
     (h ≤ points)
     × ((length heads ≡ length heads₀)
     × ((length links ≡ length links₀)
-    × ((length firsts ≡ length firsts₀) × ((count ≤ 65535) × (Table s count heads links firsts × (take count firsts ≡ firstPoints (sameAt s) h))))))
+    × ((length firsts ≡ length firsts₀) × ((count ≤ 65535) × (VertexTable s count heads links firsts × (take count firsts ≡ firstPoints (sameAt s) h))))))
 
 abbrev μ-loop : tie.MeasureT-loop
 μ-loop s points heads₀ links₀ firsts₀ count₀ h₀ heads links firsts count h = points - h

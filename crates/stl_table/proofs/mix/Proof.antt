@@ -1,6 +1,6 @@
 -- `stl_table::mix` meets its contract. Assumes nothing.
 use mathlib.Core.Path.{refl}
-use Rattle.stl_table.specs.Keys.{mixed}
+use Rattle.stl_table.specs.Keys.{mixedKey}
 use borrow.Author.Needs.{needs}
 use Rattle.stl_table.proofs.mix.Statement.{statement}
 use Rattle.stl_table.proofs.mix.Tie as tie
@@ -18,7 +18,7 @@ cast-result : tie.Need-cast-result
 cast-result c = search needs
 
 returns : tie.Need-returns
-unfolding mixed
+unfolding mixedKey
 returns c = refl
 
 pub mix-spec : {M : Type 1} → statement M

@@ -9,7 +9,7 @@ use lib.ListN.{getD}
 use borrow.Author.Needs.{needs}
 use Rattle.stl_table.specs.declared.PointKey.{PointKey}
 use Rattle.stl_table.specs.Keys.{keyAt, sameKey}
-use Rattle.stl_table.specs.Table.{follow}
+use Rattle.stl_table.specs.Table.{followLinks}
 use Rattle.stl_table.proofs.Following.{found, next, missed}
 use Rattle.stl_table.proofs.seek.Statement.{statement}
 use Rattle.stl_table.proofs.seek.Tie as tie
@@ -18,7 +18,7 @@ abbrev passes : List ℕ → List ℕ → PointKey → ℕ → Bool
 passes s firsts k i = sameKey (keyAt s (getD firsts i 0)) k
 
 abbrev Inv-loop : tie.InvT-loop
-Inv-loop s links firsts k head at₀ at = (at ≤ head) × (follow (passes s firsts k) links head head ≡ follow (passes s firsts k) links at at)
+Inv-loop s links firsts k head at₀ at = (at ≤ head) × (followLinks (passes s firsts k) links head head ≡ followLinks (passes s firsts k) links at at)
 
 abbrev μ-loop : tie.MeasureT-loop
 μ-loop s links firsts k head at₀ at = at

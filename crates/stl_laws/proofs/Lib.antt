@@ -1,0 +1,6 @@
+pub mod Points
+pub mod Numbering
+pub mod Equal
+pub mod Accepting
+pub mod Counting
+pub mod Returned

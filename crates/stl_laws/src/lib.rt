@@ -1,0 +1,1 @@
+// Laws of reading and writing binary STL: specs/Laws.antt.
