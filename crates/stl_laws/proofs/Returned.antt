@@ -23,16 +23,16 @@ use Rattle.nat_laws.proofs.Lists.{length-listOf, getD-listOf}
 use Rattle.single.specs.Single.{isSingle}
 use Rattle.stl_format.specs.declared.Stl.the-variants as stl
 use Rattle.stl_format.specs.Format.{StlMesh, recordCount, fileLength, pointFrom, coordinate, notFinite, samePoint, linkAmong, firstPoints, vertexPoints, vertexOfPoint, meshIn, fileOf}
-use Rattle.stl_format.specs.Answers.{meshLists, wrongSizes, notSingle, writeAnswer, afterWriting, stlWriting}
+use Rattle.stl_format.specs.Answers.{meshLists, stlReading, wrongSizes, notSingle, writeAnswer, afterWriting, stlWriting}
 use Rattle.stl_table.specs.Keys.{zeroUnsigned}
 use Rattle.stl.proofs.Same.{Bytes, same-single, number-below}
 use Rattle.stl.proofs.Agreeing.{first-agree, first-below}
 use Rattle.stl.proofs.Written.{length-file}
-use Rattle.stl_laws.specs.Accepted.{Readable, WritableMesh, EqualVertices, uses, InOrder}
+use Rattle.stl_laws.specs.Accepted.{Readable, Room, meshAnswer, WritableMesh, EqualVertices, uses, InOrder}
 use Rattle.stl_laws.proofs.Points.{count-here, bits-here, coordinate-here}
 use Rattle.stl_laws.proofs.Numbering.{vertex-same}
 use Rattle.stl_laws.proofs.Equal.{equal-at, same-of, finite-at, same-self, same-through}
-use Rattle.stl_laws.proofs.Accepting.{vertex-of, vertex-low, triangle-at, vertex-at, vertex-equal}
+use Rattle.stl_laws.proofs.Accepting.{read-gives, vertex-of, vertex-low, triangle-at, vertex-at, vertex-equal}
 use Rattle.stl_laws.proofs.Counting.{few-vertices}
 
 -- ---- a writable mesh
@@ -124,6 +124,12 @@ module _ (s : List ℕ) (bytes : Bytes s) (r : Readable s) where
       bits-here vs ts (w .singles) (λ g m. let d : getD ts g 0 < length vs / 3 = w .there g m in omega arith) h c (omega (arith, triangles-are)) k ∙ ap (toBits binary32) x in
       ap zeroUnsigned b ∙ equal-bits s bytes p h c (vertex-finite (vertexOfPoint s h) c (a .0) k) (finite-at s h (r .finite h l) c k) (equal-at s p h (a .1) c k)
 
+  -- so it is written back where there are as many bytes
+  pub read-written : (out : List ℕ) → length s ≤ length out → stlWriting vs ts out ≡ (stl.File (length s), atFront (fileOf vs ts) out)
+  read-written out l =
+      let e : fileLength (length ts / 3) ≡ length s = ap fileLength triangles-are ∙ sym (r .long) in
+      write-gives vs ts out mesh-writable (subst (λ (k : ℕ). k ≤ length out) (sym e) l) ∙ ap (λ (k : ℕ). (stl.File k, atFront (fileOf vs ts) out)) e
+
 -- ---- read after write
 module _ (v : List Float) (t : List ℕ) (w : WritableMesh v t) where
   abbrev file : List ℕ
@@ -170,6 +176,18 @@ module _ (v : List Float) (t : List ℕ) (w : WritableMesh v t) where
     few-triangles = omega (arith, count-is, w .few-triangles);
     few-vertices = subst (λ (m : ℕ). length (firstPoints (samePoint file) (3 * m)) ≤ 65535) (sym count-is) (omega (arith, few, w .few-vertices));
   }
+
+  -- and is read back into slices with as many slots as the mesh itself has
+  pub room-kept : (b : StlMesh) → length v / 3 ≤ length (b .vertices) / 3 → length t / 3 ≤ length (b .triangles) / 3 → Room file b
+  unfolding vertexPoints
+  room-kept b lv lt = record {
+    vertices = subst (λ (m : ℕ). length (firstPoints (samePoint file) (3 * m)) ≤ length (b .vertices) / 3) (sym count-is) (omega (arith, few));
+    triangles = omega (arith, count-is);
+  }
+
+  pub written-read : (b : StlMesh) → length v / 3 ≤ length (b .vertices) / 3 → length t / 3 ≤ length (b .triangles) / 3
+      → stlReading file b ≡ (meshAnswer file, meshLists (atFront (meshIn file .vertices) (b .vertices)) (atFront (meshIn file .triangles) (b .triangles)))
+  written-read b lv lt = read-gives file b file-readable (room-kept b lv lt)
 
   -- its mesh has the same coordinates, triangle by triangle
   pub coordinates-kept : (h c : ℕ) → h < points → c < 3 → T (eq (getD (meshIn file .vertices) (3 * getD (meshIn file .triangles) h 0 + c) nan) (getD v (3 * getD t h 0 + c) nan))
