@@ -47,7 +47,7 @@ pub record WritableMesh (v : List Float) (t : List ℕ) : Type 0 where
   pub there : (h : ℕ) → h < length t → getD t h 0 < length v / 3
   pub singles : (i : ℕ) → i < length v → T (isSingle (getD v i nan))
 
--- two vertices of which a coordinate differs
+-- all three coordinates of two vertices compare equal
 abbrev pub EqualVertices : List Float → ℕ → ℕ → Type 0
 EqualVertices v a b = (c : ℕ) → c < 3 → T (eq (getD v (3 * a + c) nan) (getD v (3 * b + c) nan))
 
