@@ -1,2 +1,3 @@
-pub mod Least
 pub mod Forward
+pub mod Halves
+pub mod Least

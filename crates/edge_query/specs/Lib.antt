@@ -1,2 +1,3 @@
 pub mod EdgeDistance
 pub mod Forward
+pub mod Halves

@@ -1,7 +1,14 @@
 // The distances that the Rust's `at` and `edge_at` take the least of, on values.
+use source::Src;
 use source::Win;
 use vec3::Vec3;
 ghost use mathlib.Core.Path.{_≡_};
+ghost use lib.Ieee.{binary64};
+ghost use Rattle.root_spec.specs.Root.{hypotOf};
+ghost use Rattle.float64.specs.Scalar.{minOf};
+ghost use Rattle.float64.specs.Notation.{_⊕_, _⊖_};
+ghost use Rattle.source.specs.Distance.{edgeOf, evalOf};
+ghost use Rattle.face_distance.specs.Floors.{UpTo, longerLeg};
 ghost use Rattle.face_distance.specs.Entries.{toPoint, toSegment, throughVertex, throughWindow, throughEnds};
 
 // From p to a source point q of its face.
@@ -31,12 +38,57 @@ pub fn through_vertex(p: Vec3, v: Vec3, d: f64) -> f64
     vec3::norm(vec3::sub(p, v)) + d
 }
 
-// The least of d and of a window's value at (x, y >= 0). No path through the window is shorter than y and its least value.
+// The longer leg of a right angle, which its hypotenuse is no shorter than.
+fn leg(a: f64, b: f64) -> f64
+    ensures { λ r. ⌜ (r ≡ longerLeg a b) × UpTo r (hypotOf binary64 a b) ⌝ }
+{
+    float64::max(float64::abs(a), float64::abs(b))
+}
+
+// What a source's distance at x on the edge is no less than, without a root.
+fn edge_floor(src: Src, x: f64) -> f64
+    ensures { λ r. ⌜ UpTo r (edgeOf src x) ⌝ }
+{
+    match src {
+        Src::Point { x: sx, y: sy, s } => leg(x - sx, sy) + s,
+        Src::Line { ux, uy: _, c } => c + ux * x,
+    }
+}
+
+// The least of d and of the way from (x, y) to the edge at q and on from there. A root is taken only where the legs alone come to less than d.
+fn around(d: f64, src: Src, x: f64, y: f64, q: f64) -> f64
+    ensures { λ r. ⌜ r ≡ minOf d (hypotOf binary64 (x ⊖ q) y ⊕ edgeOf src q) ⌝ }
+{
+    let across = x - q;
+    let straight = leg(across, y);
+    if d <= straight + edge_floor(src, q) {
+        return d;
+    }
+    let far = source::edge(src, q);
+    if d <= straight + far {
+        return d;
+    }
+    float64::min(d, sqrt_hypot::hypot(across, y) + far)
+}
+
+// The least of d and of a window's value at (x, y >= 0).
+fn nearer(d: f64, w: Win, x: f64, y: f64) -> f64
+    ensures { λ r. ⌜ r ≡ minOf d (evalOf w x y) ⌝ }
+{
+    let src = w.src;
+    let f = source::foot(src, x, y);
+    if f >= w.b0 && f <= w.b1 {
+        return float64::min(d, source::free(src, x, y));
+    }
+    around(d, src, x, y, float64::clamp(f, w.b0, w.b1))
+}
+
+// The same where y and the window's least value come to less than d: no path through the window is shorter than both.
 pub fn through_window(d: f64, w: Win, x: f64, y: f64) -> f64
     ensures { λ r. ⌜ r ≡ throughWindow d w x y ⌝ }
 {
     if y + w.low < d {
-        return float64::min(d, source::eval(w, x, y));
+        return nearer(d, w, x, y);
     }
     d
 }

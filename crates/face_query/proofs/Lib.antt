@@ -1,2 +1,3 @@
+pub mod Lows
 pub mod Steps
 pub mod Walks

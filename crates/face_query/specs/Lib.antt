@@ -1,1 +1,2 @@
 pub mod FaceDistance
+pub mod Lows

@@ -16,8 +16,9 @@ use layout::WORDS_PER_EDGE;
 use layout::WORDS_PER_WINDOW;
 use vec3::Vec3;
 ghost use mathlib.Core.Path.{_≡_};
-ghost use mathlib.Core.Bool.{cond};
+ghost use mathlib.Core.Bool.{false, not, cond, _||_};
 ghost use Prim.Native.Nat.{_-_, _≤_, _<_};
+ghost use lib.Ieee.{inf};
 ghost use lib.ListN.{length};
 ghost use Rattle.buffers.specs.Lent.{given};
 ghost use Rattle.windows.specs.Windows.{capacityOf, windowAt};
@@ -26,6 +27,7 @@ ghost use Rattle.last_pass.specs.Buffers.{chainBehind};
 ghost use Rattle.face_entries.specs.Buffers.{entryCapacity};
 ghost use Rattle.face_entries.specs.Entries.{entriesFrom};
 ghost use Rattle.face_distance.specs.Entries.{toPoint, toSegment, throughWindow};
+ghost use Rattle.face_query.specs.Lows.{leastLow, sideLow, WalksOn};
 ghost use Rattle.face_query.specs.FaceDistance.{throughWindows, recordsOn, firstEnd, secondEnd, toPart, toEntries, throughFaceVertex, throughVertices, throughSide, throughSides, toPieces, faceDistanceIn};
 
 // The lesser of d and of the way through vertex i of a face.
@@ -110,7 +112,109 @@ fn through_chain(
     d
 }
 
-// The lesser of d and of the ways through the windows on side i of a face.
+// A walk along the chain of an edge for the least `low` of its windows: the link before the next one, what it has come to, and whether there may be more.
+pub struct LowWalk {
+    pub before: u32,
+    pub low: f64,
+    pub more: bool,
+}
+
+// None of three walks has more.
+fn over(a: LowWalk, b: LowWalk, c: LowWalk) -> bool
+    ensures { λ r. ⌜ r ≡ not (a .more || (b .more || c .more)) ⌝ }
+{
+    if a.more {
+        return false;
+    }
+    if b.more {
+        return false;
+    }
+    if c.more {
+        return false;
+    }
+    true
+}
+
+// The next window of the chain, if there is one.
+fn pass_low(
+    edge_words: &[u32],
+    words: &[u32],
+    reals: &[f64],
+    made: u32,
+    e: EdgeId,
+    s: LowWalk,
+) -> LowWalk
+    ensures { λ r. ⌜ WalksOn made (links (given «edge_words») (given words)) (given reals) (e .0) s r ⌝ }
+{
+    if s.more {
+        let at = link_behind(edge_words, words, made, e, s.before);
+        if at == 0 {
+            return LowWalk {
+                before: s.before,
+                low: s.low,
+                more: false,
+            };
+        }
+        let low = float64::min(s.low, read_f64(reals, REALS_PER_WINDOW, at - 1, WINDOW_LOW));
+        return LowWalk {
+            before: at,
+            low,
+            more: true,
+        };
+    }
+    s
+}
+
+// The least `low` on each side of a face.
+struct SideLows {
+    first: f64,
+    second: f64,
+    third: f64,
+}
+
+// The chains of three edges are walked side by side: the next window of each is read while those of the others are on their way from memory.
+fn side_lows(
+    edge_words: &[u32],
+    words: &[u32],
+    reals: &[f64],
+    made: u32,
+    e0: EdgeId,
+    e1: EdgeId,
+    e2: EdgeId,
+) -> SideLows
+    ensures { λ r. ⌜ (r .first ≡ leastLow (given reals) (inf false) (chainBehind made (links (given «edge_words») (given words)) (e0 .0) made 0))
+        × ((r .second ≡ leastLow (given reals) (inf false) (chainBehind made (links (given «edge_words») (given words)) (e1 .0) made 0))
+        × (r .third ≡ leastLow (given reals) (inf false) (chainBehind made (links (given «edge_words») (given words)) (e2 .0) made 0))) ⌝ }
+{
+    let mut a = LowWalk {
+        before: 0,
+        low: 1.0 / 0.0,
+        more: true,
+    };
+    let mut b = a;
+    let mut c = a;
+    let mut left = made;
+    while 0 < left {
+        if over(a, b, c) {
+            return SideLows {
+                first: a.low,
+                second: b.low,
+                third: c.low,
+            };
+        }
+        a = pass_low(edge_words, words, reals, made, e0, a);
+        b = pass_low(edge_words, words, reals, made, e1, b);
+        c = pass_low(edge_words, words, reals, made, e2, c);
+        left -= 1;
+    }
+    SideLows {
+        first: a.low,
+        second: b.low,
+        third: c.low,
+    }
+}
+
+// The lesser of d and of the ways through the windows on side i of a face, of which `low` is the least `low`: where it fails the test of a window, all do.
 fn through_side(
     vertices: &[f64],
     edge_words: &[u32],
@@ -123,9 +227,10 @@ fn through_side(
     f: FaceId,
     p: Vec3,
     i: u32,
+    low: f64,
     d: f64,
 ) -> f64
-    requires { ⌜ made ≤ capacityOf (length (now words)) (length (now reals)) ⌝ }
+    requires { ⌜ (made ≤ capacityOf (length (now words)) (length (now reals))) × (low ≡ sideLow (now «edge_words») (now «triangle_words») (now words) (now reals) made (f .0) i) ⌝ }
     ensures { λ r. ⌜ r ≡ throughSide (given vertices) (given «edge_words») (given «edge_reals») (given «triangle_words») (given «triangle_reals») (given words) (given reals) made (f .0) p i d ⌝ }
 {
     let e = mesh_readers::side(triangle_words, f, i);
@@ -140,7 +245,10 @@ fn through_side(
         p,
     );
     let y = float64::max(c.y, 0.0);
-    through_chain(edge_words, words, reals, e, made, c.x, y, d)
+    if y + low < d {
+        return through_chain(edge_words, words, reals, e, made, c.x, y, d);
+    }
+    d
 }
 
 fn through_sides(
@@ -159,6 +267,10 @@ fn through_sides(
     requires { ⌜ made ≤ capacityOf (length (now words)) (length (now reals)) ⌝ }
     ensures { λ r. ⌜ r ≡ throughSides (given vertices) (given «edge_words») (given «edge_reals») (given «triangle_words») (given «triangle_reals») (given words) (given reals) made (f .0) p d ⌝ }
 {
+    let e0 = mesh_readers::side(triangle_words, f, 0);
+    let e1 = mesh_readers::side(triangle_words, f, 1);
+    let e2 = mesh_readers::side(triangle_words, f, 2);
+    let lows = side_lows(edge_words, words, reals, made, e0, e1, e2);
     let a = through_side(
         vertices,
         edge_words,
@@ -171,6 +283,7 @@ fn through_sides(
         f,
         p,
         0,
+        lows.first,
         d,
     );
     let b = through_side(
@@ -185,6 +298,7 @@ fn through_sides(
         f,
         p,
         1,
+        lows.second,
         a,
     );
     through_side(
@@ -199,6 +313,7 @@ fn through_sides(
         f,
         p,
         2,
+        lows.third,
         b,
     )
 }

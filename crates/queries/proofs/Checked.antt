@@ -12,11 +12,11 @@ use Rattle.windows.specs.Windows.{capacityOf}
 use Rattle.computed.specs.declared.Field.{Field}
 use Rattle.field_check.specs.FieldCheck.{JobSlices, FieldSlices, tooFewSlots, countsDiffer, meetsRefusal, pointsOutside, listsUnsound, fieldUnsound}
 
-left-none : (a b : Bool) → (a || b) ≡ false → a ≡ false
+pub left-none : (a b : Bool) → (a || b) ≡ false → a ≡ false
 left-none false b e = refl
 left-none true b e = e
 
-right-none : (a b : Bool) → (a || b) ≡ false → b ≡ false
+pub right-none : (a b : Bool) → (a || b) ≡ false → b ≡ false
 right-none false b e = e
 right-none true b e = absurd (let z : _≡_ {A = Bool} true false = e in (let y : _≡_ {A = ℕ} 0 1 = cc in omega arith))
 

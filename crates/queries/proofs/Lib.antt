@@ -1,3 +1,4 @@
 pub mod Checked
 pub mod Places
 pub mod Numbers
+pub mod Halves
