@@ -1,8 +1,9 @@
 //! Damaged fields: every word of small fields' rooms, of their counts and of their jobs, one at a time.
 use crate::fields::{Known, with_field};
-use crate::library::{Asked, UNWRITTEN};
+use crate::library::{Asked, Listed, UNLISTED, UNWRITTEN};
 use crate::reader::Reader;
 use crate::{Tally, same};
+use oracle::dump::bits;
 use oracle::generate::rng::Rng;
 use oracle::job::Job;
 use oracle::rooms::{Rooms, Told};
@@ -38,6 +39,9 @@ struct Damaged {
     edges: Vec<u32>,
     places: Vec<f64>,
     vertices: Vec<u32>,
+    /// Edges of which a place in the list is asked for.
+    lists: Vec<u32>,
+    ranks: Vec<u32>,
 }
 
 impl Damaged {
@@ -50,6 +54,8 @@ impl Damaged {
             points: faces.iter().map(|&f| known.point(&mut rng, f)).collect(),
             places: edges.iter().map(|&e| known.place(&mut rng, e)).collect(),
             vertices: (0..=vertices).collect(),
+            ranks: edges.iter().map(|_| rng.below(3) as u32).collect(),
+            lists: edges.clone(),
             seed,
             rng,
             told: known.told,
@@ -71,7 +77,22 @@ impl Damaged {
             asked.edges(&self.edges, &self.places),
             asked.vertices(&self.vertices),
         ];
+        let windows = asked.windows(&self.lists, &self.ranks, [0, 0]);
         let unsound = reader.unsound();
+        let wrong_windows = if unsound {
+            windows.0 != 20 || windows.1.iter().any(|w| *w != (77, UNLISTED))
+        } else {
+            let key = |a: &(u32, Listed)| (a.0, a.1.0, a.1.1, a.1.2.map(bits));
+            let asked = self.lists.iter().zip(&self.ranks);
+            let theirs = asked.map(|(&e, &place)| match reader.window_at(e, place) {
+                Err(number) => (number, (0, UNLISTED.1, UNLISTED.2)),
+                Ok(id) => {
+                    let (words, reals) = reader.slot(id);
+                    (0, (id, words, reals))
+                }
+            });
+            windows.0 != 0 || !windows.1.iter().map(key).eq(theirs.map(|t| key(&t)))
+        };
         let wrong = if unsound {
             let untouched = |row: &[(u32, f64)]| row.iter().all(|a| *a == UNWRITTEN);
             rows.iter().any(|row| row.0 != 20 || !untouched(&row.1))
@@ -102,7 +123,7 @@ impl Damaged {
                 self.seed
             )
         };
-        tally.add(kind, number, wrong.then(text));
+        tally.add(kind, number, (wrong || wrong_windows).then(text));
     }
 
     /// What stands in place of a word: small and large numbers, and those round the counts.

@@ -10,7 +10,8 @@ use Rattle.computed.specs.declared.Computed.the-variants.{Refused, Field as isF
 use Rattle.query_rows.specs.declared.RowAnswer.{RowAnswer}
 use Rattle.field_check.specs.FieldCheck.{JobSlices, FieldSlices}
 use Rattle.query_rows.specs.Rows.{RowResult, rowResult, rowNumber, faceRow, edgeRow, vertexRow}
-use Rattle.query_c.specs.Exports.{toldAnswer, toldRow}
+use Rattle.window_rows.specs.WindowRows.{windowResult, windowRow}
+use Rattle.query_c.specs.Exports.{toldAnswer, toldRow, toldWindows}
 use Rattle.queries.proofs.Checked.{taken, left}
 
 module _ (k : ℕ) (t : List ℕ) where
@@ -36,3 +37,8 @@ module _ (j : JobSlices) (b : FieldSlices) (ns : List ℕ) (ds : List Float) {x 
 
   pub vertices-told : rowResult r n d ≡ vertexRow j b ns ds x asked → (k, (n, d)) ≡ toldRow (vertexRow j b ns ds y asked)
   vertices-told e = row-told (λ (z : Computed). vertexRow j b ns ds z asked) h e s
+
+pub windows-told : (j : JobSlices) (b : FieldSlices) (ns is w : List ℕ) (f : List Float) {x y : Computed} {r : RowAnswer} {k : ℕ} {n i v : List ℕ} {g : List Float} → k ≡ rowNumber r → x ≡ y → (edges places : List ℕ)
+    → windowResult r n i v g ≡ windowRow j b ns is w f x edges places → (k, (n, (i, (v, g)))) ≡ toldWindows (windowRow j b ns is w f y edges places)
+windows-told j b ns is w f {n = n} {i = i} {v = v} {g = g} h s edges places e =
+    (λ t. (h t, (n, (i, (v, g))))) ∙ (λ t. toldWindows (e t)) ∙ (λ t. toldWindows (windowRow j b ns is w f (s t) edges places))

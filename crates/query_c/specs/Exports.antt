@@ -9,6 +9,7 @@ use Rattle.computed.specs.declared.Computed.{Computed}
 use Rattle.computed.specs.declared.Computed.the-variants.{Refused, Field as isField}
 use Rattle.computed.specs.declared.Field.{Field}
 use Rattle.query_rows.specs.Rows.{RowResult, rowNumber}
+use Rattle.window_rows.specs.WindowRows.{WindowResult}
 
 -- the counts of a field, as the whole job told them
 abbrev pub toldField : List ℕ → Field
@@ -20,3 +21,6 @@ toldAnswer k t = if eqb k 0 then isField (toldField t) else Refused k
 -- the number that is answered, and the row's slices
 abbrev pub toldRow : RowResult → ℕ × (List ℕ × List Float)
 toldRow x = (rowNumber (x .answer), (x .numbers, x .distances))
+
+abbrev pub toldWindows : WindowResult → ℕ × (List ℕ × (List ℕ × (List ℕ × List Float)))
+toldWindows x = (rowNumber (x .answer), (x .numbers, (x .ids, (x .words, x .reals))))

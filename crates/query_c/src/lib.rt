@@ -7,7 +7,8 @@ ghost use mathlib.Core.Path.{_≡_};
 ghost use Rattle.buffers.specs.Lent.{given, left};
 ghost use Rattle.field_check.specs.FieldCheck.{jobSlices, fieldSlices};
 ghost use Rattle.query_rows.specs.Rows.{rowNumber, faceRow, edgeRow, vertexRow};
-ghost use Rattle.query_c.specs.Exports.{toldAnswer, toldRow};
+ghost use Rattle.window_rows.specs.WindowRows.{windowRow};
+ghost use Rattle.query_c.specs.Exports.{toldAnswer, toldRow, toldWindows};
 
 // The job's answer: `told` has the vertices, triangles, pieces, edges, windows and steps of a field.
 fn told_answer(refusal: u32, told: &[u32]) -> Computed
@@ -181,6 +182,60 @@ pub extern "C" fn sirmolaat_vertices_at(
         asked,
         numbers,
         distances,
+    );
+    row_number(answer)
+}
+
+// The windows at places in edges' lists: the number of each question, the number of its window and the window itself are written.
+#[no_mangle]
+pub extern "C" fn sirmolaat_windows_at(
+    refusal: u32,
+    told: &[u32],
+    vertices: &[f64],
+    triangles: &[u32],
+    kinds: &[u8],
+    faces: &[u32],
+    coords: &[f64],
+    edge_words: &[u32],
+    edge_reals: &[f64],
+    triangle_words: &[u32],
+    triangle_reals: &[f64],
+    vertex: &[f64],
+    words: &[u32],
+    reals: &[f64],
+    entry_words: &[u32],
+    edges: &[u32],
+    places: &[u32],
+    numbers: &mut [u32],
+    ids: &mut [u32],
+    window_words: &mut [u32],
+    window_reals: &mut [f64],
+) -> u32
+    ensures { λ r. ⌜ (r, (left numbers, (left ids, (left «window_words», left «window_reals»)))) ≡ toldWindows (windowRow (jobSlices (given vertices) (given triangles) (given kinds) (given faces) (given coords))
+        (fieldSlices (given «edge_words») (given «edge_reals») (given «triangle_words») (given «triangle_reals») (given vertex) (given words) (given reals) (given «entry_words»)) (given numbers) (given ids) (given «window_words») (given «window_reals») (toldAnswer refusal (given told)) (given edges) (given places)) ⌝ }
+{
+    let computed = told_answer(refusal, told);
+    let answer = window_rows::windows_at(
+        computed,
+        vertices,
+        triangles,
+        kinds,
+        faces,
+        coords,
+        edge_words,
+        edge_reals,
+        triangle_words,
+        triangle_reals,
+        vertex,
+        words,
+        reals,
+        entry_words,
+        edges,
+        places,
+        numbers,
+        ids,
+        window_words,
+        window_reals,
     );
     row_number(answer)
 }
