@@ -86,6 +86,9 @@ export!(sirmolaat_finish(edges: u32, made: u32; edge_reals: f64, words: u32, rea
     edge_words: u32, vertex: f64, keys: f64, events: u32, pts: f64, out: f64, keep: f64, next: f64
 ) -> u32);
 
+export!(sirmolaat_stl_read(; s: u8;; vertices: f64, triangles: u32) -> u64);
+export!(sirmolaat_stl_write(; vertices: f64, triangles: u32;; out: u8) -> u64);
+
 export!(sirmolaat_interface(;;;) -> u32);
 
 /// The interface that is declared here.
@@ -364,5 +367,41 @@ pub(crate) fn write_slip(job: &Input, most: usize) -> Result<Vec<u8>, u32> {
         &mut out,
     );
     out.truncate(length);
+    Ok(out)
+}
+
+/// What an STL function answers: a refusal in the upper half, else a count in the lower.
+fn halves(answer: u64) -> Result<usize, u32> {
+    match (answer >> 32) as u32 {
+        0 => Ok(answer as u32 as usize),
+        number => Err(number),
+    }
+}
+
+/// The vertices and triangles of a binary STL file, or its refusal.
+pub(crate) fn read_stl(file: &[u8]) -> Result<(Vec<f64>, Vec<u32>), u32> {
+    if !same_version() {
+        return Err(OTHER_VERSION);
+    }
+    let count = file
+        .get(80..)
+        .and_then(|rest| rest.first_chunk())
+        .map_or(0, |n| u32::from_le_bytes(*n));
+    let count = count.min(131_070) as usize;
+    let mut vertices = vec![0.; 3 * (3 * count).min(65_535)];
+    let mut triangles = vec![0; 3 * count];
+    let read = halves(sirmolaat_stl_read(file, &mut vertices, &mut triangles))?;
+    vertices.truncate(3 * read);
+    Ok((vertices, triangles))
+}
+
+/// The bytes of a mesh as binary STL, or the refusal.
+pub(crate) fn write_stl(vertices: &[f64], triangles: &[u32]) -> Result<Vec<u8>, u32> {
+    if !same_version() {
+        return Err(OTHER_VERSION);
+    }
+    let mut out = vec![0; 84 + 50 * (triangles.len() / 3)];
+    let written = halves(sirmolaat_stl_write(vertices, triangles, &mut out))?;
+    out.truncate(written);
     Ok(out)
 }

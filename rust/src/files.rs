@@ -1,12 +1,14 @@
-//! Meshes and start lines from files: OFF, PLY, and text. A file may hold anything; what cannot be read is a [`Problem`], never a panic.
+//! Meshes and start lines from files: OFF, PLY, binary STL, and text. A file may hold anything; what cannot be read is a [`Problem`], never a panic.
 mod off;
 mod ply;
 mod sources;
+mod stl;
 mod words;
 
 pub use off::read_off;
 pub use ply::read_ply;
 pub use sources::read_sources;
+pub use stl::{read_stl, write_stl};
 
 use crate::Vec3;
 use std::fmt;

@@ -2,7 +2,7 @@
 mod meshes;
 
 use meshes::grid;
-use sirmolaat::files::{read_mesh, read_off, read_ply, read_sources};
+use sirmolaat::files::{read_mesh, read_off, read_ply, read_sources, read_stl, write_stl};
 use sirmolaat::picture::{Style, distances_ply, picture_ply, svg};
 use sirmolaat::{Field, Options, Piece, Topology, boundary, saddles};
 
@@ -117,5 +117,32 @@ fn sources_and_pictures() {
                 .as_flattened()
                 .iter()
                 .all(|&k| (k as usize) < mesh.v.len())
+    );
+}
+
+#[test]
+fn stl() {
+    let v = [[0., 0., 0.], [3., 0., 0.], [0., 4., 0.5], [3., 4., -1.25]];
+    let t = [[0, 1, 2], [2, 1, 3]];
+    let bytes = write_stl(&v, &t).expect("an f32 each");
+    assert_eq!(bytes.len(), 184);
+    let mesh = read_stl(&bytes).expect("sound");
+    assert_eq!((&mesh.v[..], &mesh.t[..]), (&v[..], &t[..]));
+    for cut in 0..bytes.len() {
+        let number = read_stl(&bytes[..cut]).expect_err("cut").number();
+        assert_eq!(number, if cut < 84 { 40 } else { 41 });
+    }
+    let mut bad = bytes.clone();
+    bad[84 + 12..84 + 16].copy_from_slice(&f32::NAN.to_le_bytes());
+    assert_eq!(read_stl(&bad).expect_err("a NaN").number(), 42);
+    assert_eq!(
+        write_stl(&[[0.1, 0., 0.]], &[])
+            .expect_err("no f32")
+            .number(),
+        44
+    );
+    assert_eq!(
+        write_stl(&v, &[[0, 1, 9]]).expect_err("missing").number(),
+        2
     );
 }

@@ -4,9 +4,9 @@ use sirmolaat::picture::View;
 pub const HELP: &str = "\
 distance_field: exact geodesic distances over a triangle mesh, from start points and lines on it
 
-usage: distance_field [OPTIONS] FILE          FILE is a slip, OFF or PLY; - is standard input
+usage: distance_field [OPTIONS] FILE          FILE is a slip, OFF, PLY or binary STL (.stl); - is standard input
 
-  --sources FILE   start points and lines, for OFF and PLY; a line of it is one of
+  --sources FILE   start points and lines, for OFF, PLY and STL; a line of it is one of
                      point FACE X Y Z              segment FACE X Y Z X Y Z
                      vertex K                      line X Y X Y ..   (laid on the mesh from above)
   --limit MM       no distance above this is looked for (10000000; a slip has its own)
@@ -23,7 +23,7 @@ usage: distance_field [OPTIONS] FILE          FILE is a slip, OFF or PLY; - is s
   --out FILE       where to write (standard output)
   --help           this text
 
-Vertices that shortest paths may pass through (boundary and saddle vertices) are judged from an OFF or PLY mesh; a slip has them.
+Vertices that shortest paths may pass through (boundary and saddle vertices) are judged from a mesh; a slip has them.
 Exit status: 0 written; 1 the job is refused, or a file cannot be read or written; 2 the command line is not understood.";
 
 #[derive(Clone, Copy, Debug, PartialEq, Eq)]

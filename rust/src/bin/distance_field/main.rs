@@ -3,7 +3,7 @@ mod args;
 mod progress;
 
 use args::{Args, Asked, HELP, Kind};
-use sirmolaat::files::{Mesh, read_mesh, read_sources};
+use sirmolaat::files::{Mesh, read_mesh, read_sources, read_stl};
 use sirmolaat::picture::{self, Style};
 use sirmolaat::slip::{Slip, read_slip};
 use sirmolaat::{Field, Job, Options, Piece, Topology, boundary, saddles};
@@ -47,8 +47,14 @@ struct Work {
 
 fn work(args: &Args) -> Result<Work, String> {
     let bytes = read(&args.file)?;
-    if is_mesh(&bytes) {
-        let mesh = read_mesh(&bytes).map_err(|problem| format!("{}: {problem}", args.file))?;
+    let stl = args.file.to_ascii_lowercase().ends_with(".stl");
+    if stl || is_mesh(&bytes) {
+        let mesh = if stl {
+            read_stl(&bytes).map_err(|refusal| refusal.to_string())
+        } else {
+            read_mesh(&bytes).map_err(|problem| problem.to_string())
+        };
+        let mesh = mesh.map_err(|sentence| format!("{}: {sentence}", args.file))?;
         let flags = saddles(&mesh.v, &mesh.t, &boundary(mesh.v.len(), &mesh.t));
         let topo =
             Topology::new(&mesh.v, &mesh.t, &flags).map_err(|refusal| refusal.to_string())?;
