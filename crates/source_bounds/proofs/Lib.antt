@@ -4,3 +4,4 @@ pub mod Hypot
 pub mod Values
 pub mod Enclosed
 pub mod Shifted
+pub mod Decimal
