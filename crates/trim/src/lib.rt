@@ -57,8 +57,9 @@ fn admit(
     tiny: f64,
     limit: f64,
 ) -> Made
-    requires { ⌜ Ready (e .id .0) (counts .made) 0 (now edges) (now words) (now reals) × Sizes (length (now pts)) (now out) (now keep) (now next) ⌝ }
-    ensures { λ r. ⌜ MadeWithin (roomFor words reals) r × (w .win .low ≡ lowestOf (w .win .src) (w .win .b0) (w .win .b1) → tiny ≡ tinyOf (e .len) →
+    requires { ⌜ Ready (e .id .0) (counts .made) 0 (now edges) (now words) (now reals)
+        × (Sizes (length (now pts)) (now out) (now keep) (now next) × (w .win .low ≡ lowestOf (w .win .src) (w .win .b0) (w .win .b1))) ⌝ }
+    ensures { λ r. ⌜ MadeWithin (roomFor words reals) r × (tiny ≡ tinyOf (e .len) →
         Admits (length (given pts)) (roomFor words reals) limit (given «vertex_words») e (newOf w)
         (snapshotBefore edges words reals keys events (counts .made) (counts .queued) 0 (given vertex))
         (endAfter edges words reals keys events (madeEnd r) (left vertex))) ⌝ }

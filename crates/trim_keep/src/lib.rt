@@ -13,7 +13,7 @@ ghost use mathlib.Core.List.{List, [], _∷_};
 ghost use Prim.Native.Nat.{ℕ, _+_, _≤_, _<_};
 ghost use lib.ListN.{length};
 ghost use Rattle.float64.specs.Scalar.{zero64};
-ghost use Rattle.source.specs.Distance.{evalOf};
+ghost use Rattle.source.specs.Distance.{evalOf, lowestOf};
 ghost use Rattle.better.specs.Stretches.{interval};
 ghost use Rattle.better.specs.Buffers.{pairs};
 ghost use Rattle.heap.specs.Queue.{queue};
@@ -100,6 +100,20 @@ fn touch_ends(
     )
 }
 
+// The lowest value of a window between b0 and b1: where those are its own ends, bit for bit, it is known.
+fn kept_low(w: Win, b0: f64, b1: f64) -> f64
+    requires { ⌜ w .low ≡ lowestOf (w .src) (w .b0) (w .b1) ⌝ }
+    ensures { λ r. ⌜ r ≡ lowestOf (w .src) b0 b1 ⌝ }
+{
+    if float64::total_key(b0) == float64::total_key(w.b0) {
+        if float64::total_key(b1) == float64::total_key(w.b1) {
+            return w.low;
+        }
+    }
+    let src = w.src;
+    source::lowest(src, b0, b1)
+}
+
 // The part of window x from b0 to b1 becomes a window of edge e, seated by its start behind a link.
 fn keep_part(
     edges: &mut [u32],
@@ -117,13 +131,15 @@ fn keep_part(
     b1: f64,
     limit: f64,
 ) -> Made
-    requires { ⌜ Ready (e .id .0) (counts .made) before (now edges) (now words) (now reals) ⌝ }
+    requires { ⌜ Ready (e .id .0) (counts .made) before (now edges) (now words) (now reals) × (x .win .low ≡ lowestOf (x .win .src) (x .win .b0) (x .win .b1)) ⌝ }
     ensures { λ r. ⌜ MadeWithin (roomFor words reals) r × ((cuts k : ℕ) →
         KeptOne cuts (roomFor words reals) limit (given «vertex_words») e (liveOf x k) (interval b0 b1)
         (snapshotBefore edges words reals keys events (counts .made) (counts .queued) before (given vertex))
         (endAfter edges words reals keys events (madeEnd r) (left vertex))) ⌝ }
 {
     let seat = live_windows::seat_from(edges, words, reals, counts.made, e.id, before, b0);
+    let old = x.win;
+    let low = kept_low(old, b0, b1);
     let part = trim_split::make_part(
         edges,
         words,
@@ -136,6 +152,7 @@ fn keep_part(
         x,
         b0,
         b1,
+        low,
     );
     match part {
         Made::Stopped(lack) => Made::Stopped(lack),
@@ -184,7 +201,8 @@ pub fn keep_parts(
     tiny: f64,
     limit: f64,
 ) -> Made
-    requires { ⌜ Ready (e .id .0) (counts .made) before (now edges) (now words) (now reals) × (k + k ≤ length (now keep)) ⌝ }
+    requires { ⌜ Ready (e .id .0) (counts .made) before (now edges) (now words) (now reals)
+        × ((k + k ≤ length (now keep)) × (x .win .low ≡ lowestOf (x .win .src) (x .win .b0) (x .win .b1))) ⌝ }
     ensures { λ r. ⌜ MadeWithin (roomFor words reals) r × ((cuts j : ℕ) →
         Seats cuts (roomFor words reals) limit (given «vertex_words») e (liveOf x j) (wideOf tiny (pairs k (given keep)))
         (snapshotBefore edges words reals keys events (counts .made) (counts .queued) before (given vertex))

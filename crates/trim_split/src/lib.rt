@@ -12,6 +12,7 @@ ghost use mathlib.Core.Path.{_≡_};
 ghost use lib.ListN.{length, drop};
 ghost use lib.Ieee.{Float};
 ghost use Rattle.buffers.specs.Slots.{slotsOf};
+ghost use Rattle.source.specs.Distance.{lowestOf};
 ghost use Rattle.better.specs.Stretches.{interval};
 ghost use Rattle.better.specs.Buffers.{pairs};
 ghost use Rattle.trim_model.specs.Windows.{part, fresh, split};
@@ -41,7 +42,7 @@ pub fn trimmed(w: Win, b0: f64, b1: f64) -> Win
     Win { b0, b1, low, src }
 }
 
-// The part of window x from b0 to b1 is made, put behind a link of its edge, and queued if x is.
+// The part of window x from b0 to b1, where its lowest value is low, is made, put behind a link of its edge, and queued if x is.
 pub fn make_part(
     edges: &mut [u32],
     words: &mut [u32],
@@ -54,8 +55,9 @@ pub fn make_part(
     x: WindowRecord,
     b0: f64,
     b1: f64,
+    low: f64,
 ) -> Made
-    requires { ⌜ Ready (e .0) (counts .made) before (now edges) (now words) (now reals) ⌝ }
+    requires { ⌜ Ready (e .0) (counts .made) before (now edges) (now words) (now reals) × (low ≡ lowestOf (x .win .src) b0 b1) ⌝ }
     ensures { λ r. ⌜ Counted r (suc (counts .made)) × ((cuts : ℕ) (limit : Float) (flags : List ℕ) (vertex : List Float) (k : ℕ) →
         Does cuts (roomFor words reals) limit flags (e .0) (making (e .0) (liveOf x k) (counts .made) (interval b0 b1)) [] (part (liveOf x k) b0 b1 (counts .made) ∷ [])
         (snapshotBefore edges words reals keys events (counts .made) (counts .queued) before vertex)
@@ -68,10 +70,11 @@ pub fn make_part(
     if windows::capacity(words, reals) <= made {
         return Made::Stopped(Lack::Windows);
     }
-    let win = trimmed(old, b0, b1);
+    let src = old.src;
+    let win = Win { b0, b1, low, src };
     live_windows::make_window(edges, words, reals, made, e, before, carried, win);
     if carried.queued {
-        let event = heap::window_event(win.low, WindowId(made));
+        let event = heap::window_event(low, WindowId(made));
         let pushed = heap::push(keys, events, queued, event);
         let Pushed::Queued(n) = pushed else {
             return Made::Stopped(Lack::Events);
@@ -120,7 +123,23 @@ fn make_parts(
     while i < n {
         let b0 = cut_lists::from_of(pieces, i);
         let b1 = cut_lists::to_of(pieces, i);
-        let part = make_part(edges, words, reals, keys, events, now, e, last, x, b0, b1);
+        let old = x.win;
+        let src = old.src;
+        let low = source::lowest(src, b0, b1);
+        let part = make_part(
+            edges,
+            words,
+            reals,
+            keys,
+            events,
+            now,
+            e,
+            last,
+            x,
+            b0,
+            b1,
+            low,
+        );
         match part {
             Made::Stopped(lack) => return Made::Stopped(lack),
             Made::Went(c, l) => {

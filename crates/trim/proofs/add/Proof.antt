@@ -47,7 +47,7 @@ returns-2 c =
     }
 
 admit-requires : tie.Need-admit-requires
-admit-requires c κs = search needs
+admit-requires c κs = (c .before .before .before .before .before .before .before .before .before .before .before .before .before .before .before .before .before .before .before .before .before .before .before .before .before .before .before .pre .0, (c .before .before .before .before .before .before .before .before .before .before .before .before .before .before .before .before .before .before .before .before .before .before .before .before .before .before .before .pre .1, c .before .before .before .before .before .before .before .before .before .before .before .lowest .ensures))
 
 enum-known-admitted : tie.Need-enum-known-admitted
 enum-known-admitted c = search needs
@@ -105,7 +105,7 @@ returns-3 c =
     record {
       bounded = tt;
       adds = add-admitted size (windowsOf s) (a .limit) (a .vertex-words .now) (a .e) (a .w) p (lowest .result) (lowest .ensures) (if1 .left) (if2 .left)
-          (stopped (lackNumber (admitted .given .0 .0))) (done (lowest .ensures) refl);
+          (stopped (lackNumber (admitted .given .0 .0))) (done refl);
       skips = add-not-skipped size (windowsOf s) (a .limit) (a .vertex-words .now) (a .e) (a .w) p
           (lowest .result) (lowest .ensures) (if1 .left) (if2 .left) _ _ _ _ _ _;
     }
@@ -166,7 +166,7 @@ returns-4 c =
       bounded = (rw (admitted2 .given .1) at (admit .ensures .0)) .0;
       adds = add-went size (windowsOf s) (a .limit) (a .vertex-words .now) (a .e) (a .w) p (n .made) (n .queued) last
           s′ vertex (add-admitted size (windowsOf s) (a .limit) (a .vertex-words .now) (a .e) (a .w) p (lowest .result) (lowest .ensures) (if1 .left) (if2 .left)
-          (at (snapshotOf s′ (n .made) (n .queued) last vertex)) (done (lowest .ensures) refl));
+          (at (snapshotOf s′ (n .made) (n .queued) last vertex)) (done refl));
       skips = add-not-skipped size (windowsOf s) (a .limit) (a .vertex-words .now) (a .e) (a .w) p
           (lowest .result) (lowest .ensures) (if1 .left) (if2 .left) _ _ _ _ _ _;
     }

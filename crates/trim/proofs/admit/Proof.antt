@@ -1,5 +1,6 @@
 -- `trim::admit` meets its contract. Assumes nothing.
 use mathlib.Core.Path.{_∙_}
+use native.Mathlib.Omega.{arith}
 use lib.ListN.{length}
 use Rattle.heap.specs.Queue.{queue}
 use Rattle.chains.specs.Chains.{links}
@@ -13,7 +14,7 @@ use Rattle.trim.proofs.admit.Tie as tie
 returns : tie.Need-returns
 returns c =
     let a = c .before .before .before .before .before .before .before .before .before .before .before .before .args in
-    (tt, admit-full (length (a .pts .now)) (a .limit) (a .vertex-words .now) (a .e) (a .w) (a .counts .made) (a .counts .queued) (windowSlices (a .edges .now) (a .words .now) (a .reals .now) (a .keys .now) (a .events .now)) (a .vertex .now) (a .tiny) (c .if1 .taken))
+    (tt, admit-full (length (a .pts .now)) (a .limit) (a .vertex-words .now) (a .e) (a .w) (a .counts .made) (a .counts .queued) (windowSlices (a .edges .now) (a .words .now) (a .reals .now) (a .keys .now) (a .events .now)) (a .vertex .now) (a .tiny) (c .if1 .taken) (c .before .before .before .before .before .before .before .before .before .before .before .before .pre .1 .1))
 
 whole-requires : tie.Need-whole-requires
 whole-requires c κs = search needs
@@ -22,7 +23,15 @@ pass-front-requires : tie.Need-pass-front-requires
 pass-front-requires c κs = search needs
 
 visits-requires : tie.Need-visits-requires
-visits-requires c κs = search needs
+visits-requires c κs =
+    let start = c .before .before .before .before .before .before .before .before .before .before .before .before .before .before .before .before .before .before .before .before .before .before .before .before .before .before .before .before .before .before .before .before in
+    let pass-front = c .before .before .before .before .before .before .before .before .before .before .before .pass-front in (
+      record { fits = start .pre .0 .fits; linked = pass-front .ensures .made; edge = omega (arith, start .pre .0 .edge, pass-front .kept .0) },
+      (
+        record { outs = start .pre .1 .0 .outs; keeps = omega (arith, start .pre .1 .0 .keeps, c .before .before .before .before .before .before .before .before .before .before .before .before .before .before .before .before .before .whole .kept .0); nexts = start .pre .1 .0 .nexts },
+        omega (arith, c .before .before .before .before .before .before .before .before .before .before .before .before .before .before .before .before .before .before .before .before .if1 .left),
+      ),
+    )
 
 enum-known-visited : tie.Need-enum-known-visited
 enum-known-visited c = search needs
@@ -52,8 +61,11 @@ keep-parts-requires c κs =
             keys = visits .kept .1 .1 .1 .0;
             events = visits .kept .1 .1 .1 .1 .0;
           }) (start .pre .0) (pass-front .ensures .made) b,
-      kept-fit (length (a .pts .now)) (visited2 .given .0 .1 .1 .0) (a .out .now) (a .keep .now) (a .next .now)
-          (visits .last .1 .1 .1 .1 .1 .1 .1 .0) (start .pre .1) (visits .kept .1 .1 .1 .1 .1 .1 .1 .0 ∙ at-whole .whole .kept .0) (b .1 .1 .0),
+      (
+        kept-fit (length (a .pts .now)) (visited2 .given .0 .1 .1 .0) (a .out .now) (a .keep .now) (a .next .now)
+            (visits .last .1 .1 .1 .1 .1 .1 .1 .0) (start .pre .1 .0) (visits .kept .1 .1 .1 .1 .1 .1 .1 .0 ∙ at-whole .whole .kept .0) (b .1 .1 .0),
+        start .pre .1 .1,
+      ),
     )
 
 same-length : tie.Need-same-length
@@ -103,7 +115,7 @@ returns-2 c =
       tt,
       admit-stopped (length (a .pts .now)) (a .limit) (a .vertex-words .now) (a .e) (a .w) (a .counts .made) (a .counts .queued)
           (windowSlices (a .edges .now) (a .words .now) (a .reals .now) (a .keys .now) (a .events .now)) (a .vertex .now) (a .tiny) (at-if1 .if1 .left) (pass-front .result) (pass-front .last .0)
-          (pass-front .ensures) (whole .last .0) (whole .ensures) (visited .given .0 .0) (visits .last .1 .1 .1 .1 .1 .1 .1 .0) (rw (visited .given .1) at (visits .ensures .1)),
+          (pass-front .ensures) (whole .last .0) (whole .ensures) (visited .given .0 .0) (visits .last .1 .1 .1 .1 .1 .1 .1 .0) (rw (visited .given .1) at (visits .ensures .1)) (start .pre .1 .1),
     )
 
 same-length-10 : tie.Need-same-length-10
@@ -190,7 +202,7 @@ returns-3 c =
             keys = visits .kept .1 .1 .1 .0;
             events = visits .kept .1 .1 .1 .1 .0;
           }) (rw (visited2 .given .1) at (visits .ensures .1)) (madeEnd (keep-parts .result) (links (keep-parts .last .0) (keep-parts .last .1 .0)) (keep-parts .last .1 .1 .0)
-          (queue (keep-parts .last .1 .1 .1 .0) (keep-parts .last .1 .1 .1 .1 .0)) (keep-parts .last .1 .1 .1 .1 .1 .0)) (keep-parts .ensures .1),
+          (queue (keep-parts .last .1 .1 .1 .0) (keep-parts .last .1 .1 .1 .1 .0)) (keep-parts .last .1 .1 .1 .1 .1 .0)) (keep-parts .ensures .1) (start .pre .1 .1),
     )
 
 pub admit-spec : {M : Type 1} → statement M

@@ -15,6 +15,9 @@ use Rattle.trim_keep.proofs.keep_part.Tie as tie
 seat-from-requires : tie.Need-seat-from-requires
 seat-from-requires c κs = search needs
 
+kept-low-requires : tie.Need-kept-low-requires
+kept-low-requires c κs = search needs
+
 make-part-requires : tie.Need-make-part-requires
 make-part-requires c κs = search needs
 
@@ -56,7 +59,7 @@ returns c =
     let at-touch-ends = c .before .before .before .before .before .before .before .before in
     let at-part2 = at-touch-ends .before .before .before .before .before in
     let at-make-part = at-part2 .before .before .before .before .before .before .before .before .before .before .before .before in
-    let at-seat-from = at-make-part .before .before .before .before .before .before in
+    let at-seat-from = at-make-part .before .before .before .before .before .before .before .before in
     let start = at-seat-from .before .before .before .before .before .before .before .before .before .before .before in
     let touch-ends = at-touch-ends .touch-ends in
     let part2 = at-part2 .part2 in
@@ -93,7 +96,7 @@ returns-2 : tie.Need-returns-2
 returns-2 c =
     let at-part = c .before in
     let at-make-part = at-part .before .before .before .before .before .before .before .before .before .before .before .before in
-    let start = at-make-part .before .before .before .before .before .before .before .before .before .before .before .before .before .before .before .before .before in
+    let start = at-make-part .before .before .before .before .before .before .before .before .before .before .before .before .before .before .before .before .before .before .before in
     let part = at-part .part in
     let a = start .args in
     let the-slices = windowSlices (a .edges .now) (a .words .now) (a .reals .now) (a .keys .now) (a .events .now) in (
@@ -127,7 +130,7 @@ returns-3 c =
     let at-touch-ends = at-touched .before .before .before .before .before .before .before .before in
     let at-part2 = at-touch-ends .before .before .before .before .before in
     let at-make-part = at-part2 .before .before .before .before .before .before .before .before .before .before .before .before in
-    let at-seat-from = at-make-part .before .before .before .before .before .before in
+    let at-seat-from = at-make-part .before .before .before .before .before .before .before .before in
     let start = at-seat-from .before .before .before .before .before .before .before .before .before .before .before in
     let touched = at-touched .touched in
     let touch-ends = at-touch-ends .touch-ends in
@@ -153,6 +156,7 @@ keep-part-spec =
     tie.close
     (tie.spec
     seat-from-requires
+    kept-low-requires
     make-part-requires
     enum-known-part
     enum-known-part-2

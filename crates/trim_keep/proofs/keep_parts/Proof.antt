@@ -25,10 +25,10 @@ loop-holds c =
     keep-start (a .limit) (a .vertex-words .now) (a .e) (a .x) (a .tiny) (pairs (a .k) (a .keep .now)) (windowSlices (a .edges .now) (a .words .now) (a .reals .now) (a .keys .now) (a .events .now)) (a .vertex .now) (a .counts .made) (a .counts .queued) (a .before) (c .before .before .before .before .before .before .before .before .pre .0)
 
 from-of-requires : tie.Need-from-of-requires Inv-loop μ-loop
-from-of-requires c κs = omega (arith, c .before .before .before .before .before .before .before .before .before .before .pre .1, c .loop-test .taken)
+from-of-requires c κs = omega (arith, c .before .before .before .before .before .before .before .before .before .before .pre .1 .0, c .loop-test .taken)
 
 to-of-requires : tie.Need-to-of-requires Inv-loop μ-loop
-to-of-requires c κs = omega (arith, c .before .before .before .before .before .before .before .before .before .before .before .pre .1, c .before .loop-test .taken)
+to-of-requires c κs = omega (arith, c .before .before .before .before .before .before .before .before .before .before .before .pre .1 .0, c .before .loop-test .taken)
 
 add-i : tie.Need-add-i Inv-loop μ-loop
 add-i c = omega (arith, c .before .before .before .loop-test .taken, c .before .before .before .before .before .before .before .before .before .before .before .before .before .fits .k)
@@ -59,10 +59,12 @@ keep-part-requires c κs =
     let at-loop = c .before .before .before .before .before .before .before .before .before .before in
     let start = at-loop .before .before .before .before .before .before .before .before .before in
     let loop = at-loop .loop in
-    let a = start .args in
-    keep-ready (a .limit) (a .vertex-words .now) (a .e) (a .x) (a .tiny) (pairs (a .k) (a .keep .now))
-    (windowSlices (a .edges .now) (a .words .now) (a .reals .now) (a .keys .now) (a .events .now)) (a .vertex .now) (a .counts .made) (a .counts .queued) (a .before)
-    (windowSlices (loop .edges) (loop .words) (loop .reals) (loop .keys) (loop .events)) (loop .vertex) (loop .now .made) (loop .now .queued) (loop .last) (loop .i) (loop .inv)
+    let a = start .args in (
+      keep-ready (a .limit) (a .vertex-words .now) (a .e) (a .x) (a .tiny) (pairs (a .k) (a .keep .now))
+          (windowSlices (a .edges .now) (a .words .now) (a .reals .now) (a .keys .now) (a .events .now)) (a .vertex .now) (a .counts .made) (a .counts .queued) (a .before)
+          (windowSlices (loop .edges) (loop .words) (loop .reals) (loop .keys) (loop .events)) (loop .vertex) (loop .now .made) (loop .now .queued) (loop .last) (loop .i) (loop .inv),
+      start .pre .1 .1,
+    )
 
 enum-known-part : tie.Need-enum-known-part Inv-loop μ-loop
 enum-known-part c = search needs

@@ -1,10 +1,8 @@
 -- `trim_split::make_part` meets its contract. Assumes nothing.
 use Prim.Native.Nat.{_+_}
-use mathlib.Core.Path.{refl}
 use native.Mathlib.Omega.{arith}
 use native.Mathlib.Numerals.{add-one}
 use lib.ListN.{length}
-use Rattle.source.specs.Distance.{lowestOf}
 use Rattle.heap.specs.Queue.{queue}
 use Rattle.windows.specs.Windows.{capacityOf}
 use Rattle.chains.specs.Chains.{links}
@@ -26,9 +24,6 @@ returns : tie.Need-returns
 returns c =
     let a = c .before .before .before .before .before .before .before .before .before .before .before .args in
     (tt, λ cuts limit flags vertex k. part-none cuts (capacityOf (length (a .words .now)) (length (a .reals .now))) limit flags (a .e) (a .x) k (a .b0) (a .b1) (a .counts .made) (a .counts .queued) (a .before) (links (a .edges .now) (a .words .now)) (a .reals .now) (queue (a .keys .now) (a .events .now)) vertex (omega (arith, c .before .capacity .ensures, c .if1 .taken)))
-
-trimmed-requires : tie.Need-trimmed-requires
-trimmed-requires c κs = search needs
 
 make-window-requires : tie.Need-make-window-requires
 make-window-requires c κs = search needs
@@ -66,28 +61,26 @@ returns-2 c =
     let at-window-event = at-push .before .before .before in
     let at-if2 = at-window-event .before in
     let at-make-window = at-if2 .before .before .before .before .before .before .before in
-    let at-trimmed = at-make-window .before .before .before .before in
-    let at-if1 = at-trimmed .before in
+    let at-if1 = at-make-window .before .before .before .before in
     let at-capacity = at-if1 .before in
     let start = at-capacity .before .before .before .before .before .before .before .before .before .before in
     let push = at-push .push in
     let window-event = at-window-event .window-event in
     let make-window = at-make-window .make-window in
-    let trimmed = at-trimmed .trimmed in
     let a = start .args in (
       tt,
       λ cuts limit flags vertex k. part-full cuts (capacityOf (length (a .words .now)) (length (a .reals .now))) limit flags (a .e) (a .x) k (a .b0) (a .b1) (a .counts .made)
           (a .counts .queued) (a .before) (links (a .edges .now) (a .words .now)) (a .reals .now) (queue (a .keys .now) (a .events .now)) vertex
-          (omega (arith, at-capacity .capacity .ensures, at-if1 .if1 .left)) (lowestOf (a .x .win .src) (a .b0) (a .b1)) refl (links (make-window .last .0) (make-window .last .1 .0))
-          (make-window .last .1 .1 .0) (rw (trimmed .ensures) at (make-window .ensures)) (at-if2 .if2 .taken) (window-event .result) (rw (trimmed .ensures) at (window-event .ensures))
+          (omega (arith, at-capacity .capacity .ensures, at-if1 .if1 .left)) (a .low) (start .pre .1) (links (make-window .last .0) (make-window .last .1 .0))
+          (make-window .last .1 .1 .0) (make-window .ensures) (at-if2 .if2 .taken) (window-event .result) (window-event .ensures)
           (queue (push .last .0) (push .last .1 .0)) (rw (c .enum-told .given .1) at (push .ensures .0)),
     )
 
-add-t40 : tie.Need-add-t40
-add-t40 c = search needs
-
 add-t42 : tie.Need-add-t42
 add-t42 c = search needs
+
+add-t44 : tie.Need-add-t44
+add-t44 c = search needs
 
 same-length-8 : tie.Need-same-length-8
 same-length-8 c = search needs
@@ -111,29 +104,27 @@ returns-3 c =
     let at-window-event = at-push .before .before .before in
     let at-if2 = at-window-event .before in
     let at-make-window = at-if2 .before .before .before .before .before .before .before in
-    let at-trimmed = at-make-window .before .before .before .before in
-    let at-if1 = at-trimmed .before in
+    let at-if1 = at-make-window .before .before .before .before in
     let at-capacity = at-if1 .before in
     let start = at-capacity .before .before .before .before .before .before .before .before .before .before in
     let pushed = at-pushed .pushed in
     let push = at-push .push in
     let window-event = at-window-event .window-event in
     let make-window = at-make-window .make-window in
-    let trimmed = at-trimmed .trimmed in
     let a = start .args in (
       add-one (a .counts .made),
       λ cuts limit flags vertex k. part-queued cuts (capacityOf (length (a .words .now)) (length (a .reals .now))) limit flags (a .e) (a .x) k (a .b0) (a .b1)
           (a .counts .made) (a .counts .queued) (a .before) (links (a .edges .now) (a .words .now)) (a .reals .now) (queue (a .keys .now) (a .events .now)) vertex
-          (omega (arith, at-capacity .capacity .ensures, at-if1 .if1 .left)) (lowestOf (a .x .win .src) (a .b0) (a .b1)) refl (links (make-window .last .0) (make-window .last .1 .0))
-          (make-window .last .1 .1 .0) (rw (trimmed .ensures) at (make-window .ensures)) (at-if2 .if2 .taken) (window-event .result) (rw (trimmed .ensures) at (window-event .ensures))
+          (omega (arith, at-capacity .capacity .ensures, at-if1 .if1 .left)) (a .low) (start .pre .1) (links (make-window .last .0) (make-window .last .1 .0))
+          (make-window .last .1 .1 .0) (make-window .ensures) (at-if2 .if2 .taken) (window-event .result) (window-event .ensures)
           (queue (push .last .0) (push .last .1 .0)) (a .counts .made + 1) (add-one (a .counts .made)) (pushed .given .0 .0) (rw (pushed .given .1) at (push .ensures .0)),
     )
 
-add-t20 : tie.Need-add-t20
-add-t20 c = search needs
+add-t22 : tie.Need-add-t22
+add-t22 c = search needs
 
-add-t44 : tie.Need-add-t44
-add-t44 c = search needs
+add-t46 : tie.Need-add-t46
+add-t46 c = search needs
 
 same-length-13 : tie.Need-same-length-13
 same-length-13 c = search needs
@@ -147,8 +138,7 @@ same-length-15 c = search needs
 returns-4 : tie.Need-returns-4
 returns-4 c =
     let at-make-window = c .before .before .before .before .before .before .before in
-    let at-trimmed = at-make-window .before .before .before .before in
-    let at-if1 = at-trimmed .before in
+    let at-if1 = at-make-window .before .before .before .before in
     let at-capacity = at-if1 .before in
     let start = at-capacity .before .before .before .before .before .before .before .before .before .before in
     let make-window = at-make-window .make-window in
@@ -156,8 +146,8 @@ returns-4 c =
       add-one (a .counts .made),
       λ cuts limit flags vertex k. part-quiet cuts (capacityOf (length (a .words .now)) (length (a .reals .now))) limit flags (a .e) (a .x) k (a .b0) (a .b1)
           (a .counts .made) (a .counts .queued) (a .before) (links (a .edges .now) (a .words .now)) (a .reals .now) (queue (a .keys .now) (a .events .now)) vertex
-          (omega (arith, at-capacity .capacity .ensures, at-if1 .if1 .left)) (lowestOf (a .x .win .src) (a .b0) (a .b1)) refl (links (make-window .last .0) (make-window .last .1 .0))
-          (make-window .last .1 .1 .0) (rw (at-trimmed .trimmed .ensures) at (make-window .ensures)) (a .counts .made + 1) (add-one (a .counts .made)) (c .if2 .left),
+          (omega (arith, at-capacity .capacity .ensures, at-if1 .if1 .left)) (a .low) (start .pre .1) (links (make-window .last .0) (make-window .last .1 .0))
+          (make-window .last .1 .1 .0) (make-window .ensures) (a .counts .made + 1) (add-one (a .counts .made)) (c .if2 .left),
     )
 
 pub make-part-spec : {M : Type 1} → statement M
@@ -168,7 +158,6 @@ make-part-spec =
     same-length
     same-length-2
     returns
-    trimmed-requires
     make-window-requires
     window-event-requires
     push-requires
@@ -180,16 +169,16 @@ make-part-spec =
     same-length-6
     same-length-7
     returns-2
-    add-t40
     add-t42
+    add-t44
     same-length-8
     same-length-9
     same-length-10
     same-length-11
     same-length-12
     returns-3
-    add-t20
-    add-t44
+    add-t22
+    add-t46
     same-length-13
     same-length-14
     same-length-15

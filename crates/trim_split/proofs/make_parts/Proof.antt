@@ -29,38 +29,43 @@ from-of-requires c κs = omega (arith, c .before .before .before .before .before
 to-of-requires : tie.Need-to-of-requires Inv-loop μ-loop
 to-of-requires c κs = omega (arith, c .before .before .before .before .before .before .before .before .before .pre .1, c .before .loop-test .taken)
 
+lowest-requires : tie.Need-lowest-requires Inv-loop μ-loop
+lowest-requires c κs = search needs
+
 make-part-requires : tie.Need-make-part-requires Inv-loop μ-loop
 make-part-requires c κs =
-    let at-loop = c .before .before .before .before .before .before .before .before in
+    let at-loop = c .before .before .before .before .before .before .before .before .before .before in
     let start = at-loop .before .before .before .before .before .before .before in
     let loop = at-loop .loop in
-    let a = start .args in
-    parts-ready (a .e .0) (a .x) (pairs (a .n) (a .pieces .now)) (windowSlices (a .edges .now) (a .words .now) (a .reals .now) (a .keys .now) (a .events .now)) (a .counts .made)
-    (a .counts .queued) (a .before) (windowSlices (loop .edges) (loop .words) (loop .reals) (loop .keys) (loop .events)) (loop .now .made) (loop .now .queued) (loop .last) (loop .i) (loop .inv)
+    let a = start .args in (
+      parts-ready (a .e .0) (a .x) (pairs (a .n) (a .pieces .now)) (windowSlices (a .edges .now) (a .words .now) (a .reals .now) (a .keys .now) (a .events .now)) (a .counts .made)
+          (a .counts .queued) (a .before) (windowSlices (loop .edges) (loop .words) (loop .reals) (loop .keys) (loop .events)) (loop .now .made) (loop .now .queued) (loop .last) (loop .i) (loop .inv),
+      c .before .before .before .before .before .lowest .ensures,
+    )
 
 enum-known-part : tie.Need-enum-known-part Inv-loop μ-loop
 enum-known-part c = search needs
 
 same-length : tie.Need-same-length Inv-loop μ-loop
-same-length c = c .before .before .before .before .before .before .before .before .before .before .before .before .before .make-part .kept .0 ∙ c .before .before .before .before .before .before .before .before .before .before .before .before .before .before .before .before .before .before .before .before .before .before .loop .inv .same .edges
+same-length c = c .before .before .before .before .before .before .before .before .before .before .before .before .before .make-part .kept .0 ∙ c .before .before .before .before .before .before .before .before .before .before .before .before .before .before .before .before .before .before .before .before .before .before .before .before .loop .inv .same .edges
 
 same-length-2 : tie.Need-same-length-2 Inv-loop μ-loop
-same-length-2 c = c .before .before .before .before .before .before .before .before .before .before .before .before .before .make-part .kept .1 .0 ∙ c .before .before .before .before .before .before .before .before .before .before .before .before .before .before .before .before .before .before .before .before .before .before .loop .inv .same .words
+same-length-2 c = c .before .before .before .before .before .before .before .before .before .before .before .before .before .make-part .kept .1 .0 ∙ c .before .before .before .before .before .before .before .before .before .before .before .before .before .before .before .before .before .before .before .before .before .before .before .before .loop .inv .same .words
 
 same-length-3 : tie.Need-same-length-3 Inv-loop μ-loop
-same-length-3 c = c .before .before .before .before .before .before .before .before .before .before .before .before .before .make-part .kept .1 .1 .0 ∙ c .before .before .before .before .before .before .before .before .before .before .before .before .before .before .before .before .before .before .before .before .before .before .loop .inv .same .reals
+same-length-3 c = c .before .before .before .before .before .before .before .before .before .before .before .before .before .make-part .kept .1 .1 .0 ∙ c .before .before .before .before .before .before .before .before .before .before .before .before .before .before .before .before .before .before .before .before .before .before .before .before .loop .inv .same .reals
 
 same-length-4 : tie.Need-same-length-4 Inv-loop μ-loop
-same-length-4 c = c .before .before .before .before .before .before .before .before .before .before .before .before .before .make-part .kept .1 .1 .1 .0 ∙ c .before .before .before .before .before .before .before .before .before .before .before .before .before .before .before .before .before .before .before .before .before .before .loop .inv .same .keys
+same-length-4 c = c .before .before .before .before .before .before .before .before .before .before .before .before .before .make-part .kept .1 .1 .1 .0 ∙ c .before .before .before .before .before .before .before .before .before .before .before .before .before .before .before .before .before .before .before .before .before .before .before .before .loop .inv .same .keys
 
 same-length-5 : tie.Need-same-length-5 Inv-loop μ-loop
-same-length-5 c = c .before .before .before .before .before .before .before .before .before .before .before .before .before .make-part .kept .1 .1 .1 .1 .0 ∙ c .before .before .before .before .before .before .before .before .before .before .before .before .before .before .before .before .before .before .before .before .before .before .loop .inv .same .events
+same-length-5 c = c .before .before .before .before .before .before .before .before .before .before .before .before .before .make-part .kept .1 .1 .1 .1 .0 ∙ c .before .before .before .before .before .before .before .before .before .before .before .before .before .before .before .before .before .before .before .before .before .before .before .before .loop .inv .same .events
 
 returns : tie.Need-returns Inv-loop μ-loop
 returns c =
     let at-part = c .before in
     let at-make-part = at-part .before .before .before .before .before .before .before .before .before .before .before .before in
-    let at-to-of = at-make-part .before .before .before .before .before .before in
+    let at-to-of = at-make-part .before .before .before .before .before .before .before .before in
     let at-from-of = at-to-of .before in
     let at-loop-test = at-from-of .before in
     let at-loop = at-loop-test .before in
@@ -85,18 +90,18 @@ enum-known-part-2 c = search needs
 
 add-i : tie.Need-add-i Inv-loop μ-loop
 add-i c =
-    let at-loop-test = c .before .before .before .before .before .before .before .before .before .before .before .before .before .before .before .before .before .before .before .before .before in
+    let at-loop-test = c .before .before .before .before .before .before .before .before .before .before .before .before .before .before .before .before .before .before .before .before .before .before .before in
     let at-fits = at-loop-test .before .before .before .before .before .before .before .before in
     omega (arith, at-loop-test .loop-test .taken, at-fits .fits .n)
 
 loop-less : tie.Need-loop-less Inv-loop μ-loop
-loop-less c = omega (arith, c .before .before .before .before .before .before .before .before .before .before .before .before .before .before .before .before .before .before .before .before .before .loop-test .taken)
+loop-less c = omega (arith, c .before .before .before .before .before .before .before .before .before .before .before .before .before .before .before .before .before .before .before .before .before .before .before .loop-test .taken)
 
 loop-again : tie.Need-loop-again Inv-loop μ-loop
 loop-again c =
     let at-part2 = c .before in
     let at-make-part = at-part2 .before .before .before .before .before .before .before .before .before .before .before .before in
-    let at-to-of = at-make-part .before .before .before .before .before .before in
+    let at-to-of = at-make-part .before .before .before .before .before .before .before .before in
     let at-from-of = at-to-of .before in
     let at-loop-test = at-from-of .before in
     let at-loop = at-loop-test .before in
@@ -155,6 +160,7 @@ make-parts-spec =
     loop-holds
     from-of-requires
     to-of-requires
+    lowest-requires
     make-part-requires
     enum-known-part
     same-length
