@@ -4,7 +4,7 @@
 use mathlib.Core.Bool.{_&&_}
 use mathlib.Core.Logic.{inl, inr}
 use lib.Dec.{T, T-not}
-use lib.Ieee.{Float, binary64, neg, le, fits, add, sum, round, ofBits}
+use lib.Ieee.{Float, binary64, neg, lt, le, fits, add, sum, round, ofBits}
 use lib.Ieee.Fits.{and-i}
 use lib.Ieee.Scale.{finite}
 use Rattle.nat_laws.proofs.Tests.{branch}
@@ -22,7 +22,7 @@ use Rattle.source.specs.declared.Src.{Src}
 use Rattle.source.specs.declared.Src.the-variants.{Point, Line}
 use Rattle.source.specs.Distance.{edgeOf, lowestOf}
 use Rattle.better.proofs.Points.{Inside}
-use Rattle.range_test.specs.Range.{highestOf, fromMinusOne, finiteSource, Across}
+use Rattle.range_test.specs.Range.{highestOf, nearestOf, fromMinusOne, finiteSource, Across}
 
 -- ---- the numbers of a source
 abbrev pub Finite : Src → Type 0
@@ -103,20 +103,10 @@ module _ (lo hi : Float) (L : T (finite lo)) (H : T (finite hi)) (z : Float) (g 
     abbrev at : Float → Float
     at w = edgeOf (Point x y s) w
 
-    point-low : T (fits binary64 y) → T (le (lowestOf (Point x y s) lo hi) (at z))
-    unfolding lowestOf
-    point-low p = branch (λ (v : Float). T (le v (at z))) (le lo x && le x hi) (λ t. from-foot x y s X Y S z Z p) (λ t.
-        elim (le-or-lt lo x (finite-number lo L) (finite-number x X)) [
-          | inr k ↦
-              let e = right x y s X Y S lo z L Z (lt-le x lo k) (g .above) in
-              le-trans (minOf (at lo) (at hi)) (at lo) (at z) (min-le-l (at lo) (at hi) (le-number-l (at lo) (at z) e)) e
-          | inl k ↦ elim (le-or-lt x hi (finite-number x X) (finite-number hi H)) [
-            | inl l ↦ absurd (T-not (le lo x && le x hi) t (and-i (le lo x) (le x hi) k l))
-            | inr l ↦
-                let e = left x y s X Y S hi z H Z (lt-le hi x l) (g .below) in
-                le-trans (minOf (at lo) (at hi)) (at hi) (at z) (min-le-r (at lo) (at hi) (le-number-l (at hi) (at z) e)) e
-          ]
-        ])
+    point-low : T (fits binary64 y) → T (le (nearestOf (Point x y s) lo hi) (at z))
+    unfolding nearestOf
+    point-low p = branch (λ (v : Float). T (le v (at z))) (lt x lo) (λ t. right x y s X Y S lo z L Z (lt-le x lo t) (g .above)) (λ t.
+        branch (λ (v : Float). T (le v (at z))) (lt hi x) (λ u. left x y s X Y S hi z H Z (lt-le hi x u) (g .below)) (λ u. from-foot x y s X Y S z Z p))
 
     point-high : T (le (at z) (highestOf (Point x y s) lo hi))
     unfolding highestOf
@@ -146,14 +136,19 @@ module _ (lo hi : Float) (L : T (finite lo)) (H : T (finite hi)) (z : Float) (g 
           le-trans (minOf (on lo) (on hi)) (on hi) (on z) (min-le-r (on lo) (on hi) (le-number-l (on hi) (on z) e)) e
     ]
 
+    line-near : T (le (nearestOf (Line ux uy c) lo hi) (on z))
+    unfolding nearestOf
+    line-near = branch (λ (v : Float). T (le v (on z))) (le zero64 ux) (λ t. upward ux uy c U C lo z L Z t (g .above)) (λ t.
+        downward ux uy c U C z hi Z H (lt-le ux zero64 (not-le-lt zero64 ux (finite-number zero64 zero-finite) (finite-number ux U) t)) (g .below))
+
     line-high : T (le (on z) (highestOf (Line ux uy c) lo hi))
     unfolding highestOf
     line-high = branch (λ (v : Float). T (le (on z) v)) (le zero64 ux) (λ t. upward ux uy c U C z hi Z H t (g .below)) (λ t.
         downward ux uy c U C lo z L Z (lt-le ux zero64 (not-le-lt zero64 ux (finite-number zero64 zero-finite) (finite-number ux U) t)) (g .above))
 
-  pub edge-low : (src : Src) → Finite src → Across src → T (le (lowestOf src lo hi) (edgeOf src z))
+  pub edge-low : (src : Src) → Finite src → Across src → T (le (nearestOf src lo hi) (edgeOf src z))
   edge-low (Point x y s) F a = point-low x y s (F .0) (F .1 .0) (F .1 .1) a
-  edge-low (Line ux uy c) F a = line-low ux uy c (F .0) (F .1)
+  edge-low (Line ux uy c) F a = line-near ux uy c (F .0) (F .1)
 
   pub edge-high : (src : Src) → Finite src → T (le (edgeOf src z) (highestOf src lo hi))
   edge-high (Point x y s) F = point-high x y s (F .0) (F .1 .0) (F .1 .1)

@@ -6,7 +6,7 @@ use mathlib.Core.List.{List, [], _∷_}
 use lib.ListN.{length}
 use lib.Dec.{T}
 use lib.Ieee.{Float, binary64, neg, lt, le, fits}
-use Rattle.float64.specs.Scalar.{zero64, one, maxOf, isFinite}
+use Rattle.float64.specs.Scalar.{zero64, one, maxOf, absOf, isFinite}
 use Rattle.float64.specs.Notation.{_⊕_, _⊖_, _⊗_, if_then_else_}
 use Rattle.source.specs.declared.Src.{Src}
 use Rattle.source.specs.declared.Src.the-variants.{Point, Line}
@@ -27,6 +27,14 @@ highestOf (Point x y s) lo hi =
     if le hi x then edgeOf (Point x y s) lo else
     maxOf (edgeOf (Point x y s) lo) (edgeOf (Point x y s) hi)
 highestOf (Line ux uy c) lo hi = if le zero64 ux then edgeOf (Line ux uy c) hi else edgeOf (Line ux uy c) lo
+
+-- the least distance from lo to hi on the edge, at the point nearest to the foot
+unfoldable pub nearestOf : Src → Float → Float → Float
+nearestOf (Point x y s) lo hi =
+    if lt x lo then edgeOf (Point x y s) lo else
+    if lt hi x then edgeOf (Point x y s) hi else
+    absOf y ⊕ s
+nearestOf (Line ux uy c) lo hi = if le zero64 ux then edgeOf (Line ux uy c) lo else edgeOf (Line ux uy c) hi
 
 -- no distance from lo to hi is below -1: `1 + dq` of the tolerance is then not below zero
 unfoldable pub fromMinusOne : Src → Float → Float → Bool
@@ -52,15 +60,21 @@ abbrev pub Comparable : Bool → Src → Src → Float → Float → Type 0
 Comparable b p q lo hi = (T b → T (finiteStretch lo hi) × (T (finiteSource p) × T (finiteSource q))) × (T b → Across p × (Across q × (T (fits binary64 lo) × T (fits binary64 hi))))
 
 -- p is nowhere shorter than q
-unfoldable pub rangeAbove : Src → Src → Float → Float → Bool
-rangeAbove p q lo hi = le (highestOf q lo hi) (lowestOf p lo hi) && fromMinusOne q lo hi
+pub record RangeAbove (p q : Src) (lo hi : Float) : Type 0 where
+  pub apart : T (le (highestOf q lo hi) (nearestOf p lo hi))
+  pub guard : T (fromMinusOne q lo hi)
 
--- p is shorter than q everywhere: `dp < dq - 1e-10 * (1. + dq)` for the greatest dp, the least dq before the tolerance, and the greatest in it
-unfoldable pub rangeBelow : Src → Src → Float → Float → Bool
-rangeBelow p q lo hi =
-    let least = lowestOf q lo hi in
-    let t = tolerance ⊗ (one ⊕ highestOf q lo hi) in
-    lt (highestOf p lo hi) (least ⊖ t) && le (neg one) least && isFinite t
+-- p is shorter than q everywhere: `dp < dq - 1e-10 * (1. + dq)` for an upper bound of dp, a lower one of dq before the tolerance, and an upper one in it
+pub record RangeBelow (p q : Src) (lo hi : Float) : Type 0 where
+  pub most : Float
+  pub least : Float
+  pub greatest : Float
+  pub p-upto : T (le (highestOf p lo hi) most)
+  pub q-from : T (le least (nearestOf q lo hi))
+  pub q-upto : T (le (highestOf q lo hi) greatest)
+  pub apart : T (lt most (least ⊖ tolerance ⊗ (one ⊕ greatest)))
+  pub guard : T (le (neg one) least)
+  pub small : T (isFinite (tolerance ⊗ (one ⊕ greatest)))
 
 -- [lo, hi] alone
 abbrev pub oneStretch : Float → Float → List Interval

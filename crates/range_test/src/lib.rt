@@ -2,17 +2,19 @@
 
 use better::Listed;
 use source::Src;
+use source_bounds::Enclosure;
 ghost use mathlib.Core.Path.{_≡_};
 ghost use mathlib.Core.Bool.{cond, _&&_};
 ghost use lib.Dec.{T, leb};
 ghost use lib.ListN.{length};
-ghost use lib.Ieee.{binary64, fits};
-ghost use Rattle.float64.specs.Scalar.{isFinite};
-ghost use Rattle.float64.specs.Notation.{_⊕_};
+ghost use lib.Ieee.{binary64, neg, lt, le, fits};
+ghost use Rattle.float64.specs.Scalar.{one, isFinite};
+ghost use Rattle.float64.specs.Notation.{_⊕_, _⊖_, _⊗_};
+ghost use Rattle.better.specs.Cutting.{tolerance};
 ghost use Rattle.better.specs.Points.{ptsOf, walkOf};
 ghost use Rattle.better.specs.Stretches.{betterOf};
 ghost use Rattle.better.specs.Buffers.{hasEntries, bettering, listedNumber};
-ghost use Rattle.range_test.specs.Range.{highestOf, fromMinusOne, finiteSource, finiteStretch, Across, Comparable, rangeAbove, rangeBelow, Tells, listing, oneStretch};
+ghost use Rattle.range_test.specs.Range.{highestOf, nearestOf, fromMinusOne, finiteSource, finiteStretch, Across, Comparable, RangeAbove, RangeBelow, Tells, listing, oneStretch};
 
 // What the ranges tell of p beside q.
 pub enum Ranged {
@@ -21,25 +23,66 @@ pub enum Ranged {
     AlwaysShorter,
 }
 
-// The greatest distance from lo to hi on the edge.
-pub fn highest(src: Src, lo: f64, hi: f64) -> f64
-    ensures { λ r. ⌜ r ≡ highestOf src lo hi ⌝ }
+// v as both bounds of itself.
+fn exact(v: f64) -> Enclosure
+    ensures { λ r. ⌜ (T (r .known) → T (le v (r .hi)) × T (le (r .lo) v)) ⌝ }
+{
+    if v <= 1e100 {
+        return Enclosure {
+            lo: v,
+            hi: v,
+            known: true,
+        };
+    }
+    Enclosure {
+        lo: v,
+        hi: v,
+        known: false,
+    }
+}
+
+// What no distance from lo to hi is above.
+fn upper(src: Src, lo: f64, hi: f64) -> Enclosure
+    ensures { λ r. ⌜ (T (r .known) → T (le (highestOf src lo hi) (r .hi))) ⌝ }
 {
     match src {
         Src::Point { x, y: _, s: _ } => {
             if x <= lo {
-                return source::edge(src, hi);
+                return source_bounds::bounds(src, hi);
             }
             if hi <= x {
-                return source::edge(src, lo);
+                return source_bounds::bounds(src, lo);
             }
-            float64::max(source::edge(src, lo), source::edge(src, hi))
+            exact(float64::max(source::edge(src, lo), source::edge(src, hi)))
         }
         Src::Line { ux, uy: _, c: _ } => {
             if 0.0 <= ux {
-                return source::edge(src, hi);
+                return exact(source::edge(src, hi));
             }
-            source::edge(src, lo)
+            exact(source::edge(src, lo))
+        }
+    }
+}
+
+// What no distance from lo to hi is below.
+fn lower(src: Src, lo: f64, hi: f64) -> Enclosure
+    ensures { λ r. ⌜ (T (r .known) → T (le (r .lo) (nearestOf src lo hi))) ⌝ }
+{
+    match src {
+        Src::Point { x, y, s } => {
+            if x < lo {
+                return source_bounds::bounds(src, lo);
+            }
+            if hi < x {
+                return source_bounds::bounds(src, hi);
+            }
+            exact(float64::abs(y) + s)
+        }
+        Src::Line { ux, uy: _, c: _ } => {
+            if 0.0 <= ux {
+                return exact(source::edge(src, lo));
+            }
+            exact(source::edge(src, hi))
         }
     }
 }
@@ -94,25 +137,44 @@ fn all_finite(p: Src, q: Src, lo: f64, hi: f64) -> bool
 }
 
 fn range_above(p: Src, q: Src, lo: f64, hi: f64) -> bool
-    ensures { λ r. ⌜ r ≡ rangeAbove p q lo hi ⌝ }
+    ensures { λ r. ⌜ (T r → RangeAbove p q lo hi) ⌝ }
 {
-    let most = highest(q, lo, hi);
-    let least = source::lowest(p, lo, hi);
-    if most <= least {
-        return from_minus_one(q, lo, hi);
+    let most = upper(q, lo, hi);
+    if most.known {
+        let least = lower(p, lo, hi);
+        if least.known {
+            if most.hi <= least.lo {
+                return from_minus_one(q, lo, hi);
+            }
+        }
+    }
+    false
+}
+
+// One comparison of what bounds tell.
+fn is_below(most: f64, least: f64, greatest: f64) -> bool
+    ensures { λ r. ⌜ r ≡ (lt most (least ⊖ tolerance ⊗ (one ⊕ greatest)) && le (neg one) least && isFinite (tolerance ⊗ (one ⊕ greatest))) ⌝ }
+{
+    let t = 1e-10 * (1.0 + greatest);
+    if most < least - t {
+        if -1.0 <= least {
+            return float64::is_finite(t);
+        }
     }
     false
 }
 
 fn range_below(p: Src, q: Src, lo: f64, hi: f64) -> bool
-    ensures { λ r. ⌜ r ≡ rangeBelow p q lo hi ⌝ }
+    ensures { λ r. ⌜ (T r → RangeBelow p q lo hi) ⌝ }
 {
-    let most = highest(p, lo, hi);
-    let least = source::lowest(q, lo, hi);
-    let t = 1e-10 * (1.0 + highest(q, lo, hi));
-    if most < least - t {
-        if -1.0 <= least {
-            return float64::is_finite(t);
+    let most = upper(p, lo, hi);
+    if most.known {
+        let least = lower(q, lo, hi);
+        if least.known {
+            let greatest = upper(q, lo, hi);
+            if greatest.known {
+                return is_below(most.hi, least.lo, greatest.hi);
+            }
         }
     }
     false

@@ -1,4 +1,6 @@
 -- `range_test::compare_ranges` meets its contract. Assumes nothing.
+use mathlib.Core.Path.{sym, subst}
+use lib.Dec.{T}
 use Rattle.range_test.proofs.Ranges.{tells-never, tells-always}
 use borrow.Author.Needs.{needs}
 use Rattle.range_test.proofs.compare_ranges.Statement.{statement}
@@ -13,7 +15,7 @@ range-above-requires c κs = search needs
 returns : tie.Need-returns
 returns c =
     let a = c .before .before .before .before .before .args in
-    tells-never (a .p) (a .q) (a .lo) (a .hi) (rw (c .before .before .if2 .taken) at (c .before .before .before .all-finite .ensures)) (c .before .range-above .result) (c .before .range-above .ensures) (c .if3 .taken)
+    tells-never (a .p) (a .q) (a .lo) (a .hi) (rw (c .before .before .if2 .taken) at (c .before .before .before .all-finite .ensures)) (c .before .range-above .ensures (subst T (sym (c .if3 .taken)) tt))
 
 returns-2 : tie.Need-returns-2
 returns-2 c = search needs
@@ -30,7 +32,7 @@ range-below-requires c κs = search needs
 returns-4 : tie.Need-returns-4
 returns-4 c =
     let a = c .before .before .before .before .before .before .args in
-    tells-always (a .p) (a .q) (a .lo) (a .hi) (rw (c .before .before .if5 .taken) at (c .before .before .before .all-finite2 .ensures)) (c .before .range-below .result) (c .before .range-below .ensures) (c .if6 .taken)
+    tells-always (a .p) (a .q) (a .lo) (a .hi) (rw (c .before .before .if5 .taken) at (c .before .before .before .all-finite2 .ensures)) (c .before .range-below .ensures (subst T (sym (c .if6 .taken)) tt))
 
 returns-5 : tie.Need-returns-5
 returns-5 c = search needs
