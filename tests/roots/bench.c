@@ -1,5 +1,5 @@
-/* Times the proved square root and hypotenuse beside the processor's square root instruction, C's sqrt and C's hypot, in
-   nanoseconds a call. Prints two tables in Markdown: calls that do not wait for each other, and calls each of which waits
+/* Times the proved square root and hypotenuse beside the processor's square root instruction, and C's sqrt and hypot or, with
+   EARLIER, those of an earlier revision, in nanoseconds a call. Prints two tables in Markdown: calls that do not wait for each other, and calls each of which waits
    for the one before. A class has 2^19 arguments, since a branch predictor learns a shorter sequence by heart. The
    contenders take turns, ROUNDS of them; the arguments are timed in blocks, by processor time, and of each block the
    fastest turn counts, so that other work on the machine disturbs little. */
@@ -24,8 +24,17 @@ static double now(void) {
 
 /* the instruction, inlined; and C's function, called */
 static double instruction(double v) { return _mm_cvtsd_f64(_mm_sqrt_sd(_mm_setzero_pd(), _mm_set_sd(v))); }
+#ifdef EARLIER
+/* those of an earlier revision, which bench.sh gave these names, in the place of C's */
+double earlier_sqrt(double), earlier_hypot(double, double);
+#define THEIR "earlier"
+static double (*volatile c_sqrt)(double) = earlier_sqrt;
+static double (*volatile c_hypot)(double, double) = earlier_hypot;
+#else
+#define THEIR "C's"
 static double (*volatile c_sqrt)(double) = sqrt;
 static double (*volatile c_hypot)(double, double) = hypot;
+#endif
 
 /* v, but not before r is known */
 static double after(double v, double r, __m128d zero) {
@@ -125,7 +134,7 @@ int main(void) {
     }
     for (int table = 0; table < 2; table++) {
         printf("\n%s\n\n", table ? "Each call waits for the one before, ns a call:" : "Calls that do not wait for each other, ns a call:");
-        printf("| arguments | sqrt | instruction | C's sqrt | sqrt / C's | hypot | C's hypot | hypot / C's |\n");
+        printf("| arguments | sqrt | instruction | " THEIR " sqrt | sqrt / " THEIR " | hypot | " THEIR " hypot | hypot / " THEIR " |\n");
         printf("|---|---:|---:|---:|---:|---:|---:|---:|\n");
         for (size_t k = 0; k < CLASSES; k++) {
             const double *b = times[table][k];
