@@ -11,12 +11,6 @@ fn fail(sentence: &str) -> ! {
     exit(1)
 }
 
-/// How many archives are made at once: as `rt` itself, by RT_JOBS, and two at most, for each takes gigabytes.
-fn jobs() -> usize {
-    let named = std::env::var("RT_JOBS").ok().and_then(|n| n.parse().ok());
-    named.unwrap_or(2).clamp(1, 2)
-}
-
 fn start(root: &Path, words: &[&str]) -> Child {
     let mut command = Command::new("rt");
     command.args(words).current_dir(root);
@@ -44,12 +38,10 @@ fn make(root: &Path) -> PathBuf {
     // what is not proved yet is proved first, by one rt alone
     let check = [&["check"], &LIBRARIES[..]].concat();
     end(start(root, &check), &check);
-    for names in LIBRARIES.chunks(jobs()) {
-        let commands: Vec<_> = names.iter().map(|name| ["staticlib", name]).collect();
-        let running: Vec<Child> = commands.iter().map(|words| start(root, words)).collect();
-        for (words, child) in commands.iter().zip(running) {
-            end(child, words);
-        }
+    // one after the other: two rt at work in one folder prove the same crates again
+    for name in LIBRARIES {
+        let words = ["staticlib", name];
+        end(start(root, &words), &words);
     }
     root.join("target/staticlib")
 }
