@@ -1,6 +1,7 @@
 // Replays stored STL files and meshes: how many there are, and how many are read or written otherwise. Compared are the answer, the mesh or the file, and that no
 // other element of the lent slices changed. tests/stl/make_vectors.py has the format and makes the files.
 use stl_format::stl_number;
+use stored_bytes::holds_bytes;
 use stored_numbers::all_f64;
 use stored_numbers::all_u32;
 use stored_numbers::at_most;
@@ -61,31 +62,6 @@ fn is_read(s: &[u8], k: usize) -> bool
     reads_into(s, k, &mut vertices[..nv], &mut triangles[..nt])
 }
 
-// Whether the bytes of s from one place on are those of the slice, which holds 7 behind the first n.
-fn holds_file(s: &[u8], from: usize, out: &[u8], n: usize) -> bool {
-    if s.len() < from {
-        return false;
-    }
-    let rest = s.len() - from;
-    let mut i: usize = 0;
-    while i < out.len() {
-        if i < n {
-            if rest <= i {
-                return false;
-            }
-            if s[from + i] != out[i] {
-                return false;
-            }
-        } else {
-            if out[i] != 7 {
-                return false;
-            }
-        }
-        i += 1;
-    }
-    true
-}
-
 // Whether the mesh of the record at number k is written as stored, into bytes that are 7; its file stands from number `at` on.
 fn writes_into(
     s: &[u8],
@@ -101,7 +77,7 @@ fn writes_into(
     if stl_number(answer) != number(s, k + 1) {
         return false;
     }
-    holds_file(s, 4 * at, out, count(s, k + 5, 2000))
+    holds_bytes(s, 4 * at, out, count(s, k + 5, 2000))
 }
 
 fn is_written(s: &[u8], k: usize) -> bool

@@ -1,9 +1,9 @@
--- `stl_vectors::holds_file` meets its contract. Assumes nothing.
+-- `stored_bytes::holds_bytes` meets its contract. Assumes nothing.
 use Prim.Native.Nat.{_≤_, _-_}
 use lib.ListN.{length}
 use borrow.Author.Needs.{needs}
-use Rattle.stl_vectors.proofs.holds_file.Statement.{statement}
-use Rattle.stl_vectors.proofs.holds_file.Tie as tie
+use Rattle.stored_bytes.proofs.holds_bytes.Statement.{statement}
+use Rattle.stored_bytes.proofs.holds_bytes.Tie as tie
 
 abbrev Inv-loop : tie.InvT-loop
 Inv-loop s from out n rest i₀ i = i ≤ length out
@@ -53,8 +53,8 @@ loop-again c = search needs
 returns-5 : tie.Need-returns-5 Inv-loop μ-loop
 returns-5 c = search needs
 
-pub holds-file-spec : {M : Type 1} → statement M
-holds-file-spec =
+pub holds-bytes-spec : {M : Type 1} → statement M
+holds-bytes-spec =
     tie.close
     (tie.spec
     Inv-loop
