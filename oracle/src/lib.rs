@@ -3,6 +3,7 @@
 pub mod compare;
 pub mod dump;
 pub mod exact;
+pub mod form;
 pub mod generate;
 pub mod job;
 pub mod reading;

@@ -2,6 +2,7 @@
 use oracle::compare::{self, Readings, Tally};
 use oracle::dump::{self, Contents, contents};
 use oracle::exact::{Buffers, Refusal, judge_pseudo};
+use oracle::form::{Form, moved};
 use oracle::generate::insertion::{self, Stage};
 use oracle::generate::rooms as lent;
 use oracle::generate::small;
@@ -71,6 +72,16 @@ fn run(args: &[&str]) -> Result<(), String> {
                 job,
                 number(seed)?,
             ))
+        }
+        ["stored", "moves"] => print(&vectors::moves()),
+        ["stored", "reads"] => print(&vectors::reads()),
+        ["move", form] => {
+            let form = match *form {
+                "plain" => Form::Plain,
+                "groups" => Form::Groups,
+                _ => return Err("a slip is plain or in groups".into()),
+            };
+            print(&moved(form, &stdin()?).map_err(slip::refused)?)
         }
         ["refusals", "rooms", first, count] => refusals(number(first)?, number(count)?, |seed| {
             let (job, mut rooms) = lent::job(seed);

@@ -1,5 +1,7 @@
-//! The slip, its reader (refusals 30 to 33), and the print-out.
+//! The slip, its reader (refusals 30 to 33, of groups 34 and 35), and the
+//! print-out.
 use crate::exact::{Buffers, Field, Refusal};
+use crate::form::{Bytes, Form};
 use crate::job::{Job, Mesh};
 use crate::reading::Reading;
 
@@ -37,24 +39,8 @@ impl Sizes {
     };
 }
 
-struct Bytes<'a>(&'a [u8]);
-
-impl Bytes<'_> {
-    fn take<const N: usize>(&mut self) -> Result<[u8; N], Refusal> {
-        let (head, rest) = self.0.split_first_chunk::<N>().ok_or(Refusal(30))?;
-        self.0 = rest;
-        Ok(*head)
-    }
-    fn u32(&mut self) -> Result<u32, Refusal> {
-        self.take().map(u32::from_le_bytes)
-    }
-    fn f64(&mut self) -> Result<f64, Refusal> {
-        self.take().map(f64::from_le_bytes)
-    }
-}
-
 fn read_piece(bytes: &mut Bytes, job: &mut Job) -> Result<(), Refusal> {
-    let [kind] = bytes.take()?;
+    let kind = bytes.byte()?;
     if kind > 1 {
         return Err(Refusal(32));
     }
@@ -72,7 +58,11 @@ fn read_piece(bytes: &mut Bytes, job: &mut Job) -> Result<(), Refusal> {
 }
 
 pub fn read(slip: &[u8], sizes: &Sizes) -> Result<Job, Refusal> {
-    let mut bytes = Bytes(slip);
+    read_form(Form::Plain, slip, sizes)
+}
+
+pub fn read_form(form: Form, slip: &[u8], sizes: &Sizes) -> Result<Job, Refusal> {
+    let mut bytes = Bytes::new(form, slip)?;
     let (vertices, triangles, pieces) = (bytes.u32()?, bytes.u32()?, bytes.u32()?);
     if vertices > sizes.vertices || triangles > sizes.triangles || pieces > sizes.pieces {
         return Err(Refusal(33));
@@ -95,16 +85,13 @@ pub fn read(slip: &[u8], sizes: &Sizes) -> Result<Job, Refusal> {
         job.triangles.push(bytes.u32()?);
     }
     for _ in 0..vertices {
-        let [flag] = bytes.take()?;
-        job.flags.push(flag);
+        job.flags.push(bytes.byte()?);
     }
     for _ in 0..pieces {
         read_piece(&mut bytes, &mut job)?;
     }
     job.limit = bytes.f64()?;
-    if !bytes.0.is_empty() {
-        return Err(Refusal(31));
-    }
+    bytes.end()?;
     Ok(job)
 }
 

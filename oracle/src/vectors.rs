@@ -4,11 +4,13 @@ mod candidates;
 mod events;
 mod jobs;
 mod leaves;
+mod moves;
 mod pairs;
 mod stored;
 mod topology;
 mod values;
 
+pub use moves::{moves, random as random_form, reads};
 pub use pairs::hypot_pairs;
 
 use crate::dump::{bits, src_parts};
