@@ -10,7 +10,7 @@ use Rattle.text_out.proofs.Puts.{puts-none, puts-then}
 use Rattle.groups.specs.Groups.{groupsOf}
 
 -- the numbers that so many groups hold are below
-pub most : ℕ → ℕ
+unfoldable pub most : ℕ → ℕ
 most zero = 128
 most (suc k) = 128 * most k
 
