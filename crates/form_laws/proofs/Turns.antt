@@ -10,7 +10,7 @@ use mathlib.Core.List.{List, [], _∷_, _++_, append-assoc}
 use borrow.Author.Tests.{lt-ltb, le-ltb, ltb-true, ltb-false}
 use lib.Dec.{eqb, ltb}
 use lib.ListN.{length, getD, take, drop, length-append, length-take, length-drop}
-use lib.Seq.{take-at, drop-drop}
+use lib.Seq.{take-at, drop-drop, drop-cons}
 use Rattle.groups.specs.declared.Form.{Form}
 use Rattle.groups.specs.declared.Number.{Number}
 use Rattle.groups.specs.declared.Number.the-variants.{Short, Over, Is}
@@ -19,6 +19,7 @@ use Rattle.slip_moves.specs.declared.Refusal.{Refusal}
 use Rattle.slip_moves.specs.declared.Refusal.the-variants.{TooShort, UnknownKind}
 use Rattle.slip_moves.specs.Moves.{Part, put, stop, also, then, bytesMoved, written, endsSize, numberMoved, numbersMoved, pieceOfKind, pieceMoved, piecesMoved, meshMoved, restMoved, bodyMoved}
 use Rattle.slip_moves.proofs.Parts.{no-part}
+use Rattle.slip_moves.proofs.Ways.{bytes-there, good-kind}
 use Rattle.slip_laws.specs.Plain.{IsByte}
 use Rattle.slip_laws.proofs.Parts.{past}
 use Rattle.slip_laws.proofs.Stands.{Stands, stands-none, stands-then}
@@ -134,3 +135,55 @@ unfolding pieceOfKind
 back-kind kind =
     back-then (λ f g s i. bytesMoved s 1 i) (λ f g s i. then (numberMoved f g s i) (bytesMoved s (endsSize kind))) (back-bytes 1)
     (back-then numberMoved (λ f g s i. bytesMoved s (endsSize kind) i) back-number (back-bytes (endsSize kind)))
+
+-- the kind is the first byte of a piece
+kind-first : (f g : Form) (s : List ℕ) (kind i j : ℕ) (bs : List ℕ) → i < length s → pieceOfKind f g s kind i ≡ put j bs → (more : List ℕ) × (bs ≡ getD s i 0 ∷ more)
+unfolding pieceOfKind then also
+kind-first f g s kind i j bs l e =
+    go (then (numberMoved f g s (i + 1)) (bytesMoved s (endsSize kind))) (ap (λ x. then x (λ k. then (numberMoved f g s k) (bytesMoved s (endsSize kind)))) (sym one) ∙ e)
+  where
+    one : bytesMoved s 1 i ≡ put (i + 1) (getD s i 0 ∷ [])
+    one = bytes-there s i 1 (omega (arith, l)) ∙ ap (λ t. put (i + 1) (take 1 t)) (drop-cons s i 0 l)
+
+    go : (y : Part) → also (getD s i 0 ∷ []) y ≡ put j bs → (more : List ℕ) × (bs ≡ getD s i 0 ∷ more)
+    go (stop r) h = no-part (sym h)
+    go (put k cs) h = (cs, sym (put-same h .1))
+
+back-piece : Back pieceMoved
+unfolding pieceMoved
+back-piece f g s b i j bs e = go (ltb (length s) (i + 1)) (ltb 1 (getD s i 0)) refl refl e
+  where
+    go : (c d : Bool) → ltb (length s) (i + 1) ≡ c → ltb 1 (getD s i 0) ≡ d → cond c (stop TooShort) (cond d (stop UnknownKind) (pieceOfKind f g s (getD s i 0) i)) ≡ put j bs
+        → Turn pieceMoved f g s i j bs
+    go true d ec ed h = no-part (sym h)
+    go false true ec ed h = no-part (sym h)
+    go false false ec ed h =
+        let there : i < length s = omega (arith, ltb-false (length s) (i + 1) ec) in
+        let u = back-kind (getD s i 0) f g s b i j bs h in
+        let first = kind-first f g s (getD s i 0) i j bs there h in
+        record {
+          bytes = u .bytes;
+          stood = u .stood;
+          back = λ t a rest l d.
+              let k = front t a (getD s i 0) (first .0 ++ rest) (d ∙ ap (λ x. x ++ rest) (first .1)) in
+              good-kind g f t a (k .0) (omega (arith, k .1 .0, ltb-false 1 (getD s i 0) ed)) ∙ ap (λ (x : ℕ). pieceOfKind g f t x a) (k .1 .0) ∙ u .back t a rest l d;
+        }
+
+pub back-pieces : (n : ℕ) → Back (λ f g s i. piecesMoved f g s n i)
+unfolding piecesMoved
+back-pieces zero = back-none
+back-pieces (suc n) = back-then pieceMoved (λ f g s i. piecesMoved f g s n i) back-piece (back-pieces n)
+
+back-mesh : (v t : ℕ) → Back (λ f g s i. meshMoved f g s v t i)
+unfolding meshMoved
+back-mesh v t =
+    back-then (λ f g s i. bytesMoved s (24 * v) i) (λ f g s i. then (numbersMoved f g s (3 * t) i) (bytesMoved s v)) (back-bytes (24 * v))
+    (back-then (λ f g s i. numbersMoved f g s (3 * t) i) (λ f g s i. bytesMoved s v i) (back-numbers (3 * t)) (back-bytes v))
+
+back-rest : (p : ℕ) → Back (λ f g s i. restMoved f g s p i)
+unfolding restMoved
+back-rest p = back-then (λ f g s i. piecesMoved f g s p i) (λ f g s i. bytesMoved s 8 i) (back-pieces p) (back-bytes 8)
+
+pub back-body : (v t p : ℕ) → Back (λ f g s i. bodyMoved f g s v t p i)
+unfolding bodyMoved
+back-body v t p = back-then (λ f g s i. meshMoved f g s v t i) (λ f g s i. restMoved f g s p i) (back-mesh v t) (back-rest p)
