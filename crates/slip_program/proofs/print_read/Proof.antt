@@ -1,9 +1,13 @@
--- `fieldslip::print_read` is safe and ends. A slice's front has as many elements as it is cut to. Assumes nothing.
+-- `slip_program::print_read` meets its contract. Assumes nothing.
 use mathlib.Core.Path.{sym}
+use lib.ListN.{take}
 use lib.Seq.{length-take-le}
+use Rattle.job_checks.specs.Job.{job}
+use Rattle.slip_program.specs.Program.{jobText}
+use Rattle.slip_program.proofs.Texts.{puts-same}
 use borrow.Author.Needs.{needs}
-use Rattle.fieldslip.proofs.print_read.Statement.{statement}
-use Rattle.fieldslip.proofs.print_read.Tie as tie
+use Rattle.slip_program.proofs.print_read.Statement.{statement}
+use Rattle.slip_program.proofs.print_read.Tie as tie
 
 cast-least : tie.Need-cast-least
 cast-least c = search needs
@@ -75,7 +79,20 @@ same-length : tie.Need-same-length
 same-length c = search needs
 
 returns : tie.Need-returns
-returns c = search needs
+returns c =
+    let printed = c .before .before in
+    let coords = printed .before .before .before in
+    let faces = coords .before .before .before in
+    let kinds = faces .before .before .before in
+    let flags = kinds .before .before .before in
+    let triangles = flags .before .before .before in
+    let vertices = triangles .before .before .before in
+    let a = vertices .before .before .before .before .before .before .before .before .before .args in
+    puts-same
+    (λ i. jobText
+    (job (take (vertices .least .ensures i) (a .vertices .now)) (take (triangles .least2 .ensures i) (a .triangles .now)) (take (flags .least3 .ensures i) (a .flags .now))
+    (take (kinds .least4 .ensures i) (a .kinds .now)) (take (faces .least5 .ensures i) (a .faces .now)) (take (coords .least6 .ensures i) (a .coords .now)) (a .read .limit)))
+    (printed .print-job .ensures)
 
 pub print-read-spec : {M : Type 1} → statement M
 print-read-spec =
