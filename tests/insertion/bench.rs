@@ -329,9 +329,9 @@ fn push(job: &mut Job, (f, a, b): (u32, Vec3, Vec3)) {
     job.piece_coords.extend(a.iter().chain(&b));
 }
 
-/// So many straight lines of 100 segments across a mesh of 60,000 triangles.
-fn lines(n: usize) -> Job {
-    let (mut job, topo) = on_mesh(60_000, 1e7);
+/// So many straight lines of 100 segments across a mesh.
+fn lines(n: usize, triangles: usize) -> Job {
+    let (mut job, topo) = on_mesh(triangles, 1e7);
     let (v, t) = (job.vec3s(), job.tris());
     let walker = Walker {
         v: &v,
@@ -392,8 +392,13 @@ fn main() {
     println!("|---|---:|---:|---:|---:|---:|---:|---:|---:|---:|");
     type Make<'a> = (&'a str, &'a dyn Fn(usize) -> Job, [usize; 3]);
     let many = [4_096, 16_384, 65_535];
-    let jobs: [Make; 4] = [
-        ("lines of 100", &lines, [75, 150, 300]),
+    let jobs: [Make; 5] = [
+        ("lines of 100", &|n| lines(n, 60_000), [75, 150, 300]),
+        (
+            "lines of 100, as many a triangle",
+            &|n| lines(n, 200 * n),
+            [75, 150, 300],
+        ),
         ("in one face", &|n| in_face(n, false, true), many),
         ("from one end", &|n| in_face(n, true, true), many),
         (
