@@ -3,7 +3,14 @@ use std::path::{Path, PathBuf};
 use std::process::{Child, Command, Stdio, exit};
 
 /// The crates whose exports src/ffi.rs declares.
-const LIBRARIES: [&str; 5] = ["field_c", "query_c", "insert_c", "advance_c", "stl_c"];
+const LIBRARIES: [&str; 6] = [
+    "field_c",
+    "query_c",
+    "insert_c",
+    "advance_c",
+    "stl_c",
+    "moves_c",
+];
 
 /// A plain sentence, and no panic's trace.
 fn fail(sentence: &str) -> ! {

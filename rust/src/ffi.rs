@@ -6,7 +6,7 @@
 use crate::buffers::Buffers;
 use crate::input::Input;
 use crate::refusal::OTHER_VERSION;
-use crate::slip::Rows;
+use crate::slip::{Form, Rows};
 use std::sync::OnceLock;
 
 /// Vertices, triangles, pieces, edges, windows made and steps of a field.
@@ -14,6 +14,9 @@ pub(crate) type Told = [u32; 6];
 
 /// The row's slices have not one length: the library's own number for it.
 const SHORT_ROW: u32 = 74;
+
+/// What is lent for a slip that is moved is too short: document 02's number.
+const NO_ROOM: u32 = 36;
 
 /// Declares a function, and the same for slices.
 macro_rules! export {
@@ -66,6 +69,8 @@ export!(sirmolaat_edge_at(;
 export!(sirmolaat_read_slip(; slip: u8;;
     vertices: f64, triangles: u32, flags: u8, kinds: u8, faces: u32, coords: f64, told: u32, limit: f64
 ) -> u32);
+export!(sirmolaat_slip_to_groups(; slip: u8;; out: u8, told: usize) -> u32);
+export!(sirmolaat_groups_to_slip(; slip: u8;; out: u8, told: usize) -> u32);
 export!(sirmolaat_write_slip(;
     vertices: f64, triangles: u32, flags: u8, kinds: u8, faces: u32, coords: f64; limit: f64; out: u8
 ) -> usize);
@@ -322,7 +327,7 @@ fn one(ask: impl FnOnce(&mut [f64]) -> u32) -> Result<f64, u32> {
     }
 }
 
-/// A slip, read to rows that have as many elements as it claims; or its refusal, and nothing is written.
+/// A plain slip, read to rows that have as many elements as it claims; or its refusal, and nothing is written.
 pub(crate) fn read_slip(slip: &[u8], rows: &mut Rows) -> Result<(), u32> {
     if !same_version() {
         return Err(OTHER_VERSION);
@@ -368,6 +373,30 @@ pub(crate) fn write_slip(job: &Input, most: usize) -> Result<Vec<u8>, u32> {
     );
     out.truncate(length);
     Ok(out)
+}
+
+/// A slip of one form in the other, or its refusal: asked for its length first.
+pub(crate) fn move_slip(from: Form, slip: &[u8]) -> Result<Vec<u8>, u32> {
+    if !same_version() {
+        return Err(OTHER_VERSION);
+    }
+    let mut told = [0];
+    let mut put = |out: &mut [u8]| {
+        let number = match from {
+            Form::Plain => sirmolaat_slip_to_groups(slip, out, &mut told),
+            Form::Groups => sirmolaat_groups_to_slip(slip, out, &mut told),
+        };
+        (number, told[0])
+    };
+    let length = match put(&mut []) {
+        (0 | NO_ROOM, length) => length,
+        (number, _) => return Err(number),
+    };
+    let mut out = vec![0; length];
+    match put(&mut out) {
+        (0, _) => Ok(out),
+        (number, _) => Err(number),
+    }
 }
 
 /// What an STL function answers: a refusal in the upper half, else a count in the lower.

@@ -94,6 +94,9 @@ impl Refusal {
             31 => "slip with bytes left over",
             32 => "unknown kind of piece",
             33 => "slip with too many of something",
+            34 => "slip in groups that does not begin with 2",
+            35 => "number in too many groups",
+            36 => "no room for a slip",
             40 => "STL file too short",
             41 => "STL file of another length",
             42 => "STL coordinate not finite",
@@ -135,7 +138,11 @@ impl Refusal {
             21 | 23 | 25 | 26 => "count from 0, below the number that the mesh has",
             22 => "coordinates are numbers from -1,000,000 to 1,000,000 mm",
             24 => "a place is a number from 0 to the edge's length",
-            30..=33 => "this is no whole slip: make it again",
+            30..=33 => {
+                "this is no whole slip of the form that was named: name the other, or make it again"
+            }
+            34 | 35 => "this is no slip in groups: name the other form, or make it again",
+            36 => "lend as many bytes as are told",
             40 | 41 => "a binary STL file has 84 bytes and 50 for each triangle: make it again",
             42 => "coordinates are numbers: repair the mesh",
             43 => "there may be 65,535 vertices and 131,070 triangles",

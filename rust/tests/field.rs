@@ -2,7 +2,7 @@
 mod meshes;
 
 use meshes::{grid, plane};
-use sirmolaat::slip::{Slip, read_slip, write_slip};
+use sirmolaat::slip::{Form, Slip, read_slip, write_slip};
 use sirmolaat::{
     Field, Job, NONE, Options, Piece, Slots, Src, Topology, Turn, Vec3, boundary, saddles,
 };
@@ -25,9 +25,11 @@ fn the_slip_of_document_01() {
         pieces: vec![Piece::Point(0, [0.; 3])],
         limit: 10.,
     };
-    let bytes = write_slip(&slip).expect("a slip");
-    assert_eq!(bytes.len(), 136);
-    assert_eq!(read_slip(&bytes), Ok(slip.clone()));
+    for (form, length) in [(Form::Plain, 136), (Form::Groups, 116)] {
+        let bytes = write_slip(form, &slip).expect("a slip");
+        assert_eq!(bytes.len(), length);
+        assert_eq!(read_slip(form, &bytes), Ok(slip.clone()));
+    }
     let topo = Topology::new(&slip.v, &slip.t, &slip.flags).expect("a sound mesh");
     let field = Field::compute(
         &slip.v,

@@ -1,5 +1,5 @@
 //! Every refusal that a caller can meet, with its number, its name and what it is about.
-use sirmolaat::slip::read_slip;
+use sirmolaat::slip::{Form, read_slip};
 use sirmolaat::{About, Field, Options, Piece, Refusal, Topology, Vec3};
 
 const V: [Vec3; 4] = [[0., 0., 0.], [3., 0., 0.], [0., 4., 0.], [3., 4., 0.]];
@@ -140,7 +140,7 @@ fn of_questions() {
 
 #[test]
 fn of_slips() {
-    let number = |bytes: &[u8]| read_slip(bytes).map_err(|refusal| refusal.number());
+    let number = |bytes: &[u8]| read_slip(Form::Plain, bytes).map_err(|refusal| refusal.number());
     assert_eq!(number(&[]), Err(30));
     assert_eq!(number(&[255; 12]), Err(33));
     assert_eq!(number(&[0; 19]), Err(30));

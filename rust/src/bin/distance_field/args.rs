@@ -1,11 +1,13 @@
 //! The command line.
 use sirmolaat::picture::View;
+use sirmolaat::slip::Form;
 
 pub const HELP: &str = "\
 distance_field: exact geodesic distances over a triangle mesh, from start points and lines on it
 
 usage: distance_field [OPTIONS] FILE          FILE is a slip, OFF, PLY or binary STL (.stl); - is standard input
 
+  --form FORM      FILE is a slip, plain or in groups (without this: in groups if its name ends in .slip7, else plain)
   --sources FILE   start points and lines, for OFF, PLY and STL; a line of it is one of
                      point FACE X Y Z              segment FACE X Y Z X Y Z
                      vertex K                      line X Y X Y ..   (laid on the mesh from above)
@@ -38,6 +40,7 @@ pub enum Kind {
 #[derive(Debug)]
 pub struct Args {
     pub file: String,
+    pub form: Option<Form>,
     pub sources: Option<String>,
     pub limit: Option<f64>,
     pub steps: u32,
@@ -64,6 +67,7 @@ pub fn parse(mut words: impl Iterator<Item = String>) -> Result<Asked, String> {
     let mut file = None;
     let mut args = Args {
         file: String::new(),
+        form: None,
         sources: None,
         limit: None,
         steps: u32::MAX,
@@ -86,6 +90,13 @@ pub fn parse(mut words: impl Iterator<Item = String>) -> Result<Asked, String> {
         }
         let mut word = || words.next().ok_or_else(|| format!("{name} takes a word"));
         match name.as_str() {
+            "--form" => {
+                args.form = match word()?.as_str() {
+                    "plain" => Some(Form::Plain),
+                    "groups" => Some(Form::Groups),
+                    other => return Err(format!("--form takes plain or groups, not '{other}'")),
+                };
+            }
             "--sources" => args.sources = Some(word()?),
             "--limit" => args.limit = Some(number(&name, &word()?)?),
             "--steps" => args.steps = number(&name, &word()?)?,

@@ -1,40 +1,39 @@
 //! Computes the field of a slip, or of a mesh with start points and lines, and writes its distances or a picture.
 mod args;
+mod bytes;
 mod progress;
 
 use args::{Args, Asked, HELP, Kind};
+use bytes::{print, read};
 use sirmolaat::files::{Mesh, read_mesh, read_sources, read_stl};
 use sirmolaat::picture::{self, Style};
-use sirmolaat::slip::{Slip, read_slip};
+use sirmolaat::slip::{Form, Slip, read_slip};
 use sirmolaat::{Field, Job, Options, Piece, Topology, boundary, saddles};
-use std::io::{Read, Write};
+use std::io::Write;
 use std::process::ExitCode;
-
-/// The most bytes that are read: a slip of 01's largest counts has under 8 MB, a mesh as text some ten times that.
-const MOST_BYTES: u64 = 1 << 30;
-
-fn read(path: &str) -> Result<Vec<u8>, String> {
-    let mut bytes = vec![];
-    let wrong = |error: std::io::Error| format!("{path} cannot be read: {error}");
-    let read = if path == "-" {
-        std::io::stdin()
-            .lock()
-            .take(MOST_BYTES + 1)
-            .read_to_end(&mut bytes)
-    } else {
-        let file = std::fs::File::open(path).map_err(wrong)?;
-        file.take(MOST_BYTES + 1).read_to_end(&mut bytes)
-    };
-    read.map_err(wrong)?;
-    if bytes.len() as u64 > MOST_BYTES {
-        return Err(format!("{path} has over {MOST_BYTES} bytes"));
-    }
-    Ok(bytes)
-}
 
 fn is_mesh(bytes: &[u8]) -> bool {
     let starts: [&[u8]; 4] = [b"ply", b"OFF", b"COFF", b"NOFF"];
     starts.iter().any(|start| bytes.starts_with(start))
+}
+
+/// What a file is.
+enum Content {
+    Slip(Form),
+    Stl,
+    Mesh,
+}
+
+/// An option says it, else the end of the name, else how the bytes begin.
+fn content(args: &Args, bytes: &[u8]) -> Content {
+    let name = args.file.to_ascii_lowercase();
+    match args.form {
+        Some(form) => Content::Slip(form),
+        None if name.ends_with(".slip7") => Content::Slip(Form::Groups),
+        None if name.ends_with(".stl") => Content::Stl,
+        None if is_mesh(bytes) => Content::Mesh,
+        None => Content::Slip(Form::Plain),
+    }
 }
 
 /// The job: of a slip what it says; of a mesh the flags as they are judged.
@@ -45,38 +44,14 @@ struct Work {
     limit: f64,
 }
 
-fn work(args: &Args) -> Result<Work, String> {
-    let bytes = read(&args.file)?;
-    let stl = args.file.to_ascii_lowercase().ends_with(".stl");
-    if stl || is_mesh(&bytes) {
-        let mesh = if stl {
-            read_stl(&bytes).map_err(|refusal| refusal.to_string())
-        } else {
-            read_mesh(&bytes).map_err(|problem| problem.to_string())
-        };
-        let mesh = mesh.map_err(|sentence| format!("{}: {sentence}", args.file))?;
-        let flags = saddles(&mesh.v, &mesh.t, &boundary(mesh.v.len(), &mesh.t));
-        let topo =
-            Topology::new(&mesh.v, &mesh.t, &flags).map_err(|refusal| refusal.to_string())?;
-        let pieces = match &args.sources {
-            Some(path) => read_sources(&read(path)?, &mesh.v, &mesh.t, &topo)
-                .map_err(|problem| format!("{path}: {problem}"))?,
-            None => return Err("a mesh needs --sources, a file of start points and lines".into()),
-        };
-        return Ok(Work {
-            mesh,
-            topo,
-            pieces,
-            limit: args.limit.unwrap_or(1e7),
-        });
-    }
+fn slip_work(args: &Args, form: Form, bytes: &[u8]) -> Result<Work, String> {
     let Slip {
         v,
         t,
         flags,
         pieces,
         limit,
-    } = read_slip(&bytes).map_err(|refusal| format!("{}: {refusal}", args.file))?;
+    } = read_slip(form, bytes).map_err(|refusal| format!("{}: {refusal}", args.file))?;
     let topo = Topology::new(&v, &t, &flags).map_err(|refusal| refusal.to_string())?;
     Ok(Work {
         mesh: Mesh { v, t },
@@ -84,6 +59,35 @@ fn work(args: &Args) -> Result<Work, String> {
         pieces,
         limit: args.limit.unwrap_or(limit),
     })
+}
+
+fn mesh_work(args: &Args, mesh: Mesh) -> Result<Work, String> {
+    let flags = saddles(&mesh.v, &mesh.t, &boundary(mesh.v.len(), &mesh.t));
+    let topo = Topology::new(&mesh.v, &mesh.t, &flags).map_err(|refusal| refusal.to_string())?;
+    let pieces = match &args.sources {
+        Some(path) => read_sources(&read(path)?, &mesh.v, &mesh.t, &topo)
+            .map_err(|problem| format!("{path}: {problem}"))?,
+        None => return Err("a mesh needs --sources, a file of start points and lines".into()),
+    };
+    Ok(Work {
+        mesh,
+        topo,
+        pieces,
+        limit: args.limit.unwrap_or(1e7),
+    })
+}
+
+fn work(args: &Args) -> Result<Work, String> {
+    let bytes = read(&args.file)?;
+    let mesh = match content(args, &bytes) {
+        Content::Slip(form) => return slip_work(args, form, &bytes),
+        Content::Stl => read_stl(&bytes).map_err(|refusal| refusal.to_string()),
+        Content::Mesh => read_mesh(&bytes).map_err(|problem| problem.to_string()),
+    };
+    mesh_work(
+        args,
+        mesh.map_err(|sentence| format!("{}: {sentence}", args.file))?,
+    )
 }
 
 fn largest(field: &Field) -> f64 {
@@ -128,11 +132,7 @@ fn run(args: &Args) -> Result<(), String> {
         Some(path) => {
             std::fs::write(path, text).map_err(|error| format!("{path} cannot be written: {error}"))
         }
-        None => {
-            let mut out = std::io::stdout().lock();
-            let done = out.write_all(text.as_bytes()).and_then(|()| out.flush());
-            done.map_err(|error| format!("standard output cannot be written: {error}"))
-        }
+        None => print(text.as_bytes()),
     }
 }
 
