@@ -126,6 +126,7 @@ pub fn make(leaf: &str, seed: u64, count: u32) -> Result<Vec<u8>, String> {
             "entry" => values::entry(&mut rng, &mut out),
             "jobs" => jobs::job(&mut rng, &mut out),
             "slips" => jobs::slip(&mut rng, &mut out),
+            "damaged-slips" => jobs::damaged_slip(&mut rng, &mut out),
             _ => return Err(format!("no such leaf: {leaf}")),
         }
     }

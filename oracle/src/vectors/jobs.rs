@@ -102,14 +102,24 @@ fn damage(rng: &mut Rng, bytes: &mut Vec<u8>) {
     }
 }
 
+fn printed(bytes: &[u8], out: &mut Out) {
+    let text = slip::program::<Patched>(bytes, &Sizes::FIELDSLIP);
+    out.count(bytes.len());
+    out.0.extend(bytes);
+    out.count(text.len());
+    out.0.extend(text.as_bytes());
+}
+
 pub fn slip(rng: &mut Rng, out: &mut Out) {
     let (_, mut bytes) = slip_of(rng);
     if rng.one_in(3) {
         damage(rng, &mut bytes);
     }
-    let text = slip::program::<Patched>(&bytes, &Sizes::FIELDSLIP);
-    out.count(bytes.len());
-    out.0.extend(bytes);
-    out.count(text.len());
-    out.0.extend(text.as_bytes());
+    printed(&bytes, out);
+}
+
+pub fn damaged_slip(rng: &mut Rng, out: &mut Out) {
+    let (_, mut bytes) = slip_of(rng);
+    damage(rng, &mut bytes);
+    printed(&bytes, out);
 }
