@@ -29,7 +29,7 @@ pub fn goes_on(into: FaceId, b0: f64, b1: f64, src: Src, limit: f64) -> bool
     if into.0 == none {
         return false;
     }
-    if source::lowest(src, b0, b1) <= limit {
+    if distance_tests::reaches(src, b0, b1, limit) {
         return true;
     }
     false

@@ -22,9 +22,9 @@ use Rattle.last_pass.proofs.Chains.{chain-end, chain-next, chain-out}
 pub lower-is : (vertex vertex′ : List Float) (v : ℕ) (old least d : Float) → old ≡ distanceOf vertex v → least ≡ minOf old d → vertex′ ≡ withDistance vertex v least → vertex′ ≡ lowered vertex v d
 lower-is vertex vertex′ v old least d h g k = k ∙ ap (withDistance vertex v) (g ∙ ap (λ (x : Float). minOf x d) h)
 
-pub by-is : (e : Edge) (w : Win) (v0 v1 v2 : List Float) (da db : Float) → da ≡ evalOf w zero64 zero64 → db ≡ evalOf w (e .len) zero64 → v1 ≡ lowered v0 (e .a .0) da → v2 ≡ lowered v1 (e .b .0) db → v2 ≡ loweredBy e w v0
+pub by-is : (e : Edge) (w : Win) (v0 v1 v2 : List Float) → v1 ≡ lowered v0 (e .a .0) (evalOf w zero64 zero64) → v2 ≡ lowered v1 (e .b .0) (evalOf w (e .len) zero64) → v2 ≡ loweredBy e w v0
 unfolding loweredBy
-by-is e w v0 v1 v2 da db ha hb h1 h2 = h2 ∙ (λ i. lowered (h1 i) (e .b .0) (hb i)) ∙ ap (λ (d : Float). lowered (lowered v0 (e .a .0) d) (e .b .0) (evalOf w (e .len) zero64)) ha
+by-is e w v0 v1 v2 h1 h2 = h2 ∙ ap (λ (v : List Float). lowered v (e .b .0) (evalOf w (e .len) zero64)) h1
 
 -- ---- lengths
 length-by : (e : Edge) (w : Win) (vertex : List Float) → length (loweredBy e w vertex) ≡ length vertex

@@ -11,6 +11,8 @@ ghost use mathlib.Core.Path.{_≡_};
 ghost use Prim.Native.Nat.{_≤_, _<_};
 ghost use lib.ListN.{length};
 ghost use Rattle.layout.specs.Layout.{wordsPerEdge};
+ghost use Rattle.float64.specs.Scalar.{zero64};
+ghost use Rattle.source.specs.Distance.{evalOf};
 ghost use Rattle.buffers.specs.Slots.{slotsOf};
 ghost use Rattle.buffers.specs.Lent.{given, left};
 ghost use Rattle.windows.specs.Windows.{capacityOf};
@@ -18,11 +20,12 @@ ghost use Rattle.chains.specs.Chains.{links};
 ghost use Rattle.last_pass.specs.Lowered.{lowered, loweredBy, loweredEdge};
 ghost use Rattle.last_pass.specs.Buffers.{chainBehind, winsOn, loweredAllAt};
 
-// A vertex's distance becomes the lesser of itself and d, by the Rust's `min`.
-fn lower(vertex: &mut [f64], v: VertexId, d: f64)
-    ensures { λ r. ⌜ left vertex ≡ lowered (given vertex) (v .0) d ⌝ }
+// A vertex's distance becomes the lesser of itself and what a window gives at x on its edge, by the Rust's `min`. Most values are told to be no less without a root.
+fn lower(vertex: &mut [f64], v: VertexId, w: Win, x: f64)
+    ensures { λ r. ⌜ left vertex ≡ lowered (given vertex) (v .0) (evalOf w x zero64) ⌝ }
 {
-    let least = float64::min(actions::distance(vertex, v), d);
+    let d = actions::distance(vertex, v);
+    let least = distance_tests::nearer(d, w, x);
     write_f64(vertex, REALS_PER_VERTEX, v.0, VERTEX_DISTANCE, least);
 }
 
@@ -30,10 +33,8 @@ fn lower(vertex: &mut [f64], v: VertexId, d: f64)
 fn lower_ends(vertex: &mut [f64], e: Edge, w: Win)
     ensures { λ r. ⌜ left vertex ≡ loweredBy e w (given vertex) ⌝ }
 {
-    let da = source::eval(w, 0.0, 0.0);
-    let db = source::eval(w, e.len, 0.0);
-    lower(vertex, e.a, da);
-    lower(vertex, e.b, db);
+    lower(vertex, e.a, w, 0.0);
+    lower(vertex, e.b, w, e.len);
 }
 
 // By all windows on the chain of an edge.

@@ -19,16 +19,16 @@ returns : tie.Need-returns
 unfolding goesOnOf
 returns c = rw (eq-eqb _ _ (c .if1 .taken ∙ ap (λ (f : FaceId). f .0) (c .before .before .no-face .ensures)))
 
-lowest-requires : tie.Need-lowest-requires
-lowest-requires c κs = search needs
+reaches-requires : tie.Need-reaches-requires
+reaches-requires c κs = search needs
 
 returns-2 : tie.Need-returns-2
 unfolding goesOnOf
-returns-2 c = rw (ne-eqb _ _ (ahead (c .before .before)), ← c .before .lowest .ensures, c .if2 .taken)
+returns-2 c = rw (ne-eqb _ _ (ahead (c .before .before)), ← c .before .reaches .ensures, c .if2 .taken)
 
 returns-3 : tie.Need-returns-3
 unfolding goesOnOf
-returns-3 c = rw (ne-eqb _ _ (ahead (c .before .before)), ← c .before .lowest .ensures, c .if2 .left)
+returns-3 c = rw (ne-eqb _ _ (ahead (c .before .before)), ← c .before .reaches .ensures, c .if2 .left)
 
 pub goes-on-spec : {M : Type 1} → statement M
-goes-on-spec = tie.close (tie.spec no-face-requires returns lowest-requires returns-2 returns-3)
+goes-on-spec = tie.close (tie.spec no-face-requires returns reaches-requires returns-2 returns-3)

@@ -1,3 +1,5 @@
+use Rattle.float64.specs.Scalar.{zero64}
+use Rattle.source.specs.Distance.{evalOf}
 use Rattle.last_pass.proofs.Turns.{lower-is}
 use borrow.Author.Needs.{needs}
 use Rattle.last_pass.proofs.lower.Statement.{statement}
@@ -6,8 +8,8 @@ use Rattle.last_pass.proofs.lower.Tie as tie
 distance-requires : tie.Need-distance-requires
 distance-requires c κs = search needs
 
-min-requires : tie.Need-min-requires
-min-requires c κs = search needs
+nearer-requires : tie.Need-nearer-requires
+nearer-requires c κs = search needs
 
 write-f64-requires : tie.Need-write-f64-requires
 write-f64-requires c κs = search needs
@@ -21,8 +23,8 @@ returns c =
     let least = written .before .before in
     let old = least .before in
     let a = old .before .before .before .args in
-    lower-is (a .vertex .now) _ (a .v .0) (old .distance .result) (least .min .result) (a .d) (old .distance .ensures) (least .min .ensures) (written .write-f64 .ensures)
+    lower-is (a .vertex .now) _ (a .v .0) (old .distance .result) (least .nearer .result) (evalOf (a .w) (a .x) zero64) (old .distance .ensures) (least .nearer .ensures) (written .write-f64 .ensures)
 
 pub lower-spec : {M : Type 1} → statement M
 lower-spec =
-    tie.close (tie.spec distance-requires min-requires write-f64-requires same-length returns)
+    tie.close (tie.spec distance-requires nearer-requires write-f64-requires same-length returns)

@@ -3,12 +3,6 @@ use borrow.Author.Needs.{needs}
 use Rattle.last_pass.proofs.lower_ends.Statement.{statement}
 use Rattle.last_pass.proofs.lower_ends.Tie as tie
 
-eval-requires : tie.Need-eval-requires
-eval-requires c κs = search needs
-
-eval-requires-2 : tie.Need-eval-requires-2
-eval-requires-2 c κs = search needs
-
 lower-requires : tie.Need-lower-requires
 lower-requires c κs = search needs
 
@@ -22,12 +16,10 @@ returns : tie.Need-returns
 returns c =
     let second = c .before .before in
     let first = second .before .before .before .before in
-    let db = first .before .before in
-    let da = db .before in
-    let a = da .before .before .args in
-    by-is (a .e) (a .w) (a .vertex .now) _ _ (da .eval .result) (db .eval2 .result) (da .eval .ensures) (db .eval2 .ensures) (first .lower .ensures) (second .lower2 .ensures)
+    let a = first .before .before .before .args in
+    by-is (a .e) (a .w) (a .vertex .now) _ _ (first .lower .ensures) (second .lower2 .ensures)
 
 pub lower-ends-spec : {M : Type 1} → statement M
 lower-ends-spec =
     tie.close
-    (tie.spec eval-requires eval-requires-2 lower-requires lower-requires-2 same-length returns)
+    (tie.spec lower-requires lower-requires-2 same-length returns)
