@@ -1,7 +1,7 @@
 //! Writes stored slips with the length and the check sum of what the Rust's print-out is: vectors DIRECTORY EVENTS. EVENTS is a slip that meets refusal 13. tests/README.md has the format, under "Stored slips".
 //! - refused: a slip for each refusal that a slip can meet, by document 01, and each two defects of different refusals together.
 //! - damaged: good slips cut at every length, and with one byte damaged.
-//! - fresh: the slips of `oracle vectors slips`, a third of them damaged.
+//! - fresh: slips of `oracle vectors slips`, a third of them damaged, few of them long.
 use oracle::exact::Buffers;
 use oracle::generate::rng::Rng;
 use oracle::generate::small;
@@ -16,7 +16,12 @@ const WHOLE: u32 = u32::MAX;
 /// The most bytes that a slip is stored with.
 const LONGEST: usize = 8192;
 const GOOD: usize = 12;
-const FRESH: u32 = 1850;
+/// So many slips are made; of those longer than LONG bytes the first MOST_LONG are kept.
+const FRESH: u32 = 3300;
+const LONG: usize = 600;
+const MOST_LONG: usize = 80;
+/// The most bytes of a file that the program which replays it has room for.
+const FILE: usize = 1_048_576;
 
 fn check_sum(bytes: &[u8]) -> u32 {
     let next = |s: u64, &n: &u8| (s * 65_599 + u64::from(n)) % 4_294_967_291;
@@ -61,6 +66,7 @@ impl Record {
 
 fn store(directory: &str, name: &str, records: &[Record]) {
     let bytes: Vec<u8> = records.iter().flat_map(Record::numbers).flat_map(u32::to_le_bytes).collect();
+    assert!(bytes.len() <= FILE);
     std::fs::write(format!("{directory}/{name}"), bytes).unwrap();
 }
 
@@ -253,11 +259,14 @@ fn fresh() -> Vec<Record> {
         rest = behind;
         bytes.to_vec()
     };
-    let mut records = vec![];
+    let (mut records, mut long) = (vec![], 0);
     for _ in 0..FRESH {
         let (slip, text) = (part(), part());
         assert_eq!(printed(&slip).as_bytes(), text);
-        records.push(Record::whole(slip));
+        long += usize::from(slip.len() > LONG);
+        if slip.len() <= LONG || long <= MOST_LONG {
+            records.push(Record::whole(slip));
+        }
     }
     records
 }
