@@ -138,3 +138,8 @@ module _ (f g : Form) (s : List ℕ) (b : Bytes s) (j : ℕ) (bs : List ℕ) whe
       go : (h : Head) → headAt f s ≡ h → slipMoved g f bs ≡ put (length bs) s
       go (Refused r) eh = no-part (sym e ∙ refused-head f g s eh)
       go (Counts v t p i) eh = through eh (bodyMoved f g s v t p i) refl (sym (counted-head f g s eh) ∙ e)
+
+-- so no two slips of valid shape in one form are moved to one slip in another
+pub one-form : (f g : Form) (s t : List ℕ) → Bytes s → Bytes t → (j k : ℕ) (bs : List ℕ) → slipMoved f g s ≡ put j bs → slipMoved f g t ≡ put k bs → s ≡ t
+one-form f g s t bytes-s bytes-t j k bs e h =
+    let q : put (length bs) s ≡ put (length bs) t = sym (moved-back f g s bytes-s j bs e) ∙ moved-back f g t bytes-t k bs h in cc q

@@ -1,11 +1,14 @@
-// Moves of slips between their forms for programs in C and Rust, in slices that they lend.
+// Slips in either form for programs in C and Rust, in slices that they lend: moved from one form to the other, and read.
+use form_read::Answer;
+use groups::Form;
 use slip_moves::Moved;
 ghost use mathlib.Core.Path.{_≡_};
 ghost use lib.ListN.{set};
 ghost use Rattle.buffers.specs.Lent.{given, left};
 ghost use Rattle.groups.specs.declared.Form.the-variants.{Plain, Groups};
 ghost use Rattle.slip_moves.specs.Moves.{movedNumber};
-ghost use Rattle.moves_c.specs.Exports.{toldLength, exported};
+ghost use Rattle.slip.specs.Reading.{rows};
+ghost use Rattle.moves_c.specs.Exports.{toldLength, exported, readTold, formRead, exportedRead};
 
 fn set_first(told: &mut [usize], n: usize)
     ensures { λ r. ⌜ left told ≡ set (given told) 0 n ⌝ }
@@ -45,4 +48,103 @@ pub extern "C" fn sirmolaat_groups_to_slip(slip: &[u8], out: &mut [u8], told: &m
     ensures { λ r. ⌜ (r, (left out, left told)) ≡ exported Groups Plain (given slip) (given out) (given told) ⌝ }
 {
     tell(slip_moves::from_groups(slip, out), told)
+}
+
+fn set_number(told: &mut [u32], i: usize, n: u32)
+    ensures { λ r. ⌜ left told ≡ set (given told) i n ⌝ }
+{
+    if i < told.len() {
+        told[i] = n;
+    }
+}
+
+fn set_double(limit: &mut [f64], x: f64)
+    ensures { λ r. ⌜ left limit ≡ set (given limit) 0 x ⌝ }
+{
+    if 0 < limit.len() {
+        limit[0] = x;
+    }
+}
+
+fn tell_read(answer: Answer, told: &mut [u32], limit: &mut [f64]) -> u32
+    ensures { λ r. ⌜ (r, (left told, left limit)) ≡ readTold answer (given told) (given limit) ⌝ }
+{
+    match answer {
+        Answer::Refused(why) => slip_moves::refusal_number(why),
+        Answer::TooMany => 33,
+        Answer::Job(job) => {
+            set_number(told, 0, job.vertices);
+            set_number(told, 1, job.triangles);
+            set_number(told, 2, job.pieces);
+            set_double(limit, job.limit);
+            0
+        }
+    }
+}
+
+fn read_told(
+    form: Form,
+    slip: &[u8],
+    vertices: &mut [f64],
+    triangles: &mut [u32],
+    flags: &mut [u8],
+    kinds: &mut [u8],
+    faces: &mut [u32],
+    coords: &mut [f64],
+    told: &mut [u32],
+    limit: &mut [f64],
+) -> u32
+    ensures { λ r. ⌜ (r, (rows (left vertices) (left triangles) (left flags) (left kinds) (left faces) (left coords), (left told, left limit))) ≡ formRead form (given slip) (rows (given vertices) (given triangles) (given flags) (given kinds) (given faces) (given coords)) (given told) (given limit) ⌝ }
+{
+    let answer = form_read::read(form, slip, vertices, triangles, flags, kinds, faces, coords);
+    tell_read(answer, told, limit)
+}
+
+// A slip in a form, 1 plain or 2 in groups, is read to the fronts of the slices: 0, and `told` has its vertices, triangles and pieces, `limit` its limit; or 30 to 35, of
+// another form 37, and nothing is written.
+#[no_mangle]
+pub extern "C" fn sirmolaat_read_slip_form(
+    form: u32,
+    slip: &[u8],
+    vertices: &mut [f64],
+    triangles: &mut [u32],
+    flags: &mut [u8],
+    kinds: &mut [u8],
+    faces: &mut [u32],
+    coords: &mut [f64],
+    told: &mut [u32],
+    limit: &mut [f64],
+) -> u32
+    ensures { λ r. ⌜ (r, (rows (left vertices) (left triangles) (left flags) (left kinds) (left faces) (left coords), (left told, left limit)))
+        ≡ exportedRead form (given slip) (rows (given vertices) (given triangles) (given flags) (given kinds) (given faces) (given coords)) (given told) (given limit) ⌝ }
+{
+    if form == 1 {
+        return read_told(
+            Form::Plain,
+            slip,
+            vertices,
+            triangles,
+            flags,
+            kinds,
+            faces,
+            coords,
+            told,
+            limit,
+        );
+    }
+    if form == 2 {
+        return read_told(
+            Form::Groups,
+            slip,
+            vertices,
+            triangles,
+            flags,
+            kinds,
+            faces,
+            coords,
+            told,
+            limit,
+        );
+    }
+    37
 }
