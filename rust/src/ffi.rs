@@ -66,7 +66,7 @@ export!(sirmolaat_edge_at(;
     edge_words: u32, edge_reals: f64, triangle_words: u32, triangle_reals: f64, vertex: f64, words: u32, reals: f64, entry_words: u32;
     e: u32, x: f64; distance: f64
 ) -> u32);
-export!(sirmolaat_read_slip(; slip: u8;;
+export!(sirmolaat_read_slip_form(form: u32; slip: u8;;
     vertices: f64, triangles: u32, flags: u8, kinds: u8, faces: u32, coords: f64, told: u32, limit: f64
 ) -> u32);
 export!(sirmolaat_slip_to_groups(; slip: u8;; out: u8, told: usize) -> u32);
@@ -327,13 +327,22 @@ fn one(ask: impl FnOnce(&mut [f64]) -> u32) -> Result<f64, u32> {
     }
 }
 
-/// A plain slip, read to rows that have as many elements as it claims; or its refusal, and nothing is written.
-pub(crate) fn read_slip(slip: &[u8], rows: &mut Rows) -> Result<(), u32> {
+/// The library's number of a form.
+fn number_of(form: Form) -> u32 {
+    match form {
+        Form::Plain => 1,
+        Form::Groups => 2,
+    }
+}
+
+/// A slip, read to rows that have as many elements as it claims; or its refusal, and nothing is written.
+pub(crate) fn read_slip(form: Form, slip: &[u8], rows: &mut Rows) -> Result<(), u32> {
     if !same_version() {
         return Err(OTHER_VERSION);
     }
     let (mut told, mut limit) = ([0; 3], [0.]);
-    let number = sirmolaat_read_slip(
+    let number = sirmolaat_read_slip_form(
+        number_of(form),
         slip,
         &mut rows.vertices,
         &mut rows.triangles,

@@ -2,7 +2,6 @@
 use crate::input::Input;
 use crate::refusal::{About, Refusal};
 use crate::{Piece, Vec3, ffi};
-use std::borrow::Cow;
 
 /// The most that a job may have: a slip with more is refused by 33.
 const MOST: [u32; 3] = [65_535, 131_070, 65_535];
@@ -86,22 +85,10 @@ fn points(list: &[f64]) -> impl Iterator<Item = Vec3> + '_ {
     list.chunks_exact(3).map(|p| [p[0], p[1], p[2]])
 }
 
-/// A slip as a plain one. What claims more than a job may have is refused before it is moved, as the reader of a plain one does.
-fn plain(form: Form, bytes: &[u8]) -> Result<Cow<'_, [u8]>, Refusal> {
-    if form == Form::Plain {
-        return Ok(bytes.into());
-    }
-    let over = |counts: [u32; 3]| counts.iter().zip(MOST).any(|(&n, most)| n > most);
-    if counts(form, bytes).is_some_and(over) {
-        return Err(Refusal::new(33, About::Job));
-    }
-    move_slip(form, bytes).map(Cow::from)
-}
-
-/// The rows of a plain slip.
-fn rows(bytes: &[u8]) -> Result<Rows, Refusal> {
+/// The rows of a slip.
+fn rows(form: Form, bytes: &[u8]) -> Result<Rows, Refusal> {
     // of what has no counts nothing is read
-    let claimed = counts(Form::Plain, bytes).unwrap_or([0; 3]);
+    let claimed = counts(form, bytes).unwrap_or([0; 3]);
     let [vertices, triangles, pieces] = [0, 1, 2].map(|k| claimed[k].min(MOST[k]) as usize);
     let mut rows = Rows {
         vertices: vec![0.; 3 * vertices],
@@ -112,7 +99,7 @@ fn rows(bytes: &[u8]) -> Result<Rows, Refusal> {
         coords: vec![0.; 6 * pieces],
         limit: 0.,
     };
-    ffi::read_slip(bytes, &mut rows).map_err(|number| Refusal::new(number, About::Job))?;
+    ffi::read_slip(form, bytes, &mut rows).map_err(|number| Refusal::new(number, About::Job))?;
     Ok(rows)
 }
 
@@ -121,7 +108,7 @@ fn rows(bytes: &[u8]) -> Result<Rows, Refusal> {
 /// # Errors
 /// 30 to 33, of groups also 34 and 35, where the bytes are no slip of the form; 1 where a flag is neither 0 nor 1.
 pub fn read_slip(form: Form, bytes: &[u8]) -> Result<Slip, Refusal> {
-    let rows = rows(&plain(form, bytes)?)?;
+    let rows = rows(form, bytes)?;
     if let Some(k) = rows.flags.iter().position(|&flag| flag > 1) {
         return Err(Refusal::new(1, About::Vertex(k)));
     }

@@ -1,6 +1,7 @@
 //! Times moves of 100 MB of workshop slips through the static library, both ways, beside a copy of as many bytes; every byte is compared. Usage: bench [ROUNDS]
 #[path = "../clock.rs"]
 mod clock;
+#[allow(dead_code)]
 mod library;
 use clock::{clock, print_load};
 use oracle::form::{Form, moved};
