@@ -1,3 +1,4 @@
 pub mod Numbers
 pub mod Turns
 pub mod Back
+pub mod Same
