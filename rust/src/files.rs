@@ -1,10 +1,12 @@
-//! Meshes and start lines from files: OFF, PLY, binary STL, and text. A file may hold anything; what cannot be read is a [`Problem`], never a panic.
+//! Meshes and start lines from files: OFF, PLY, STL, and text. A file may hold anything; what cannot be read is a [`Problem`], never a panic.
+mod ascii_stl;
 mod off;
 mod ply;
 mod sources;
 mod stl;
 mod words;
 
+pub use ascii_stl::{binary_stl, is_ascii_stl};
 pub use off::read_off;
 pub use ply::read_ply;
 pub use sources::read_sources;

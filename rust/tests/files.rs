@@ -2,7 +2,9 @@
 mod meshes;
 
 use meshes::grid;
-use sirmolaat::files::{read_mesh, read_off, read_ply, read_sources, read_stl, write_stl};
+use sirmolaat::files::{
+    binary_stl, is_ascii_stl, read_mesh, read_off, read_ply, read_sources, read_stl, write_stl,
+};
 use sirmolaat::picture::{Style, distances_ply, picture_ply, svg};
 use sirmolaat::{Field, Options, Piece, Topology, boundary, saddles};
 
@@ -118,6 +120,39 @@ fn sources_and_pictures() {
                 .iter()
                 .all(|&k| (k as usize) < mesh.v.len())
     );
+}
+
+const ASCII: &str = "solid two triangles\n\
+facet normal 0 0 1\n outer loop\n  vertex 0 0 0\n  vertex 3 0 0\n  vertex 0 4 0.5\n endloop\nendfacet\n\
+facet normal 0 0 1\r\n outer loop\r\n  vertex 0.0e0 4 5e-1\r\n  vertex +3.0 -0 0\r\n  vertex 3 4 -1.25\r\n endloop\r\nendfacet\r\nendsolid\n";
+
+#[test]
+fn ascii_stl() {
+    let v = [[0., 0., 0.], [3., 0., 0.], [0., 4., 0.5], [3., 4., -1.25]];
+    let t = [[0, 1, 2], [2, 1, 3]];
+    assert!(is_ascii_stl(ASCII.as_bytes()));
+    let bytes = binary_stl(ASCII.as_bytes()).expect("sound");
+    assert_eq!(bytes.len(), 184);
+    let mesh = read_stl(&bytes).expect("sound");
+    assert_eq!((&mesh.v[..], &mesh.t[..]), (&v[..], &t[..]));
+    for cut in 0..ASCII.len() {
+        let whole = ASCII[..cut].trim_end().ends_with("endsolid");
+        assert_eq!(binary_stl(&ASCII.as_bytes()[..cut]).is_ok(), whole);
+    }
+    let two = [ASCII, ASCII].concat();
+    assert_eq!(binary_stl(two.as_bytes()).expect("sound").len(), 284);
+    let bad = ASCII.replace("5e-1", "nan");
+    let bad = binary_stl(bad.as_bytes()).expect("a word that is a number");
+    assert_eq!(read_stl(&bad).expect_err("a NaN").number(), 42);
+    for (old, new) in [("outer", "inner"), ("5e-1", "5e"), ("endfacet", "vertex")] {
+        let text = ASCII.replace(old, new);
+        let sentence = binary_stl(text.as_bytes()).expect_err("no STL").to_string();
+        assert!(sentence.starts_with("line ") && sentence.contains(new));
+    }
+    // a binary file may begin with that word
+    let mut binary = bytes.clone();
+    binary[..5].copy_from_slice(b"solid");
+    assert!(!is_ascii_stl(&binary) && read_stl(&binary).is_ok());
 }
 
 #[test]

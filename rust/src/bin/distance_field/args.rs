@@ -5,7 +5,7 @@ use sirmolaat::slip::Form;
 pub const HELP: &str = "\
 distance_field: exact geodesic distances over a triangle mesh, from start points and lines on it
 
-usage: distance_field [OPTIONS] FILE          FILE is a slip, OFF, PLY or binary STL (.stl); - is standard input
+usage: distance_field [OPTIONS] FILE          FILE is a slip, OFF, PLY or STL (.stl, binary or ASCII); - is standard input
 
   --form FORM      FILE is a slip, plain or in groups (without this: in groups if its name ends in .slip7, else plain)
   --sources FILE   start points and lines, for OFF, PLY and STL; a line of it is one of

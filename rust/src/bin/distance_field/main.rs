@@ -5,7 +5,7 @@ mod progress;
 
 use args::{Args, Asked, HELP, Kind};
 use bytes::{print, read};
-use sirmolaat::files::{Mesh, read_mesh, read_sources, read_stl};
+use sirmolaat::files::{Mesh, binary_stl, is_ascii_stl, read_mesh, read_sources, read_stl};
 use sirmolaat::picture::{self, Style};
 use sirmolaat::slip::{Form, Slip, read_slip};
 use sirmolaat::{Field, Job, Options, Piece, Topology, boundary, saddles};
@@ -77,11 +77,21 @@ fn mesh_work(args: &Args, mesh: Mesh) -> Result<Work, String> {
     })
 }
 
+/// Of an STL file, binary or ASCII.
+fn stl_mesh(bytes: &[u8]) -> Result<Mesh, String> {
+    let mesh = if is_ascii_stl(bytes) {
+        read_stl(&binary_stl(bytes).map_err(|problem| problem.to_string())?)
+    } else {
+        read_stl(bytes)
+    };
+    mesh.map_err(|refusal| refusal.to_string())
+}
+
 fn work(args: &Args) -> Result<Work, String> {
     let bytes = read(&args.file)?;
     let mesh = match content(args, &bytes) {
         Content::Slip(form) => return slip_work(args, form, &bytes),
-        Content::Stl => read_stl(&bytes).map_err(|refusal| refusal.to_string()),
+        Content::Stl => stl_mesh(&bytes),
         Content::Mesh => read_mesh(&bytes).map_err(|problem| problem.to_string()),
     };
     mesh_work(
