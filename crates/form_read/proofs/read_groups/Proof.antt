@@ -26,10 +26,17 @@ is-read-requires c κs = search needs
 write-job-requires : tie.Need-write-job-requires
 unfolding vertexSlots triangleSlots pieceSlots
 write-job-requires c κs =
-    let s = c .before .before .before .before .before .before .before .before .before .before .before .before .before .before .before .before .before .before .before .args .s .now in
-    let b : Rows = rows (c .before .before .before .before .before .before .before .before .before .before .before .before .before .before .before .before .before .before .before .args .vertices .now) (c .before .before .before .before .before .before .before .before .before .before .before .before .before .before .before .before .before .before .before .args .triangles .now) (c .before .before .before .before .before .before .before .before .before .before .before .before .before .before .before .before .before .before .before .args .flags .now) (c .before .before .before .before .before .before .before .before .before .before .before .before .before .before .before .before .before .before .before .args .kinds .now) (c .before .before .before .before .before .before .before .before .before .before .before .before .before .before .before .before .before .before .before .args .faces .now) (c .before .before .before .before .before .before .before .before .before .before .before .before .before .before .before .before .before .before .before .args .coords .now) in
-    let told : c .before .before .before .before .before .before .before .before .check .result ≡ groupsAnswer s (vertexSlots b) (triangleSlots b) (pieceSlots b) = rw (c .before .before .before .before .before .before .before .before .before .before .before .least .ensures, c .before .before .before .before .before .before .before .before .before .least3 .ensures, c .before .before .before .before .before .before .before .before .before .before .least2 .ensures) at (c .before .before .before .before .before .before .before .before .check .ensures) in
-    sym (ap isRead told) ∙ (sym (c .before .before .before .before .before .before .before .is-read .ensures) ∙ c .before .before .before .before .before .before .if1 .taken)
+    let p0 = c .before .before .before .before .before .before in
+    let p1 = p0 .before in
+    let p2 = p1 .before in
+    let p3 = p2 .before in
+    let p4 = p3 .before in
+    let p5 = p4 .before in
+    let p6 = p5 .before .before .before .before .before .before .before .before in
+    let s = p6 .args .s .now in
+    let b : Rows = rows (p6 .args .vertices .now) (p6 .args .triangles .now) (p6 .args .flags .now) (p6 .args .kinds .now) (p6 .args .faces .now) (p6 .args .coords .now) in
+    let told : p2 .check .result ≡ groupsAnswer s (vertexSlots b) (triangleSlots b) (pieceSlots b) = rw (p5 .least .ensures, p3 .least3 .ensures, p4 .least2 .ensures) at (p2 .check .ensures) in
+    sym (ap isRead told) ∙ (sym (p1 .is-read .ensures) ∙ p0 .if1 .taken)
 
 same-length : tie.Need-same-length
 same-length c = search needs
@@ -52,17 +59,29 @@ same-length-6 c = search needs
 returns : tie.Need-returns
 unfolding vertexSlots triangleSlots pieceSlots
 returns c =
-    let s = c .before .before .before .before .before .before .before .before .before .before .before .before .before .before .before .before .before .before .before .before .before .before .before .before .before .before .before .before .before .before .before .before .args .s .now in
-    let b : Rows = rows (c .before .before .before .before .before .before .before .before .before .before .before .before .before .before .before .before .before .before .before .before .before .before .before .before .before .before .before .before .before .before .before .before .args .vertices .now) (c .before .before .before .before .before .before .before .before .before .before .before .before .before .before .before .before .before .before .before .before .before .before .before .before .before .before .before .before .before .before .before .before .args .triangles .now) (c .before .before .before .before .before .before .before .before .before .before .before .before .before .before .before .before .before .before .before .before .before .before .before .before .before .before .before .before .before .before .before .before .args .flags .now) (c .before .before .before .before .before .before .before .before .before .before .before .before .before .before .before .before .before .before .before .before .before .before .before .before .before .before .before .before .before .before .before .before .args .kinds .now) (c .before .before .before .before .before .before .before .before .before .before .before .before .before .before .before .before .before .before .before .before .before .before .before .before .before .before .before .before .before .before .before .before .args .faces .now) (c .before .before .before .before .before .before .before .before .before .before .before .before .before .before .before .before .before .before .before .before .before .before .before .before .before .before .before .before .before .before .before .before .args .coords .now) in
-    let told : c .before .before .before .before .before .before .before .before .before .before .before .before .before .before .before .before .before .before .before .before .before .check .result ≡ groupsAnswer s (vertexSlots b) (triangleSlots b) (pieceSlots b) = rw (c .before .before .before .before .before .before .before .before .before .before .before .before .before .before .before .before .before .before .before .before .before .before .before .before .least .ensures, c .before .before .before .before .before .before .before .before .before .before .before .before .before .before .before .before .before .before .before .before .before .before .least3 .ensures, c .before .before .before .before .before .before .before .before .before .before .before .before .before .before .before .before .before .before .before .before .before .before .before .least2 .ensures) at (c .before .before .before .before .before .before .before .before .before .before .before .before .before .before .before .before .before .before .before .before .before .check .ensures) in
-    did-read s b (c .before .before .before .before .before .before .before .before .before .before .before .before .before .before .before .before .before .before .before .before .before .check .result) told _ (sym (c .before .before .before .before .before .before .before .before .before .before .before .before .before .before .before .before .before .before .before .before .is-read .ensures) ∙ c .before .before .before .before .before .before .before .before .before .before .before .before .before .before .before .before .before .before .before .if1 .taken) (c .before .before .before .before .before .before .before .before .before .before .before .before .write-job .ensures)
+    let p0 = c .before .before .before .before .before .before .before .before .before .before .before .before in
+    let p1 = p0 .before .before .before .before .before .before .before in
+    let p2 = p1 .before in
+    let p3 = p2 .before in
+    let p4 = p3 .before in
+    let p5 = p4 .before in
+    let p6 = p5 .before in
+    let p7 = p6 .before .before .before .before .before .before .before .before in
+    let s = p7 .args .s .now in
+    let b : Rows = rows (p7 .args .vertices .now) (p7 .args .triangles .now) (p7 .args .flags .now) (p7 .args .kinds .now) (p7 .args .faces .now) (p7 .args .coords .now) in
+    let told : p3 .check .result ≡ groupsAnswer s (vertexSlots b) (triangleSlots b) (pieceSlots b) = rw (p6 .least .ensures, p4 .least3 .ensures, p5 .least2 .ensures) at (p3 .check .ensures) in
+    did-read s b (p3 .check .result) told _ (sym (p2 .is-read .ensures) ∙ p1 .if1 .taken) (p0 .write-job .ensures)
 
 returns-2 : tie.Need-returns-2
 unfolding vertexSlots triangleSlots pieceSlots
 returns-2 c =
-    let s = c .before .before .before .before .before .before .before .before .before .before .before .before .before .args .s .now in
-    let b : Rows = rows (c .before .before .before .before .before .before .before .before .before .before .before .before .before .args .vertices .now) (c .before .before .before .before .before .before .before .before .before .before .before .before .before .args .triangles .now) (c .before .before .before .before .before .before .before .before .before .before .before .before .before .args .flags .now) (c .before .before .before .before .before .before .before .before .before .before .before .before .before .args .kinds .now) (c .before .before .before .before .before .before .before .before .before .before .before .before .before .args .faces .now) (c .before .before .before .before .before .before .before .before .before .before .before .before .before .args .coords .now) in
-    let told : c .before .before .check .result ≡ groupsAnswer s (vertexSlots b) (triangleSlots b) (pieceSlots b) = rw (c .before .before .before .before .before .least .ensures, c .before .before .before .least3 .ensures, c .before .before .before .before .least2 .ensures) at (c .before .before .check .ensures) in
+    let p0 = c .before .before .before in
+    let p1 = p0 .before in
+    let p2 = p1 .before in
+    let p3 = p2 .before .before .before .before .before .before .before .before in
+    let s = p3 .args .s .now in
+    let b : Rows = rows (p3 .args .vertices .now) (p3 .args .triangles .now) (p3 .args .flags .now) (p3 .args .kinds .now) (p3 .args .faces .now) (p3 .args .coords .now) in
+    let told : c .before .before .check .result ≡ groupsAnswer s (vertexSlots b) (triangleSlots b) (pieceSlots b) = rw (p2 .least .ensures, p0 .least3 .ensures, p1 .least2 .ensures) at (c .before .before .check .ensures) in
     did-refuse s b (c .before .before .check .result) told (sym (c .before .is-read .ensures) ∙ c .if1 .left)
 
 pub read-groups-spec : {M : Type 1} → statement M

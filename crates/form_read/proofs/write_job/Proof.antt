@@ -15,13 +15,20 @@ enum-known-v c = search needs
 
 write-mesh-requires : tie.Need-write-mesh-requires
 write-mesh-requires c κs =
-    let small = c .before .before .before .before .before .before .read-head .ensures .1 .small _ _ _ _ (c .before .before .before .before .v .given .1) in
-    mesh-ready (c .before .before .before .before .before .before .before .before .before .before .before .before .before .before .args .s .now) (rows (c .before .before .before .before .before .before .before .before .before .before .before .before .before .before .args .vertices .now) (c .before .before .before .before .before .before .before .before .before .before .before .before .before .before .args .triangles .now) (c .before .before .before .before .before .before .before .before .before .before .before .before .before .before .args .flags .now) (c .before .before .before .before .before .before .before .before .before .before .before .before .before .before .args .kinds .now) (c .before .before .before .before .before .before .before .before .before .before .before .before .before .before .args .faces .now) (c .before .before .before .before .before .before .before .before .before .before .before .before .before .before .args .coords .now)) (c .before .before .before .before .before .before .before .before .before .before .before .before .before .before .pre) (sym (c .before .before .before .before .before .before .read-head .ensures .0) ∙ c .before .before .before .before .v .given .1) (small .0) (small .1 .0) (small .1 .1 .0) (small .1 .1 .1)
+    let p0 = c .before .before .before .before in
+    let p1 = p0 .before .before in
+    let p2 = p1 .before .before .before .before .before .before .before .before in
+    let small = p1 .read-head .ensures .1 .small _ _ _ _ (p0 .v .given .1) in
+    mesh-ready (p2 .args .s .now) (rows (p2 .args .vertices .now) (p2 .args .triangles .now) (p2 .args .flags .now) (p2 .args .kinds .now) (p2 .args .faces .now) (p2 .args .coords .now)) (p2 .pre) (sym (p1 .read-head .ensures .0) ∙ p0 .v .given .1) (small .0) (small .1 .0) (small .1 .1 .0) (small .1 .1 .1)
 
 write-pieces-requires : tie.Need-write-pieces-requires
 write-pieces-requires c κs =
-    let small = c .before .before .before .before .before .before .before .before .before .before .before .before .before .before .before .before .read-head .ensures .1 .small _ _ _ _ (c .before .before .before .before .before .before .before .before .before .before .before .before .before .before .v .given .1) in
-    rw (c .before .before .before .before .before .before .before .before .before .write-mesh .ensures .1 .1 .1) (pieces-ready (c .before .before .before .before .before .before .before .before .before .before .before .before .before .before .before .before .before .before .before .before .before .before .before .before .args .s .now) (rows (c .before .before .before .before .before .before .before .before .before .before .before .before .before .before .before .before .before .before .before .before .before .before .before .before .args .vertices .now) (c .before .before .before .before .before .before .before .before .before .before .before .before .before .before .before .before .before .before .before .before .before .before .before .before .args .triangles .now) (c .before .before .before .before .before .before .before .before .before .before .before .before .before .before .before .before .before .before .before .before .before .before .before .before .args .flags .now) (c .before .before .before .before .before .before .before .before .before .before .before .before .before .before .before .before .before .before .before .before .before .before .before .before .args .kinds .now) (c .before .before .before .before .before .before .before .before .before .before .before .before .before .before .before .before .before .before .before .before .before .before .before .before .args .faces .now) (c .before .before .before .before .before .before .before .before .before .before .before .before .before .before .before .before .before .before .before .before .before .before .before .before .args .coords .now)) (c .before .before .before .before .before .before .before .before .before .before .before .before .before .before .before .before .before .before .before .before .before .before .before .before .pre) (sym (c .before .before .before .before .before .before .before .before .before .before .before .before .before .before .before .before .read-head .ensures .0) ∙ c .before .before .before .before .before .before .before .before .before .before .before .before .before .before .v .given .1) (small .0) (small .1 .0) (small .1 .1 .0) (small .1 .1 .1))
+    let p0 = c .before .before .before .before .before .before .before .before .before in
+    let p1 = p0 .before .before .before .before .before in
+    let p2 = p1 .before .before in
+    let p3 = p2 .before .before .before .before .before .before .before .before in
+    let small = p2 .read-head .ensures .1 .small _ _ _ _ (p1 .v .given .1) in
+    rw (p0 .write-mesh .ensures .1 .1 .1) (pieces-ready (p3 .args .s .now) (rows (p3 .args .vertices .now) (p3 .args .triangles .now) (p3 .args .flags .now) (p3 .args .kinds .now) (p3 .args .faces .now) (p3 .args .coords .now)) (p3 .pre) (sym (p2 .read-head .ensures .0) ∙ p1 .v .given .1) (small .0) (small .1 .0) (small .1 .1 .0) (small .1 .1 .1))
 
 enum-told : tie.Need-enum-told
 enum-told c = search needs
@@ -46,14 +53,20 @@ same-length-6 c = search needs
 
 returns : tie.Need-returns
 returns c =
-    let mesh = c .before .before .before .before .before .before .before .before .before .before .before .before .before .before .before .before .write-mesh .ensures in
-    let pieces = c .before .before .before .before .before .before .write-pieces .ensures in
-    job-filled (c .before .before .before .before .before .before .before .before .before .before .before .before .before .before .before .before .before .before .before .before .before .before .before .before .before .before .before .before .before .before .before .args .s .now) (rows (c .before .before .before .before .before .before .before .before .before .before .before .before .before .before .before .before .before .before .before .before .before .before .before .before .before .before .before .before .before .before .before .args .vertices .now) (c .before .before .before .before .before .before .before .before .before .before .before .before .before .before .before .before .before .before .before .before .before .before .before .before .before .before .before .before .before .before .before .args .triangles .now) (c .before .before .before .before .before .before .before .before .before .before .before .before .before .before .before .before .before .before .before .before .before .before .before .before .before .before .before .before .before .before .before .args .flags .now) (c .before .before .before .before .before .before .before .before .before .before .before .before .before .before .before .before .before .before .before .before .before .before .before .before .before .before .before .before .before .before .before .args .kinds .now) (c .before .before .before .before .before .before .before .before .before .before .before .before .before .before .before .before .before .before .before .before .before .before .before .before .before .before .before .before .before .before .before .args .faces .now) (c .before .before .before .before .before .before .before .before .before .before .before .before .before .before .before .before .before .before .before .before .before .before .before .before .before .before .before .before .before .before .before .args .coords .now)) (sym (c .before .before .before .before .before .before .before .before .before .before .before .before .before .before .before .before .before .before .before .before .before .before .before .read-head .ensures .0) ∙ c .before .before .before .before .before .before .before .before .before .before .before .before .before .before .before .before .before .before .before .before .before .v .given .1) (mesh .1 .1 .1) (mesh .0) (mesh .1 .0) (mesh .1 .1 .0) (pieces .0) (pieces .1 .0) (pieces .1 .1)
+    let p0 = c .before .before .before .before .before .before in
+    let p1 = p0 .before .before .before .before .before .before .before .before .before .before in
+    let p2 = p1 .before .before .before .before .before in
+    let p3 = p2 .before .before in
+    let p4 = p3 .before .before .before .before .before .before .before .before in
+    let mesh = p1 .write-mesh .ensures in
+    let pieces = p0 .write-pieces .ensures in
+    job-filled (p4 .args .s .now) (rows (p4 .args .vertices .now) (p4 .args .triangles .now) (p4 .args .flags .now) (p4 .args .kinds .now) (p4 .args .faces .now) (p4 .args .coords .now)) (sym (p3 .read-head .ensures .0) ∙ p2 .v .given .1) (mesh .1 .1 .1) (mesh .0) (mesh .1 .0) (mesh .1 .1 .0) (pieces .0) (pieces .1 .0) (pieces .1 .1)
 
 returns-2 : tie.Need-returns-2
 returns-2 c =
-    let b : Rows = rows (c .before .before .before .before .before .before .before .before .before .before .args .vertices .now) (c .before .before .before .before .before .before .before .before .before .before .args .triangles .now) (c .before .before .before .before .before .before .before .before .before .before .args .flags .now) (c .before .before .before .before .before .before .before .before .before .before .args .kinds .now) (c .before .before .before .before .before .before .before .before .before .before .args .faces .now) (c .before .before .before .before .before .before .before .before .before .before .args .coords .now) in
-    not-read (c .before .before .before .before .before .before .before .before .before .before .args .s .now) (vertexSlots b) (triangleSlots b) (pieceSlots b) (sym (c .before .before .read-head .ensures .0) ∙ c .enum-told .given .1) (c .before .before .before .before .before .before .before .before .before .before .pre)
+    let p0 = c .before .before .before .before .before .before .before .before .before .before in
+    let b : Rows = rows (p0 .args .vertices .now) (p0 .args .triangles .now) (p0 .args .flags .now) (p0 .args .kinds .now) (p0 .args .faces .now) (p0 .args .coords .now) in
+    not-read (p0 .args .s .now) (vertexSlots b) (triangleSlots b) (pieceSlots b) (sym (c .before .before .read-head .ensures .0) ∙ c .enum-told .given .1) (p0 .pre)
 
 pub write-job-spec : {M : Type 1} → statement M
 write-job-spec =

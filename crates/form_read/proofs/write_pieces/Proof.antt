@@ -57,7 +57,13 @@ ends-size-requires : tie.Need-ends-size-requires Inv-loop μ-loop
 ends-size-requires c κs = search needs
 
 add-at : tie.Need-add-at Inv-loop μ-loop
-add-at c = omega (arith, c .before .before .before .before .before .before .behind .ensures, next-near (c .before .before .before .before .before .before .before .read-number .result) (c .before .before .before .before .before .before .before .read-number .ensures), c .ends-size .ensures .1, c .before .before .before .before .before .before .before .before .before .before .loop .inv .near, c .before .before .before .before .before .before .before .before .before .before .before .before .before .before .before .pre .near, c .before .before .before .before .before .before .before .before .before .before .before .before .before .before .before .pre .few, c .before .before .before .before .before .before .before .before .before .loop-test .taken)
+add-at c =
+    let p0 = c .before .before .before .before .before .before in
+    let p1 = p0 .before in
+    let p2 = p1 .before .before in
+    let p3 = p2 .before in
+    let p4 = p3 .before .before .before .before .before in
+    omega (arith, p0 .behind .ensures, next-near (p1 .read-number .result) (p1 .read-number .ensures), c .ends-size .ensures .1, p3 .loop .inv .near, p4 .pre .near, p4 .pre .few, p2 .loop-test .taken)
 
 add-k : tie.Need-add-k Inv-loop μ-loop
 add-k c = search needs

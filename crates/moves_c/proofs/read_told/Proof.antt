@@ -38,8 +38,11 @@ same-length-8 c = search needs
 returns : tie.Need-returns
 unfolding formRead
 returns c =
-    let reads = c .before .before .before .before .before .before .before .before .before .before .before .before .before .before .before .before .before .before .before .read .ensures in
-    let tells = c .before .before .before .before .tell-read .ensures ∙ ap (λ q. readTold (q .0) (c .before .before .before .before .before .before .before .before .before .before .before .before .before .before .before .before .before .before .before .before .before .before .before .before .before .before .before .before .before .before .before .before .before .before .before .args .told .now) (c .before .before .before .before .before .before .before .before .before .before .before .before .before .before .before .before .before .before .before .before .before .before .before .before .before .before .before .before .before .before .before .before .before .before .before .args .limit .now)) reads in
+    let p0 = c .before .before .before .before in
+    let p1 = p0 .before .before .before .before .before .before .before .before .before .before .before .before .before .before .before in
+    let p2 = p1 .before .before .before .before .before .before .before .before .before .before .before .before .before .before .before .before in
+    let reads = p1 .read .ensures in
+    let tells = p0 .tell-read .ensures ∙ ap (λ q. readTold (q .0) (p2 .args .told .now) (p2 .args .limit .now)) reads in
     λ i. (tells i .0, (reads i .1, tells i .1))
 
 pub read-told-spec : {M : Type 1} → statement M

@@ -65,7 +65,11 @@ same-length-16 c = search needs
 
 returns-2 : tie.Need-returns-2
 unfolding exportedRead
-returns-2 c = rw (ne-eqb _ _ (c .before .before .before .before .before .before .before .before .before .before .before .before .before .before .before .before .before .before .before .before .before .before .before .before .before .before .if1 .left), eq-eqb _ _ (c .before .before .before .before .before .before .before .before .before .before .before .before .before .before .before .before .before .before .before .before .before .before .before .before .before .if2 .taken)) (c .before .before .before .before .before .before .before .before .before .before .before .before .before .before .before .before .read-told2 .ensures)
+returns-2 c =
+    let p0 = c .before .before .before .before .before .before .before .before .before .before .before .before .before .before .before .before in
+    let p1 = p0 .before .before .before .before .before .before .before .before .before in
+    let p2 = p1 .before in
+    rw (ne-eqb _ _ (p2 .if1 .left), eq-eqb _ _ (p1 .if2 .taken)) (p0 .read-told2 .ensures)
 
 returns-3 : tie.Need-returns-3
 unfolding exportedRead
