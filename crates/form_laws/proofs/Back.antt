@@ -30,7 +30,7 @@ use Rattle.form_laws.proofs.Turns.{Bytes, Turn, back-body}
 pub no-head : {A : Type 0} {v t p i : ℕ} {why : Refusal} → Refused why ≡ Counts v t p i → A
 no-head e = absurd (let z : _≡_ {A = ℕ} 0 1 = cc e in omega arith)
 
-counted-cases : {v t p i : ℕ} (x : Number) (rest : ℕ → ℕ → Head) → counted x rest ≡ Counts v t p i → (n next : ℕ) × ((x ≡ Is n next) × (rest n next ≡ Counts v t p i))
+pub counted-cases : {v t p i : ℕ} (x : Number) (rest : ℕ → ℕ → Head) → counted x rest ≡ Counts v t p i → (n next : ℕ) × ((x ≡ Is n next) × (rest n next ≡ Counts v t p i))
 unfolding counted
 counted-cases Short rest e = no-head e
 counted-cases Over rest e = no-head e

@@ -2,3 +2,5 @@ pub mod Numbers
 pub mod Turns
 pub mod Back
 pub mod Same
+pub mod OneJob
+pub mod Readers

@@ -282,12 +282,12 @@ module _ (s t : List ℕ) (b : Bytes t) where
         let place : length t - 8 ≡ j + 0 = omega (arith, st .1 .1, l, bytes-put t 8 j k L x .0) in
         ap (doubleFrom t) place ∙ sym (same-double s t (pieceFrom s p) j L more (drop k t) d (st .0) 0 (omega (arith, st .1 .0))) ∙ ap (doubleFrom s) (add-zero (pieceFrom s p))
 
-also-split : (hs : List ℕ) (x : Part) (j : ℕ) (bs : List ℕ) → also hs x ≡ put j bs → (rest : List ℕ) × ((x ≡ put j rest) × (hs ++ rest ≡ bs))
+pub also-split : (hs : List ℕ) (x : Part) (j : ℕ) (bs : List ℕ) → also hs x ≡ put j bs → (rest : List ℕ) × ((x ≡ put j rest) × (hs ++ rest ≡ bs))
 unfolding also
 also-split hs (put k cs) j bs e = let ek : k ≡ j = cc e in (cs, (ap (λ (i : ℕ). put i cs) ek, cc e))
 also-split hs (stop w) j bs e = no-part (sym e)
 
-at-its-end : (t : List ℕ) (i j : ℕ) (bs : List ℕ) → ended t i ≡ put j bs → (length t ≤ i) × ((i ≡ j) × ([] ≡ bs))
+pub at-its-end : (t : List ℕ) (i j : ℕ) (bs : List ℕ) → ended t i ≡ put j bs → (length t ≤ i) × ((i ≡ j) × ([] ≡ bs))
 unfolding ended
 at-its-end t i j bs e = go (ltb i (length t)) refl e
   where

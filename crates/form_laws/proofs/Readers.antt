@@ -1,0 +1,95 @@
+-- What the reader accepts of a slip in groups it accepts of the plain slip that it is moved to, in the same slices, and leaves the same in them. Assumes nothing.
+use Prim.Native.Nat.{ℕ, _+_, _*_}
+use native.Mathlib.Omega.{arith}
+use mathlib.Core.Path.{_≡_, refl, sym, ap, _∙_}
+use mathlib.Core.Bool.{Bool, true, false, cond, _||_, true≢false}
+use mathlib.Core.List.{List}
+use borrow.Author.Tests.{le-ltb}
+use lib.Dec.{ltb}
+use lib.ListN.{length, getD}
+use Rattle.nat_laws.proofs.Lists.{length-listOf}
+use Rattle.job_checks.specs.Job as job
+use Rattle.little_endian.specs.Bytes.{doubleFrom, doublesFrom}
+use Rattle.groups.specs.declared.Form.the-variants.{Plain, Groups}
+use Rattle.groups.specs.Groups.{numberAt}
+use Rattle.slip.specs.declared.Slip.{Slip}
+use Rattle.slip.specs.declared.Slip.the-variants as slip
+use Rattle.slip.specs.Format.{isJob, vertexCount, triangleCount, pieceCount, piecesFrom, jobIn, afterPieces, answerTo}
+use Rattle.slip.specs.Format as format
+use Rattle.slip.specs.Reading.{Rows, vertexSlots, triangleSlots, pieceSlots, filled, written, answer, reading}
+use Rattle.slip.proofs.Room.{job-fits}
+use Rattle.slip_laws.proofs.Back.{vertices-told, triangles-told, pieces-told}
+use Rattle.slip_moves.specs.declared.Head.the-variants.{Counts}
+use Rattle.slip_moves.specs.Moves.{put, headAt, slipMoved}
+use Rattle.form_read.specs.declared.Answer.the-variants as answers
+use Rattle.form_read.specs.Places.{valueOf, numberPlace, numbersIn, piecePlace, kindsFrom, firstPiece, jobAt}
+use Rattle.form_read.specs.FormReading.{isRead, ofSlip, exceeds, jobAnswer, walked, behindCounts, groupsAnswer, headJob, formWritten, groupsReading, formReading}
+use Rattle.form_laws.proofs.Turns.{Bytes}
+use Rattle.form_laws.proofs.Back.{moved-back}
+use Rattle.form_laws.proofs.Same.{same-job}
+use Rattle.form_laws.proofs.OneJob.{passed, shape-accepted}
+
+-- the counts of the job that stands in a slip in groups
+module _ (t : List ℕ) (v n p i : ℕ) where
+  vertices-at : job.vertexCount (jobAt t v n p i) ≡ v
+  unfolding jobAt doublesFrom
+  vertices-at = rw (length-listOf (3 * v) (λ j. doubleFrom t (i + 8 * j))) (omega arith)
+
+  triangles-at : job.triangleCount (jobAt t v n p i) ≡ n
+  unfolding jobAt numbersIn
+  triangles-at = rw (length-listOf (3 * n) (λ k. valueOf (numberAt Groups t (numberPlace t (i + 24 * v) k)))) (omega arith)
+
+  pieces-at : job.pieceCount (jobAt t v n p i) ≡ p
+  unfolding jobAt kindsFrom
+  pieces-at = length-listOf p (λ k. getD t (piecePlace t (firstPiece t v n i) k) 0)
+
+job-written : (s : List ℕ) (b : Rows) (x : Slip) → isJob x ≡ true → written s x b ≡ filled (jobIn s) b
+unfolding written
+job-written s b slip.TooShort h = absurd (true≢false (sym h))
+job-written s b slip.LeftOver h = absurd (true≢false (sym h))
+job-written s b slip.UnknownKind h = absurd (true≢false (sym h))
+job-written s b slip.TooMany h = absurd (true≢false (sym h))
+job-written s b (slip.Job r) h = refl
+
+read-is : (x : Slip) → isRead (ofSlip x) ≡ isJob x
+read-is slip.TooShort = refl
+read-is slip.LeftOver = refl
+read-is slip.UnknownKind = refl
+read-is slip.TooMany = refl
+read-is (slip.Job r) = refl
+
+module _ (t : List ℕ) (bytes : Bytes t) (j : ℕ) (s : List ℕ) (moved : slipMoved Groups Plain t ≡ put j s) {v n p i : ℕ} (head : headAt Groups t ≡ Counts v n p i) where
+  -- the plain reader takes the plain slip wherever there is room for the counts
+  plain-accepted : (vertices triangles pieces : ℕ) → exceeds v n p vertices triangles pieces ≡ false → isJob (answerTo s vertices triangles pieces) ≡ true
+  unfolding exceeds answerTo format.exceeds
+  plain-accepted vertices triangles pieces h =
+      let e = same-job t bytes head j s moved in
+      let f = job-fits s (vertexCount s) (triangleCount s) (pieceCount s) (shape-accepted s Groups (length s) t (moved-back Groups Plain t bytes j s moved)) in
+      let cv : vertexCount s ≡ v = sym (vertices-told s) ∙ ap job.vertexCount (sym e) ∙ vertices-at t v n p i in
+      let cn : triangleCount s ≡ n = sym (triangles-told s) ∙ ap job.triangleCount (sym e) ∙ triangles-at t v n p i in
+      let cp : pieceCount s ≡ p = sym (pieces-told s) ∙ ap job.pieceCount (sym e) ∙ pieces-at t v n p i in
+      passed (ltb (length s) 12) (ltb vertices (vertexCount s) || ltb triangles (triangleCount s) || ltb pieces (pieceCount s)) (ltb (length s) (piecesFrom s)) slip.TooShort slip.TooMany slip.TooShort
+      (afterPieces s (pieceCount s) (piecesFrom s)) (le-ltb (length s) 12 (f .counts)) ((λ q. ltb vertices (cv q) || ltb triangles (cn q) || ltb pieces (cp q)) ∙ h) (le-ltb (length s) (piecesFrom s) (f .mesh)) (f .rest)
+
+  module _ (b : Rows) where
+    answer-is : groupsAnswer t (vertexSlots b) (triangleSlots b) (pieceSlots b) ≡ cond (exceeds v n p (vertexSlots b) (triangleSlots b) (pieceSlots b)) answers.TooMany (jobAnswer t v n p)
+    unfolding groupsAnswer behindCounts walked
+    answer-is = rw (head, moved)
+
+    same-rows : isRead (groupsReading t b .0) ≡ true → (isJob (reading s b .0) ≡ true) × (reading s b .1 ≡ groupsReading t b .1)
+    unfolding groupsReading reading answer formWritten headJob jobAnswer
+    same-rows h = go (exceeds v n p (vertexSlots b) (triangleSlots b) (pieceSlots b)) refl
+      where
+        go : (c : Bool) → exceeds v n p (vertexSlots b) (triangleSlots b) (pieceSlots b) ≡ c → (isJob (reading s b .0) ≡ true) × (reading s b .1 ≡ groupsReading t b .1)
+        go true ec = absurd (true≢false (sym h ∙ ap isRead answer-is ∙ ap (λ x. isRead (cond x answers.TooMany (jobAnswer t v n p))) ec))
+        go false ec =
+            let accepted = plain-accepted (vertexSlots b) (triangleSlots b) (pieceSlots b) ec in
+            let told = answer-is ∙ ap (λ x. cond x answers.TooMany (jobAnswer t v n p)) ec in
+            let left : formWritten t (groupsAnswer t (vertexSlots b) (triangleSlots b) (pieceSlots b)) b ≡ filled (jobAt t v n p i) b =
+            ap (λ x. formWritten t x b) told ∙ ap (λ x. filled (headJob t x) b) head in
+            (accepted, job-written s b (answerTo s (vertexSlots b) (triangleSlots b) (pieceSlots b)) accepted ∙ ap (λ x. filled x b) (sym (same-job t bytes head j s moved)) ∙ sym left)
+
+    -- the theorem
+    pub same-reading : isRead (formReading Groups t b .0) ≡ true → (isRead (formReading Plain s b .0) ≡ true) × (formReading Plain s b .1 ≡ formReading Groups t b .1)
+    unfolding formReading
+    same-reading h = let r = same-rows h in (read-is (reading s b .0) ∙ r .0, r .1)
