@@ -143,7 +143,9 @@ impl Refusal {
             }
             34 | 35 => "this is no slip in groups: name the other form, or make it again",
             36 => "lend as many bytes as are told",
-            40 | 41 => "a binary STL file has 84 bytes and 50 for each triangle, an ASCII one begins with the word solid: make it again",
+            40 | 41 => {
+                "a binary STL file has 84 bytes and 50 for each triangle, an ASCII one begins with the word solid: make it again"
+            }
             42 => "coordinates are numbers: repair the mesh",
             43 => "there may be 65,535 vertices and 131,070 triangles",
             44 => "binary STL holds single precision: write PLY",
