@@ -1,4 +1,4 @@
--- What the reader accepts of a slip in groups it accepts of the plain slip that it is moved to, in the same slices, and leaves the same in them. Assumes nothing.
+-- A slip in groups is accepted exactly where the plain slip that it is moved to is, in the same slices, and both leave the same in them. Assumes nothing.
 use Prim.Native.Nat.{ℕ, _+_, _*_}
 use native.Mathlib.Omega.{arith}
 use mathlib.Core.Path.{_≡_, refl, sym, ap, _∙_}
@@ -59,17 +59,36 @@ read-is slip.TooMany = refl
 read-is (slip.Job r) = refl
 
 module _ (t : List ℕ) (bytes : Bytes t) (j : ℕ) (s : List ℕ) (moved : slipMoved Groups Plain t ≡ put j s) {v n p i : ℕ} (head : headAt Groups t ≡ Counts v n p i) where
+  -- both slips have the same counts
+  counts-same : (vertexCount s ≡ v) × ((triangleCount s ≡ n) × (pieceCount s ≡ p))
+  counts-same =
+      let e = same-job t bytes head j s moved in (
+        sym (vertices-told s) ∙ ap job.vertexCount (sym e) ∙ vertices-at t v n p i,
+        (sym (triangles-told s) ∙ ap job.triangleCount (sym e) ∙ triangles-at t v n p i, sym (pieces-told s) ∙ ap job.pieceCount (sym e) ∙ pieces-at t v n p i),
+      )
+
   -- the plain reader takes the plain slip wherever there is room for the counts
   plain-accepted : (vertices triangles pieces : ℕ) → exceeds v n p vertices triangles pieces ≡ false → isJob (answerTo s vertices triangles pieces) ≡ true
   unfolding exceeds answerTo format.exceeds
   plain-accepted vertices triangles pieces h =
-      let e = same-job t bytes head j s moved in
+      let c = counts-same in
       let f = job-fits s (vertexCount s) (triangleCount s) (pieceCount s) (shape-accepted s Groups (length s) t (moved-back Groups Plain t bytes j s moved)) in
-      let cv : vertexCount s ≡ v = sym (vertices-told s) ∙ ap job.vertexCount (sym e) ∙ vertices-at t v n p i in
-      let cn : triangleCount s ≡ n = sym (triangles-told s) ∙ ap job.triangleCount (sym e) ∙ triangles-at t v n p i in
-      let cp : pieceCount s ≡ p = sym (pieces-told s) ∙ ap job.pieceCount (sym e) ∙ pieces-at t v n p i in
       passed (ltb (length s) 12) (ltb vertices (vertexCount s) || ltb triangles (triangleCount s) || ltb pieces (pieceCount s)) (ltb (length s) (piecesFrom s)) slip.TooShort slip.TooMany slip.TooShort
-      (afterPieces s (pieceCount s) (piecesFrom s)) (le-ltb (length s) 12 (f .counts)) ((λ q. ltb vertices (cv q) || ltb triangles (cn q) || ltb pieces (cp q)) ∙ h) (le-ltb (length s) (piecesFrom s) (f .mesh)) (f .rest)
+      (afterPieces s (pieceCount s) (piecesFrom s)) (le-ltb (length s) 12 (f .counts)) ((λ q. ltb vertices (c .0 q) || ltb triangles (c .1 .0 q) || ltb pieces (c .1 .1 q)) ∙ h) (le-ltb (length s) (piecesFrom s) (f .mesh))
+      (f .rest)
+
+  -- and only there
+  counts-fit : (vertices triangles pieces : ℕ) → isJob (answerTo s vertices triangles pieces) ≡ true → exceeds v n p vertices triangles pieces ≡ false
+  unfolding exceeds
+  counts-fit vertices triangles pieces h =
+      let c = counts-same in
+      let f = job-fits s vertices triangles pieces h in
+      rw (
+        le-ltb vertices v (omega (arith, c .0, f .vertices-fit)),
+        le-ltb triangles n (omega (arith, c .1 .0, f .triangles-fit)),
+        le-ltb pieces p (omega (arith, c .1 .1, f .pieces-fit)),
+      )
+      refl
 
   module _ (b : Rows) where
     answer-is : groupsAnswer t (vertexSlots b) (triangleSlots b) (pieceSlots b) ≡ cond (exceeds v n p (vertexSlots b) (triangleSlots b) (pieceSlots b)) answers.TooMany (jobAnswer t v n p)
@@ -89,7 +108,13 @@ module _ (t : List ℕ) (bytes : Bytes t) (j : ℕ) (s : List ℕ) (moved : slip
             ap (λ x. formWritten t x b) told ∙ ap (λ x. filled (headJob t x) b) head in
             (accepted, job-written s b (answerTo s (vertexSlots b) (triangleSlots b) (pieceSlots b)) accepted ∙ ap (λ x. filled x b) (sym (same-job t bytes head j s moved)) ∙ sym left)
 
-    -- the theorem
+    -- the theorem: what is accepted of one form is accepted of the other, and leaves the same
+    pub same-accepted : isRead (formReading Plain s b .0) ≡ true → isRead (formReading Groups t b .0) ≡ true
+    unfolding formReading groupsReading reading answer jobAnswer
+    same-accepted h =
+        let accepted : isJob (answerTo s (vertexSlots b) (triangleSlots b) (pieceSlots b)) ≡ true = sym (read-is (answerTo s (vertexSlots b) (triangleSlots b) (pieceSlots b))) ∙ h in
+        ap isRead answer-is ∙ ap (λ x. isRead (cond x answers.TooMany (jobAnswer t v n p))) (counts-fit (vertexSlots b) (triangleSlots b) (pieceSlots b) accepted)
+
     pub same-reading : isRead (formReading Groups t b .0) ≡ true → (isRead (formReading Plain s b .0) ≡ true) × (formReading Plain s b .1 ≡ formReading Groups t b .1)
     unfolding formReading
     same-reading h = let r = same-rows h in (read-is (reading s b .0) ∙ r .0, r .1)
