@@ -1,4 +1,6 @@
 // Slips in either form for programs in C and Rust, in slices that they lend: moved from one form to the other, and read.
+use buffers::write_f64;
+use buffers::write_u32;
 use form_read::Answer;
 use groups::Form;
 use slip_moves::Moved;
@@ -50,22 +52,6 @@ pub extern "C" fn sirmolaat_groups_to_slip(slip: &[u8], out: &mut [u8], told: &m
     tell(slip_moves::from_groups(slip, out), told)
 }
 
-fn set_number(told: &mut [u32], i: usize, n: u32)
-    ensures { λ r. ⌜ left told ≡ set (given told) i n ⌝ }
-{
-    if i < told.len() {
-        told[i] = n;
-    }
-}
-
-fn set_double(limit: &mut [f64], x: f64)
-    ensures { λ r. ⌜ left limit ≡ set (given limit) 0 x ⌝ }
-{
-    if 0 < limit.len() {
-        limit[0] = x;
-    }
-}
-
 fn tell_read(answer: Answer, told: &mut [u32], limit: &mut [f64]) -> u32
     ensures { λ r. ⌜ (r, (left told, left limit)) ≡ readTold answer (given told) (given limit) ⌝ }
 {
@@ -73,10 +59,10 @@ fn tell_read(answer: Answer, told: &mut [u32], limit: &mut [f64]) -> u32
         Answer::Refused(why) => slip_moves::refusal_number(why),
         Answer::TooMany => 33,
         Answer::Job(job) => {
-            set_number(told, 0, job.vertices);
-            set_number(told, 1, job.triangles);
-            set_number(told, 2, job.pieces);
-            set_double(limit, job.limit);
+            write_u32(told, 3, 0, 0, job.vertices);
+            write_u32(told, 3, 0, 1, job.triangles);
+            write_u32(told, 3, 0, 2, job.pieces);
+            write_f64(limit, 1, 0, 0, job.limit);
             0
         }
     }

@@ -18,17 +18,17 @@ enum-told c = search needs
 enum-known-answer-2 : tie.Need-enum-known-answer-2
 enum-known-answer-2 c = search needs
 
-set-number-requires : tie.Need-set-number-requires
-set-number-requires c κs = search needs
+write-u32-requires : tie.Need-write-u32-requires
+write-u32-requires c κs = search needs
 
-set-number-requires-2 : tie.Need-set-number-requires-2
-set-number-requires-2 c κs = search needs
+write-u32-requires-2 : tie.Need-write-u32-requires-2
+write-u32-requires-2 c κs = search needs
 
-set-number-requires-3 : tie.Need-set-number-requires-3
-set-number-requires-3 c κs = search needs
+write-u32-requires-3 : tie.Need-write-u32-requires-3
+write-u32-requires-3 c κs = search needs
 
-set-double-requires : tie.Need-set-double-requires
-set-double-requires c κs = search needs
+write-f64-requires : tie.Need-write-f64-requires
+write-f64-requires c κs = search needs
 
 returns : tie.Need-returns
 unfolding readTold
@@ -48,8 +48,8 @@ returns-3 : tie.Need-returns-3
 unfolding readTold
 returns-3 c =
     let j = c .before .before .before .before .before .before .before .before .before .before .before .before .before .before .before .before .before .answer2 .given .0 .0 in
-    let told = c .before .before .before .before .before .before .set-number3 .ensures ∙ ap (λ l. set l 2 (j .pieces)) (c .before .before .before .before .before .before .before .before .before .before .set-number2 .ensures ∙ ap (λ l. set l 1 (j .triangles)) (c .before .before .before .before .before .before .before .before .before .before .before .before .before .before .set-number .ensures)) in
-    rw (c .before .before .before .before .before .before .before .before .before .before .before .before .before .before .before .before .before .answer2 .given .1) (λ i. (0, (told i, c .before .before .set-double .ensures i)))
+    let told = c .before .before .before .before .before .before .write-u323 .ensures ∙ ap (λ l. set l 2 (j .pieces)) (c .before .before .before .before .before .before .before .before .before .before .write-u322 .ensures ∙ ap (λ l. set l 1 (j .triangles)) (c .before .before .before .before .before .before .before .before .before .before .before .before .before .before .write-u32 .ensures)) in
+    rw (c .before .before .before .before .before .before .before .before .before .before .before .before .before .before .before .before .before .answer2 .given .1) (λ i. (0, (told i, c .before .before .write-f64 .ensures i)))
 
 pub tell-read-spec : {M : Type 1} → statement M
 tell-read-spec =
@@ -59,10 +59,10 @@ tell-read-spec =
     refusal-number-requires
     enum-told
     enum-known-answer-2
-    set-number-requires
-    set-number-requires-2
-    set-number-requires-3
-    set-double-requires
+    write-u32-requires
+    write-u32-requires-2
+    write-u32-requires-3
+    write-f64-requires
     returns
     returns-2
     same-length
