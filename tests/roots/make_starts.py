@@ -6,7 +6,7 @@ from pathlib import Path
 
 CRATE = Path(__file__).resolve().parents[2] / "crates" / "root_starts"
 STARTS = [isqrt(65536 * k) for k in range(256, 1024)]
-ROWS = [sum(STARTS[4 * j + i] << 16 * i for i in range(4)) for j in range(192)]
+MIDDLES = [STARTS[i] + 4 for i in range(256)] + [STARTS[2 * i] + 6 for i in range(128, 384)]
 
 
 def replace(path, begin, end, text):
@@ -17,20 +17,15 @@ def replace(path, begin, end, text):
     (CRATE / path).write_text("\n".join(lines[:a] + text + lines[b:]))
 
 
-def hexadecimal(row):
-    digits = f"{row:016x}"
-    return "0x" + "_".join(digits[i : i + 4] for i in range(0, 16, 4))
-
-
 def chain(numbers, width):
     text = [str(n) + " ∷" for n in numbers] + ["[]"]
     return ["    " + " ".join(text[i : i + width]) for i in range(0, len(text), width)]
 
 
 replace("src/lib.rt", "const STARTS: [u16; 768] = [", "];", [f"    {n}," for n in STARTS])
-replace("src/lib.rt", "match j {", "        _ => 0,", [f"        {64 + i} => {hexadecimal(n)}," for i, n in enumerate(ROWS)])
+replace("src/lib.rt", "match j {", "        _ => 0,", [f"        {256 + i} => {n}," for i, n in enumerate(MIDDLES)])
 replace("proofs/Table.antt", "starts =", "", chain(STARTS, 24))
-replace("proofs/Table.antt", "rows =", "", chain(ROWS, 6))
-names = ["returns"] + [f"returns-{i}" for i in range(2, 194)]
-arms = [line for i, n in enumerate(names[:192]) for line in (f"{n} : tie.Need-{n}", f"{n} c = arm {i} tt (c .match .keys{i + 1})", "")]
-replace("proofs/row/Proof.antt", "-- ---- the arms", "-- ---- none of them", arms)
+replace("proofs/Table.antt", "middles =", "", chain(MIDDLES, 24))
+names = ["returns"] + [f"returns-{i}" for i in range(2, 514)]
+arms = [line for i, n in enumerate(names[:512]) for line in (f"{n} : tie.Need-{n}", f"{n} c = arm {i} tt (c .match .keys{i + 1})", "")]
+replace("proofs/quick_start/Proof.antt", "-- ---- the arms", "-- ---- none of them", arms)

@@ -3,3 +3,4 @@ pub mod Scaling
 pub mod Sum
 pub mod Near
 pub mod HypotCases
+pub mod Halves
