@@ -19,7 +19,8 @@ use Rattle.groups.specs.Groups.{groupsOf, joined, groupAt, grouped, numberAt, n
 use Rattle.groups.proofs.Small.{groups-small}
 use Rattle.groups.proofs.Putting.{most, one-group, more-groups}
 use Rattle.slip_laws.specs.Plain.{IsByte}
-use Rattle.slip_laws.proofs.Parts.{past, reaches, first-here, number-here, length-number}
+use Rattle.slip_laws.proofs.Parts.{past, reaches, first-here, number-here}
+use Rattle.slip_write.proofs.Lengths.{length-number}
 use Rattle.slip_laws.proofs.Stands.{Stands, stands-then, stands-byte, number-below, number-stands}
 
 -- ---- read as it was written

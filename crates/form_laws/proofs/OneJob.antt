@@ -8,7 +8,6 @@ use mathlib.Core.List.{List}
 use borrow.Author.Tests.{le-ltb, ltb-false}
 use lib.Dec.{eqb, ltb}
 use lib.ListN.{length, getD, take, drop}
-use Rattle.nat_laws.specs.Lists.{All}
 use Rattle.job_checks.specs.Job as job
 use Rattle.little_endian.specs.Bytes.{numberFrom}
 use Rattle.groups.specs.declared.Form.{Form}
@@ -20,18 +19,18 @@ use Rattle.slip.specs.declared.Slip.{Slip}
 use Rattle.slip.specs.declared.Slip.the-variants as slip
 use Rattle.slip.specs.Format.{isJob, vertexCount, triangleCount, pieceCount, piecesFrom, pieceSize, jobIn, exceeds, afterPieces, answerTo}
 use Rattle.slip_laws.specs.Plain as plain
-use Rattle.slip_laws.specs.Plain.{IsByte}
 use Rattle.slip_laws.proofs.Back.{vertices-told, triangles-told, pieces-told, one-slip}
 use Rattle.slip_moves.specs.declared.Refusal.the-variants.{TooShort, UnknownKind}
 use Rattle.slip_moves.specs.declared.Head.{Head}
 use Rattle.slip_moves.specs.declared.Head.the-variants.{Counts, Refused}
-use Rattle.slip_moves.specs.Moves.{Part, put, stop, then, counted, countsAt, bytesMoved, written, endsSize, numberMoved, numbersMoved, pieceOfKind, pieceMoved, piecesMoved, headAt, headOf, meshMoved, restMoved, bodyMoved, ended, slipMoved}
+use Rattle.slip_moves.specs.Moves.{Part, put, stop, then, counted, countsAt, bytesMoved, numberWritten, endsSize, numberMoved, numbersMoved, pieceOfKind, pieceMoved, piecesMoved, headAt, headOf, meshMoved, restMoved, bodyMoved, ended, slipMoved}
 use Rattle.slip_moves.proofs.Parts.{no-part}
 use Rattle.slip_moves.proofs.Whole.{refused-head, counted-head}
 use Rattle.form_laws.proofs.Turns.{Bytes}
 use Rattle.form_laws.proofs.Back.{counted-cases, moved-back, one-form}
 use Rattle.form_read.specs.Places.{jobAt}
 use Rattle.form_laws.proofs.Same.{split, also-split, at-its-end, same-job}
+use Rattle.form_laws.proofs.MovedBytes.{moved-bytes}
 
 -- ---- what a plain slip has where it is walked
 
@@ -92,10 +91,10 @@ module _ (s : List ℕ) where
 
   module _ (g : Form) where
     has-number : (i j : ℕ) (bs : List ℕ) → numberMoved Plain g s i ≡ put j bs → (i + 4 ≤ length s) × (i + 4 ≡ j)
-    unfolding numberMoved numberAt written
+    unfolding numberMoved numberAt numberWritten
     has-number i j bs e = go (ltb (length s) (i + 4)) refl e
       where
-        go : (b : Bool) → ltb (length s) (i + 4) ≡ b → written g (cond b Short (Is (numberFrom s i) (i + 4))) ≡ put j bs → (i + 4 ≤ length s) × (i + 4 ≡ j)
+        go : (b : Bool) → ltb (length s) (i + 4) ≡ b → numberWritten g (cond b Short (Is (numberFrom s i) (i + 4))) ≡ put j bs → (i + 4 ≤ length s) × (i + 4 ≡ j)
         go true eb h = no-part (sym h)
         go false eb h = (ltb-false (length s) (i + 4) eb, cc h)
 
@@ -182,8 +181,10 @@ module _ (s : List ℕ) where
 
 -- ---- the theorem: two slips in groups that hold one job are one, where every NaN of theirs has the pattern that is written
 module _ (t u : List ℕ) (bt : Bytes t) (bu : Bytes u) (j k : ℕ) (s w : List ℕ) (et : slipMoved Groups Plain t ≡ put j s) (eu : slipMoved Groups Plain u ≡ put k w) where
-  one-plain-job : All IsByte s → All IsByte w → plain.Plain s → plain.Plain w → jobIn s ≡ jobIn w → t ≡ u
-  one-plain-job bs bw ps pw e =
+  one-plain-job : plain.Plain s → plain.Plain w → jobIn s ≡ jobIn w → t ≡ u
+  one-plain-job ps pw e =
+      let bs = moved-bytes t bt j s et in
+      let bw = moved-bytes u bu k w eu in
       let js = shape-accepted s Groups (length s) t (moved-back Groups Plain t bt j s et) in
       let jw = shape-accepted w Groups (length w) u (moved-back Groups Plain u bu k w eu) in
       let v : vertexCount w ≡ vertexCount s = sym (vertices-told w) ∙ ap job.vertexCount (sym e) ∙ vertices-told s in
@@ -192,6 +193,6 @@ module _ (t u : List ℕ) (bt : Bytes t) (bu : Bytes u) (j k : ℕ) (s w : List 
       let same : s ≡ w = one-slip s w bs bw ps pw (vertexCount s) (triangleCount s) (pieceCount s) js ((λ q. isJob (answerTo w (sym v q) (sym n q) (sym p q))) ∙ jw) e in
       one-form Groups Plain t u bt bu j k w (et ∙ ap (put j) same) eu
 
-  pub one-job : {v n p i v′ n′ p′ i′ : ℕ} → headAt Groups t ≡ Counts v n p i → headAt Groups u ≡ Counts v′ n′ p′ i′ → All IsByte s → All IsByte w → plain.Plain s → plain.Plain w
+  pub one-job : {v n p i v′ n′ p′ i′ : ℕ} → headAt Groups t ≡ Counts v n p i → headAt Groups u ≡ Counts v′ n′ p′ i′ → plain.Plain s → plain.Plain w
       → jobAt t v n p i ≡ jobAt u v′ n′ p′ i′ → t ≡ u
-  one-job ht hu bs bw ps pw e = one-plain-job bs bw ps pw (sym (same-job t bt ht j s et) ∙ e ∙ same-job u bu hu k w eu)
+  one-job ht hu ps pw e = one-plain-job ps pw (sym (same-job t bt ht j s et) ∙ e ∙ same-job u bu hu k w eu)

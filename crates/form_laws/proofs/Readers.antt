@@ -1,5 +1,5 @@
--- A slip in groups is accepted exactly where the plain slip that it is moved to is, in the same slices, and both leave the same in them. Assumes nothing.
-use Prim.Native.Nat.{ℕ, _+_, _*_}
+-- A slip in groups is accepted exactly where the plain slip that it is moved to is, in the same slices; both answers are the same then, and so is what is left in the slices. Assumes nothing.
+use Prim.Native.Nat.{ℕ, _+_, _-_, _*_}
 use native.Mathlib.Omega.{arith}
 use mathlib.Core.Path.{_≡_, refl, sym, ap, _∙_}
 use mathlib.Core.Bool.{Bool, true, false, cond, _||_, true≢false}
@@ -18,12 +18,14 @@ use Rattle.slip.specs.Format.{isJob, vertexCount, triangleCount, pieceCount, pi
 use Rattle.slip.specs.Format as format
 use Rattle.slip.specs.Reading.{Rows, vertexSlots, triangleSlots, pieceSlots, filled, written, answer, reading}
 use Rattle.slip.proofs.Room.{job-fits}
-use Rattle.slip_laws.proofs.Back.{vertices-told, triangles-told, pieces-told}
+use Rattle.slip_laws.specs.Whole.{answerOf}
+use Rattle.slip_laws.proofs.Back.{vertices-told, triangles-told, pieces-told, answer-told}
 use Rattle.slip_moves.specs.declared.Head.the-variants.{Counts}
 use Rattle.slip_moves.specs.Moves.{put, headAt, slipMoved}
+use Rattle.form_read.specs.declared.Answer.{Answer}
 use Rattle.form_read.specs.declared.Answer.the-variants as answers
-use Rattle.form_read.specs.Places.{valueOf, numberPlace, numbersIn, piecePlace, kindsFrom, firstPiece, jobAt}
-use Rattle.form_read.specs.FormReading.{isRead, ofSlip, exceeds, jobAnswer, walked, behindCounts, groupsAnswer, headJob, formWritten, groupsReading, formReading}
+use Rattle.form_read.specs.Places.{numberRead, numberPlace, numbersIn, piecePlace, kindsFrom, firstPiece, jobAt}
+use Rattle.form_read.specs.FormReading.{isRead, ofSlip, countsExceed, passedAnswer, walkAnswer, behindCounts, groupsAnswer, jobWritten, formWritten, groupsReading, formReading}
 use Rattle.form_laws.proofs.Turns.{Bytes}
 use Rattle.form_laws.proofs.Back.{moved-back}
 use Rattle.form_laws.proofs.Same.{same-job}
@@ -37,7 +39,7 @@ module _ (t : List ℕ) (v n p i : ℕ) where
 
   triangles-at : job.triangleCount (jobAt t v n p i) ≡ n
   unfolding jobAt numbersIn
-  triangles-at = rw (length-listOf (3 * n) (λ k. valueOf (numberAt Groups t (numberPlace t (i + 24 * v) k)))) (omega arith)
+  triangles-at = rw (length-listOf (3 * n) (λ k. numberRead (numberAt Groups t (numberPlace t (i + 24 * v) k)))) (omega arith)
 
   pieces-at : job.pieceCount (jobAt t v n p i) ≡ p
   unfolding jobAt kindsFrom
@@ -68,8 +70,8 @@ module _ (t : List ℕ) (bytes : Bytes t) (j : ℕ) (s : List ℕ) (moved : slip
       )
 
   -- the plain reader takes the plain slip wherever there is room for the counts
-  plain-accepted : (vertices triangles pieces : ℕ) → exceeds v n p vertices triangles pieces ≡ false → isJob (answerTo s vertices triangles pieces) ≡ true
-  unfolding exceeds answerTo format.exceeds
+  plain-accepted : (vertices triangles pieces : ℕ) → countsExceed v n p vertices triangles pieces ≡ false → isJob (answerTo s vertices triangles pieces) ≡ true
+  unfolding countsExceed answerTo format.exceeds
   plain-accepted vertices triangles pieces h =
       let c = counts-same in
       let f = job-fits s (vertexCount s) (triangleCount s) (pieceCount s) (shape-accepted s Groups (length s) t (moved-back Groups Plain t bytes j s moved)) in
@@ -78,8 +80,8 @@ module _ (t : List ℕ) (bytes : Bytes t) (j : ℕ) (s : List ℕ) (moved : slip
       (f .rest)
 
   -- and only there
-  counts-fit : (vertices triangles pieces : ℕ) → isJob (answerTo s vertices triangles pieces) ≡ true → exceeds v n p vertices triangles pieces ≡ false
-  unfolding exceeds
+  counts-fit : (vertices triangles pieces : ℕ) → isJob (answerTo s vertices triangles pieces) ≡ true → countsExceed v n p vertices triangles pieces ≡ false
+  unfolding countsExceed
   counts-fit vertices triangles pieces h =
       let c = counts-same in
       let f = job-fits s vertices triangles pieces h in
@@ -91,30 +93,43 @@ module _ (t : List ℕ) (bytes : Bytes t) (j : ℕ) (s : List ℕ) (moved : slip
       refl
 
   module _ (b : Rows) where
-    answer-is : groupsAnswer t (vertexSlots b) (triangleSlots b) (pieceSlots b) ≡ cond (exceeds v n p (vertexSlots b) (triangleSlots b) (pieceSlots b)) answers.TooMany (jobAnswer t v n p)
-    unfolding groupsAnswer behindCounts walked
+    answer-is : groupsAnswer t (vertexSlots b) (triangleSlots b) (pieceSlots b) ≡ cond (countsExceed v n p (vertexSlots b) (triangleSlots b) (pieceSlots b)) answers.TooMany (passedAnswer t v n p)
+    unfolding groupsAnswer behindCounts walkAnswer
     answer-is = rw (head, moved)
 
-    same-rows : isRead (groupsReading t b .0) ≡ true → (isJob (reading s b .0) ≡ true) × (reading s b .1 ≡ groupsReading t b .1)
-    unfolding groupsReading reading answer formWritten headJob jobAnswer
-    same-rows h = go (exceeds v n p (vertexSlots b) (triangleSlots b) (pieceSlots b)) refl
+    -- the plain reader answers with the counts and the limit of the job, and so does the other
+    counts-told : passedAnswer t v n p ≡ ofSlip (answerOf (jobAt t v n p i))
+    unfolding passedAnswer jobAt
+    counts-told =
+        λ k. answers.Job (record { vertices = sym (vertices-at t v n p i) k; triangles = sym (triangles-at t v n p i) k; pieces = sym (pieces-at t v n p i) k; limit = doubleFrom t (length t - 8) })
+
+    same-answer : isJob (answerTo s (vertexSlots b) (triangleSlots b) (pieceSlots b)) ≡ true → ofSlip (answerTo s (vertexSlots b) (triangleSlots b) (pieceSlots b)) ≡ passedAnswer t v n p
+    same-answer accepted =
+        ap ofSlip (answer-told s (vertexSlots b) (triangleSlots b) (pieceSlots b) accepted)
+        ∙ ap (λ x. ofSlip (answerOf x)) (sym (same-job t bytes head j s moved)) ∙ sym counts-told
+
+    same-rows : isRead (groupsReading t b .0) ≡ true → _≡_ {A = Answer × Rows} (ofSlip (reading s b .0), reading s b .1) (groupsReading t b)
+    unfolding groupsReading reading answer formWritten jobWritten passedAnswer
+    same-rows h = go (countsExceed v n p (vertexSlots b) (triangleSlots b) (pieceSlots b)) refl
       where
-        go : (c : Bool) → exceeds v n p (vertexSlots b) (triangleSlots b) (pieceSlots b) ≡ c → (isJob (reading s b .0) ≡ true) × (reading s b .1 ≡ groupsReading t b .1)
-        go true ec = absurd (true≢false (sym h ∙ ap isRead answer-is ∙ ap (λ x. isRead (cond x answers.TooMany (jobAnswer t v n p))) ec))
+        go : (c : Bool) → countsExceed v n p (vertexSlots b) (triangleSlots b) (pieceSlots b) ≡ c → _≡_ {A = Answer × Rows} (ofSlip (reading s b .0), reading s b .1) (groupsReading t b)
+        go true ec = absurd (true≢false (sym h ∙ ap isRead answer-is ∙ ap (λ x. isRead (cond x answers.TooMany (passedAnswer t v n p))) ec))
         go false ec =
             let accepted = plain-accepted (vertexSlots b) (triangleSlots b) (pieceSlots b) ec in
-            let told = answer-is ∙ ap (λ x. cond x answers.TooMany (jobAnswer t v n p)) ec in
+            let told = answer-is ∙ ap (λ x. cond x answers.TooMany (passedAnswer t v n p)) ec in
             let left : formWritten t (groupsAnswer t (vertexSlots b) (triangleSlots b) (pieceSlots b)) b ≡ filled (jobAt t v n p i) b =
-            ap (λ x. formWritten t x b) told ∙ ap (λ x. filled (headJob t x) b) head in
-            (accepted, job-written s b (answerTo s (vertexSlots b) (triangleSlots b) (pieceSlots b)) accepted ∙ ap (λ x. filled x b) (sym (same-job t bytes head j s moved)) ∙ sym left)
+            ap (λ x. formWritten t x b) told ∙ ap (λ x. jobWritten t x b) head in
+            let same = job-written s b (answerTo s (vertexSlots b) (triangleSlots b) (pieceSlots b)) accepted ∙ ap (λ x. filled x b) (sym (same-job t bytes head j s moved)) ∙ sym left in
+            let tells = same-answer accepted ∙ sym told in
+            λ k. (tells k, same k)
 
-    -- the theorem: what is accepted of one form is accepted of the other, and leaves the same
+    -- the theorem: what is accepted of one form is accepted of the other, with the same answer, and leaves the same
     pub same-accepted : isRead (formReading Plain s b .0) ≡ true → isRead (formReading Groups t b .0) ≡ true
-    unfolding formReading groupsReading reading answer jobAnswer
+    unfolding formReading groupsReading reading answer passedAnswer
     same-accepted h =
         let accepted : isJob (answerTo s (vertexSlots b) (triangleSlots b) (pieceSlots b)) ≡ true = sym (read-is (answerTo s (vertexSlots b) (triangleSlots b) (pieceSlots b))) ∙ h in
-        ap isRead answer-is ∙ ap (λ x. isRead (cond x answers.TooMany (jobAnswer t v n p))) (counts-fit (vertexSlots b) (triangleSlots b) (pieceSlots b) accepted)
+        ap isRead answer-is ∙ ap (λ x. isRead (cond x answers.TooMany (passedAnswer t v n p))) (counts-fit (vertexSlots b) (triangleSlots b) (pieceSlots b) accepted)
 
-    pub same-reading : isRead (formReading Groups t b .0) ≡ true → (isRead (formReading Plain s b .0) ≡ true) × (formReading Plain s b .1 ≡ formReading Groups t b .1)
+    pub same-reading : isRead (formReading Groups t b .0) ≡ true → formReading Plain s b ≡ formReading Groups t b
     unfolding formReading
-    same-reading h = let r = same-rows h in (read-is (reading s b .0) ∙ r .0, r .1)
+    same-reading h = same-rows h

@@ -22,12 +22,13 @@ use Rattle.slip_moves.specs.declared.Refusal.the-variants.{TooShort, UnknownKin
 use Rattle.slip_moves.specs.declared.Head.the-variants.{Counts}
 use Rattle.float64.specs.Scalar.{zero64}
 use Rattle.slip.specs.Format.{piecesFrom, pieceSize, pieceFrom, secondAt, coordsAt, kindsIn, facesIn, coordsIn, jobIn}
-use Rattle.slip_moves.specs.Moves.{Part, put, stop, also, then, bytesMoved, written, endsSize, numberMoved, numbersMoved, pieceOfKind, pieceMoved, piecesMoved, headAt, firstByte, headOf, meshMoved, restMoved, bodyMoved, ended, slipMoved}
+use Rattle.slip_moves.specs.Moves.{Part, put, stop, also, then, bytesMoved, numberWritten, endsSize, numberMoved, numbersMoved, pieceOfKind, pieceMoved, piecesMoved, headAt, firstByte, headOf, meshMoved, restMoved, bodyMoved, ended, slipMoved}
 use Rattle.slip_moves.proofs.Parts.{no-part}
 use Rattle.slip_moves.proofs.Ways.{pieces-next, no-pieces}
 use Rattle.slip_moves.proofs.Whole.{counted-head}
-use Rattle.slip_laws.proofs.Parts.{past, number-here, length-number}
-use Rattle.form_read.specs.Places.{valueOf, nextOf, numberPlace, numbersIn, endsFrom, piecePlace, secondIn, endsIn, kindsFrom, facesFrom, coordsFrom, flagsPlace, firstPiece, jobAt}
+use Rattle.slip_laws.proofs.Parts.{past, number-here}
+use Rattle.slip_write.proofs.Lengths.{length-number}
+use Rattle.form_read.specs.Places.{numberRead, placeBehind, numberPlace, numbersIn, endsFrom, piecePlace, secondIn, endsIn, kindsFrom, facesFrom, coordsFrom, flagsPlace, firstPiece, jobAt}
 use Rattle.form_read.proofs.Parts.{put-of, is-put, then-put, then-is, ends-bounds, bytes-put, numbers-put, mesh-put}
 use Rattle.form_laws.proofs.Numbers.{number-stood}
 use Rattle.form_laws.proofs.Turns.{Bytes}
@@ -99,10 +100,10 @@ module _ (s t : List ℕ) (a i : ℕ) (Vs r₁ r₂ : List ℕ) (h₁ : drop a s
   unfolding bytesFrom
   same-row n l = listOf-same n (λ j. getD s (a + j) 0) (λ j. getD t (i + j) 0) (λ j q. sym (same-byte j (omega (arith, q, l))))
 
-place-shift : (t : List ℕ) (k i : ℕ) → numberPlace t (nextOf (numberAt Groups t i)) k ≡ numberPlace t i (suc k)
+place-shift : (t : List ℕ) (k i : ℕ) → numberPlace t (placeBehind (numberAt Groups t i)) k ≡ numberPlace t i (suc k)
 unfolding numberPlace
 place-shift t zero i = refl
-place-shift t (suc k) i = ap (λ (p : ℕ). nextOf (numberAt Groups t p)) (place-shift t k i)
+place-shift t (suc k) i = ap (λ (p : ℕ). placeBehind (numberAt Groups t p)) (place-shift t k i)
 
 -- numbers: what was read is what was written
 module _ (s t : List ℕ) (b : Bytes t) where
@@ -113,10 +114,10 @@ module _ (s t : List ℕ) (b : Bytes t) where
     pub small : value < 4_294_967_296
 
   pub number-was : (q j : ℕ) (bs : List ℕ) → numberMoved Groups Plain t q ≡ put j bs → Read q j bs
-  unfolding numberMoved written numberOf
+  unfolding numberMoved numberWritten numberOf
   number-was q j bs e = go (numberAt Groups t q) refl e
     where
-      go : (x : Number) → numberAt Groups t q ≡ x → written Plain x ≡ put j bs → Read q j bs
+      go : (x : Number) → numberAt Groups t q ≡ x → numberWritten Plain x ≡ put j bs → Read q j bs
       go Short ex h = no-part (sym h)
       go Over ex h = no-part (sym h)
       go (Is n next) ex h =
@@ -125,7 +126,7 @@ module _ (s t : List ℕ) (b : Bytes t) where
           record { value = n; found = ex ∙ ap (Is n) ej; bytes = sym eb; small = number-stood t b Groups q n next ex .1 }
 
   pub numbers-were : (m q j : ℕ) (bs : List ℕ) (a : ℕ) (rest : List ℕ) → numbersMoved Groups Plain t m q ≡ put j bs → drop a s ≡ bs ++ rest
-      → ((k : ℕ) → k < m → numberFrom s (a + 4 * k) ≡ valueOf (numberAt Groups t (numberPlace t q k))) × (length bs ≡ 4 * m)
+      → ((k : ℕ) → k < m → numberFrom s (a + 4 * k) ≡ numberRead (numberAt Groups t (numberPlace t q k))) × (length bs ≡ 4 * m)
   unfolding numbersMoved numberPlace
   numbers-were zero q j bs a rest e h = let none : [] ≡ bs = cc e in (λ k l. absurd (omega (arith, l)), ap length (sym none))
   numbers-were (suc m) q j bs a rest e h =
@@ -134,23 +135,23 @@ module _ (s t : List ℕ) (b : Bytes t) where
       let d : drop a s ≡ numberBytes (r .value) ++ (p .rest ++ rest) = h ∙ ap (λ l. l ++ rest) (sym (p .all)) ∙ append-assoc (p .first) (p .rest) rest ∙ ap (λ l. l ++ (p .rest ++ rest)) (r .bytes) in
       let first : numberFrom s a ≡ r .value = number-here s a (r .value) (p .rest ++ rest) (r .small) d in
       let more = numbers-were m (p .middle) j (p .rest) (a + 4) rest (p .two) (past s a (numberBytes (r .value)) (p .rest ++ rest) 4 (length-number (r .value)) d) in
-      let next : nextOf (numberAt Groups t q) ≡ p .middle = ap nextOf (r .found) in (
+      let next : placeBehind (numberAt Groups t q) ≡ p .middle = ap placeBehind (r .found) in (
         λ k l. each (r .value) (p .middle) first (r .found) next (more .0) k l,
         ap length (sym (p .all)) ∙ length-append (p .first) (p .rest) ∙ omega (arith, more .1, ap length (r .bytes), length-number (r .value)),
       )
     where
-      each : (x middle : ℕ) → numberFrom s a ≡ x → numberAt Groups t q ≡ Is x middle → nextOf (numberAt Groups t q) ≡ middle
-          → ((k : ℕ) → k < m → numberFrom s (a + 4 + 4 * k) ≡ valueOf (numberAt Groups t (numberPlace t middle k)))
-          → (k : ℕ) → k < suc m → numberFrom s (a + 4 * k) ≡ valueOf (numberAt Groups t (numberPlace t q k))
-      each x middle first found next more zero l = ap (numberFrom s) (add-zero a) ∙ first ∙ sym (ap valueOf found)
+      each : (x middle : ℕ) → numberFrom s a ≡ x → numberAt Groups t q ≡ Is x middle → placeBehind (numberAt Groups t q) ≡ middle
+          → ((k : ℕ) → k < m → numberFrom s (a + 4 + 4 * k) ≡ numberRead (numberAt Groups t (numberPlace t middle k)))
+          → (k : ℕ) → k < suc m → numberFrom s (a + 4 * k) ≡ numberRead (numberAt Groups t (numberPlace t q k))
+      each x middle first found next more zero l = ap (numberFrom s) (add-zero a) ∙ first ∙ sym (ap numberRead found)
       each x middle first found next more (suc k) l =
           let place : a + 4 * suc k ≡ a + 4 + 4 * k = omega arith in
-          ap (numberFrom s) place ∙ more k (omega (arith, l)) ∙ ap (λ (p : ℕ). valueOf (numberAt Groups t p)) (ap (λ (p : ℕ). numberPlace t p k) (sym next) ∙ place-shift t k q)
+          ap (numberFrom s) place ∙ more k (omega (arith, l)) ∙ ap (λ (p : ℕ). numberRead (numberAt Groups t p)) (ap (λ (p : ℕ). numberPlace t p k) (sym next) ∙ place-shift t k q)
 
   pub numbers-same : (m q j : ℕ) (bs : List ℕ) (a : ℕ) (rest : List ℕ) → numbersMoved Groups Plain t m q ≡ put j bs → drop a s ≡ bs ++ rest → numbersIn t q m ≡ numbersFrom s a m
   unfolding numbersIn numbersFrom
   numbers-same m q j bs a rest e h =
-      let w = numbers-were m q j bs a rest e h in listOf-same m (λ k. numberFrom s (a + 4 * k)) (λ k. valueOf (numberAt Groups t (numberPlace t q k))) (λ k l. sym (w .0 k l))
+      let w = numbers-were m q j bs a rest e h in listOf-same m (λ k. numberFrom s (a + 4 * k)) (λ k. numberRead (numberAt Groups t (numberPlace t q k))) (λ k l. sym (w .0 k l))
 
 size-is : (kind : ℕ) → pieceSize kind ≡ 5 + endsSize kind
 unfolding pieceSize endsSize
@@ -164,7 +165,7 @@ size-is kind = go (eqb kind 0)
 module _ (s t : List ℕ) (b : Bytes t) where
   pub record PieceSame (q j a : ℕ) (rest : List ℕ) : Type 0 where
     pub kind : getD s a 0 ≡ getD t q 0
-    pub face : numberFrom s (a + 1) ≡ valueOf (numberAt Groups t (q + 1))
+    pub face : numberFrom s (a + 1) ≡ numberRead (numberAt Groups t (q + 1))
     pub ends : (m : ℕ) → m + 8 ≤ endsSize (getD t q 0) → doubleFrom s (a + 5 + m) ≡ doubleFrom t (endsFrom t q + m)
     pub behind : drop (a + pieceSize (getD s a 0)) s ≡ rest
     pub next : endsFrom t q + endsSize (getD t q 0) ≡ j
@@ -190,7 +191,7 @@ module _ (s t : List ℕ) (b : Bytes t) where
       let all : a + 5 + size ≡ a + pieceSize (getD s a 0) = rw (kind, size-is) (omega arith) in
       record {
         kind = kind;
-        face = number-here s (a + 1) (r .value) (u .rest ++ rest) (r .small) d2 ∙ sym (ap valueOf here);
+        face = number-here s (a + 1) (r .value) (u .rest ++ rest) (r .small) d2 ∙ sym (ap numberRead here);
         ends = λ m l. rw here (same-double s t (a + 5) (u .middle) (u .rest) rest (drop j t) d3 (sv .0) m (omega (arith, l, sv .1 .0)));
         behind = rw all at (past s (a + 5) (u .rest) rest size (sv .1 .0) d3);
         next = rw here (sv .1 .1);
@@ -261,7 +262,7 @@ module _ (s t : List ℕ) (b : Bytes t) where
 
     pub faces-same : facesFrom t q p ≡ facesIn s p
     unfolding facesFrom facesIn
-    faces-same = listOf-same p (λ k. numberFrom s (pieceFrom s k + 1)) (λ k. valueOf (numberAt Groups t (piecePlace t q k + 1))) (λ k l. sym (piece-is k l .face))
+    faces-same = listOf-same p (λ k. numberFrom s (pieceFrom s k + 1)) (λ k. numberRead (numberAt Groups t (piecePlace t q k + 1))) (λ k l. sym (piece-is k l .face))
 
     coords-first : (n : ℕ) → n ≤ p → coordsFrom t q n ≡ coordsIn s n
     unfolding coordsFrom coordsIn

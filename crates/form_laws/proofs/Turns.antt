@@ -17,7 +17,7 @@ use Rattle.groups.specs.declared.Number.the-variants.{Short, Over, Is}
 use Rattle.groups.specs.Groups.{numberAt, numberOf}
 use Rattle.slip_moves.specs.declared.Refusal.{Refusal}
 use Rattle.slip_moves.specs.declared.Refusal.the-variants.{TooShort, UnknownKind}
-use Rattle.slip_moves.specs.Moves.{Part, put, stop, also, then, bytesMoved, written, endsSize, numberMoved, numbersMoved, pieceOfKind, pieceMoved, piecesMoved, meshMoved, restMoved, bodyMoved}
+use Rattle.slip_moves.specs.Moves.{Part, put, stop, also, then, bytesMoved, numberWritten, endsSize, numberMoved, numbersMoved, pieceOfKind, pieceMoved, piecesMoved, meshMoved, restMoved, bodyMoved}
 use Rattle.slip_moves.proofs.Parts.{no-part}
 use Rattle.slip_moves.proofs.Ways.{bytes-there, good-kind}
 use Rattle.slip_laws.specs.Plain.{IsByte}
@@ -100,10 +100,10 @@ back-bytes n f g s b i j bs e = go (ltb (length s) (i + n)) refl e
         }
 
 pub back-number : Back numberMoved
-unfolding numberMoved written
+unfolding numberMoved numberWritten
 back-number f g s b i j bs e = go (numberAt f s i) refl e
   where
-    go : (x : Number) → numberAt f s i ≡ x → written g x ≡ put j bs → Turn numberMoved f g s i j bs
+    go : (x : Number) → numberAt f s i ≡ x → numberWritten g x ≡ put j bs → Turn numberMoved f g s i j bs
     go Short ex h = no-part (sym h)
     go Over ex h = no-part (sym h)
     go (Is n next) ex h =
@@ -113,7 +113,7 @@ back-number f g s b i j bs e = go (numberAt f s i) refl e
           bytes = numberOf f n;
           stood = rw (sym (p .0)) (stood .0);
           back = λ t a rest l d.
-              ap (written f) (number-read g n t a rest (stood .1) (d ∙ ap (λ x. x ++ rest) (sym (p .1)))) ∙ ap (λ (x : List ℕ). put (a + length x) (numberOf f n)) (p .1);
+              ap (numberWritten f) (number-read g n t a rest (stood .1) (d ∙ ap (λ x. x ++ rest) (sym (p .1)))) ∙ ap (λ (x : List ℕ). put (a + length x) (numberOf f n)) (p .1);
         }
 
 back-none : Back (λ f g s i. put i [])

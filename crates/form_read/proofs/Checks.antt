@@ -16,13 +16,13 @@ use Rattle.slip_moves.specs.declared.Head.{Head}
 use Rattle.slip_moves.specs.declared.Head.the-variants as head
 use Rattle.slip_moves.specs.declared.Moved.{Moved}
 use Rattle.slip_moves.specs.declared.Moved.the-variants as moved
-use Rattle.slip_moves.specs.Moves.{Part, put, stop, also, then, headAt, headOf, bytesMoved, piecesMoved, meshMoved, restMoved, bodyMoved, ended, slipMoved, answerTo, SmallCounts}
+use Rattle.slip_moves.specs.Moves.{Part, put, stop, also, then, headAt, headOf, bytesMoved, piecesMoved, meshMoved, restMoved, bodyMoved, ended, slipMoved, answerOfMove, SmallCounts}
 use Rattle.slip_moves.proofs.Whole.{counted-head}
 use Rattle.slip_moves.proofs.Reach.{reach-mesh}
 use Rattle.form_read.specs.declared.Answer.{Answer}
 use Rattle.form_read.specs.declared.Answer.the-variants as answer
 use Rattle.form_read.specs.Places.{isPut, numbersIn, kindsFrom, facesFrom, coordsFrom, flagsPlace, firstPiece, jobAt}
-use Rattle.form_read.specs.FormReading.{isRead, exceeds, jobAnswer, walked, behindCounts, groupsAnswer, headJob, formWritten, groupsReading}
+use Rattle.form_read.specs.FormReading.{isRead, countsExceed, passedAnswer, walkAnswer, behindCounts, groupsAnswer, jobWritten, formWritten, groupsReading}
 use Rattle.form_read.specs.There.{MeshThere, PiecesThere}
 use Rattle.form_read.proofs.Parts.{also-put, then-put, is-put, put-of, bytes-fit, mesh-put}
 
@@ -32,22 +32,22 @@ module _ (s : List ℕ) (vertices triangles pieces : ℕ) where
   refused-counts e = rw e
 
   module _ {v t p i : ℕ} (e : headAt Groups s ≡ head.Counts v t p i) where
-    pub too-many : exceeds v t p vertices triangles pieces ≡ true → answer.TooMany ≡ groupsAnswer s vertices triangles pieces
+    pub too-many : countsExceed v t p vertices triangles pieces ≡ true → answer.TooMany ≡ groupsAnswer s vertices triangles pieces
     unfolding groupsAnswer behindCounts
     too-many x = rw (e, x)
 
-    pub walk-refused : {why : Refusal} → exceeds v t p vertices triangles pieces ≡ false → slipMoved Groups Plain s ≡ stop why → answer.Refused why ≡ groupsAnswer s vertices triangles pieces
-    unfolding groupsAnswer behindCounts walked
+    pub walk-refused : {why : Refusal} → countsExceed v t p vertices triangles pieces ≡ false → slipMoved Groups Plain s ≡ stop why → answer.Refused why ≡ groupsAnswer s vertices triangles pieces
+    unfolding groupsAnswer behindCounts walkAnswer
     walk-refused x m = rw (e, x, m)
 
-    pub walk-done : exceeds v t p vertices triangles pieces ≡ false → isPut (slipMoved Groups Plain s) ≡ true → jobAnswer s v t p ≡ groupsAnswer s vertices triangles pieces
-    unfolding groupsAnswer behindCounts walked
+    pub walk-done : countsExceed v t p vertices triangles pieces ≡ false → isPut (slipMoved Groups Plain s) ≡ true → passedAnswer s v t p ≡ groupsAnswer s vertices triangles pieces
+    unfolding groupsAnswer behindCounts walkAnswer
     walk-done x m = rw (e, x, put-of (slipMoved Groups Plain s) m .2)
 
 -- what the move of a slip says of the walk over it
 module _ (out : List ℕ) {out′ : List ℕ} {r : Moved} where
-  pub moved-refused : {why : Refusal} (x : Part) → _≡_ {A = Moved × List ℕ} (r, out′) (answerTo x out) → r ≡ moved.Refused why → x ≡ stop why
-  unfolding answerTo
+  pub moved-refused : {why : Refusal} (x : Part) → _≡_ {A = Moved × List ℕ} (r, out′) (answerOfMove x out) → r ≡ moved.Refused why → x ≡ stop why
+  unfolding answerOfMove
   moved-refused {why} (stop w) e h = let q : moved.Refused w ≡ moved.Refused why = sym (ap (λ (p : Moved × List ℕ). p .0) e) ∙ h in let ew : w ≡ why = cc q in ap stop ew
   moved-refused {why} (put j bs) e h = go (ltb (length out) (length bs)) e
     where
@@ -55,13 +55,13 @@ module _ (out : List ℕ) {out′ : List ℕ} {r : Moved} where
       go true q = absurd (let f : moved.NoRoom (length bs) ≡ moved.Refused why = sym (ap (λ (p : Moved × List ℕ). p .0) q) ∙ h in let z : _≡_ {A = ℕ} 0 1 = cc f in omega arith)
       go false q = absurd (let f : moved.Length (length bs) ≡ moved.Refused why = sym (ap (λ (p : Moved × List ℕ). p .0) q) ∙ h in let z : _≡_ {A = ℕ} 0 1 = cc f in omega arith)
 
-  pub moved-length : {n : ℕ} (x : Part) → _≡_ {A = Moved × List ℕ} (r, out′) (answerTo x out) → r ≡ moved.Length n → isPut x ≡ true
-  unfolding answerTo
+  pub moved-length : {n : ℕ} (x : Part) → _≡_ {A = Moved × List ℕ} (r, out′) (answerOfMove x out) → r ≡ moved.Length n → isPut x ≡ true
+  unfolding answerOfMove
   moved-length (put j bs) e h = refl
   moved-length {n} (stop w) e h = absurd (let f : moved.Refused w ≡ moved.Length n = sym (ap (λ (p : Moved × List ℕ). p .0) e) ∙ h in let z : _≡_ {A = ℕ} 0 1 = cc f in omega arith)
 
-  pub moved-no-room : {n : ℕ} (x : Part) → _≡_ {A = Moved × List ℕ} (r, out′) (answerTo x out) → r ≡ moved.NoRoom n → isPut x ≡ true
-  unfolding answerTo
+  pub moved-no-room : {n : ℕ} (x : Part) → _≡_ {A = Moved × List ℕ} (r, out′) (answerOfMove x out) → r ≡ moved.NoRoom n → isPut x ≡ true
+  unfolding answerOfMove
   moved-no-room (put j bs) e h = refl
   moved-no-room {n} (stop w) e h = absurd (let f : moved.Refused w ≡ moved.NoRoom n = sym (ap (λ (p : Moved × List ℕ). p .0) e) ∙ h in let z : _≡_ {A = ℕ} 0 1 = cc f in omega arith)
 
@@ -90,15 +90,15 @@ module _ (s : List ℕ) {v t p i : ℕ} (e : headAt Groups s ≡ head.Counts v t
       }
 
   -- of a slip that the check passed
-  pub passed : (vertices triangles pieces : ℕ) → isRead (groupsAnswer s vertices triangles pieces) ≡ true → (exceeds v t p vertices triangles pieces ≡ false) × (isPut (slipMoved Groups Plain s) ≡ true)
-  unfolding groupsAnswer behindCounts walked
-  passed vertices triangles pieces h = go (exceeds v t p vertices triangles pieces) (slipMoved Groups Plain s) refl (rw e at h)
+  pub passed : (vertices triangles pieces : ℕ) → isRead (groupsAnswer s vertices triangles pieces) ≡ true → (countsExceed v t p vertices triangles pieces ≡ false) × (isPut (slipMoved Groups Plain s) ≡ true)
+  unfolding groupsAnswer behindCounts walkAnswer
+  passed vertices triangles pieces h = go (countsExceed v t p vertices triangles pieces) (slipMoved Groups Plain s) refl (rw e at h)
     where
-      put-read : (x : Part) → isRead (walked s v t p x) ≡ true → isPut x ≡ true
+      put-read : (x : Part) → isRead (walkAnswer s v t p x) ≡ true → isPut x ≡ true
       put-read (put j bs) q = refl
       put-read (stop w) q = absurd (true≢false (sym q))
 
-      go : (b : Bool) (x : Part) → exceeds v t p vertices triangles pieces ≡ b → isRead (cond b answer.TooMany (walked s v t p x)) ≡ true → (exceeds v t p vertices triangles pieces ≡ false) × (isPut x ≡ true)
+      go : (b : Bool) (x : Part) → countsExceed v t p vertices triangles pieces ≡ b → isRead (cond b answer.TooMany (walkAnswer s v t p x)) ≡ true → (countsExceed v t p vertices triangles pieces ≡ false) × (isPut x ≡ true)
       go true x eb q = absurd (true≢false (sym q))
       go false x eb q = (eb, put-read x q)
 
@@ -106,8 +106,8 @@ or-false : (a b : Bool) → a || b ≡ false → (a ≡ false) × (b ≡ false)
 or-false true b h = absurd (true≢false h)
 or-false false b h = (refl, h)
 
-pub in-rooms : (v t p vertices triangles pieces : ℕ) → exceeds v t p vertices triangles pieces ≡ false → (v ≤ vertices) × ((t ≤ triangles) × (p ≤ pieces))
-unfolding exceeds
+pub in-rooms : (v t p vertices triangles pieces : ℕ) → countsExceed v t p vertices triangles pieces ≡ false → (v ≤ vertices) × ((t ≤ triangles) × (p ≤ pieces))
+unfolding countsExceed
 in-rooms v t p vertices triangles pieces h =
     let most = or-false (ltb vertices v || ltb triangles t) (ltb pieces p) h in
     let two = or-false (ltb vertices v) (ltb triangles t) (most .0) in
@@ -146,14 +146,14 @@ module _ (s : List ℕ) (b : Rows) (ok : isRead (groupsAnswer s (vertexSlots b) 
         coords-fit = omega (arith, fit .1 .1);
       }
 
--- a head that is refused is no job
-pub not-read : {A : Type 0} {why : Refusal} (s : List ℕ) (vertices triangles pieces : ℕ) → headAt Groups s ≡ head.Refused why → isRead (groupsAnswer s vertices triangles pieces) ≡ true → A
-unfolding groupsAnswer behindCounts
-not-read s vertices triangles pieces e h = absurd (true≢false (sym (rw e at h)))
+-- a head that is refused writes nothing
+pub none-written : {why : Refusal} (s : List ℕ) (b : Rows) → headAt Groups s ≡ head.Refused why → b ≡ jobWritten s (headAt Groups s) b
+unfolding jobWritten
+none-written s b e = rw e
 
 -- a job is written, and a refusal leaves all as it is
 module _ (s : List ℕ) (b : Rows) where
-  of-job : (r : Answer) → isRead r ≡ true → filled (headJob s (headAt Groups s)) b ≡ formWritten s r b
+  of-job : (r : Answer) → isRead r ≡ true → jobWritten s (headAt Groups s) b ≡ formWritten s r b
   unfolding formWritten
   of-job (answer.Refused w) h = absurd (true≢false (sym h))
   of-job answer.TooMany h = absurd (true≢false (sym h))
@@ -166,7 +166,7 @@ module _ (s : List ℕ) (b : Rows) where
   of-refusal (answer.Job j) h = absurd (true≢false h)
 
   module _ (r : Answer) (e : r ≡ groupsAnswer s (vertexSlots b) (triangleSlots b) (pieceSlots b)) where
-    pub did-read : (b′ : Rows) → isRead r ≡ true → b′ ≡ filled (headJob s (headAt Groups s)) b → (r, b′) ≡ groupsReading s b
+    pub did-read : (b′ : Rows) → isRead r ≡ true → b′ ≡ jobWritten s (headAt Groups s) b → (r, b′) ≡ groupsReading s b
     unfolding groupsReading
     did-read b′ j w = λ i. (e i, (w ∙ of-job r j ∙ ap (λ a. formWritten s a b) e) i)
 
@@ -178,8 +178,8 @@ module _ (s : List ℕ) (b : Rows) where
 pub job-filled : {v t p i at : ℕ} {vs cs : List Float} {ts fs ks ns : List ℕ} (s : List ℕ) (b : Rows) → headAt Groups s ≡ head.Counts v t p i → at ≡ firstPiece s v t i
     → vs ≡ atFront (doublesFrom s i (3 * v)) (b .vertices) → ts ≡ atFront (numbersIn s (i + 24 * v) (3 * t)) (b .triangles) → fs ≡ atFront (bytesFrom s (flagsPlace s v t i) v) (b .flags)
     → ks ≡ atFront (kindsFrom s at p) (b .kinds) → ns ≡ atFront (facesFrom s at p) (b .faces) → cs ≡ atFront (coordsFrom s at p) (b .coords)
-    → rows vs ts fs ks ns cs ≡ filled (headJob s (headAt Groups s)) b
-unfolding filled headJob jobAt
+    → rows vs ts fs ks ns cs ≡ jobWritten s (headAt Groups s) b
+unfolding filled jobWritten jobAt
 job-filled {v} {t} {p} {i} {at} s b e ea ev et ef ek en ec =
     rw e
     (λ j. rows (ev j) (et j) (ef j) ((ek ∙ ap (λ (q : ℕ). atFront (kindsFrom s q p) (b .kinds)) ea) j) ((en ∙ ap (λ (q : ℕ). atFront (facesFrom s q p) (b .faces)) ea) j)

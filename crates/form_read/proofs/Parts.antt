@@ -13,9 +13,9 @@ use Rattle.groups.specs.declared.Number.{Number}
 use Rattle.groups.specs.declared.Number.the-variants.{Short, Over, Is}
 use Rattle.groups.specs.Groups.{numberAt, Found}
 use Rattle.slip_moves.specs.declared.Refusal.the-variants.{TooShort, UnknownKind}
-use Rattle.slip_moves.specs.Moves.{Part, put, stop, also, then, bytesMoved, written, endsSize, numberMoved, numbersMoved, pieceOfKind, pieceMoved, piecesMoved, meshMoved, restMoved, bodyMoved, ended}
+use Rattle.slip_moves.specs.Moves.{Part, put, stop, also, then, bytesMoved, numberWritten, endsSize, numberMoved, numbersMoved, pieceOfKind, pieceMoved, piecesMoved, meshMoved, restMoved, bodyMoved, ended}
 use Rattle.slip_moves.proofs.Parts.{no-part}
-use Rattle.form_read.specs.Places.{valueOf, nextOf, isPut, numberPlace, endsFrom, flagsPlace, firstPiece}
+use Rattle.form_read.specs.Places.{numberRead, placeBehind, isPut, numberPlace, endsFrom, flagsPlace, firstPiece}
 use Rattle.form_read.specs.There.{PieceThere}
 
 pub also-put : (bs : List ℕ) (x : Part) → isPut (also bs x) ≡ true → isPut x ≡ true
@@ -52,19 +52,19 @@ module _ (s : List ℕ) where
   pub bytes-fit : (n i : ℕ) → isPut (bytesMoved s n i) ≡ true → i + n ≤ length s
   bytes-fit n i h = let p = put-of (bytesMoved s n i) h in bytes-put n i (p .0) (p .1) (p .2) .0
 
-  number-put : (i j : ℕ) (bs : List ℕ) → numberMoved Groups Plain s i ≡ put j bs → nextOf (numberAt Groups s i) ≡ j
-  unfolding numberMoved written
+  number-put : (i j : ℕ) (bs : List ℕ) → numberMoved Groups Plain s i ≡ put j bs → placeBehind (numberAt Groups s i) ≡ j
+  unfolding numberMoved numberWritten
   number-put i j bs e = go (numberAt Groups s i) e
     where
-      go : (x : Number) → written Plain x ≡ put j bs → nextOf x ≡ j
+      go : (x : Number) → numberWritten Plain x ≡ put j bs → placeBehind x ≡ j
       go Short h = no-part (sym h)
       go Over h = no-part (sym h)
       go (Is n next) h = cc h
 
-  place-shift : (k i : ℕ) → numberPlace s (nextOf (numberAt Groups s i)) k ≡ numberPlace s i (suc k)
+  place-shift : (k i : ℕ) → numberPlace s (placeBehind (numberAt Groups s i)) k ≡ numberPlace s i (suc k)
   unfolding numberPlace
   place-shift zero i = refl
-  place-shift (suc k) i = ap (λ (p : ℕ). nextOf (numberAt Groups s p)) (place-shift k i)
+  place-shift (suc k) i = ap (λ (p : ℕ). placeBehind (numberAt Groups s p)) (place-shift k i)
 
   -- n numbers, from byte i to byte j
   pub numbers-put : (n i j : ℕ) (bs : List ℕ) → numbersMoved Groups Plain s n i ≡ put j bs → numberPlace s i n ≡ j
@@ -118,7 +118,7 @@ module _ (s : List ℕ) where
         let a = then-put (bytesMoved s 1 i) face-and-ends (is-put (pieceOfKind Groups Plain s (getD s i 0) i) h) in
         let p = bytes-put 1 i (a .0) (a .1) (a .2 .0) in
         let b = then-put (numberMoved Groups Plain s (a .0)) (bytesMoved s size) (a .2 .1) in
-        let ends : nextOf (numberAt Groups s (i + 1)) ≡ b .0 = ap (λ (k : ℕ). nextOf (numberAt Groups s k)) (p .1) ∙ number-put (a .0) (b .0) (b .1) (b .2 .0) in
+        let ends : placeBehind (numberAt Groups s (i + 1)) ≡ b .0 = ap (λ (k : ℕ). placeBehind (numberAt Groups s k)) (p .1) ∙ number-put (a .0) (b .0) (b .1) (b .2 .0) in
         let c = put-of (bytesMoved s size (b .0)) (b .2 .1) in
         let f = bytes-put size (b .0) (c .0) (c .1) (c .2) in
         let two = then-is (numberMoved Groups Plain s (a .0)) (bytesMoved s size) (b .2 .0) (c .2) in
@@ -148,12 +148,12 @@ module _ (s : List ℕ) where
       (b .0, rw (less, b .1) (a .2 .1))
 
 -- how large a number that is read is, and how near the place behind it
-pub value-small : {s : List ℕ} {i : ℕ} (x : Number) → Found Groups s i x → valueOf x < 4_294_967_296
+pub value-small : {s : List ℕ} {i : ℕ} (x : Number) → Found Groups s i x → numberRead x < 4_294_967_296
 value-small Short f = omega arith
 value-small Over f = omega arith
 value-small (Is n next) f = f .small n next refl .0
 
-pub next-near : {s : List ℕ} {i : ℕ} (x : Number) → Found Groups s i x → nextOf x ≤ i + 5
+pub next-near : {s : List ℕ} {i : ℕ} (x : Number) → Found Groups s i x → placeBehind x ≤ i + 5
 next-near Short f = omega arith
 next-near Over f = omega arith
 next-near (Is n next) f = f .small n next refl .1

@@ -16,7 +16,7 @@ use Rattle.little_endian.proofs.Front.{front-none, front-more, front-next}
 use Rattle.groups.specs.declared.Form.the-variants.{Plain, Groups}
 use Rattle.groups.specs.Groups.{numberAt}
 use Rattle.slip_moves.specs.Moves.{endsSize, piecesMoved}
-use Rattle.form_read.specs.Places.{valueOf, isPut, endsFrom, piecePlace, endsIn, kindsFrom, facesFrom, coordsFrom}
+use Rattle.form_read.specs.Places.{numberRead, isPut, endsFrom, piecePlace, endsIn, kindsFrom, facesFrom, coordsFrom}
 use Rattle.form_read.specs.There.{PieceThere, PiecesThere}
 use Rattle.form_read.proofs.Parts.{piece-there}
 
@@ -72,7 +72,7 @@ module _ {s : List ℕ} {from n : ℕ} {kinds₀ faces₀ : List ℕ} {coords₀
         fill-is 6 (endsIn s at) coords k 0 ∙ rw (add-zero, w .coords-are, w .place, add-one)
         (front-more (coordsFrom s from k) (endsIn s (piecePlace s from k)) coords₀ (6 * k) (length-coordsFrom s from k) (omega (arith, w .room-coords)))
 
-    pub one-more : (face : ℕ) (coords′ : List Float) (next : ℕ) → face ≡ valueOf (numberAt Groups s (at + 1)) → coords′ ≡ fill 6 coords k 0 (endsIn s at)
+    pub one-more : (face : ℕ) (coords′ : List Float) (next : ℕ) → face ≡ numberRead (numberAt Groups s (at + 1)) → coords′ ≡ fill 6 coords k 0 (endsIn s at)
         → next ≡ endsFrom s at + endsSize (getD s at 0) → next ≤ at + 54 → Walk s from n kinds₀ faces₀ coords₀ (set kinds k (getD s at 0)) (set faces k face) coords′ next (k + 1)
     unfolding kindsFrom facesFrom piecePlace
     one-more face coords′ next ef ec en l =
@@ -89,6 +89,6 @@ module _ {s : List ℕ} {from n : ℕ} {kinds₀ faces₀ : List ℕ} {coords₀
           place = rw (en, w .place, add-one);
           rest = rw (en, less) (piece-there s (n - k) at (omega arith) (w .rest) .1);
           kinds-are = front-next (λ i. getD s (piecePlace s from i) 0) kinds₀ kinds k (getD s at 0) (ap (λ (i : ℕ). getD s i 0) (w .place)) (omega (arith, w .room-kinds)) (w .kinds-are);
-          faces-are = front-next (λ i. valueOf (numberAt Groups s (piecePlace s from i + 1))) faces₀ faces k face (ef ∙ ap (λ (i : ℕ). valueOf (numberAt Groups s (i + 1))) (w .place)) (omega (arith, w .room-faces)) (w .faces-are);
+          faces-are = front-next (λ i. numberRead (numberAt Groups s (piecePlace s from i + 1))) faces₀ faces k face (ef ∙ ap (λ (i : ℕ). numberRead (numberAt Groups s (i + 1))) (w .place)) (omega (arith, w .room-faces)) (w .faces-are);
           coords-are = ec ∙ coords-next;
         }

@@ -4,7 +4,6 @@ use mathlib.Core.Bool.{Bool, true, false, cond, _||_}
 use mathlib.Core.List.{List}
 use lib.Dec.{ltb}
 use lib.ListN.{length}
-use Rattle.job_checks.specs.Job.{Job}
 use Rattle.little_endian.specs.Bytes.{doubleFrom}
 use Rattle.slip.specs.declared.Slip.{Slip}
 use Rattle.slip.specs.declared.Slip.the-variants as slip
@@ -39,33 +38,33 @@ ofSlip slip.TooMany = answer.TooMany
 ofSlip (slip.Job j) = answer.Job j
 
 -- a count is above what there is room for
-unfoldable pub exceeds : ℕ → ℕ → ℕ → ℕ → ℕ → ℕ → Bool
-exceeds v t p vertices triangles pieces = ltb vertices v || ltb triangles t || ltb pieces p
+unfoldable pub countsExceed : ℕ → ℕ → ℕ → ℕ → ℕ → ℕ → Bool
+countsExceed v t p vertices triangles pieces = ltb vertices v || ltb triangles t || ltb pieces p
 
 -- 33 once the counts are read, then what the walk over the slip meets: it is the one that moves it
-unfoldable pub jobAnswer : List ℕ → ℕ → ℕ → ℕ → Answer
-jobAnswer s v t p = answer.Job (record { vertices = v; triangles = t; pieces = p; limit = doubleFrom s (length s - 8) })
+unfoldable pub passedAnswer : List ℕ → ℕ → ℕ → ℕ → Answer
+passedAnswer s v t p = answer.Job (record { vertices = v; triangles = t; pieces = p; limit = doubleFrom s (length s - 8) })
 
-unfoldable pub walked : List ℕ → ℕ → ℕ → ℕ → Part → Answer
-walked s v t p (stop why) = answer.Refused why
-walked s v t p (put j bytes) = jobAnswer s v t p
+unfoldable pub walkAnswer : List ℕ → ℕ → ℕ → ℕ → Part → Answer
+walkAnswer s v t p (stop why) = answer.Refused why
+walkAnswer s v t p (put j bytes) = passedAnswer s v t p
 
 unfoldable pub behindCounts : List ℕ → Head → ℕ → ℕ → ℕ → Answer
 behindCounts s (head.Refused why) vertices triangles pieces = answer.Refused why
-behindCounts s (head.Counts v t p i) vertices triangles pieces = cond (exceeds v t p vertices triangles pieces) answer.TooMany (walked s v t p (slipMoved Groups Plain s))
+behindCounts s (head.Counts v t p i) vertices triangles pieces = cond (countsExceed v t p vertices triangles pieces) answer.TooMany (walkAnswer s v t p (slipMoved Groups Plain s))
 
 unfoldable pub groupsAnswer : List ℕ → ℕ → ℕ → ℕ → Answer
 groupsAnswer s vertices triangles pieces = behindCounts s (headAt Groups s) vertices triangles pieces
 
 -- the job's lists stand at the fronts, and no other element changes; a refusal changes nothing
-unfoldable pub headJob : List ℕ → Head → Job
-headJob s (head.Refused why) = jobAt s 0 0 0 0
-headJob s (head.Counts v t p i) = jobAt s v t p i
+unfoldable pub jobWritten : List ℕ → Head → Rows → Rows
+jobWritten s (head.Refused why) b = b
+jobWritten s (head.Counts v t p i) b = filled (jobAt s v t p i) b
 
 unfoldable pub formWritten : List ℕ → Answer → Rows → Rows
 formWritten s (answer.Refused why) b = b
 formWritten s answer.TooMany b = b
-formWritten s (answer.Job j) b = filled (headJob s (headAt Groups s)) b
+formWritten s (answer.Job j) b = jobWritten s (headAt Groups s) b
 
 unfoldable pub groupsReading : List ℕ → Rows → Answer × Rows
 groupsReading s b =

@@ -16,15 +16,15 @@ use Rattle.groups.specs.Groups.{numberAt}
 use Rattle.slip_moves.specs.Moves.{Part, put, stop, endsSize}
 
 -- a number that was read, and the place behind it
-abbrev pub valueOf : Number → ℕ
-valueOf Short = 0
-valueOf Over = 0
-valueOf (Is n next) = n
+abbrev pub numberRead : Number → ℕ
+numberRead Short = 0
+numberRead Over = 0
+numberRead (Is n next) = n
 
-abbrev pub nextOf : Number → ℕ
-nextOf Short = 0
-nextOf Over = 0
-nextOf (Is n next) = next
+abbrev pub placeBehind : Number → ℕ
+placeBehind Short = 0
+placeBehind Over = 0
+placeBehind (Is n next) = next
 
 abbrev pub isPut : Part → Bool
 isPut (put j bytes) = true
@@ -34,14 +34,14 @@ module _ (s : List ℕ) where
   -- where number k of those from byte i on stands, and the first n of them
   unfoldable pub numberPlace : ℕ → ℕ → ℕ
   numberPlace i zero = i
-  numberPlace i (suc k) = nextOf (numberAt Groups s (numberPlace i k))
+  numberPlace i (suc k) = placeBehind (numberAt Groups s (numberPlace i k))
 
   unfoldable pub numbersIn : ℕ → ℕ → List ℕ
-  numbersIn i n = listOf n (λ k. valueOf (numberAt Groups s (numberPlace i k)))
+  numbersIn i n = listOf n (λ k. numberRead (numberAt Groups s (numberPlace i k)))
 
   -- where the ends of the piece at byte i stand, behind its face; where piece k of those from byte i on stands
   unfoldable pub endsFrom : ℕ → ℕ
-  endsFrom i = nextOf (numberAt Groups s (i + 1))
+  endsFrom i = placeBehind (numberAt Groups s (i + 1))
 
   unfoldable pub piecePlace : ℕ → ℕ → ℕ
   piecePlace i zero = i
@@ -59,7 +59,7 @@ module _ (s : List ℕ) where
   kindsFrom i n = listOf n (λ k. getD s (piecePlace i k) 0)
 
   unfoldable pub facesFrom : ℕ → ℕ → List ℕ
-  facesFrom i n = listOf n (λ k. valueOf (numberAt Groups s (piecePlace i k + 1)))
+  facesFrom i n = listOf n (λ k. numberRead (numberAt Groups s (piecePlace i k + 1)))
 
   unfoldable pub coordsFrom : ℕ → ℕ → List Float
   coordsFrom i zero = []

@@ -10,6 +10,7 @@ use slip::SlipJob;
 use slip_moves::Head;
 use slip_moves::Moved;
 use slip_moves::Refusal;
+use slip_moves::ends_size;
 use slip_moves::move_slip;
 use slip_moves::read_head;
 ghost use mathlib.Core.Path.{_≡_};
@@ -20,10 +21,10 @@ ghost use Rattle.buffers.specs.Lent.{given, left};
 ghost use Rattle.buffers.specs.Slots.{fill};
 ghost use Rattle.little_endian.specs.Bytes.{doublesFrom, bytesFrom, atFront};
 ghost use Rattle.groups.specs.declared.Form.the-variants.{Plain, Groups};
-ghost use Rattle.slip.specs.Reading.{rows, filled};
-ghost use Rattle.slip_moves.specs.Moves.{endsSize, headAt};
-ghost use Rattle.form_read.specs.Places.{valueOf, nextOf, numberPlace, numbersIn, secondIn, endsIn, kindsFrom, facesFrom, coordsFrom, flagsPlace, firstPiece};
-ghost use Rattle.form_read.specs.FormReading.{answerNumber, isRead, ofSlip, exceeds, jobAnswer, groupsAnswer, headJob, groupsReading, formReading};
+ghost use Rattle.slip.specs.Reading.{rows};
+ghost use Rattle.slip_moves.specs.Moves.{headAt};
+ghost use Rattle.form_read.specs.Places.{numberRead, placeBehind, numberPlace, numbersIn, secondIn, endsIn, kindsFrom, facesFrom, coordsFrom, flagsPlace, firstPiece};
+ghost use Rattle.form_read.specs.FormReading.{answerNumber, isRead, ofSlip, countsExceed, passedAnswer, groupsAnswer, jobWritten, groupsReading, formReading};
 ghost use Rattle.form_read.specs.There.{MeshThere, PieceThere, PiecesThere, JobThere};
 
 pub enum Answer {
@@ -72,7 +73,7 @@ fn least(m: usize, n: usize) -> usize
 }
 
 fn value(number: Number) -> usize
-    ensures { λ r. ⌜ r ≡ valueOf number ⌝ }
+    ensures { λ r. ⌜ r ≡ numberRead number ⌝ }
 {
     match number {
         Number::Short => 0,
@@ -82,7 +83,7 @@ fn value(number: Number) -> usize
 }
 
 fn behind(number: Number) -> usize
-    ensures { λ r. ⌜ r ≡ nextOf number ⌝ }
+    ensures { λ r. ⌜ r ≡ placeBehind number ⌝ }
 {
     match number {
         Number::Short => 0,
@@ -101,7 +102,7 @@ fn is_exceeded(
     triangles: usize,
     pieces: usize,
 ) -> bool
-    ensures { λ r. ⌜ r ≡ exceeds v t p vertices triangles pieces ⌝ }
+    ensures { λ r. ⌜ r ≡ countsExceed v t p vertices triangles pieces ⌝ }
 {
     if vertices < v {
         return true;
@@ -117,7 +118,7 @@ fn is_exceeded(
 
 fn job(s: &[u8], v: usize, t: usize, p: usize) -> Answer
     requires { ⌜ (8 ≤ length (now s)) × ((v < 4_294_967_296) × ((t < 4_294_967_296) × (p < 4_294_967_296))) ⌝ }
-    ensures { λ r. ⌜ r ≡ jobAnswer (given s) v t p ⌝ }
+    ensures { λ r. ⌜ r ≡ passedAnswer (given s) v t p ⌝ }
 {
     let limit = double_at(s, s.len() - 8);
     Answer::Job(SlipJob {
@@ -176,21 +177,14 @@ fn write_mesh(
     flags: &mut [u8],
 ) -> usize
     requires { ⌜ MeshThere (now s) i v t (length (now vertices)) (length (now triangles)) (length (now flags)) ⌝ }
-    ensures { λ r. ⌜ (left vertices ≡ atFront (doublesFrom (given s) i (3 * v)) (given vertices)) × ((left triangles ≡ atFront (numbersIn (given s) (i + 24 * v) (3 * t)) (given triangles)) × ((left flags ≡ atFront (bytesFrom (given s) (flagsPlace (given s) v t i) v) (given flags)) × (r ≡ firstPiece (given s) v t i))) ⌝ }
+    ensures { λ r. ⌜ (left vertices ≡ atFront (doublesFrom (given s) i (3 * v)) (given vertices))
+        × ((left triangles ≡ atFront (numbersIn (given s) (i + 24 * v) (3 * t)) (given triangles))
+        × ((left flags ≡ atFront (bytesFrom (given s) (flagsPlace (given s) v t i) v) (given flags)) × (r ≡ firstPiece (given s) v t i))) ⌝ }
 {
     read_doubles(s, i, 3 * v, vertices);
     let from = write_numbers(s, i + 24 * v, 3 * t, triangles);
     read_bytes(s, from, v, flags);
     from + v
-}
-
-fn ends_size(kind: u8) -> usize
-    ensures { λ r. ⌜ (r ≡ endsSize kind) × (r ≤ 48) ⌝ }
-{
-    if kind == 0 {
-        return 24;
-    }
-    48
 }
 
 // The double k bytes behind the start of the ends of the piece at byte i, 0 of a point.
@@ -226,7 +220,8 @@ fn write_pieces(
     coords: &mut [f64],
 )
     requires { ⌜ PiecesThere (now s) from n (length (now kinds)) (length (now faces)) (length (now coords)) ⌝ }
-    ensures { λ r. ⌜ (left kinds ≡ atFront (kindsFrom (given s) from n) (given kinds)) × ((left faces ≡ atFront (facesFrom (given s) from n) (given faces)) × (left coords ≡ atFront (coordsFrom (given s) from n) (given coords))) ⌝ }
+    ensures { λ r. ⌜ (left kinds ≡ atFront (kindsFrom (given s) from n) (given kinds))
+        × ((left faces ≡ atFront (facesFrom (given s) from n) (given faces)) × (left coords ≡ atFront (coordsFrom (given s) from n) (given coords))) ⌝ }
 {
     let mut at = from;
     let mut k: usize = 0;
@@ -253,7 +248,8 @@ fn write_job(
     coords: &mut [f64],
 )
     requires { ⌜ JobThere (now s) (rows (now vertices) (now triangles) (now flags) (now kinds) (now faces) (now coords)) ⌝ }
-    ensures { λ r. ⌜ rows (left vertices) (left triangles) (left flags) (left kinds) (left faces) (left coords) ≡ filled (headJob (given s) (headAt Groups (given s))) (rows (given vertices) (given triangles) (given flags) (given kinds) (given faces) (given coords)) ⌝ }
+    ensures { λ r. ⌜ rows (left vertices) (left triangles) (left flags) (left kinds) (left faces) (left coords)
+        ≡ jobWritten (given s) (headAt Groups (given s)) (rows (given vertices) (given triangles) (given flags) (given kinds) (given faces) (given coords)) ⌝ }
 {
     if let Head::Counts(v, t, p, i) = read_head(Form::Groups, s) {
         let at = write_mesh(s, i, v, t, vertices, triangles, flags);
@@ -270,7 +266,8 @@ fn read_groups(
     faces: &mut [u32],
     coords: &mut [f64],
 ) -> Answer
-    ensures { λ r. ⌜ (r, rows (left vertices) (left triangles) (left flags) (left kinds) (left faces) (left coords)) ≡ groupsReading (given s) (rows (given vertices) (given triangles) (given flags) (given kinds) (given faces) (given coords)) ⌝ }
+    ensures { λ r. ⌜ (r, rows (left vertices) (left triangles) (left flags) (left kinds) (left faces) (left coords))
+        ≡ groupsReading (given s) (rows (given vertices) (given triangles) (given flags) (given kinds) (given faces) (given coords)) ⌝ }
 {
     let vertex_room = least(vertices.len() / 3, flags.len());
     let piece_room = least(kinds.len(), least(faces.len(), coords.len() / 6));

@@ -28,7 +28,7 @@ fn moved_to(direction: u32) -> Form {
 }
 
 // How many bytes are written, where the answer and the length are these.
-fn written(answer: u32, length: usize) -> usize {
+fn stored_length(answer: u32, length: usize) -> usize {
     if answer == 0 {
         return length;
     }
@@ -61,7 +61,7 @@ fn moves_into(s: &[u8], k: usize, out: &mut [u8]) -> bool
         return false;
     }
     let at = k + 6 + (bytes + 3) / 4;
-    holds_bytes(s, 4 * at, out, written(answer, length))
+    holds_bytes(s, 4 * at, out, stored_length(answer, length))
 }
 
 // 1 where the slip of the record at number k is moved otherwise than stored, else 0.

@@ -18,14 +18,16 @@ use Rattle.float64.specs.Scalar.{zero64}
 use Rattle.job_checks.specs.Job.{Job}
 use Rattle.job_checks.specs.Job as job
 use Rattle.little_endian.specs.Bytes.{numberFrom, doubleFrom, doublesFrom, numbersFrom, bytesFrom, numberBytes, doubleBytes}
+use Rattle.slip.specs.declared.Slip.{Slip}
 use Rattle.slip.specs.declared.Slip.the-variants.{TooShort, LeftOver, UnknownKind}
 use Rattle.slip.specs.declared.Slip.the-variants as slip
-use Rattle.slip.specs.Format.{isJob, vertexCount, triangleCount, pieceCount, verticesFrom, trianglesFrom, flagsFrom, piecesFrom, pieceSize, pieceFrom, secondAt, coordsAt, kindsIn, facesIn, coordsIn, jobIn, afterPieces, answerTo}
+use Rattle.slip.specs.Format.{isJob, vertexCount, triangleCount, pieceCount, verticesFrom, trianglesFrom, flagsFrom, piecesFrom, pieceSize, pieceFrom, secondAt, coordsAt, kindsIn, facesIn, coordsIn, jobIn, exceeds, afterPieces, answerTo}
 use Rattle.slip.proofs.Pieces.{job-else, size-bounds, stands}
 use Rattle.slip.proofs.Room.{Fits, job-fits}
 use Rattle.slip.proofs.Walk.{length-coordsIn}
 use Rattle.slip_write.specs.Write.{doublesBytes, numbersBytes, threeBytes, pieceBytes, piecesBytes, countsBytes, meshBytes, restBytes, slipOf}
 use Rattle.slip_laws.specs.Plain.{IsByte, PlainAt, Plain}
+use Rattle.slip_laws.specs.Whole.{answerOf}
 use Rattle.slip_laws.proofs.Rows.{all-getD}
 use Rattle.slip_laws.proofs.Stands.{Stands, stands-none, stands-then, stands-byte, number-below, number-stands, double-stands, doubles-stand, numbers-stand, bytes-stand}
 
@@ -199,6 +201,42 @@ module _ (s : List ℕ) where
   pub pieces-told : job.pieceCount (jobIn s) ≡ pieceCount s
   unfolding jobIn kindsIn
   pieces-told = length-listOf (pieceCount s) (λ i. getD s (pieceFrom s i) 0)
+
+  -- the limit is the last double of an accepted slip
+  limit-last : (n i : ℕ) → isJob (afterPieces s n i) ≡ true
+      → afterPieces s n i ≡ slip.Job (record { vertices = vertexCount s; triangles = triangleCount s; pieces = pieceCount s; limit = doubleFrom s (length s - 8) })
+  unfolding afterPieces
+  limit-last zero i j =
+      let answer : ℕ → Slip = λ k. slip.Job (record { vertices = vertexCount s; triangles = triangleCount s; pieces = pieceCount s; limit = doubleFrom s k }) in
+      let a = job-else (ltb (length s) (i + 8)) TooShort (cond (ltb (i + 8) (length s)) LeftOver (answer i)) refl j in
+      let b = job-else (ltb (i + 8) (length s)) LeftOver (answer i) refl (a .1) in
+      let e : i ≡ length s - 8 = omega (arith, ltb-false (length s) (i + 8) (a .0), ltb-false (i + 8) (length s) (b .0)) in
+      rw (a .0, b .0) (ap answer e)
+  limit-last (suc n) i j =
+      let kind = getD s i 0 in
+      let behind = afterPieces s n (i + pieceSize kind) in
+      let whole-piece = cond (ltb (length s) (i + pieceSize kind)) TooShort behind in
+      let there = job-else (ltb (length s) (i + 1)) TooShort (cond (ltb 1 kind) UnknownKind whole-piece) refl j in
+      let known = job-else (ltb 1 kind) UnknownKind whole-piece refl (there .1) in
+      let whole = job-else (ltb (length s) (i + pieceSize kind)) TooShort behind refl (known .1) in
+      rw (there .0, known .0, whole .0) (limit-last n (i + pieceSize kind) (whole .1))
+
+  limit-told : isJob (afterPieces s (pieceCount s) (piecesFrom s)) ≡ true → doubleFrom s (length s - 8) ≡ jobIn s .limit
+  unfolding jobIn
+  limit-told h = let e : length s - 8 ≡ pieceFrom s (pieceCount s) = omega (arith, limit-there s (pieceCount s) h) in ap (doubleFrom s) e
+
+  -- an accepted slip is answered with the counts and the limit of the job that stands in it
+  pub answer-told : (vertices triangles pieces : ℕ) → isJob (answerTo s vertices triangles pieces) ≡ true → answerTo s vertices triangles pieces ≡ answerOf (jobIn s)
+  unfolding answerTo
+  answer-told vertices triangles pieces h =
+      let behind = afterPieces s (pieceCount s) (piecesFrom s) in
+      let whole-mesh = cond (ltb (length s) (piecesFrom s)) TooShort behind in
+      let a = job-else (ltb (length s) 12) TooShort (cond (exceeds s vertices triangles pieces) slip.TooMany whole-mesh) refl h in
+      let b = job-else (exceeds s vertices triangles pieces) slip.TooMany whole-mesh refl (a .1) in
+      let c = job-else (ltb (length s) (piecesFrom s)) TooShort behind refl (b .1) in
+      rw (a .0, b .0, c .0)
+      (limit-last (pieceCount s) (piecesFrom s) (c .1)
+      ∙ (λ k. slip.Job (record { vertices = sym vertices-told k; triangles = sym triangles-told k; pieces = sym pieces-told k; limit = limit-told (c .1) k })))
 
 -- ---- the laws
 module _ (s : List ℕ) (bytes : All IsByte s) (plain : Plain s) (vertices triangles pieces : ℕ) (accepted : isJob (answerTo s vertices triangles pieces) ≡ true) where

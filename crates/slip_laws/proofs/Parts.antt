@@ -10,6 +10,7 @@ use lib.Seq.{getD-drop, drop-drop, drop-at}
 use lib.Ieee.{Float, binary64, fits, ofBits, toBits}
 use lib.Ieee.Bits.{ofBits-toBits, toBits-lt}
 use Rattle.little_endian.specs.Bytes.{numberFrom, doubleFrom, numberBytes, doubleBytes}
+use Rattle.slip_write.proofs.Lengths.{length-number}
 
 -- a number is made of its four digits to the base 256
 digits : (n a b c : ℕ) → n / 256 ≡ a → a / 256 ≡ b → b / 256 ≡ c → n < 4_294_967_296 → n % 256 + 256 * (a % 256) + 65_536 * (b % 256) + 16_777_216 * (c % 256) ≡ n
@@ -49,14 +50,6 @@ module _ (s : List ℕ) (i : ℕ) where
       let two : n / 256 / 256 ≡ n / 65_536 = div-div-eq-div-mul n 256 256 in
       let three : n / 65_536 / 256 ≡ n / 16_777_216 = div-div-eq-div-mul n 65_536 256 in
       rw (b0, b1, b2, b3) (digits n (n / 256) (n / 65_536) (n / 16_777_216) refl two three l)
-
-pub length-number : (n : ℕ) → length (numberBytes n) ≡ 4
-unfolding numberBytes
-length-number n = refl
-
-pub length-double : (x : Float) → length (doubleBytes x) ≡ 8
-unfolding doubleBytes numberBytes
-length-double x = refl
 
 pattern-below : (x : Float) → T (fits binary64 x) → toBits binary64 x < 18_446_744_073_709_551_616
 pattern-below x f = toBits-lt binary64 x f

@@ -14,7 +14,8 @@ use Rattle.little_endian.specs.Bytes.{numberFrom, doubleFrom, numberBytes, doub
 use Rattle.slip.specs.Format.{pieceSize, secondAt, coordsAt}
 use Rattle.slip_write.specs.Write.{threeBytes, pieceBytes}
 use Rattle.slip_laws.specs.Whole.{IsDouble, IsNumber, NoSecond}
-use Rattle.slip_laws.proofs.Parts.{past, first-here, number-here, double-here, length-double}
+use Rattle.slip_laws.proofs.Parts.{past, first-here, number-here, double-here}
+use Rattle.slip_write.proofs.Lengths.{length-double}
 
 -- the six coordinates from coordinate m on
 abbrev pub six : List Float → ℕ → List Float

@@ -13,7 +13,8 @@ use Rattle.slip.specs.Format.{trianglesFrom, flagsFrom, piecesFrom, pieceFrom, 
 use Rattle.slip.specs.Reading.{Rows, vertexSlots, triangleSlots, pieceSlots, filled, written, answer, reading}
 use Rattle.slip_write.specs.Write.{doublesBytes, numbersBytes, piecesBytes, countsBytes, meshBytes, restBytes, slipOf}
 use Rattle.slip_laws.specs.Whole.{IsDouble, IsNumber, Whole, answerOf}
-use Rattle.slip_laws.proofs.Parts.{past, reaches, number-here, double-here, length-number, length-double}
+use Rattle.slip_laws.proofs.Parts.{past, reaches, number-here, double-here}
+use Rattle.slip_write.proofs.Lengths.{length-number, length-double}
 use Rattle.slip_laws.proofs.Rows.{all-getD, elements, nan-double, length-doubles, length-numbers, doubles-here, numbers-here, bytes-here}
 use Rattle.slip_laws.proofs.Walk.{pieces-past, kinds-read, faces-read, coords-read, walked}
 

@@ -12,7 +12,8 @@ use Rattle.nat_laws.proofs.Lists.{length-listOf, getD-listOf}
 use Rattle.little_endian.specs.Bytes.{numberFrom, doubleFrom, doublesFrom, numbersFrom, bytesFrom, numberBytes, doubleBytes}
 use Rattle.slip_write.specs.Write.{doublesBytes, numbersBytes}
 use Rattle.slip_laws.specs.Whole.{IsDouble, IsNumber}
-use Rattle.slip_laws.proofs.Parts.{past, number-here, double-here, length-number, length-double}
+use Rattle.slip_laws.proofs.Parts.{past, number-here, double-here}
+use Rattle.slip_write.proofs.Lengths.{length-number, length-double}
 
 module _ {A : Type 0} where
   -- what holds of each element and of the default holds of each place

@@ -15,7 +15,7 @@ use Rattle.groups.proofs.Small.{number-near, number-length}
 use Rattle.slip_moves.specs.declared.Refusal.{Refusal}
 use Rattle.slip_moves.specs.declared.Step.{Step}
 use Rattle.slip_moves.specs.declared.Step.the-variants.{Went, Stopped}
-use Rattle.slip_moves.specs.Moves.{Part, put, stop, also, then, bytesMoved, written, endsSize, numberMoved, numbersMoved, pieceOfKind, pieceMoved, piecesMoved, meshMoved, restMoved, Moves}
+use Rattle.slip_moves.specs.Moves.{Part, put, stop, also, then, bytesMoved, numberWritten, endsSize, numberMoved, numbersMoved, pieceOfKind, pieceMoved, piecesMoved, meshMoved, restMoved, Moves}
 use Rattle.slip_moves.proofs.Parts.{no-step}
 
 -- from place i on
@@ -55,10 +55,10 @@ reach-bytes s n i =
 
 module _ (from to : Form) (s : List ℕ) where
   pub reach-number : (i : ℕ) → Reach i 5 (numberMoved from to s i)
-  unfolding numberMoved written
+  unfolding numberMoved numberWritten
   reach-number i = go (numberAt from s i) refl
     where
-      go : (x : Number) → numberAt from s i ≡ x → Reach i 5 (written to x)
+      go : (x : Number) → numberAt from s i ≡ x → Reach i 5 (numberWritten to x)
       go Short e = reach-stop i 5 _
       go Over e = reach-stop i 5 _
       go (Is n next) e = reach-put i 5 next (numberOf to n) (number-near from s i n next e) (number-length to n)

@@ -10,7 +10,7 @@ use Rattle.groups.specs.declared.Number.{Number}
 use Rattle.groups.specs.declared.Number.the-variants.{Short, Over, Is}
 use Rattle.groups.specs.Groups.{numberAt, numberOf, Found}
 use Rattle.slip_moves.specs.declared.Refusal.the-variants.{TooShort, LeftOver, UnknownKind, TooManyGroups}
-use Rattle.slip_moves.specs.Moves.{Part, put, stop, then, written, bytesMoved, ended, numberMoved, numbersMoved, pieceOfKind, pieceMoved, piecesMoved}
+use Rattle.slip_moves.specs.Moves.{Part, put, stop, then, numberWritten, bytesMoved, ended, numberMoved, numbersMoved, pieceOfKind, pieceMoved, piecesMoved}
 
 module _ (s : List ℕ) (i : ℕ) where
   pub bytes-short : (n : ℕ) → length s < i + n → bytesMoved s n i ≡ stop TooShort
@@ -32,15 +32,15 @@ module _ (s : List ℕ) (i : ℕ) where
 module _ (from to : Form) (s : List ℕ) (i : ℕ) where
   module _ {x : Number} (f : Found from s i x) where
     pub number-short : x ≡ Short → numberMoved from to s i ≡ stop TooShort
-    unfolding numberMoved written
+    unfolding numberMoved numberWritten
     number-short e = rw (sym (f .answer) ∙ e)
 
     pub number-over : x ≡ Over → numberMoved from to s i ≡ stop TooManyGroups
-    unfolding numberMoved written
+    unfolding numberMoved numberWritten
     number-over e = rw (sym (f .answer) ∙ e)
 
     pub number-is : {n next : ℕ} → x ≡ Is n next → numberMoved from to s i ≡ put next (numberOf to n)
-    unfolding numberMoved written
+    unfolding numberMoved numberWritten
     number-is e = rw (sym (f .answer) ∙ e)
 
   pub numbers-next : (n : ℕ) → 0 < n → numbersMoved from to s n i ≡ then (numberMoved from to s i) (numbersMoved from to s (n - 1))

@@ -88,11 +88,11 @@ bytesMoved s n i = cond (ltb (length s) (i + n)) (stop TooShort) (put (i + n) (t
 unfoldable pub ended : List ℕ → ℕ → Part
 ended s i = cond (ltb i (length s)) (stop LeftOver) (put i [])
 
-unfoldable pub written : Form → Number → Part
+unfoldable pub numberWritten : Form → Number → Part
 unfolding numberOf
-written form Short = stop TooShort
-written form Over = stop TooManyGroups
-written form (Is n next) = put next (numberOf form n)
+numberWritten form Short = stop TooShort
+numberWritten form Over = stop TooManyGroups
+numberWritten form (Is n next) = put next (numberOf form n)
 
 -- how many bytes the ends of a piece have: three doubles of a point, six of a segment
 unfoldable pub endsSize : ℕ → ℕ
@@ -100,8 +100,8 @@ endsSize kind = cond (eqb kind 0) 24 48
 
 module _ (from to : Form) (s : List ℕ) where
   unfoldable pub numberMoved : ℕ → Part
-  unfolding numberAt written
-  numberMoved i = written to (numberAt from s i)
+  unfolding numberAt numberWritten
+  numberMoved i = numberWritten to (numberAt from s i)
 
   unfoldable pub numbersMoved : ℕ → ℕ → Part
   unfolding then numberMoved
@@ -157,14 +157,14 @@ movedLength (moved.NoRoom n) = n
 movedLength (moved.Refused r) = 0
 
 -- the answer of a move and the slice that it writes to, at its front; where that is too short nothing is written
-unfoldable pub answerTo : Part → List ℕ → Moved × List ℕ
+unfoldable pub answerOfMove : Part → List ℕ → Moved × List ℕ
 unfolding atFront
-answerTo (stop r) out = (moved.Refused r, out)
-answerTo (put j bytes) out = cond (ltb (length out) (length bytes)) (moved.NoRoom (length bytes), out) (moved.Length (length bytes), atFront bytes out)
+answerOfMove (stop r) out = (moved.Refused r, out)
+answerOfMove (put j bytes) out = cond (ltb (length out) (length bytes)) (moved.NoRoom (length bytes), out) (moved.Length (length bytes), atFront bytes out)
 
 unfoldable pub moving : Form → Form → List ℕ → List ℕ → Moved × List ℕ
-unfolding slipMoved answerTo
-moving from to s out = answerTo (slipMoved from to s) out
+unfolding slipMoved answerOfMove
+moving from to s out = answerOfMove (slipMoved from to s) out
 
 -- `after` is the list `before` with a part's bytes in it from place o on, as far as it goes; a step tells the places behind the part and behind its bytes
 pub record Moves (before : List ℕ) (o : ℕ) (part : Part) (after : List ℕ) (r : Step) : Type 0 where

@@ -89,7 +89,8 @@ fn third_count(form: Form, s: &[u8], i: usize, vertices: usize, triangles: usize
 
 fn second_count(form: Form, s: &[u8], i: usize, vertices: usize) -> Head
     requires { ⌜ (i < 90) × (vertices < 4_294_967_296) ⌝ }
-    ensures { λ r. ⌜ (r ≡ counted (numberAt form (given s) i) (λ triangles k. counted (numberAt form (given s) k) (λ pieces l. Head.Counts vertices triangles pieces l))) × SmallCounts r (i + 10) ⌝ }
+    ensures { λ r. ⌜ (r ≡ counted (numberAt form (given s) i) (λ triangles k. counted (numberAt form (given s) k) (λ pieces l. Head.Counts vertices triangles pieces l)))
+        × SmallCounts r (i + 10) ⌝ }
 {
     match read_number(form, s, i) {
         Number::Short => Head::Refused(Refusal::TooShort),
@@ -208,7 +209,8 @@ fn move_numbers(
     Step::Went(at, p)
 }
 
-fn ends_size(kind: u8) -> usize
+// How many bytes the ends of a piece of a kind have.
+pub fn ends_size(kind: u8) -> usize
     ensures { λ r. ⌜ (r ≡ endsSize kind) × (r ≤ 48) ⌝ }
 {
     if kind == 0 {

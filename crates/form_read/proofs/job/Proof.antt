@@ -1,5 +1,5 @@
 -- `form_read::job` meets its contract. Assumes nothing.
-use Rattle.form_read.specs.FormReading.{jobAnswer}
+use Rattle.form_read.specs.FormReading.{passedAnswer}
 use borrow.Author.Needs.{needs}
 use Rattle.form_read.proofs.job.Statement.{statement}
 use Rattle.form_read.proofs.job.Tie as tie
@@ -20,7 +20,7 @@ cast-t10 : tie.Need-cast-t10
 cast-t10 c = search needs
 
 returns : tie.Need-returns
-unfolding jobAnswer
+unfolding passedAnswer
 returns c = rw (c .double-at .ensures)
 
 pub job-spec : {M : Type 1} → statement M

@@ -26,17 +26,17 @@ is-read-requires c κs = search needs
 write-job-requires : tie.Need-write-job-requires
 unfolding vertexSlots triangleSlots pieceSlots
 write-job-requires c κs =
-    let p0 = c .before .before .before .before .before .before in
-    let p1 = p0 .before in
-    let p2 = p1 .before in
-    let p3 = p2 .before in
-    let p4 = p3 .before in
-    let p5 = p4 .before in
-    let p6 = p5 .before .before .before .before .before .before .before .before in
-    let s = p6 .args .s .now in
-    let b : Rows = rows (p6 .args .vertices .now) (p6 .args .triangles .now) (p6 .args .flags .now) (p6 .args .kinds .now) (p6 .args .faces .now) (p6 .args .coords .now) in
-    let told : p2 .check .result ≡ groupsAnswer s (vertexSlots b) (triangleSlots b) (pieceSlots b) = rw (p5 .least .ensures, p3 .least3 .ensures, p4 .least2 .ensures) at (p2 .check .ensures) in
-    sym (ap isRead told) ∙ (sym (p1 .is-read .ensures) ∙ p0 .if1 .taken)
+    let at-if = c .before .before .before .before .before .before in
+    let at-is-read = at-if .before in
+    let at-check = at-is-read .before in
+    let at-third = at-check .before in
+    let at-second = at-third .before in
+    let at-first = at-second .before in
+    let start = at-first .before .before .before .before .before .before .before .before in
+    let s = start .args .s .now in
+    let b : Rows = rows (start .args .vertices .now) (start .args .triangles .now) (start .args .flags .now) (start .args .kinds .now) (start .args .faces .now) (start .args .coords .now) in
+    let told : at-check .check .result ≡ groupsAnswer s (vertexSlots b) (triangleSlots b) (pieceSlots b) = rw (at-first .least .ensures, at-third .least3 .ensures, at-second .least2 .ensures) at (at-check .check .ensures) in
+    sym (ap isRead told) ∙ (sym (at-is-read .is-read .ensures) ∙ at-if .if1 .taken)
 
 same-length : tie.Need-same-length
 same-length c = search needs
@@ -59,29 +59,29 @@ same-length-6 c = search needs
 returns : tie.Need-returns
 unfolding vertexSlots triangleSlots pieceSlots
 returns c =
-    let p0 = c .before .before .before .before .before .before .before .before .before .before .before .before in
-    let p1 = p0 .before .before .before .before .before .before .before in
-    let p2 = p1 .before in
-    let p3 = p2 .before in
-    let p4 = p3 .before in
-    let p5 = p4 .before in
-    let p6 = p5 .before in
-    let p7 = p6 .before .before .before .before .before .before .before .before in
-    let s = p7 .args .s .now in
-    let b : Rows = rows (p7 .args .vertices .now) (p7 .args .triangles .now) (p7 .args .flags .now) (p7 .args .kinds .now) (p7 .args .faces .now) (p7 .args .coords .now) in
-    let told : p3 .check .result ≡ groupsAnswer s (vertexSlots b) (triangleSlots b) (pieceSlots b) = rw (p6 .least .ensures, p4 .least3 .ensures, p5 .least2 .ensures) at (p3 .check .ensures) in
-    did-read s b (p3 .check .result) told _ (sym (p2 .is-read .ensures) ∙ p1 .if1 .taken) (p0 .write-job .ensures)
+    let at-write-job = c .before .before .before .before .before .before .before .before .before .before .before .before in
+    let at-if = at-write-job .before .before .before .before .before .before .before in
+    let at-is-read = at-if .before in
+    let at-check = at-is-read .before in
+    let at-third = at-check .before in
+    let at-second = at-third .before in
+    let at-first = at-second .before in
+    let start = at-first .before .before .before .before .before .before .before .before in
+    let s = start .args .s .now in
+    let b : Rows = rows (start .args .vertices .now) (start .args .triangles .now) (start .args .flags .now) (start .args .kinds .now) (start .args .faces .now) (start .args .coords .now) in
+    let told : at-check .check .result ≡ groupsAnswer s (vertexSlots b) (triangleSlots b) (pieceSlots b) = rw (at-first .least .ensures, at-third .least3 .ensures, at-second .least2 .ensures) at (at-check .check .ensures) in
+    did-read s b (at-check .check .result) told _ (sym (at-is-read .is-read .ensures) ∙ at-if .if1 .taken) (at-write-job .write-job .ensures)
 
 returns-2 : tie.Need-returns-2
 unfolding vertexSlots triangleSlots pieceSlots
 returns-2 c =
-    let p0 = c .before .before .before in
-    let p1 = p0 .before in
-    let p2 = p1 .before in
-    let p3 = p2 .before .before .before .before .before .before .before .before in
-    let s = p3 .args .s .now in
-    let b : Rows = rows (p3 .args .vertices .now) (p3 .args .triangles .now) (p3 .args .flags .now) (p3 .args .kinds .now) (p3 .args .faces .now) (p3 .args .coords .now) in
-    let told : c .before .before .check .result ≡ groupsAnswer s (vertexSlots b) (triangleSlots b) (pieceSlots b) = rw (p2 .least .ensures, p0 .least3 .ensures, p1 .least2 .ensures) at (c .before .before .check .ensures) in
+    let at-third = c .before .before .before in
+    let at-second = at-third .before in
+    let at-first = at-second .before in
+    let start = at-first .before .before .before .before .before .before .before .before in
+    let s = start .args .s .now in
+    let b : Rows = rows (start .args .vertices .now) (start .args .triangles .now) (start .args .flags .now) (start .args .kinds .now) (start .args .faces .now) (start .args .coords .now) in
+    let told : c .before .before .check .result ≡ groupsAnswer s (vertexSlots b) (triangleSlots b) (pieceSlots b) = rw (at-first .least .ensures, at-third .least3 .ensures, at-second .least2 .ensures) at (c .before .before .check .ensures) in
     did-refuse s b (c .before .before .check .result) told (sym (c .before .is-read .ensures) ∙ c .if1 .left)
 
 pub read-groups-spec : {M : Type 1} → statement M

@@ -1,5 +1,5 @@
 -- `form_read::write_numbers` meets its contract. Assumes nothing.
-use Rattle.form_read.specs.Places.{valueOf, nextOf, numberPlace, numbersIn}
+use Rattle.form_read.specs.Places.{numberRead, placeBehind, numberPlace, numbersIn}
 use Rattle.form_read.proofs.Parts.{value-small, next-near}
 use Rattle.groups.specs.declared.Form.the-variants.{Groups}
 use Rattle.groups.specs.Groups.{numberAt}
@@ -21,7 +21,7 @@ Inv-loop s i n to₀ at₀ k₀ to at k =
     × (k ≤ n)
     × (at ≤ i + 5 * k)
     × (at ≡ numberPlace s i k)
-    × (to ≡ atFront (listOf k (λ j. valueOf (numberAt Groups s (numberPlace s i j)))) to₀)
+    × (to ≡ atFront (listOf k (λ j. numberRead (numberAt Groups s (numberPlace s i j)))) to₀)
 
 abbrev μ-loop : tie.MeasureT-loop
 μ-loop s i n to₀ at₀ k₀ to at k = n - k
@@ -64,8 +64,8 @@ loop-again c =
       length-set (c .before .before .before .before .loop .to) (c .before .before .before .before .loop .k) _ ∙ c .before .before .before .before .loop .inv .0,
       omega (arith, c .before .before .before .loop-test .taken),
       omega (arith, c .behind .ensures, next-near (c .before .before .read-number .result) found, c .before .before .before .before .loop .inv .2),
-      rw add-one (c .behind .ensures ∙ ap nextOf here),
-      front-next (λ (j : ℕ). valueOf (numberAt Groups s (numberPlace s i j))) (c .before .before .before .before .before .before .before .args .to .now) (c .before .before .before .before .loop .to) (c .before .before .before .before .loop .k) _ (c .before .value .ensures ∙ ap valueOf here) (omega (arith, c .before .before .before .loop-test .taken, c .before .before .before .before .before .before .before .pre)) (c .before .before .before .before .loop .inv .4),
+      rw add-one (c .behind .ensures ∙ ap placeBehind here),
+      front-next (λ (j : ℕ). numberRead (numberAt Groups s (numberPlace s i j))) (c .before .before .before .before .before .before .before .args .to .now) (c .before .before .before .before .loop .to) (c .before .before .before .before .loop .k) _ (c .before .value .ensures ∙ ap numberRead here) (omega (arith, c .before .before .before .loop-test .taken, c .before .before .before .before .before .before .before .pre)) (c .before .before .before .before .loop .inv .4),
     )
 
 same-length : tie.Need-same-length Inv-loop μ-loop

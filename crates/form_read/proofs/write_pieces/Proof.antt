@@ -1,7 +1,7 @@
 -- `form_read::write_pieces` meets its contract. Assumes nothing.
 use Rattle.form_read.proofs.Walk.{Walk, none-yet, piece-fits, one-more}
 use Rattle.form_read.proofs.Parts.{value-small, next-near, ends-bounds}
-use Rattle.form_read.specs.Places.{valueOf, nextOf, endsFrom}
+use Rattle.form_read.specs.Places.{numberRead, placeBehind, endsFrom}
 use lib.ListN.{getD}
 use Prim.Native.Nat.{_+_, _-_}
 use mathlib.Core.Path.{_≡_, sym, ap, _∙_}
@@ -50,7 +50,7 @@ write-coords-requires : tie.Need-write-coords-requires Inv-loop μ-loop
 unfolding endsFrom
 write-coords-requires c κs =
     let there = piece-fits (c .before .before .before .before .before .before .loop .inv) (c .before .before .before .before .before .loop-test .taken) in
-    let e = c .before .before .behind .ensures ∙ ap nextOf (c .before .before .before .read-number .ensures .answer) in
+    let e = c .before .before .behind .ensures ∙ ap placeBehind (c .before .before .before .read-number .ensures .answer) in
     (record { kind = there .kind; ends = e; fits = omega (arith, e, there .fits) }, omega (arith, c .before .before .before .before .before .before .loop .inv .same-coords, c .before .before .before .before .before .before .loop .inv .room-coords, c .before .before .before .before .before .loop-test .taken))
 
 ends-size-requires : tie.Need-ends-size-requires Inv-loop μ-loop
@@ -58,12 +58,12 @@ ends-size-requires c κs = search needs
 
 add-at : tie.Need-add-at Inv-loop μ-loop
 add-at c =
-    let p0 = c .before .before .before .before .before .before in
-    let p1 = p0 .before in
-    let p2 = p1 .before .before in
-    let p3 = p2 .before in
-    let p4 = p3 .before .before .before .before .before in
-    omega (arith, p0 .behind .ensures, next-near (p1 .read-number .result) (p1 .read-number .ensures), c .ends-size .ensures .1, p3 .loop .inv .near, p4 .pre .near, p4 .pre .few, p2 .loop-test .taken)
+    let at-behind = c .before .before .before .before .before .before in
+    let at-number = at-behind .before in
+    let at-test = at-number .before .before in
+    let at-loop = at-test .before in
+    let start = at-loop .before .before .before .before .before in
+    omega (arith, at-behind .behind .ensures, next-near (at-number .read-number .result) (at-number .read-number .ensures), c .ends-size .ensures .1, at-loop .loop .inv .near, start .pre .near, start .pre .few, at-test .loop-test .taken)
 
 add-k : tie.Need-add-k Inv-loop μ-loop
 add-k c = search needs
@@ -74,8 +74,8 @@ loop-less c = search needs
 loop-again : tie.Need-loop-again Inv-loop μ-loop
 unfolding endsFrom
 loop-again c =
-    let e = c .before .before .before .before .before .before .behind .ensures ∙ ap nextOf (c .before .before .before .before .before .before .before .read-number .ensures .answer) in
-    one-more (c .before .before .before .before .before .before .before .before .before .before .loop .inv) (c .before .before .before .before .before .before .before .before .before .loop-test .taken) _ _ (c .before .before .before .before .before .before .behind .result + c .ends-size .result) (c .before .before .before .before .before .value .ensures ∙ ap valueOf (c .before .before .before .before .before .before .before .read-number .ensures .answer)) (c .before .before .before .write-coords .ensures)
+    let e = c .before .before .before .before .before .before .behind .ensures ∙ ap placeBehind (c .before .before .before .before .before .before .before .read-number .ensures .answer) in
+    one-more (c .before .before .before .before .before .before .before .before .before .before .loop .inv) (c .before .before .before .before .before .before .before .before .before .loop-test .taken) _ _ (c .before .before .before .before .before .before .behind .result + c .ends-size .result) (c .before .before .before .before .before .value .ensures ∙ ap numberRead (c .before .before .before .before .before .before .before .read-number .ensures .answer)) (c .before .before .before .write-coords .ensures)
     (rw (e, c .ends-size .ensures .0)) (omega (arith, c .before .before .before .before .before .before .behind .ensures, next-near (c .before .before .before .before .before .before .before .read-number .result) (c .before .before .before .before .before .before .before .read-number .ensures), c .ends-size .ensures .1))
 
 same-length : tie.Need-same-length Inv-loop μ-loop
