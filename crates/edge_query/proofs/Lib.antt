@@ -1,3 +1,4 @@
 pub mod Forward
 pub mod Halves
 pub mod Least
+pub mod Resume

@@ -1,3 +1,4 @@
 pub mod EdgeDistance
 pub mod Forward
 pub mod Halves
+pub mod Resume

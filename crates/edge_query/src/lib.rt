@@ -16,13 +16,28 @@ ghost use Rattle.windows.specs.Windows.{capacityOf};
 ghost use Rattle.chains.specs.Chains.{links};
 ghost use Rattle.last_pass.specs.Buffers.{chainBehind};
 ghost use Rattle.edge_query.specs.EdgeDistance.{edgeDistanceIn};
-ghost use Rattle.edge_query.specs.Forward.{valueOf, passedValue, pastOf, forward, nonePassed};
+ghost use Rattle.edge_query.specs.Forward.{valueOf, passedValue, pastOf};
+ghost use Rattle.edge_query.specs.Resume.{fromHead, headCursor, cursorFor, cursorPast, ResumesAt, Resumes};
 
 // Of the windows that start at x or before it, as far as a walk has come: the least value of those behind the last that ends short of x, a NaN where there is none; and the link
 // of that one, 0 where there is none.
 pub struct Passed {
     pub least: f64,
     pub short: u32,
+}
+
+// Where a walk along the chain of an edge may begin for any place past `place`: behind the window of a link (0: at the head), with so many links left.
+pub struct Cursor {
+    pub edge: u32,
+    pub place: f64,
+    pub link: u32,
+    pub left: u32,
+}
+
+// A distance, and where the walk for the next may begin.
+pub struct Resumed {
+    pub distance: f64,
+    pub cursor: Cursor,
 }
 
 // The value at x of the window of a link, a NaN of none.
@@ -62,44 +77,119 @@ fn past(words: &[u32], reals: &[f64], passed: Passed, link: u32, x: f64) -> Pass
     }
 }
 
+// The window of a link is passed, with so many links left behind it, and none passed starts past the bound.
+fn cursor_past(reals: &[f64], cursor: Cursor, link: u32, left: u32, bound: f64, x: f64) -> Cursor
+    requires { ⌜ 0 < link ⌝ }
+    ensures { λ r. ⌜ r ≡ cursorPast (given reals) x cursor link left bound ⌝ }
+{
+    let end = read_f64(reals, REALS_PER_WINDOW, link - 1, WINDOW_B1);
+    if end < x {
+        return Cursor {
+            edge: cursor.edge,
+            place: float64::max(bound, end),
+            link,
+            left,
+        };
+    }
+    cursor
+}
+
+// The head of the chain of an edge, where a walk for any place may begin.
+pub fn head_cursor(e: EdgeId, made: u32) -> Cursor
+    ensures { λ r. ⌜ r ≡ headCursor e made ⌝ }
+{
+    Cursor {
+        edge: e.0,
+        place: 0.0,
+        link: 0,
+        left: made,
+    }
+}
+
+// Where the walk for x begins: at the cursor if x is past its place on the same edge.
+fn cursor_for(cursor: Cursor, e: EdgeId, made: u32, x: f64) -> Cursor
+    ensures { λ r. ⌜ r ≡ cursorFor cursor e made x ⌝ }
+{
+    if cursor.edge == e.0 {
+        if cursor.place < x {
+            return cursor;
+        }
+        return head_cursor(e, made);
+    }
+    head_cursor(e, made)
+}
+
 // The least of d and of the values of the windows on the chain of an edge that the Rust evaluates: the first that starts past x, and those before it back to the first that ends
 // short of x.
 fn least_on_chain(
     edge_words: &[u32],
     words: &[u32],
     reals: &[f64],
-    e: EdgeId,
+    from: Cursor,
     made: u32,
     x: f64,
     d: f64,
-) -> f64
-    requires { ⌜ (made ≤ capacityOf (length (now words)) (length (now reals))) × (e .0 < slotsOf (length (now «edge_words»)) wordsPerEdge) ⌝ }
-    ensures { λ r. ⌜ r ≡ forward (given words) (given reals) x d nonePassed (chainBehind made (links (given «edge_words») (given words)) (e .0) made 0) ⌝ }
+) -> Resumed
+    requires { ⌜ (made ≤ capacityOf (length (now words)) (length (now reals))) × ((from .edge < slotsOf (length (now «edge_words»)) wordsPerEdge)
+        × (Resumes made (links (now «edge_words») (now words)) (now reals) from × ResumesAt made (links (now «edge_words») (now words)) (now reals) from x)) ⌝ }
+    ensures { λ r. ⌜ r .distance ≡ fromHead made (links (given «edge_words») (given words)) (given reals) (from .edge) x d ⌝ }
+    ensures { λ r. ⌜ Resumes made (links (given «edge_words») (given words)) (given reals) (r .cursor) ⌝ }
 {
     let mut passed = Passed {
         least: 0.0 / 0.0,
-        short: 0,
+        short: from.link,
     };
-    let mut before = 0;
-    let mut left = made;
+    let mut cursor = from;
+    let mut bound = from.place;
+    let mut before = from.link;
+    let mut left = from.left;
     while 0 < left {
-        let at = chains::link_at(edge_words, words, reals, made, e, before);
+        let at = chains::link_at(edge_words, words, reals, made, EdgeId(from.edge), before);
         if at == 0 {
-            return float64::min(d, value_passed(words, reals, passed, x));
+            let distance = float64::min(d, value_passed(words, reals, passed, x));
+            return Resumed { distance, cursor };
         }
-        if read_f64(reals, REALS_PER_WINDOW, at - 1, WINDOW_B0) <= x {
+        let start = read_f64(reals, REALS_PER_WINDOW, at - 1, WINDOW_B0);
+        if start <= x {
             passed = past(words, reals, passed, at, x);
             before = at;
             left -= 1;
+            bound = float64::max(bound, start);
+            cursor = cursor_past(reals, cursor, at, left, bound, x);
         } else {
             let next = float64::min(d, value(words, reals, at, x));
-            return float64::min(next, value_passed(words, reals, passed, x));
+            let distance = float64::min(next, value_passed(words, reals, passed, x));
+            return Resumed { distance, cursor };
         }
     }
-    float64::min(d, value_passed(words, reals, passed, x))
+    let distance = float64::min(d, value_passed(words, reals, passed, x));
+    Resumed { distance, cursor }
 }
 
-// The distance at x on an edge, where so many windows are made.
+// The distance at x on an edge, where so many windows are made, by a walk that begins at a cursor where it may.
+pub fn distance_from(
+    edge_words: &[u32],
+    words: &[u32],
+    reals: &[f64],
+    vertex: &[f64],
+    e: Edge,
+    made: u32,
+    cursor: Cursor,
+    x: f64,
+) -> Resumed
+    requires { ⌜ (made ≤ capacityOf (length (now words)) (length (now reals))) × ((e .id .0 < slotsOf (length (now «edge_words»)) wordsPerEdge)
+        × Resumes made (links (now «edge_words») (now words)) (now reals) cursor) ⌝ }
+    ensures { λ r. ⌜ r .distance ≡ edgeDistanceIn (given vertex) (links (given «edge_words») (given words)) (given reals) made e x ⌝ }
+    ensures { λ r. ⌜ Resumes made (links (given «edge_words») (given words)) (given reals) (r .cursor) ⌝ }
+{
+    let da = actions::distance(vertex, e.a);
+    let db = actions::distance(vertex, e.b);
+    let d = face_distance::through_ends(da, db, e.len, x);
+    let from = cursor_for(cursor, e.id, made, x);
+    least_on_chain(edge_words, words, reals, from, made, x, d)
+}
+
+// The same by a walk from the head.
 pub fn edge_distance(
     edge_words: &[u32],
     words: &[u32],
@@ -112,8 +202,7 @@ pub fn edge_distance(
     requires { ⌜ (made ≤ capacityOf (length (now words)) (length (now reals))) × (e .id .0 < slotsOf (length (now «edge_words»)) wordsPerEdge) ⌝ }
     ensures { λ r. ⌜ r ≡ edgeDistanceIn (given vertex) (links (given «edge_words») (given words)) (given reals) made e x ⌝ }
 {
-    let da = actions::distance(vertex, e.a);
-    let db = actions::distance(vertex, e.b);
-    let d = face_distance::through_ends(da, db, e.len, x);
-    least_on_chain(edge_words, words, reals, e.id, made, x, d)
+    let head = head_cursor(e.id, made);
+    let resumed = distance_from(edge_words, words, reals, vertex, e, made, head, x);
+    resumed.distance
 }
