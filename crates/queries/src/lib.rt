@@ -7,6 +7,7 @@ use buffers::VertexId;
 use buffers::WindowId;
 use computed::Computed;
 use computed::Field;
+use edge_query::Cursor;
 use vec3::Vec3;
 use windows::WindowRecord;
 ghost use mathlib.Core.Path.{_≡_};
@@ -20,6 +21,7 @@ ghost use Rattle.windows.specs.Windows.{capacityOf};
 ghost use Rattle.chains.specs.Chains.{links};
 ghost use Rattle.job_checks.specs.Refusals.{outOfRange};
 ghost use Rattle.last_pass.specs.Buffers.{chainBehind};
+ghost use Rattle.edge_query.specs.Resume.{Resumes};
 ghost use Rattle.field_check.specs.FieldCheck.{jobSlices, fieldSlices};
 ghost use Rattle.queries.specs.Answers.{faceNumber, edgeNumber, vertexNumber, windowNumber, faceValue, edgeValue, vertexValue};
 ghost use Rattle.queries.specs.Queries.{pointOutside, placeOutside, placeLink, linkedWindow, faceAnswer, edgeAnswer, vertexAnswer, windowAnswer, faceQuery, edgeQuery, vertexQuery, windowQuery};
@@ -37,6 +39,12 @@ pub enum EdgeDistance {
     MissingEdge,
     PlaceOutside,
     At(f64),
+}
+
+// An answer with the cursor that the walk for the next may begin at.
+pub struct ResumedAnswer {
+    pub answer: EdgeDistance,
+    pub cursor: Cursor,
 }
 
 pub enum VertexDistance {
@@ -224,6 +232,57 @@ pub fn face_answer(
     FaceDistance::At(d)
 }
 
+// The answer by a walk that begins at a cursor where it may.
+pub fn edge_answer_from(
+    n: Field,
+    edge_words: &[u32],
+    edge_reals: &[f64],
+    triangle_words: &[u32],
+    triangle_reals: &[f64],
+    vertex: &[f64],
+    words: &[u32],
+    reals: &[f64],
+    entry_words: &[u32],
+    cursor: Cursor,
+    e: EdgeId,
+    x: f64,
+) -> ResumedAnswer
+    requires { ⌜ (n .edges ≤ slotsOf (length (now «edge_words»)) wordsPerEdge) × ((n .windows ≤ capacityOf (length (now words)) (length (now reals)))
+        × Resumes (n .windows) (links (now «edge_words») (now words)) (now reals) cursor) ⌝ }
+    ensures { λ r. ⌜ r .answer ≡ edgeAnswer n (fieldSlices (given «edge_words») (given «edge_reals») (given «triangle_words») (given «triangle_reals») (given vertex) (given words) (given reals) (given «entry_words»)) (e .0) x ⌝ }
+    ensures { λ r. ⌜ Resumes (n .windows) (links (given «edge_words») (given words)) (given reals) (r .cursor) ⌝ }
+{
+    if n.edges <= e.0 {
+        return ResumedAnswer {
+            answer: EdgeDistance::MissingEdge,
+            cursor,
+        };
+    }
+    if place_outside(mesh_readers::length(edge_reals, e), x) {
+        return ResumedAnswer {
+            answer: EdgeDistance::PlaceOutside,
+            cursor,
+        };
+    }
+    let edge = mesh_readers::edge(edge_words, edge_reals, e);
+    let resumed = edge_query::distance_from(
+        edge_words,
+        words,
+        reals,
+        vertex,
+        edge,
+        n.windows,
+        cursor,
+        x,
+    );
+    let answer = EdgeDistance::At(resumed.distance);
+    let next = resumed.cursor;
+    ResumedAnswer {
+        answer,
+        cursor: next,
+    }
+}
+
 pub fn edge_answer(
     n: Field,
     edge_words: &[u32],
@@ -240,15 +299,22 @@ pub fn edge_answer(
     requires { ⌜ (n .edges ≤ slotsOf (length (now «edge_words»)) wordsPerEdge) × (n .windows ≤ capacityOf (length (now words)) (length (now reals))) ⌝ }
     ensures { λ r. ⌜ r ≡ edgeAnswer n (fieldSlices (given «edge_words») (given «edge_reals») (given «triangle_words») (given «triangle_reals») (given vertex) (given words) (given reals) (given «entry_words»)) (e .0) x ⌝ }
 {
-    if n.edges <= e.0 {
-        return EdgeDistance::MissingEdge;
-    }
-    if place_outside(mesh_readers::length(edge_reals, e), x) {
-        return EdgeDistance::PlaceOutside;
-    }
-    let edge = mesh_readers::edge(edge_words, edge_reals, e);
-    let d = edge_query::edge_distance(edge_words, words, reals, vertex, edge, n.windows, x);
-    EdgeDistance::At(d)
+    let head = edge_query::head_cursor(e, n.windows);
+    let resumed = edge_answer_from(
+        n,
+        edge_words,
+        edge_reals,
+        triangle_words,
+        triangle_reals,
+        vertex,
+        words,
+        reals,
+        entry_words,
+        head,
+        e,
+        x,
+    );
+    resumed.answer
 }
 
 pub fn vertex_answer(

@@ -1,64 +1,24 @@
-use mathlib.Core.Path.{sym, ap, _∙_}
-use borrow.Author.Tests.{le-leb, lt-leb}
-use Rattle.queries.specs.Queries.{edgeAnswer, placeOutside}
-use native.Mathlib.Omega.{arith}
-use lib.Ieee.{Float}
-use Rattle.windows.specs.declared.Edge.{Edge}
+use mathlib.Core.Path.{sym, subst}
 use Rattle.chains.specs.Chains.{links}
-use Rattle.edge_query.specs.EdgeDistance.{edgeDistanceIn}
-use Rattle.queries.specs.declared.EdgeDistance.the-variants.{At}
-use Rattle.queries.proofs.Checked.{taken, left}
+use Rattle.edge_query.specs.declared.Cursor.{Cursor}
+use Rattle.edge_query.specs.Resume.{Resumes}
+use Rattle.edge_query.proofs.Resume.{head-resumes}
 use borrow.Author.Needs.{needs}
 use Rattle.queries.proofs.edge_answer.Statement.{statement}
 use Rattle.queries.proofs.edge_answer.Tie as tie
 
-length-requires : tie.Need-length-requires
-length-requires c κs = search needs
+head-cursor-requires : tie.Need-head-cursor-requires
+head-cursor-requires c κs = search needs
 
-place-outside-requires : tie.Need-place-outside-requires
-place-outside-requires c κs = search needs
-
-edge-requires : tie.Need-edge-requires
-edge-requires c κs = search needs
-
-edge-distance-requires : tie.Need-edge-distance-requires
-edge-distance-requires c κs =
-    let there = c .before .before .before .before in
-    let s = there .before .before .before .before .before .before .before .before .before .before .before in
-    (s .pre .1, omega (arith, s .pre .0, there .if1 .left, ap (λ (k : Edge). k .id .0) (c .edge .ensures)))
+edge-answer-from-requires : tie.Need-edge-answer-from-requires
+edge-answer-from-requires c κs =
+    let s = c .before .before .before .before .before .before .before .before .before in
+    let a = s .args in
+    let b = links (a .edge-words .now) (a .words .now) in
+    (s .pre .0, (s .pre .1, subst (λ (y : Cursor). Resumes (a .n .windows) b (a .reals .now) y) (sym (c .head-cursor .ensures)) (head-resumes (a .n .windows) b (a .reals .now) (a .e))))
 
 returns : tie.Need-returns
-unfolding edgeAnswer
-returns c = taken _ _ _ (le-leb _ _ (c .if1 .taken))
-
-returns-2 : tie.Need-returns-2
-unfolding edgeAnswer
-returns-2 c =
-    let test = c .before in
-    let there = test .before .before in
-    let a = there .before .before .before .before .before .before .before .before .before .before .before .args in
-    left _ _ _ _ (lt-leb _ _ (there .if1 .left))
-    (taken _ _ _ (ap (λ (l : Float). placeOutside l (a .x)) (sym (test .before .length .ensures)) ∙ sym (test .place-outside .ensures) ∙ c .if2 .taken))
-
-returns-3 : tie.Need-returns-3
-unfolding edgeAnswer
-returns-3 c =
-    let inside = c .before .before in
-    let test = inside .before in
-    let there = test .before .before in
-    let a = there .before .before .before .before .before .before .before .before .before .before .before .args in
-    left _ _ _ _ (lt-leb _ _ (there .if1 .left))
-    (left _ _ _ _ (ap (λ (l : Float). placeOutside l (a .x)) (sym (test .before .length .ensures)) ∙ sym (test .place-outside .ensures) ∙ inside .if2 .left)
-    (ap At (c .edge-distance .ensures ∙ ap (λ (k : Edge). edgeDistanceIn (a .vertex .now) (links (a .edge-words .now) (a .words .now)) (a .reals .now) (a .n .windows) k (a .x)) (c .before .edge .ensures))))
+returns c = c .edge-answer-from .ensures .0
 
 pub edge-answer-spec : {M : Type 1} → statement M
-edge-answer-spec =
-    tie.close
-    (tie.spec
-    returns
-    length-requires
-    place-outside-requires
-    returns-2
-    edge-requires
-    edge-distance-requires
-    returns-3)
+edge-answer-spec = tie.close (tie.spec head-cursor-requires edge-answer-from-requires returns)
