@@ -1,16 +1,14 @@
 -- Element k of a row that is answered is what the single query answers to question k. Assumes nothing.
---     row-at (an element written), row-behind (one that is not); face-element, edge-element, vertex-element
-use Prim.Native.Nat.{ℕ, zero, suc, _≤_, _<_}
+--     face-element, edge-element, vertex-element; row-is (slices that are equal)
+use Prim.Native.Nat.{ℕ, _≤_, _<_}
 use mathlib.Core.Bool.{Bool, true, false, cond, _||_}
 use mathlib.Core.List.{List}
-use mathlib.Core.Path.{_≡_, refl, sym, ap, _∙_, subst}
-use native.Mathlib.Decide.{ℕ-discrete}
+use mathlib.Core.Path.{_≡_, refl, sym, ap, _∙_}
 use native.Mathlib.Omega.{arith}
 use borrow.Author.Tests.{ltb-false}
 use lib.Dec.{ltb}
 use lib.Ieee.{Float, nan}
 use lib.ListN.{length, getD}
-use lib.Seq.{getD-set-same, getD-set-other}
 use Rattle.layout.specs.Layout.{coordinatesPerVertex}
 use Rattle.buffers.specs.Slots.{slotsOf}
 use Rattle.job_checks.specs.Edge.{vertexAt}
@@ -22,23 +20,11 @@ use Rattle.queries.specs.Queries.{faceQuery, edgeQuery, vertexQuery}
 use Rattle.queries.proofs.Checked.{left-none, right-none}
 use Rattle.query_rows.specs.declared.RowAnswer.{RowAnswer}
 use Rattle.query_rows.specs.declared.RowAnswer.the-variants.{NoField, ShortRow, Answered}
-use Rattle.query_rows.specs.Rows.{RowResult, rowNumber, rowResult, writtenRow, elements, shortFor, faceRow, edgeRow, vertexRow, faceNumbers, faceValues, edgeNumbers, edgeValues, vertexNumbers, vertexValues}
-use Rattle.query_rows.proofs.Written.{row-length}
-
--- ---- what is written
-module _ {A : Type 0} (g : ℕ → A) (l : List A) where
-  pub row-behind : (n k : ℕ) (x : A) → n ≤ k → getD (writtenRow g n l) k x ≡ getD l k x
-  unfolding writtenRow
-  row-behind zero k x h = refl
-  row-behind (suc n) k x h = getD-set-other (writtenRow g n l) n k (g n) x (λ e. omega (arith, h, e)) ∙ row-behind n k x (omega (arith, h))
-
-  pub row-at : (n k : ℕ) (x : A) → k < n → n ≤ length l → getD (writtenRow g n l) k x ≡ g k
-  unfolding writtenRow
-  row-at zero k x h m = absurd (omega (arith, h))
-  row-at (suc n) k x h m = elim (ℕ-discrete k n) [
-    | yes e ↦ subst (λ (i : ℕ). getD (writtenRow g (suc n) l) i x ≡ g i) (sym e) (getD-set-same (writtenRow g n l) n (g n) x (omega (arith, row-length g l n, m)))
-    | no e ↦ getD-set-other (writtenRow g n l) n k (g n) x e ∙ row-at n k x (omega (arith, h, e)) (omega (arith, m))
-  ]
+use Rattle.query_rows.specs.Rows.{RowResult, rowNumber, rowResult, elements, shortFor, faceRow, edgeRow, vertexRow, vertexNumbers, vertexValues}
+use Rattle.open_rows.specs.Written.{writtenRow}
+use Rattle.open_rows.proofs.Written.{row-at}
+use Rattle.face_rows.specs.FaceAnswers.{faceNumbers, faceValues}
+use Rattle.edge_rows.specs.EdgeAnswers.{edgeNumbers, edgeValues}
 
 -- ---- a row that is answered was refused by neither test
 pub both-long : (q o m d : ℕ) → shortFor q o m d ≡ false → (q ≤ m) × (q ≤ d)
@@ -62,6 +48,9 @@ module _ (numbers : List ℕ) (distances : List Float) (q : ℕ) (g : ℕ → �
   written false false o e a k m =
       let l = both-long q o (elements numbers) (elements distances) (sym e) in
       (row-at g numbers q k 0 m (omega (arith, l .0)), row-at h distances q k nan m (omega (arith, l .1)))
+
+pub row-is : (r : RowAnswer) (ns ns′ : List ℕ) (ds ds′ : List Float) → ns ≡ ns′ → ds ≡ ds′ → rowResult r ns ds ≡ rowResult r ns′ ds′
+row-is r ns ns′ ds ds′ h k = λ i. rowResult r (h i) (k i)
 
 -- what is behind a test that passed
 pub behind-test : {A B : Type 0} (h : A → B) (s : Bool) (x y : A) → s ≡ false → h y ≡ h (cond s x y)

@@ -1,24 +1,24 @@
 -- Rows of questions: refusal 20 once, then each question's number and distance, which are those of the single query. Definitions only.
 -- A row whose answers don't fit is refused by 74, a number that no document uses.
-use Prim.Native.Nat.{ℕ, zero, suc}
+use Prim.Native.Nat.{ℕ}
 use mathlib.Core.Bool.{Bool, _||_}
 use mathlib.Core.List.{List}
 use lib.Dec.{ltb}
-use lib.Ieee.{Float, nan}
-use lib.ListN.{length, getD, set}
+use lib.Ieee.{Float}
+use lib.ListN.{length, getD}
 use Rattle.layout.specs.Layout.{coordinatesPerVertex}
 use Rattle.buffers.specs.Slots.{slotsOf}
 use Rattle.float64.specs.Notation.{if_then_else_}
-use Rattle.job_checks.specs.Edge.{vertexAt}
 use Rattle.computed.specs.declared.Computed.{Computed}
 use Rattle.computed.specs.declared.Computed.the-variants.{Refused, Field as isField}
 use Rattle.computed.specs.declared.Field.{Field}
 use Rattle.field_check.specs.FieldCheck.{JobSlices, FieldSlices, fieldUnsound}
-use Rattle.queries.specs.declared.FaceDistance.{FaceDistance}
-use Rattle.queries.specs.declared.EdgeDistance.{EdgeDistance}
 use Rattle.queries.specs.declared.VertexDistance.{VertexDistance}
-use Rattle.queries.specs.Answers.{faceNumber, edgeNumber, vertexNumber, faceValue, edgeValue, vertexValue}
-use Rattle.queries.specs.Queries.{faceAnswer, edgeAnswer, vertexAnswer}
+use Rattle.queries.specs.Answers.{vertexNumber, vertexValue}
+use Rattle.queries.specs.Queries.{vertexAnswer}
+use Rattle.open_rows.specs.Written.{writtenRow}
+use Rattle.face_rows.specs.FaceAnswers.{faceNumbers, faceValues}
+use Rattle.edge_rows.specs.EdgeAnswers.{edgeNumbers, edgeValues}
 use Rattle.query_rows.specs.declared.RowAnswer.{RowAnswer}
 use Rattle.query_rows.specs.declared.RowAnswer.the-variants.{NoField, ShortRow, Answered}
 
@@ -36,11 +36,6 @@ pub record RowResult : Type 0 where
 abbrev pub rowResult : RowAnswer → List ℕ → List Float → RowResult
 rowResult r ns ds = record { answer = r; numbers = ns; distances = ds }
 
--- the first n elements written in turn
-unfoldable pub writtenRow : {A : Type 0} → (ℕ → A) → ℕ → List A → List A
-writtenRow g zero l = l
-writtenRow g (suc k) l = set (writtenRow g k l) k (g k)
-
 -- how many elements of a slice are counted
 abbrev pub elements : {A : Type 0} → List A → ℕ
 elements l = slotsOf (length l) 1
@@ -49,17 +44,7 @@ elements l = slotsOf (length l) 1
 unfoldable pub shortFor : ℕ → ℕ → ℕ → ℕ → Bool
 shortFor questions others numbers distances = ltb others questions || (ltb numbers questions || ltb distances questions)
 
--- ---- points of faces: three coordinates for each
-abbrev pub faceAsked : Field → FieldSlices → JobSlices → List ℕ → List Float → ℕ → FaceDistance
-faceAsked n b j asked points i = faceAnswer n b j (getD asked i 0) (vertexAt points i)
-
-module _ (n : Field) (b : FieldSlices) (j : JobSlices) (asked : List ℕ) (points : List Float) where
-  abbrev pub faceNumbers : ℕ → ℕ
-  faceNumbers i = faceNumber (faceAsked n b j asked points i)
-
-  abbrev pub faceValues : ℕ → Float
-  faceValues i = faceValue (faceAsked n b j asked points i)
-
+-- ---- points of faces
 module _ (j : JobSlices) (b : FieldSlices) (numbers : List ℕ) (distances : List Float) where
   unfoldable pub faceRow : Computed → List ℕ → List Float → RowResult
   unfolding shortFor writtenRow
@@ -70,16 +55,6 @@ module _ (j : JobSlices) (b : FieldSlices) (numbers : List ℕ) (distances : Lis
       rowResult Answered (writtenRow (faceNumbers n b j asked points) (elements asked) numbers) (writtenRow (faceValues n b j asked points) (elements asked) distances)
 
 -- ---- places on edges
-abbrev pub edgeAsked : Field → FieldSlices → List ℕ → List Float → ℕ → EdgeDistance
-edgeAsked n b edges places i = edgeAnswer n b (getD edges i 0) (getD places i nan)
-
-module _ (n : Field) (b : FieldSlices) (edges : List ℕ) (places : List Float) where
-  abbrev pub edgeNumbers : ℕ → ℕ
-  edgeNumbers i = edgeNumber (edgeAsked n b edges places i)
-
-  abbrev pub edgeValues : ℕ → Float
-  edgeValues i = edgeValue (edgeAsked n b edges places i)
-
 module _ (j : JobSlices) (b : FieldSlices) (numbers : List ℕ) (distances : List Float) where
   unfoldable pub edgeRow : Computed → List ℕ → List Float → RowResult
   unfolding shortFor writtenRow

@@ -23,8 +23,10 @@ use Rattle.queries.specs.declared.WindowAnswer.the-variants as window
 use Rattle.queries.specs.Answers.{windowNumber}
 use Rattle.queries.specs.Queries.{windowQuery}
 use Rattle.query_rows.specs.declared.RowAnswer.the-variants.{NoField, ShortRow, Answered}
-use Rattle.query_rows.specs.Rows.{rowNumber, writtenRow, elements, shortFor}
-use Rattle.query_rows.proofs.Elements.{row-at, both-long, behind-test}
+use Rattle.query_rows.specs.Rows.{rowNumber, elements, shortFor}
+use Rattle.open_rows.specs.Written.{writtenRow}
+use Rattle.query_rows.proofs.Elements.{both-long, behind-test}
+use Rattle.open_rows.proofs.Written.{row-at}
 use Rattle.window_rows.specs.WindowRows.{WindowResult, windowId, wordsPut, realsPut, storedRow, windowResult, windowAsked, windowNumbers, windowIds, windowWords, windowReals, windowRow}
 use Rattle.window_rows.proofs.Stored.{words-row, reals-row, still-there}
 

@@ -17,7 +17,8 @@ use Rattle.queries.specs.Answers.{windowNumber}
 use Rattle.queries.specs.Queries.{windowAnswer}
 use Rattle.query_rows.specs.declared.RowAnswer.{RowAnswer}
 use Rattle.query_rows.specs.declared.RowAnswer.the-variants.{NoField, ShortRow, Answered}
-use Rattle.query_rows.specs.Rows.{elements, shortFor, writtenRow}
+use Rattle.query_rows.specs.Rows.{elements, shortFor}
+use Rattle.open_rows.specs.Written.{writtenRow}
 
 -- the number of an answer's window, 0 of a refusal
 abbrev pub windowId : WindowAnswer → ℕ

@@ -20,7 +20,7 @@ ghost use Rattle.buffers.specs.Slots.{slotsOf};
 ghost use Rattle.buffers.specs.Lent.{given, left};
 ghost use Rattle.windows.specs.Windows.{capacityOf};
 ghost use Rattle.field_check.specs.FieldCheck.{jobSlices, fieldSlices};
-ghost use Rattle.query_rows.specs.Rows.{writtenRow};
+ghost use Rattle.open_rows.specs.Written.{writtenRow};
 ghost use Rattle.window_rows.specs.WindowRows.{windowId, wordsPut, realsPut, storedRow, windowNumbers, windowIds, windowWords, windowReals, windowResult, windowRow};
 
 fn window_id(answer: WindowAnswer) -> u32

@@ -5,8 +5,9 @@ use lib.ListN.{length, getD}
 use Rattle.field_check.specs.FieldCheck.{fieldSlices}
 use Rattle.queries.specs.Answers.{vertexNumber, vertexValue}
 use Rattle.queries.specs.Queries.{vertexAnswer}
-use Rattle.query_rows.specs.Rows.{writtenRow, vertexNumbers, vertexValues}
-use Rattle.query_rows.proofs.Written.{one-slot, row-start, row-next, row-length, row-count}
+use Rattle.query_rows.specs.Rows.{vertexNumbers, vertexValues}
+use Rattle.open_rows.specs.Written.{writtenRow}
+use Rattle.open_rows.proofs.Written.{one-slot, row-start, row-next, row-length, row-count}
 use borrow.Author.Needs.{needs}
 use Rattle.query_rows.proofs.answer_vertices.Statement.{statement}
 use Rattle.query_rows.proofs.answer_vertices.Tie as tie

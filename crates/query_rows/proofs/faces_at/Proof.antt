@@ -3,7 +3,8 @@ use native.Mathlib.Omega.{arith}
 use Rattle.queries.proofs.Checked.{enough, taken, left}
 use Rattle.query_rows.specs.Rows.{shortFor, faceRow}
 use Rattle.query_rows.proofs.Elements.{both-long}
-use Rattle.query_rows.proofs.Written.{row-count, row-is}
+use Rattle.open_rows.proofs.Written.{row-count}
+use Rattle.query_rows.proofs.Elements.{row-is}
 use borrow.Author.Needs.{needs}
 use Rattle.query_rows.proofs.faces_at.Statement.{statement}
 use Rattle.query_rows.proofs.faces_at.Tie as tie

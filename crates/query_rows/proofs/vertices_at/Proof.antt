@@ -2,7 +2,8 @@ use mathlib.Core.Path.{sym, _∙_}
 use native.Mathlib.Omega.{arith}
 use Rattle.queries.proofs.Checked.{taken, left}
 use Rattle.query_rows.specs.Rows.{shortFor, vertexRow}
-use Rattle.query_rows.proofs.Written.{row-count, row-is}
+use Rattle.open_rows.proofs.Written.{row-count}
+use Rattle.query_rows.proofs.Elements.{row-is}
 use borrow.Author.Needs.{needs}
 use Rattle.query_rows.proofs.vertices_at.Statement.{statement}
 use Rattle.query_rows.proofs.vertices_at.Tie as tie

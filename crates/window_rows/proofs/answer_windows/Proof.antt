@@ -6,8 +6,8 @@ use Rattle.field_check.specs.FieldCheck.{fieldSlices}
 use Rattle.queries.specs.declared.WindowAnswer.{WindowAnswer}
 use Rattle.queries.specs.Answers.{windowNumber}
 use Rattle.queries.specs.Queries.{windowAnswer}
-use Rattle.query_rows.specs.Rows.{writtenRow}
-use Rattle.query_rows.proofs.Written.{one-slot, row-start, row-next, row-length, row-count}
+use Rattle.open_rows.specs.Written.{writtenRow}
+use Rattle.open_rows.proofs.Written.{one-slot, row-start, row-next, row-length, row-count}
 use Rattle.window_rows.specs.WindowRows.{windowId, wordsPut, realsPut, storedRow, windowNumbers, windowIds, windowWords, windowReals}
 use Rattle.window_rows.proofs.Stored.{stored-start, stored-next, stored-count, words-row, reals-row, still-there}
 use borrow.Author.Needs.{needs}

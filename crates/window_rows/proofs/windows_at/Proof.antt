@@ -4,7 +4,7 @@ use borrow.Author.Tests.{lt-ltb, le-ltb}
 use lib.Dec.{ltb}
 use Rattle.queries.proofs.Checked.{enough, taken, left}
 use Rattle.query_rows.specs.Rows.{shortFor}
-use Rattle.query_rows.proofs.Written.{row-count}
+use Rattle.open_rows.proofs.Written.{row-count}
 use Rattle.window_rows.specs.WindowRows.{windowRow}
 use Rattle.window_rows.proofs.Stored.{stored-count, result-is}
 use borrow.Author.Needs.{needs}

@@ -1,0 +1,2 @@
+pub mod Partly
+pub mod Written
