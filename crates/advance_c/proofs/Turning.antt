@@ -127,15 +127,15 @@ same-test told b c e test = test ∙ ap (λ (z : Counts). turnsFitIn (z .made) b
 
 module _ {limit : Float} {n most : ℕ} {v : List Float} {buffer vertexWords round : List ℕ} {edgeReals : List Float} {triangleWords : List ℕ} {triangleReals : List Float}
     {told : List ℕ} {b : Slices} {c : Cuts} {counts : Counts} {t : Bool} (e : counts ≡ toldCounts told) (test : t ≡ turnsFitIn (counts .made) b c) where
-  pub turns-unfit : t ≡ false → TurnsAnswer limit n most v buffer vertexWords round edgeReals triangleWords triangleReals told b c 20 b told
+  pub turns-unfit : t ≡ false → TurnsAnswer limit n most v buffer vertexWords round edgeReals triangleWords triangleReals told b c 20 b c told
   turns-unfit h = record {
-    unfit = λ g. (refl, (refl, refl));
+    unfit = λ g. (refl, (refl, (refl, refl)));
     turned = λ g. not-both t (same-test told b c e test ∙ g) h;
   }
 
-  pub turns-turned : {r : ℕ} {b′ : Slices} {told′ : List ℕ} (x : Advanced) → t ≡ true
+  pub turns-turned : {r : ℕ} {b′ : Slices} {c′ : Cuts} {told′ : List ℕ} (x : Advanced) → t ≡ true
       → AdvancesTo limit n most v buffer vertexWords round edgeReals triangleWords triangleReals counts b c x b′ → (r, told′) ≡ turnsTold x told
-      → TurnsAnswer limit n most v buffer vertexWords round edgeReals triangleWords triangleReals told b c r b′ told′
+      → TurnsAnswer limit n most v buffer vertexWords round edgeReals triangleWords triangleReals told b c r b′ c′ told′
   turns-turned {b′ = b′} x h a q = record {
     unfit = λ g. not-both t h (same-test told b c e test ∙ g);
     turned = λ g. record {

@@ -36,16 +36,16 @@ abbrev pub turnsFitIn : ℕ → Slices → Cuts → Bool
 turnsFitIn made b c = turnsFit made (length (b .words)) (length (b .reals)) (length (c .pts)) (length (c .out)) (length (c .keep)) (length (c .next))
 
 module _ (limit : Float) (n most : ℕ) (v : List Float) (buffer vertexWords round : List ℕ) (edgeReals : List Float) (triangleWords : List ℕ) (triangleReals : List Float)
-    (told : List ℕ) (b : Slices) (c : Cuts) (r : ℕ) (b′ : Slices) (told′ : List ℕ) where
+    (told : List ℕ) (b : Slices) (c : Cuts) (r : ℕ) (b′ : Slices) (c′ : Cuts) (told′ : List ℕ) where
   -- the turns are those of `advance`, from the counts that were told
   pub record Turned : Type 0 where
     pub answer : Advanced
     pub advances : AdvancesTo limit n most v buffer vertexWords round edgeReals triangleWords triangleReals (toldCounts told) b c answer b′
     pub tells : (r, told′) ≡ turnsTold answer told
 
-  -- 20 and nothing is changed where the slices don't fit
+  -- 20 and nothing is changed where the slices don't fit; else anything may stand in the cut lists
   pub record TurnsAnswer : Type 0 where
-    pub unfit : turnsFitIn (toldCounts told .made) b c ≡ false → (r ≡ 20) × ((b′ ≡ b) × (told′ ≡ told))
+    pub unfit : turnsFitIn (toldCounts told .made) b c ≡ false → (r ≡ 20) × ((b′ ≡ b) × ((c′ ≡ c) × (told′ ≡ told)))
     pub turned : turnsFitIn (toldCounts told .made) b c ≡ true → Turned
 
 -- slots for each edge and each window made

@@ -114,7 +114,8 @@ pub extern "C" fn sirmolaat_advance(
     told: &mut [u32],
 ) -> u32
     ensures { λ r. ⌜ TurnsAnswer limit n most (given vertices) (given triangles) (given «vertex_words») (given round) (given «edge_reals») (given «triangle_words») (given «triangle_reals»)
-        (given told) (before «edge_words» words reals keys events vertex) (cutsBefore pts out keep next) r (after «edge_words» words reals keys events vertex) (left told) ⌝ }
+        (given told) (before «edge_words» words reals keys events vertex) (cutsBefore pts out keep next)
+        r (after «edge_words» words reals keys events vertex) (cutsAfter pts out keep next) (left told) ⌝ }
 {
     let counts = told_counts(told);
     if turns_fit(
