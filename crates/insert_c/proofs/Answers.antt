@@ -51,15 +51,12 @@ module _ (v : List Float) (triangles flags kinds faces : List ℕ) (coords : Lis
       says-in : Inserted (cutCount c) → Kept → (e k : ℕ) (told′ : List ℕ) → e ≡ edgesTold a → (k, told′) ≡ insertTold e r told → InsertedIn j built s (cutTo (cutCount c) c) told k m′ s′ told′
       says-in i kept e k told′ is tells = record {
         answer = r;
-        inserts = i .inserts flags (lentIn s) a m answered passed (omega arith);
-        bounded = i .bounded;
-        pieces = i .pieces;
-        directions = i .directions;
+        inserts = i;
         kept = kept;
         tells = tells ∙ ap (λ (z : ℕ). insertTold z r told) (is ∙ ap edgesTold (answered .edge-count passed));
       }
 
-      pub says-inserted : Inserted x → Kept → (e k : ℕ) (told′ : List ℕ) → e ≡ edgesTold a → (k, told′) ≡ insertTold e r told → InsertAnswers j m s c told k m′ s′ told′
+      pub says-inserted : {c′ : Cuts} → Inserted x → Kept → (e k : ℕ) (told′ : List ℕ) → e ≡ edgesTold a → (k, told′) ≡ insertTold e r told → InsertAnswers j m s c told k m′ s′ c′ told′
       says-inserted i kept e k told′ is tells = record {
         answer = a;
         built = built;
@@ -68,11 +65,11 @@ module _ (v : List Float) (triangles flags kinds faces : List ℕ) (coords : Lis
         inserted = λ h. says-in (subst Inserted cut i) kept e k told′ is tells;
       }
 
-  pub says-refused : 0 < n → (c : Cuts) (told : List ℕ) → InsertAnswers j m s c told n built s told
+  pub says-refused : 0 < n → (c : Cuts) (told : List ℕ) → InsertAnswers j m s c told n built s c told
   says-refused some c told = record {
     answer = a;
     built = built;
     mesh = answered;
-    refused = λ h. (refusal, (refl, (refl, refl)));
+    refused = λ h. (refusal, (refl, (refl, (refl, refl))));
     inserted = λ h. let z : n ≡ 0 = refusal ∙ h in absurd (omega (arith, some, z));
   }

@@ -16,14 +16,11 @@ use Rattle.mesh.specs.declared.Meshed.{Meshed}
 use Rattle.mesh.specs.declared.Meshed.the-variants as meshed
 use Rattle.mesh.specs.Topology.{MeshBuffers, meshBuffers}
 use Rattle.mesh.specs.Answer.{countsIn, meshRefusal, Answered}
-use Rattle.windows.specs.Windows.{capacityOf}
-use Rattle.piece_ends.specs.Table.{pieceWords}
-use Rattle.piece_ends.specs.Directions.{pieceReals}
 use Rattle.begin.specs.Begin.{WorkSlices}
 use Rattle.insert_job.specs.declared.InsertedJob.{InsertedJob}
 use Rattle.insert_job.specs.declared.InsertedJob.the-variants.{Wedge, Stopped, Went}
 use Rattle.insert_job.specs.Field.{trimSlices, entrySlices}
-use Rattle.insert_job.specs.Job.{JobInserted, JobWithin}
+use Rattle.insert_job.specs.Job.{InsertsJob}
 
 -- the slots of slices of these lengths; as much scratch as there are windows
 abbrev pub lentCounts : ℕ → ℕ → ℕ → ℕ → ℕ → OtherCounts
@@ -51,20 +48,17 @@ insertTold n Wedge t = (11, t)
 insertTold n (Stopped lack) t = (lackNumber lack, t)
 insertTold n (Went counts) t = (0, set (set (set (set t 0 n) 1 (counts .trim .made)) 2 (counts .trim .queued)) 3 (counts .entries))
 
--- a job j whose mesh was made in m, and slices s and c: its answer by definition, and what is then in the slices; of the mesh only the words of edges and triangles change
+-- a job j whose mesh was made in m, and slices s and c: what `insert_job` answers and leaves; of the mesh only the words of edges and triangles change
 pub record InsertedIn (j : Job) (m : MeshBuffers) (s : WorkSlices) (c : Cuts) (told : List ℕ) (r : ℕ) (m′ : MeshBuffers) (s′ : WorkSlices) (told′ : List ℕ) : Type 0 where
   pub answer : InsertedJob
-  pub inserts : JobInserted j m s c answer (trimSlices m′ s′) (entrySlices m′ s′)
-  pub bounded : JobWithin (capacityOf (length (s .words)) (length (s .reals))) answer
-  pub pieces : s′ .piece-words ≡ pieceWords (j .kinds) (j .coords) (length (s .piece-words))
-  pub directions : s′ .piece-reals ≡ pieceReals (j .kinds) (j .coords) (length (s .piece-reals))
+  pub inserts : InsertsJob (j .vertices) (j .triangles) (j .kinds) (j .faces) (j .coords) (j .limit) m s c answer (s′ .piece-words) (s′ .piece-reals) (trimSlices m′ s′) (entrySlices m′ s′)
   pub kept : m′ ≡ meshBuffers (m .vertex-words) (m′ .edge-words) (m .edge-reals) (m .round) (m′ .triangle-words) (m .triangle-reals)
   pub tells : (r, told′) ≡ insertTold (length (edges (j .triangles))) answer told
 
--- the mesh is refused by its number, and the slices beside it are as they were; or the pieces are inserted
-pub record InsertAnswers (j : Job) (m : MeshBuffers) (s : WorkSlices) (c : Cuts) (told : List ℕ) (r : ℕ) (m′ : MeshBuffers) (s′ : WorkSlices) (told′ : List ℕ) : Type 0 where
+-- the mesh is refused by its number, and the slices beside it are as they were; or the pieces are inserted, whatever then stands in the cut lists
+pub record InsertAnswers (j : Job) (m : MeshBuffers) (s : WorkSlices) (c : Cuts) (told : List ℕ) (r : ℕ) (m′ : MeshBuffers) (s′ : WorkSlices) (c′ : Cuts) (told′ : List ℕ) : Type 0 where
   pub answer : Meshed
   pub built : MeshBuffers
   pub mesh : Answered j (lentIn s) answer m built
-  pub refused : (meshRefusal j (countsIn m (lentIn s)) ≡ 0 → ⊥) → (r ≡ meshRefusal j (countsIn m (lentIn s))) × ((m′ ≡ built) × ((s′ ≡ s) × (told′ ≡ told)))
+  pub refused : (meshRefusal j (countsIn m (lentIn s)) ≡ 0 → ⊥) → (r ≡ meshRefusal j (countsIn m (lentIn s))) × ((m′ ≡ built) × ((s′ ≡ s) × ((c′ ≡ c) × (told′ ≡ told))))
   pub inserted : meshRefusal j (countsIn m (lentIn s)) ≡ 0 → InsertedIn j built s (cutTo (cutCount c) c) told r m′ s′ told′

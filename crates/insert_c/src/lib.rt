@@ -13,7 +13,7 @@ ghost use Prim.Native.Nat.{_*_, _/_, _≤_};
 ghost use lib.ListN.{length};
 ghost use Rattle.layout.specs.Layout.{wordsPerPiece};
 ghost use Rattle.buffers.specs.Lent.{given, left};
-ghost use Rattle.cut_lists.specs.Buffers.{cutBuffers, cutsBefore};
+ghost use Rattle.cut_lists.specs.Buffers.{cutBuffers, cutsBefore, cutsAfter};
 ghost use Rattle.trim.specs.Buffers.{after as Buffers·after};
 ghost use Rattle.cut_slots.specs.Slots.{cutCount, cutTo};
 ghost use Rattle.job_checks.specs.Job.{job};
@@ -171,7 +171,7 @@ pub extern "C" fn sirmolaat_insert(
         (before «vertex_words» «edge_words» «edge_reals» round «triangle_words» «triangle_reals»)
         (workBefore «piece_words» «piece_reals» vertex words reals keys events «entry_words») (cutsBefore pts out keep next) (given told)
         r (after «vertex_words» «edge_words» «edge_reals» round «triangle_words» «triangle_reals»)
-        (workAfter «piece_words» «piece_reals» vertex words reals keys events «entry_words») (left told) ⌝ }
+        (workAfter «piece_words» «piece_reals» vertex words reals keys events «entry_words») (cutsAfter pts out keep next) (left told) ⌝ }
 {
     let others = lent_counts(
         piece_words.len(),
