@@ -256,7 +256,7 @@ module _ (j : Job) (b : FieldBuffers) (rows : RowsBeside b) where
         pub turns-refused : (k : Call) (r : ℕ) → 0 < r → (r ≡ 20 → ⊥) → NextTurn j b m₁ s₁ told₁ ks k r → (more : ℕ) → computeOver inOrder j b ((turnsAsked ks + k .most) + more) ≡ refused r
         turns-refused k r some other D more =
             let stop = calls-stopped (j .limit) (vertexCount j) (j .vertices) (j .triangles) (m₁ .vertex-words) (m₁ .round) (m₁ .edge-reals) (m₁ .triangle-words) (m₁ .triangle-reals) (cutCount (b .cuts)) cut cut-length
-                (countsInserted told₁) at-first ks k r fits C some other D in
+            (countsInserted told₁) at-first ks k r fits C some other D in
             work-refused 0 I passed ((turnsAsked ks + k .most) + more) r (k .left)
             (ran ((turnsAsked ks + k .most) + more) (Stopped (stop .lack)) (k .left) (Refused r) (ap Refused (stop .number))
             (advances-refused (j .limit) (vertexCount j) (j .vertices) (j .triangles) (m₁ .vertex-words) (m₁ .round) (m₁ .edge-reals) (m₁ .triangle-words) (m₁ .triangle-reals)
