@@ -1,11 +1,15 @@
 -- The ends of the edge that a new window reaches. Assumes nothing.
 use Prim.Native.Nat.{ℕ}
-use mathlib.Core.Bool.{Bool, true, false}
+use mathlib.Core.Bool.{Bool, true, false, cond}
 use mathlib.Core.List.{List, [], _∷_, _++_}
 use mathlib.Core.Path.{_≡_, refl, sym, ap, _∙_}
-use lib.Ieee.{Float, le}
-use Rattle.float64.specs.Scalar.{zero64}
+use lib.Dec.{not-T}
+use lib.Ieee.{Float, lt, le, isNan}
+use Rattle.float64.specs.Scalar.{zero64, minOf}
 use Rattle.float64.specs.Notation.{_⊖_, _⊗_}
+use lib.Ieee.Bits.{is-false}
+use Rattle.nat_laws.proofs.Tests.{by-cases}
+use Rattle.float_laws.proofs.Order.{lt-irrefl}
 use Rattle.source.specs.declared.Win.{Win}
 use Rattle.source.specs.Distance.{evalOf}
 use Rattle.windows.specs.declared.Edge.{Edge}
@@ -14,7 +18,7 @@ use Rattle.heap.specs.declared.Pushed.{Pushed}
 use Rattle.heap.specs.declared.Pushed.the-variants.{Full, Queued}
 use Rattle.heap.specs.Queue.{Queue}
 use Rattle.actions.specs.Actions as actions
-use Rattle.actions.specs.Actions.{Action, touch, Stock, stock, act, andThen, play, queueing}
+use Rattle.actions.specs.Actions.{Action, touch, Stock, stock, act, andThen, play, queueing, distanceOf}
 use Rattle.actions.proofs.Play.{play-nil, play-stop-append, play-go-append}
 use Rattle.trim_model.specs.Intervals.{pushIf}
 use Rattle.trim_model.specs.Windows.{part}
@@ -42,6 +46,19 @@ module _ (cuts windows : ℕ) (limit : Float) (flags : List ℕ) where
   one : (t : Action) (s : Stock) → played (t ∷ []) s ≡ andThen (act cuts windows limit flags t s) (played [])
   unfolding play
   one t s = refl
+
+  -- no vertex is touched by its own distance, so the lesser of that and d touches it as d does
+  not-touched : (v : ℕ) (s : Stock) (d : Float) → lt d (distanceOf (s .vertex) v) ≡ false → act cuts windows limit flags (touch v d) s ≡ actions.went s
+  unfolding act
+  not-touched v s d h = rw h
+
+  pub nearer-touches : (v : ℕ) (s : Stock) (d : Float) → act cuts windows limit flags (touch v (minOf (distanceOf (s .vertex) v) d)) s ≡ act cuts windows limit flags (touch v d) s
+  unfolding minOf
+  nearer-touches v s d =
+      let x : Float = distanceOf (s .vertex) v in
+      by-cases (λ b. act cuts windows limit flags (touch v (cond b d (cond (lt d x) d x))) s ≡ act cuts windows limit flags (touch v d) s) (isNan x) (λ n. refl)
+      (λ n. by-cases (λ b. act cuts windows limit flags (touch v (cond b d x)) s ≡ act cuts windows limit flags (touch v d) s) (lt d x) (λ h. refl)
+      (λ h. not-touched v s x (is-false (lt x x) (not-T (lt x x) (lt-irrefl x))) ∙ sym (not-touched v s d (is-false (lt d x) h))))
 
   -- the end is reached, or it is not
   pub touched-yes : (c : Bool) → c ≡ true → (v : ℕ) (d : Float) (s : Stock) (made : ℕ) (vertex : List Float) (x : Pushed × Queue) → act cuts windows limit flags (touch v d) s ≡ queueing made vertex x → played (pushIf c (touch v d)) s ≡ queueing made vertex x

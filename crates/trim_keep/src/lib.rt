@@ -25,7 +25,7 @@ ghost use Rattle.live_windows.specs.Live.{liveOf};
 ghost use Rattle.trim_split.specs.Running.{Ready, roomFor, snapshotBefore, endAfter, madeEnd};
 ghost use Rattle.trim_keep.specs.Keeping.{MadeWithin, Seats, KeptOne};
 
-// The end v of an edge, which is at x along it, is touched by a window that reaches it.
+// The end v of an edge, which is at x along it, is touched by a window that reaches it. Most values are told to be no less than the vertex's distance without a root.
 fn touch_reached(
     vertex: &mut [f64],
     vertex_words: &[u32],
@@ -43,7 +43,8 @@ fn touch_reached(
         ≡ queueing made (left vertex) (r, queue (left keys) (left events))) ⌝ }
 {
     if reached {
-        let d = source::eval(win, x, 0.0);
+        let known = actions::distance(vertex, v);
+        let d = distance_tests::nearer(known, win, x);
         return actions::touch(vertex, vertex_words, keys, events, n, limit, v, d);
     }
     Pushed::Queued(n)
