@@ -1,5 +1,5 @@
 //! Inserts the pieces of the same jobs by the static library and by the Rust (`Mesh::inserted`, published reading) by turns, in one run, and compares all that they leave.
-//! Usage: bench.
+//! Usage: bench | bench once, which calls the library once for each job of lines and once without its pieces, for tests/insertion/profile.sh.
 #[path = "../clock.rs"]
 mod clock;
 
@@ -266,16 +266,20 @@ fn rust<R: Reading>(mesh: &Mesh) -> f64 {
     seconds
 }
 
-/// Least seconds of the Rust and of the library's insertion: those of its whole call, less those of a call with no pieces and no slots beside the mesh's.
-fn measure(name: &str, job: &Job) -> [f64; 2] {
-    let mesh = Mesh::new(job).expect("a sound job");
-    let made = mesh.inserted::<Patched>().expect("no bound");
-    let bare = Job {
+fn without_pieces(job: &Job) -> Job {
+    Job {
         piece_kinds: vec![],
         piece_faces: vec![],
         piece_coords: vec![],
         ..job.clone()
-    };
+    }
+}
+
+/// Least seconds of the Rust and of the library's insertion: those of its whole call, less those of a call with no pieces and no slots beside the mesh's.
+fn measure(name: &str, job: &Job) -> [f64; 2] {
+    let mesh = Mesh::new(job).expect("a sound job");
+    let made = mesh.inserted::<Patched>().expect("no bound");
+    let bare = without_pieces(job);
     let mut lent = Lent::new(job, made.wins.len(), made.queue.len(), made.entries.len());
     let mut empty = Lent::new(&bare, 0, 0, 0);
     let [mut theirs, mut all, mut alone] = [f64::INFINITY; 3];
@@ -384,7 +388,31 @@ fn in_face(n: usize, shared: bool, border: bool) -> Job {
     job
 }
 
+/// Two calls, the second without the pieces; their names are printed in this order.
+fn once(name: &str, job: &Job) {
+    let mesh = Mesh::new(job).expect("a sound job");
+    let made = mesh.inserted::<Patched>().expect("no bound");
+    let bare = without_pieces(job);
+    let mut lent = Lent::new(job, made.wins.len(), made.queue.len(), made.entries.len());
+    lent.insert(job);
+    lent.compare(&made, mesh.topo.edges.len());
+    Lent::new(&bare, 0, 0, 0).insert(&bare);
+    let triangles = job.triangles.len() / 3;
+    println!(
+        "{name}|{}|{triangles}|{}",
+        job.piece_kinds.len(),
+        made.wins.len()
+    );
+}
+
 fn main() {
+    if std::env::args().nth(1).as_deref() == Some("once") {
+        for n in [75, 150, 300] {
+            once("lines of 100", &lines(n, 60_000));
+            once("lines of 100, as many a triangle", &lines(n, 200 * n));
+        }
+        return;
+    }
     print_load();
     println!(
         "| pieces | how many | triangles | windows made | live | entries | the Rust's, ms | insertion, ms | ratio | mesh, ms |"
