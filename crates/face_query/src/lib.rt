@@ -411,7 +411,8 @@ pub fn distance_in_face(
     p: Vec3,
 ) -> f64
     requires { ⌜ made ≤ capacityOf (length (now words)) (length (now reals)) ⌝ }
-    ensures { λ r. ⌜ r ≡ faceDistanceIn (given vertices) (given triangles) (given coords) (given «edge_words») (given «edge_reals») (given «triangle_words») (given «triangle_reals») (given vertex) (given words) (given reals) (given «entry_words») made (f .0) p ⌝ }
+    ensures { λ r. ⌜ r ≡ faceDistanceIn (given vertices) (given triangles) (given coords) (given «edge_words») (given «edge_reals») (given «triangle_words») (given «triangle_reals»)
+        (given vertex) (given words) (given reals) (given «entry_words») made (f .0) p ⌝ }
 {
     let corners = through_vertices(vertices, triangles, vertex, f, p);
     let sides = through_sides(

@@ -127,7 +127,8 @@ fn too_few_slots(
     reals: &[f64],
     entry_words: &[u32],
 ) -> bool
-    ensures { λ r. ⌜ r ≡ tooFewSlots n (fieldSlices (given «edge_words») (given «edge_reals») (given «triangle_words») (given «triangle_reals») (given vertex) (given words) (given reals) (given «entry_words»)) ⌝ }
+    ensures { λ r. ⌜ r ≡ tooFewSlots n (fieldSlices (given «edge_words») (given «edge_reals») (given «triangle_words») (given «triangle_reals») (given vertex) (given words) (given reals)
+        (given «entry_words»)) ⌝ }
 {
     let edges = buffers::count(
         edge_words.len(),
@@ -453,7 +454,8 @@ fn lists_unsound(
     reals: &[f64],
     entry_words: &[u32],
 ) -> bool
-    ensures { λ r. ⌜ r ≡ (windowsUnsound (given «edge_words») (given words) (given reals) (n .windows) (n .edges) || entriesUnsound (given «triangle_words») (given «entry_words») (n .pieces) (n .triangles)) ⌝ }
+    ensures { λ r. ⌜ r ≡ (windowsUnsound (given «edge_words») (given words) (given reals) (n .windows) (n .edges) || entriesUnsound (given «triangle_words») (given «entry_words») (n .pieces)
+        (n .triangles)) ⌝ }
 {
     if windows_unsound(edge_words, words, reals, n.windows, n.edges) {
         return true;

@@ -80,7 +80,8 @@ fn read_told(
     told: &mut [u32],
     limit: &mut [f64],
 ) -> u32
-    ensures { λ r. ⌜ (r, (rows (left vertices) (left triangles) (left flags) (left kinds) (left faces) (left coords), (left told, left limit))) ≡ formRead form (given slip) (rows (given vertices) (given triangles) (given flags) (given kinds) (given faces) (given coords)) (given told) (given limit) ⌝ }
+    ensures { λ r. ⌜ (r, (rows (left vertices) (left triangles) (left flags) (left kinds) (left faces) (left coords), (left told, left limit))) ≡ formRead form (given slip)
+        (rows (given vertices) (given triangles) (given flags) (given kinds) (given faces) (given coords)) (given told) (given limit) ⌝ }
 {
     let answer = form_read::read(form, slip, vertices, triangles, flags, kinds, faces, coords);
     tell_read(answer, told, limit)

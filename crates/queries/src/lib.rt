@@ -205,7 +205,8 @@ pub fn face_answer(
     p: Vec3,
 ) -> FaceDistance
     requires { ⌜ (n .edges ≤ slotsOf (length (now «edge_words»)) wordsPerEdge) × (n .windows ≤ capacityOf (length (now words)) (length (now reals))) ⌝ }
-    ensures { λ r. ⌜ r ≡ faceAnswer n (fieldSlices (given «edge_words») (given «edge_reals») (given «triangle_words») (given «triangle_reals») (given vertex) (given words) (given reals) (given «entry_words»)) (jobSlices (given vertices) (given triangles) (given kinds) (given faces) (given coords)) (f .0) p ⌝ }
+    ensures { λ r. ⌜ r ≡ faceAnswer n (fieldSlices (given «edge_words») (given «edge_reals») (given «triangle_words») (given «triangle_reals») (given vertex) (given words) (given reals)
+        (given «entry_words»)) (jobSlices (given vertices) (given triangles) (given kinds) (given faces) (given coords)) (f .0) p ⌝ }
 {
     if n.triangles <= f.0 {
         return FaceDistance::MissingFace;
@@ -249,7 +250,8 @@ pub fn edge_answer_from(
 ) -> ResumedAnswer
     requires { ⌜ (n .edges ≤ slotsOf (length (now «edge_words»)) wordsPerEdge) × ((n .windows ≤ capacityOf (length (now words)) (length (now reals)))
         × Resumes (n .windows) (links (now «edge_words») (now words)) (now reals) cursor) ⌝ }
-    ensures { λ r. ⌜ r .answer ≡ edgeAnswer n (fieldSlices (given «edge_words») (given «edge_reals») (given «triangle_words») (given «triangle_reals») (given vertex) (given words) (given reals) (given «entry_words»)) (e .0) x ⌝ }
+    ensures { λ r. ⌜ r .answer ≡ edgeAnswer n (fieldSlices (given «edge_words») (given «edge_reals») (given «triangle_words») (given «triangle_reals») (given vertex) (given words) (given reals)
+        (given «entry_words»)) (e .0) x ⌝ }
     ensures { λ r. ⌜ Resumes (n .windows) (links (given «edge_words») (given words)) (given reals) (r .cursor) ⌝ }
 {
     if n.edges <= e.0 {
@@ -297,7 +299,8 @@ pub fn edge_answer(
     x: f64,
 ) -> EdgeDistance
     requires { ⌜ (n .edges ≤ slotsOf (length (now «edge_words»)) wordsPerEdge) × (n .windows ≤ capacityOf (length (now words)) (length (now reals))) ⌝ }
-    ensures { λ r. ⌜ r ≡ edgeAnswer n (fieldSlices (given «edge_words») (given «edge_reals») (given «triangle_words») (given «triangle_reals») (given vertex) (given words) (given reals) (given «entry_words»)) (e .0) x ⌝ }
+    ensures { λ r. ⌜ r ≡ edgeAnswer n (fieldSlices (given «edge_words») (given «edge_reals») (given «triangle_words») (given «triangle_reals») (given vertex) (given words) (given reals)
+        (given «entry_words»)) (e .0) x ⌝ }
 {
     let head = edge_query::head_cursor(e, n.windows);
     let resumed = edge_answer_from(
@@ -329,7 +332,8 @@ pub fn vertex_answer(
     entry_words: &[u32],
     k: VertexId,
 ) -> VertexDistance
-    ensures { λ r. ⌜ r ≡ vertexAnswer n (fieldSlices (given «edge_words») (given «edge_reals») (given «triangle_words») (given «triangle_reals») (given vertex) (given words) (given reals) (given «entry_words»)) (k .0) ⌝ }
+    ensures { λ r. ⌜ r ≡ vertexAnswer n (fieldSlices (given «edge_words») (given «edge_reals») (given «triangle_words») (given «triangle_reals») (given vertex) (given words) (given reals)
+        (given «entry_words»)) (k .0) ⌝ }
 {
     if n.vertices <= k.0 {
         return VertexDistance::MissingVertex;
@@ -395,7 +399,8 @@ pub fn window_answer(
     place: u32,
 ) -> WindowAnswer
     requires { ⌜ (n .edges ≤ slotsOf (length (now «edge_words»)) wordsPerEdge) × (n .windows ≤ capacityOf (length (now words)) (length (now reals))) ⌝ }
-    ensures { λ r. ⌜ r ≡ windowAnswer n (fieldSlices (given «edge_words») (given «edge_reals») (given «triangle_words») (given «triangle_reals») (given vertex) (given words) (given reals) (given «entry_words»)) (e .0) place ⌝ }
+    ensures { λ r. ⌜ r ≡ windowAnswer n (fieldSlices (given «edge_words») (given «edge_reals») (given «triangle_words») (given «triangle_reals») (given vertex) (given words) (given reals)
+        (given «entry_words»)) (e .0) place ⌝ }
 {
     if n.edges <= e.0 {
         return WindowAnswer::MissingEdge;
@@ -601,7 +606,8 @@ pub fn window_at(
     place: u32,
 ) -> WindowAnswer
     ensures { λ r. ⌜ r ≡ windowQuery (jobSlices (given vertices) (given triangles) (given kinds) (given faces) (given coords))
-        (fieldSlices (given «edge_words») (given «edge_reals») (given «triangle_words») (given «triangle_reals») (given vertex) (given words) (given reals) (given «entry_words»)) computed (e .0) place ⌝ }
+        (fieldSlices (given «edge_words») (given «edge_reals») (given «triangle_words») (given «triangle_reals») (given vertex) (given words) (given reals) (given «entry_words»)) computed
+        (e .0) place ⌝ }
 {
     let Computed::Field(n) = computed else {
         return WindowAnswer::NoField;

@@ -62,7 +62,8 @@ pub extern "C" fn sirmolaat_faces_at(
     distances: &mut [f64],
 ) -> u32
     ensures { λ r. ⌜ (r, (left numbers, left distances)) ≡ toldRow (faceRow (jobSlices (given vertices) (given triangles) (given kinds) (given faces) (given coords))
-        (fieldSlices (given «edge_words») (given «edge_reals») (given «triangle_words») (given «triangle_reals») (given vertex) (given words) (given reals) (given «entry_words»)) (given numbers) (given distances) (toldAnswer refusal (given told)) (given asked) (given points)) ⌝ }
+        (fieldSlices (given «edge_words») (given «edge_reals») (given «triangle_words») (given «triangle_reals») (given vertex) (given words) (given reals) (given «entry_words»)) (given numbers)
+        (given distances) (toldAnswer refusal (given told)) (given asked) (given points)) ⌝ }
 {
     let computed = told_answer(refusal, told);
     let answer = query_rows::faces_at(
@@ -112,7 +113,8 @@ pub extern "C" fn sirmolaat_edges_at(
     distances: &mut [f64],
 ) -> u32
     ensures { λ r. ⌜ (r, (left numbers, left distances)) ≡ toldRow (edgeRow (jobSlices (given vertices) (given triangles) (given kinds) (given faces) (given coords))
-        (fieldSlices (given «edge_words») (given «edge_reals») (given «triangle_words») (given «triangle_reals») (given vertex) (given words) (given reals) (given «entry_words»)) (given numbers) (given distances) (toldAnswer refusal (given told)) (given edges) (given places)) ⌝ }
+        (fieldSlices (given «edge_words») (given «edge_reals») (given «triangle_words») (given «triangle_reals») (given vertex) (given words) (given reals) (given «entry_words»)) (given numbers)
+        (given distances) (toldAnswer refusal (given told)) (given edges) (given places)) ⌝ }
 {
     let computed = told_answer(refusal, told);
     let answer = query_rows::edges_at(
@@ -161,7 +163,8 @@ pub extern "C" fn sirmolaat_vertices_at(
     distances: &mut [f64],
 ) -> u32
     ensures { λ r. ⌜ (r, (left numbers, left distances)) ≡ toldRow (vertexRow (jobSlices (given vertices) (given triangles) (given kinds) (given faces) (given coords))
-        (fieldSlices (given «edge_words») (given «edge_reals») (given «triangle_words») (given «triangle_reals») (given vertex) (given words) (given reals) (given «entry_words»)) (given numbers) (given distances) (toldAnswer refusal (given told)) (given asked)) ⌝ }
+        (fieldSlices (given «edge_words») (given «edge_reals») (given «triangle_words») (given «triangle_reals») (given vertex) (given words) (given reals) (given «entry_words»)) (given numbers)
+        (given distances) (toldAnswer refusal (given told)) (given asked)) ⌝ }
 {
     let computed = told_answer(refusal, told);
     let answer = query_rows::vertices_at(
@@ -211,8 +214,10 @@ pub extern "C" fn sirmolaat_windows_at(
     window_words: &mut [u32],
     window_reals: &mut [f64],
 ) -> u32
-    ensures { λ r. ⌜ (r, (left numbers, (left ids, (left «window_words», left «window_reals»)))) ≡ toldWindows (windowRow (jobSlices (given vertices) (given triangles) (given kinds) (given faces) (given coords))
-        (fieldSlices (given «edge_words») (given «edge_reals») (given «triangle_words») (given «triangle_reals») (given vertex) (given words) (given reals) (given «entry_words»)) (given numbers) (given ids) (given «window_words») (given «window_reals») (toldAnswer refusal (given told)) (given edges) (given places)) ⌝ }
+    ensures { λ r. ⌜ (r, (left numbers, (left ids, (left «window_words», left «window_reals»)))) ≡ toldWindows
+        (windowRow (jobSlices (given vertices) (given triangles) (given kinds) (given faces) (given coords))
+        (fieldSlices (given «edge_words») (given «edge_reals») (given «triangle_words») (given «triangle_reals») (given vertex) (given words) (given reals) (given «entry_words»)) (given numbers)
+        (given ids) (given «window_words») (given «window_reals») (toldAnswer refusal (given told)) (given edges) (given places)) ⌝ }
 {
     let computed = told_answer(refusal, told);
     let answer = window_rows::windows_at(

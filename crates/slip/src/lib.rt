@@ -181,8 +181,10 @@ fn check(s: &[u8], vertices: usize, triangles: usize, pieces: usize) -> Slip
 }
 
 fn write_mesh(s: &[u8], vertices: &mut [f64], triangles: &mut [u32], flags: &mut [u8])
-    requires { ⌜ (12 ≤ length (now s)) × ((piecesFrom (now s) ≤ length (now s)) × ((3 * vertexCount (now s) ≤ length (now vertices)) × ((3 * triangleCount (now s) ≤ length (now triangles)) × (vertexCount (now s) ≤ length (now flags))))) ⌝ }
-    ensures { λ r. ⌜ (left vertices ≡ atFront (jobIn (given s) .vertices) (given vertices)) × ((left triangles ≡ atFront (jobIn (given s) .triangles) (given triangles)) × (left flags ≡ atFront (jobIn (given s) .flags) (given flags))) ⌝ }
+    requires { ⌜ (12 ≤ length (now s)) × ((piecesFrom (now s) ≤ length (now s)) ×
+        ((3 * vertexCount (now s) ≤ length (now vertices)) × ((3 * triangleCount (now s) ≤ length (now triangles)) × (vertexCount (now s) ≤ length (now flags))))) ⌝ }
+    ensures { λ r. ⌜ (left vertices ≡ atFront (jobIn (given s) .vertices) (given vertices)) ×
+        ((left triangles ≡ atFront (jobIn (given s) .triangles) (given triangles)) × (left flags ≡ atFront (jobIn (given s) .flags) (given flags))) ⌝ }
 {
     let n = count(s, 0);
     let from = triangles_from(s);
@@ -217,8 +219,10 @@ fn write_coords(s: &[u8], i: usize, k: usize, coords: &mut [f64])
 }
 
 fn write_pieces(s: &[u8], kinds: &mut [u8], faces: &mut [u32], coords: &mut [f64])
-    requires { ⌜ (12 ≤ length (now s)) × ((isJob (afterPieces (now s) (pieceCount (now s)) (piecesFrom (now s))) ≡ true) × ((pieceCount (now s) ≤ length (now kinds)) × ((pieceCount (now s) ≤ length (now faces)) × (6 * pieceCount (now s) ≤ length (now coords))))) ⌝ }
-    ensures { λ r. ⌜ (left kinds ≡ atFront (jobIn (given s) .kinds) (given kinds)) × ((left faces ≡ atFront (jobIn (given s) .faces) (given faces)) × (left coords ≡ atFront (jobIn (given s) .coords) (given coords))) ⌝ }
+    requires { ⌜ (12 ≤ length (now s)) × ((isJob (afterPieces (now s) (pieceCount (now s)) (piecesFrom (now s))) ≡ true) ×
+        ((pieceCount (now s) ≤ length (now kinds)) × ((pieceCount (now s) ≤ length (now faces)) × (6 * pieceCount (now s) ≤ length (now coords))))) ⌝ }
+    ensures { λ r. ⌜ (left kinds ≡ atFront (jobIn (given s) .kinds) (given kinds)) ×
+        ((left faces ≡ atFront (jobIn (given s) .faces) (given faces)) × (left coords ≡ atFront (jobIn (given s) .coords) (given coords))) ⌝ }
 {
     let n = count(s, 8);
     let mut at = pieces_from(s);
@@ -243,7 +247,8 @@ pub fn read(
     faces: &mut [u32],
     coords: &mut [f64],
 ) -> Slip
-    ensures { λ r. ⌜ (r, rows (left vertices) (left triangles) (left flags) (left kinds) (left faces) (left coords)) ≡ reading (given s) (rows (given vertices) (given triangles) (given flags) (given kinds) (given faces) (given coords)) ⌝ }
+    ensures { λ r. ⌜ (r, rows (left vertices) (left triangles) (left flags) (left kinds) (left faces) (left coords)) ≡ reading (given s)
+        (rows (given vertices) (given triangles) (given flags) (given kinds) (given faces) (given coords)) ⌝ }
 {
     let vertex_room = least(vertices.len() / 3, flags.len());
     let piece_room = least(kinds.len(), least(faces.len(), coords.len() / 6));

@@ -159,7 +159,8 @@ fn put_slip(
     limit: f64,
     out: &mut [u8],
 ) -> usize
-    requires { ⌜ (length (now vertices) ≤ 72_057_594_037_927_936) × ((length (now triangles) ≤ 72_057_594_037_927_936) × ((length (now flags) ≤ 72_057_594_037_927_936) × (length (now kinds) ≤ 72_057_594_037_927_936))) ⌝ }
+    requires { ⌜ (length (now vertices) ≤ 72_057_594_037_927_936) ×
+        ((length (now triangles) ≤ 72_057_594_037_927_936) × ((length (now flags) ≤ 72_057_594_037_927_936) × (length (now kinds) ≤ 72_057_594_037_927_936))) ⌝ }
     ensures { λ r. ⌜ Puts (given out) 0 (slipOf (job (given vertices) (given triangles) (given flags) (given kinds) (given faces) (given coords) limit)) (left out) r ⌝ }
 {
     let a = put_counts(out, vertices.len() / 3, triangles.len() / 3, kinds.len());

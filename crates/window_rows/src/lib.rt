@@ -74,11 +74,19 @@ fn answer_windows(
     window_words: &mut [u32],
     window_reals: &mut [f64],
 )
-    requires { ⌜ (n .edges ≤ slotsOf (length (now «edge_words»)) wordsPerEdge) × ((n .windows ≤ capacityOf (length (now words)) (length (now reals))) × (count ≤ capacityOf (length (now «window_words»)) (length (now «window_reals»)))) ⌝ }
-    ensures { λ r. ⌜ left numbers ≡ writtenRow (windowNumbers n (fieldSlices (given «edge_words») (given «edge_reals») (given «triangle_words») (given «triangle_reals») (given vertex) (given words) (given reals) (given «entry_words»)) (given edges) (given places)) count (given numbers) ⌝ }
-    ensures { λ r. ⌜ left ids ≡ writtenRow (windowIds n (fieldSlices (given «edge_words») (given «edge_reals») (given «triangle_words») (given «triangle_reals») (given vertex) (given words) (given reals) (given «entry_words»)) (given edges) (given places)) count (given ids) ⌝ }
-    ensures { λ r. ⌜ left «window_words» ≡ storedRow (windowWords n (fieldSlices (given «edge_words») (given «edge_reals») (given «triangle_words») (given «triangle_reals») (given vertex) (given words) (given reals) (given «entry_words»)) (given edges) (given places)) count (given «window_words») ⌝ }
-    ensures { λ r. ⌜ left «window_reals» ≡ storedRow (windowReals n (fieldSlices (given «edge_words») (given «edge_reals») (given «triangle_words») (given «triangle_reals») (given vertex) (given words) (given reals) (given «entry_words»)) (given edges) (given places)) count (given «window_reals») ⌝ }
+    requires { ⌜ (n .edges ≤ slotsOf (length (now «edge_words»)) wordsPerEdge) ×
+        ((n .windows ≤ capacityOf (length (now words)) (length (now reals))) × (count ≤ capacityOf (length (now «window_words»)) (length (now «window_reals»)))) ⌝ }
+    ensures { λ r. ⌜ left numbers ≡ writtenRow (windowNumbers n
+        (fieldSlices (given «edge_words») (given «edge_reals») (given «triangle_words») (given «triangle_reals») (given vertex) (given words) (given reals) (given «entry_words»)) (given edges)
+        (given places)) count (given numbers) ⌝ }
+    ensures { λ r. ⌜ left ids ≡ writtenRow (windowIds n (fieldSlices (given «edge_words») (given «edge_reals») (given «triangle_words») (given «triangle_reals») (given vertex) (given words)
+        (given reals) (given «entry_words»)) (given edges) (given places)) count (given ids) ⌝ }
+    ensures { λ r. ⌜ left «window_words» ≡ storedRow (windowWords n
+        (fieldSlices (given «edge_words») (given «edge_reals») (given «triangle_words») (given «triangle_reals») (given vertex) (given words) (given reals) (given «entry_words»)) (given edges)
+        (given places)) count (given «window_words») ⌝ }
+    ensures { λ r. ⌜ left «window_reals» ≡ storedRow (windowReals n
+        (fieldSlices (given «edge_words») (given «edge_reals») (given «triangle_words») (given «triangle_reals») (given vertex) (given words) (given reals) (given «entry_words»)) (given edges)
+        (given places)) count (given «window_reals») ⌝ }
 {
     let mut i: u32 = 0;
     while i < count {
@@ -129,8 +137,10 @@ pub fn windows_at(
     window_words: &mut [u32],
     window_reals: &mut [f64],
 ) -> RowAnswer
-    ensures { λ r. ⌜ windowResult r (left numbers) (left ids) (left «window_words») (left «window_reals») ≡ windowRow (jobSlices (given vertices) (given triangles) (given kinds) (given faces) (given coords))
-        (fieldSlices (given «edge_words») (given «edge_reals») (given «triangle_words») (given «triangle_reals») (given vertex) (given words) (given reals) (given «entry_words»)) (given numbers) (given ids) (given «window_words») (given «window_reals») computed (given edges) (given places) ⌝ }
+    ensures { λ r. ⌜ windowResult r (left numbers) (left ids) (left «window_words») (left «window_reals») ≡ windowRow
+        (jobSlices (given vertices) (given triangles) (given kinds) (given faces) (given coords))
+        (fieldSlices (given «edge_words») (given «edge_reals») (given «triangle_words») (given «triangle_reals») (given vertex) (given words) (given reals) (given «entry_words»)) (given numbers)
+        (given ids) (given «window_words») (given «window_reals») computed (given edges) (given places) ⌝ }
 {
     let Computed::Field(n) = computed else {
         return RowAnswer::NoField;
