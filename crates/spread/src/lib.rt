@@ -13,7 +13,7 @@ ghost use Rattle.offers.specs.Walks.{AddsCandidates};
 ghost use Rattle.spread_offers.specs.Spreading.{spreadCandidates};
 ghost use Rattle.spread.specs.Walk.{SpreadIn};
 
-// All candidates of a window or of a vertex, one after the other.
+// All candidates of a window or of a vertex, one after the other. What both candidates of a window ask for is read once: no addition changes it.
 pub fn spread(
     vertices: &[f64],
     triangles: &[u32],
@@ -41,19 +41,28 @@ pub fn spread(
         (SpreadIn (given triangles) (given «vertex_words») (given round) s) (λ triangles. spreadCandidates (given vertices) triangles s)
         counts (before «edge_words» words reals keys events vertex) (cutsBefore pts out keep next) r (after «edge_words» words reals keys events vertex) ⌝ }
 {
+    let o = spread_offers::find_opposite(
+        vertices,
+        triangles,
+        edge_words,
+        edge_reals,
+        triangle_words,
+        triangle_reals,
+        s,
+    );
     let n = spread_offers::spread_count(vertex_words, s);
     let mut now = counts;
     let mut i = 0;
     while i < n {
-        let o = spread_offers::spread_offer(
+        let x = spread_offers::spread_offer(
             vertices,
-            triangles,
             edge_words,
             edge_reals,
             triangle_words,
             triangle_reals,
             vertex_words,
             round,
+            o,
             s,
             i,
         );
@@ -71,7 +80,7 @@ pub fn spread(
             keep,
             next,
             now,
-            o,
+            x,
             limit,
         );
         match added {

@@ -1,5 +1,5 @@
 -- All that is offered as one numbered row, in the Rust's order: candidate i of a vertex is to side i % 3 of face i / 3 round it. Assumes nothing.
---     spread-all (the row is the Rust's list), spread-held (candidate i as it is read), spread-there (its edge is one of the mesh's)
+--     spread-all (the row is the Rust's list), opposite-is-held and spread-held (the face ahead and candidate i as they are read), spread-there (its edge is one of the mesh's)
 use Prim.Native.Nat.{ℕ, _+_, _*_, _/_, _%_, _<_, min}
 use native.Mathlib.Omega.{arith}
 use mathlib.Core.List.{List}
@@ -7,6 +7,7 @@ use mathlib.Core.Path.{_≡_, refl, ap, _∙_}
 use borrow.Author.Tests.{lt-ltb}
 use lib.ListN.{length, getD}
 use lib.Ieee.{Float}
+use Rattle.float64.specs.Scalar.{zero64}
 use Rattle.job_checks.specs.Sound.{ValidTriangles}
 use Rattle.topology.specs.Edges.{vertexFaces}
 use Rattle.mesh_readers.specs.Held.{HoldsMesh, HoldsRound}
@@ -19,16 +20,22 @@ use Rattle.offers.specs.Offers.{offerList, EdgeThere}
 use Rattle.offers.specs.Each.{eachOf}
 use Rattle.offers.specs.Walks.{MeshIn, edgeData}
 use Rattle.offers.proofs.Each.{each-same, by-blocks}
+use Rattle.spread_offers.specs.declared.Opposite.{Opposite}
 use Rattle.spread_offers.specs.declared.Spread.{Spread}
 use Rattle.spread_offers.specs.declared.Spread.the-variants.{Window, Vertex}
 use Rattle.spread_offers.specs.Offering.{propagateOffer, emitOffer, emitOfferAt}
-use Rattle.spread_offers.specs.Spreading.{propagateCandidates, emitCandidates, spreadCandidates, SpreadOf, mostFaces, spreadCountAt, roundOfferAt, spreadOfferAt}
-use Rattle.spread_offers.proofs.Held.{propagate-held, propagate-there, emit-held, emit-there}
+use Rattle.spread_offers.specs.Spreading.{propagateCandidates, emitCandidates, spreadCandidates, SpreadOf, mostFaces, spreadCountAt, roundOfferAt, oppositeAt, spreadOfferAt}
+use Rattle.spread_offers.proofs.Held.{oppositeOf, opposite-held, propagate-held, propagate-there, emit-held, emit-there}
 
 -- candidate i of a mesh
 unfoldable pub spreadNth : List Float → List ℕ → Spread → ℕ → Offered
 spreadNth v triangles (Window e g b0 b1 src) i = propagateOffer v triangles (e .0) (g .0) b0 b1 src i
 spreadNth v triangles (Vertex vx d) i = emitOffer v triangles (getD (vertexFaces triangles (vx .0)) (i / 3) 0) (i % 3) (vx .0) d
+
+-- what both candidates of a window ask for, of a mesh
+unfoldable pub spreadOpposite : List Float → List ℕ → Spread → Opposite
+spreadOpposite v triangles (Window e g b0 b1 src) = oppositeOf v triangles (e .0) (g .0)
+spreadOpposite v triangles (Vertex vx d) = record { c = vx; ahead = record { l = zero64; cx = zero64; cy = zero64 } }
 
 -- as many faces as a mesh can have round a vertex are counted
 count-is : (triangles : List ℕ) (n : ℕ) → ValidTriangles triangles n → (vw round : List ℕ) → HoldsRound triangles n vw round → (k : ℕ) → k < n → min (degreeAt vw k) mostFaces ≡ length (vertexFaces triangles k)
@@ -70,10 +77,15 @@ module _ (v : List Float) (triangles : List ℕ) (n : ℕ) (ew : List ℕ) (er :
         ((λ t. emitOfferAt v ew er tw tr (R t) (i % 3) vx d)
         ∙ emit-held v triangles n ew er tw tr held (getD (vertexFaces triangles vx) (i / 3) 0) (round-there triangles vx (held .valid .whole) (i / 3) m) (i % 3) (omega arith) vx d)
 
-    pub spread-held : (s : Spread) → SpreadOf triangles n s → (i : ℕ) → i < spreadCountAt vw s → spreadOfferAt v triangles ew er tw tr vw round s i ≡ spreadNth v triangles s i
-    unfolding spreadCountAt spreadOfferAt spreadNth
-    spread-held (Window e g b0 b1 src) of i q = propagate-held v triangles n ew er tw tr held (e .0) (g .0) (of .0) (of .1) b0 b1 src i
-    spread-held (Vertex vx d) of i q = round-held-of (vx .0) of d i q
+    pub opposite-is-held : (s : Spread) → SpreadOf triangles n s → oppositeAt v triangles ew er tw tr s ≡ spreadOpposite v triangles s
+    unfolding oppositeAt spreadOpposite
+    opposite-is-held (Window e g b0 b1 src) of = opposite-held v triangles n ew er tw tr held e g (of .0) (of .1) b0 b1 src
+    opposite-is-held (Vertex vx d) of = refl
+
+    pub spread-held : (s : Spread) → SpreadOf triangles n s → (o : Opposite) → o ≡ spreadOpposite v triangles s → (i : ℕ) → i < spreadCountAt vw s → spreadOfferAt v ew er tw tr vw round o s i ≡ spreadNth v triangles s i
+    unfolding spreadCountAt spreadOfferAt spreadNth spreadOpposite
+    spread-held (Window e g b0 b1 src) of o O i q = propagate-held v triangles n ew er tw tr held (e .0) (g .0) (of .0) (of .1) o O b0 b1 src i
+    spread-held (Vertex vx d) of o O i q = round-held-of (vx .0) of d i q
 
   pub spread-there : MeshIn v triangles n ew er tw tr → (s : Spread) → SpreadOf triangles n s → (i : ℕ) → i < spreadCountAt vw s → EdgeThere (edgeData v triangles) ew er (spreadNth v triangles s i)
   unfolding spreadCountAt spreadNth

@@ -30,7 +30,9 @@ use Rattle.offers.specs.declared.Offered.{Offered}
 use Rattle.offers.specs.declared.Offered.the-variants.{Nothing}
 use Rattle.source_offers.specs.Offering.{offered}
 use Rattle.spread_offers.specs.Offering.{sideNumber, sideEnd, nextEdgeOf, atEnd, aheadAt, nextEdgeAt, propagateOfferAt, emitOfferAt}
-use Rattle.spread_offers.specs.Spreading.{roundOfferAt}
+use Rattle.spread_offers.specs.declared.Spread.the-variants.{Window}
+use Rattle.spread_offers.specs.declared.Opposite.{Opposite}
+use Rattle.spread_offers.specs.Spreading.{roundOfferAt, oppositeAt}
 
 -- ---- an edge and its ends
 module _ (ew : List ℕ) (e : ℕ) (both : EdgeEnds) (read : both ≡ endsAt ew e) where
@@ -62,6 +64,22 @@ module _ (ew : List ℕ) (e : ℕ) (both : EdgeEnds) (read : both ≡ endsAt ew 
       (λ i. record { p = hp i; q = hq i; ln = hl i })
       ∙ (λ i. record { p = vertexOf (there i .a) (read i .a) (read i .b); q = vertexOf (there i .b) (read i .a) (read i .b); ln = lengthAt er ne })
 
+-- ---- a window passes on
+module _ (ew : List ℕ) (er : List Float) (tw : List ℕ) where
+  pub propagate-is : (o : Opposite) (e g : ℕ) (b0 b1 : Float) (src : Src) (k : ℕ) (side : Side) → side ≡ sideNumber k
+      → (from : VertexId) → from ≡ record { 0 = sideEnd side (edgeAt ew e) } → (ne : EdgeId) → ne ≡ record { 0 = edgeBetweenAt ew tw g (from .0) (o .c .0) } → (next : NextEdge) → next ≡ nextEdgeAt ew er e (ne .0)
+      → (range : CandidateRange) → range ≡ propagateOf src (record { b0 = b0; b1 = b1 }) (o .ahead) side next → (beyond : FaceId) → beyond ≡ record { 0 = otherAt ew (ne .0) g } → (r : Offered) → r ≡ offered (ne .0) (beyond .0) true range
+      → r ≡ propagateOfferAt ew er tw o e g b0 b1 src k
+  unfolding propagateOfferAt
+  propagate-is o e g b0 b1 src k side hs from hf ne hn next hx range hr beyond hb r h =
+      let w : Bounds = record { b0 = b0; b1 = b1 } in
+      let N : ne .0 ≡ edgeBetweenAt ew tw g (sideEnd side (edgeAt ew e)) (o .c .0) = (λ i. hn i .0) ∙ (λ i. edgeBetweenAt ew tw g (hf i .0) (o .c .0)) in
+      h
+      ∙ (λ i. offered (ne .0) (hb i .0) true (hr i))
+      ∙ (λ i. offered (ne .0) (otherAt ew (ne .0) g) true (propagateOf src w (o .ahead) side (hx i)))
+      ∙ (λ i. offered (N i) (otherAt ew (N i) g) true (propagateOf src w (o .ahead) side (nextEdgeAt ew er e (N i))))
+      ∙ (λ i. let z = edgeBetweenAt ew tw g (sideEnd (hs i) (edgeAt ew e)) (o .c .0) in offered z (otherAt ew z g) true (propagateOf src w (o .ahead) (hs i) (nextEdgeAt ew er e z)))
+
 module _ (v : List Float) (ew : List ℕ) (er : List Float) (tw : List ℕ) (tr : List Float) where
   pub ahead-is : (e g c : ℕ) (l : Float) → l ≡ lengthAt er e → (x : Vec3) → x ≡ vertexAt v c → (p : FrameCoords) → p ≡ coordsAt v ew er tw tr e g x → _≡_ {A = FaceAhead} (record { l = l; cx = p .x; cy = p .y }) (aheadAt v ew er tw tr e g c)
   unfolding aheadAt
@@ -69,20 +87,13 @@ module _ (v : List Float) (ew : List ℕ) (er : List Float) (tw : List ℕ) (tr 
       let P : p ≡ coordsAt v ew er tw tr e g (vertexAt v c) = hp ∙ ap (coordsAt v ew er tw tr e g) hx in
       λ i. record { l = hl i; cx = P i .x; cy = P i .y }
 
-  -- ---- a window passes on
-  pub propagate-is : (t : List ℕ) (e g : ℕ) (b0 b1 : Float) (src : Src) (k : ℕ) (c : VertexId) → c ≡ record { 0 = thirdAt t ew e g } → (ahead : FaceAhead) → ahead ≡ aheadAt v ew er tw tr e g (c .0) → (side : Side) → side ≡ sideNumber k
-      → (from : VertexId) → from ≡ record { 0 = sideEnd side (edgeAt ew e) } → (ne : EdgeId) → ne ≡ record { 0 = edgeBetweenAt ew tw g (from .0) (c .0) } → (next : NextEdge) → next ≡ nextEdgeAt ew er e (ne .0)
-      → (range : CandidateRange) → range ≡ propagateOf src (record { b0 = b0; b1 = b1 }) ahead side next → (beyond : FaceId) → beyond ≡ record { 0 = otherAt ew (ne .0) g } → (r : Offered) → r ≡ offered (ne .0) (beyond .0) true range
-      → r ≡ propagateOfferAt v t ew er tw tr e g b0 b1 src k
-  unfolding propagateOfferAt
-  propagate-is t e g b0 b1 src k c hc ahead ha side hs from hf ne hn next hx range hr beyond hb r h =
-      let w : Bounds = record { b0 = b0; b1 = b1 } in
-      let N : ne .0 ≡ edgeBetweenAt ew tw g (sideEnd side (edgeAt ew e)) (c .0) = (λ i. hn i .0) ∙ (λ i. edgeBetweenAt ew tw g (hf i .0) (c .0)) in
-      h
-      ∙ (λ i. offered (ne .0) (hb i .0) true (hr i))
-      ∙ (λ i. offered (ne .0) (otherAt ew (ne .0) g) true (propagateOf src w (ha i) side (hx i)))
-      ∙ (λ i. offered (N i) (otherAt ew (N i) g) true (propagateOf src w (aheadAt v ew er tw tr e g (c .0)) side (nextEdgeAt ew er e (N i))))
-      ∙ (λ i. let z = edgeBetweenAt ew tw g (sideEnd (hs i) (edgeAt ew e)) (hc i .0) in offered z (otherAt ew z g) true (propagateOf src w (aheadAt v ew er tw tr e g (hc i .0)) (hs i) (nextEdgeAt ew er e z)))
+  -- ---- the face ahead
+  pub opposite-is : (t : List ℕ) (e : EdgeId) (g : FaceId) (b0 b1 : Float) (src : Src) (c : VertexId) → c ≡ record { 0 = thirdAt t ew (e .0) (g .0) } → (ahead : FaceAhead) → ahead ≡ aheadAt v ew er tw tr (e .0) (g .0) (c .0)
+      → _≡_ {A = Opposite} (record { c = c; ahead = ahead }) (oppositeAt v t ew er tw tr (Window e g b0 b1 src))
+  unfolding oppositeAt
+  opposite-is t e g b0 b1 src c hc ahead ha =
+      let A : ahead ≡ aheadAt v ew er tw tr (e .0) (g .0) (thirdAt t ew (e .0) (g .0)) = ha ∙ (λ i. aheadAt v ew er tw tr (e .0) (g .0) (hc i .0)) in
+      λ i. record { c = hc i; ahead = A i }
 
   -- ---- a vertex emits
   module _ (g k vx : ℕ) (d : Float) (e : EdgeId) (side : e ≡ record { 0 = sideIn tw g k }) (on : Bool) (hon : on ≡ atEnd vx (edgeAt ew (e .0))) where

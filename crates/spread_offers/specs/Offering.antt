@@ -11,7 +11,7 @@ use Rattle.job_checks.specs.Edge.{vertexAt}
 use Rattle.topology.specs.Edges.{EndPair, noEdge, edges, triEdge, other, third, edgeBetween}
 use Rattle.topology.specs.Frames.{len, coordsX, coordsY}
 use Rattle.frames.specs.Stored.{lengthAt}
-use Rattle.mesh_readers.specs.Readers.{edgeAt, otherAt, sideIn, thirdAt, edgeBetweenAt, coordsAt}
+use Rattle.mesh_readers.specs.Readers.{edgeAt, otherAt, sideIn, edgeBetweenAt, coordsAt}
 use Rattle.source.specs.declared.Src.{Src}
 use Rattle.propagation.specs.declared.Side.{Side}
 use Rattle.propagation.specs.declared.Side.the-variants.{First, Second}
@@ -22,6 +22,7 @@ use Rattle.propagation.specs.Propagate.{propagateOf, emitOf}
 use Rattle.offers.specs.declared.Offered.{Offered}
 use Rattle.offers.specs.declared.Offered.the-variants.{Nothing}
 use Rattle.source_offers.specs.Offering.{offered}
+use Rattle.spread_offers.specs.declared.Opposite.{Opposite}
 
 -- turn k of `for (side, r0, r1) in [(a, ..), (b, ..)]`, and its `side`
 unfoldable pub sideNumber : ℕ → Side
@@ -85,12 +86,11 @@ module _ (v : List Float) (edgeWords : List ℕ) (edgeReals : List Float) (trian
 abbrev pub nextEdgeAt : List ℕ → List Float → ℕ → ℕ → NextEdge
 nextEdgeAt edgeWords edgeReals e ne = nextEdgeOf (edgeAt edgeWords e) (edgeAt edgeWords ne) (lengthAt edgeReals ne)
 
-module _ (v : List Float) (triangles edgeWords : List ℕ) (edgeReals : List Float) (triangleWords : List ℕ) (triangleReals : List Float) where
-  unfoldable pub propagateOfferAt : ℕ → ℕ → Float → Float → Src → ℕ → Offered
+module _ (edgeWords : List ℕ) (edgeReals : List Float) (triangleWords : List ℕ) where
+  -- o is the face ahead
+  unfoldable pub propagateOfferAt : Opposite → ℕ → ℕ → Float → Float → Src → ℕ → Offered
   unfolding offered
-  propagateOfferAt e g b0 b1 src k =
-      let c = thirdAt triangles edgeWords e g in
+  propagateOfferAt o e g b0 b1 src k =
       let side = sideNumber k in
-      let ne = edgeBetweenAt edgeWords triangleWords g (sideEnd side (edgeAt edgeWords e)) c in
-      offered ne (otherAt edgeWords ne g) true
-      (propagateOf src (record { b0 = b0; b1 = b1 }) (aheadAt v edgeWords edgeReals triangleWords triangleReals e g c) side (nextEdgeAt edgeWords edgeReals e ne))
+      let ne = edgeBetweenAt edgeWords triangleWords g (sideEnd side (edgeAt edgeWords e)) (o .c .0) in
+      offered ne (otherAt edgeWords ne g) true (propagateOf src (record { b0 = b0; b1 = b1 }) (o .ahead) side (nextEdgeAt edgeWords edgeReals e ne))

@@ -4,9 +4,10 @@ use mathlib.Core.List.{List}
 use lib.Dec.{ltb}
 use lib.ListN.{length, getD}
 use lib.Ieee.{Float}
+use Rattle.float64.specs.Scalar.{zero64}
 use Rattle.float64.specs.Notation.{if_then_else_}
 use Rattle.topology.specs.Edges.{edges, vertexFaces}
-use Rattle.mesh_readers.specs.Readers.{degreeAt, rangeAt, roundAt}
+use Rattle.mesh_readers.specs.Readers.{thirdAt, degreeAt, rangeAt, roundAt}
 use Rattle.source.specs.declared.Src.{Src}
 use Rattle.trim_model.specs.Model.{Candidate}
 use Rattle.offers.specs.declared.Offered.{Offered}
@@ -15,7 +16,8 @@ use Rattle.offers.specs.Offers.{offerList}
 use Rattle.offers.specs.Each.{eachOf}
 use Rattle.spread_offers.specs.declared.Spread.{Spread}
 use Rattle.spread_offers.specs.declared.Spread.the-variants.{Window, Vertex}
-use Rattle.spread_offers.specs.Offering.{propagateOffer, emitOffer, propagateOfferAt, emitOfferAt}
+use Rattle.spread_offers.specs.declared.Opposite.{Opposite}
+use Rattle.spread_offers.specs.Offering.{propagateOffer, emitOffer, aheadAt, propagateOfferAt, emitOfferAt}
 
 -- ---- of a mesh
 module _ (v : List Float) (triangles : List ℕ) where
@@ -53,7 +55,15 @@ module _ (v : List Float) (edgeWords : List ℕ) (edgeReals : List Float) (trian
       if ltb (i / 3) (degreeAt vertexWords vx) then emitOfferAt v edgeWords edgeReals triangleWords triangleReals (roundAt round (rangeAt vertexWords vx .start + i / 3)) (i % 3) vx d else
       Nothing
 
-module _ (v : List Float) (triangles edgeWords : List ℕ) (edgeReals : List Float) (triangleWords : List ℕ) (triangleReals : List Float) (vertexWords round : List ℕ) where
+-- what both candidates of a window ask for; those of a vertex ask for nothing
+module _ (v : List Float) (triangles edgeWords : List ℕ) (edgeReals : List Float) (triangleWords : List ℕ) (triangleReals : List Float) where
+  unfoldable pub oppositeAt : Spread → Opposite
+  oppositeAt (Window e g b0 b1 src) =
+      let c = thirdAt triangles edgeWords (e .0) (g .0) in
+      record { c = record { 0 = c }; ahead = aheadAt v edgeWords edgeReals triangleWords triangleReals (e .0) (g .0) c }
+  oppositeAt (Vertex vx d) = record { c = vx; ahead = record { l = zero64; cx = zero64; cy = zero64 } }
+
+module _ (v : List Float) (edgeWords : List ℕ) (edgeReals : List Float) (triangleWords : List ℕ) (triangleReals : List Float) (vertexWords round : List ℕ) (o : Opposite) where
   unfoldable pub spreadOfferAt : Spread → ℕ → Offered
-  spreadOfferAt (Window e g b0 b1 src) i = propagateOfferAt v triangles edgeWords edgeReals triangleWords triangleReals (e .0) (g .0) b0 b1 src i
+  spreadOfferAt (Window e g b0 b1 src) i = propagateOfferAt edgeWords edgeReals triangleWords o (e .0) (g .0) b0 b1 src i
   spreadOfferAt (Vertex vx d) i = roundOfferAt v edgeWords edgeReals triangleWords triangleReals vertexWords round (vx .0) d i

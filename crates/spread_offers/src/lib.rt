@@ -26,7 +26,7 @@ ghost use mathlib.Core.Path.{_≡_};
 ghost use Rattle.buffers.specs.Lent.{given};
 ghost use Rattle.mesh_readers.specs.Readers.{edgeAt};
 ghost use Rattle.spread_offers.specs.Offering.{sideNumber, sideEnd, aheadAt, nextEdgeAt, atEnd, propagateOfferAt, emitOfferAt};
-ghost use Rattle.spread_offers.specs.Spreading.{spreadCountAt, roundOfferAt, spreadOfferAt};
+ghost use Rattle.spread_offers.specs.Spreading.{spreadCountAt, roundOfferAt, oppositeAt, spreadOfferAt};
 
 // What passes distances on: a window of an edge into a face, or a vertex at distance d.
 pub enum Spread {
@@ -41,6 +41,12 @@ pub enum Spread {
         vertex: VertexId,
         d: f64,
     },
+}
+
+// The face that a window goes into, and its vertex opposite to the window's edge.
+pub struct Opposite {
+    pub c: VertexId,
+    pub ahead: FaceAhead,
 }
 
 // The face that a window of edge e goes into; c is its third vertex.
@@ -106,14 +112,12 @@ fn next_edge(edge_words: &[u32], edge_reals: &[f64], e: EdgeId, ne: EdgeId) -> N
     NextEdge { p, q, ln }
 }
 
-// The window b0 to b1 of edge e that goes into face g, to the next edge at e's first end (k is 0) or at its second.
+// The window b0 to b1 of edge e that goes into face g, to the next edge at e's first end (k is 0) or at its second; o is the face ahead.
 pub fn propagate_offer(
-    vertices: &[f64],
-    triangles: &[u32],
     edge_words: &[u32],
     edge_reals: &[f64],
     triangle_words: &[u32],
-    triangle_reals: &[f64],
+    o: Opposite,
     e: EdgeId,
     g: FaceId,
     b0: f64,
@@ -121,20 +125,10 @@ pub fn propagate_offer(
     src: Src,
     k: u32,
 ) -> Offered
-    ensures { λ r. ⌜ r ≡ propagateOfferAt (given vertices) (given triangles) (given «edge_words») (given «edge_reals») (given «triangle_words») (given «triangle_reals»)
-        (e .0) (g .0) b0 b1 src k ⌝ }
+    ensures { λ r. ⌜ r ≡ propagateOfferAt (given «edge_words») (given «edge_reals») (given «triangle_words») o (e .0) (g .0) b0 b1 src k ⌝ }
 {
-    let c = third(triangles, edge_words, e, g);
-    let ahead = face_ahead(
-        vertices,
-        edge_words,
-        edge_reals,
-        triangle_words,
-        triangle_reals,
-        e,
-        g,
-        c,
-    );
+    let c = o.c;
+    let ahead = o.ahead;
     let side = side_number(k);
     let from = side_end(edge_words, e, side);
     let ne = edge_between(edge_words, triangle_words, g, from, c);
@@ -249,21 +243,65 @@ fn round_offer(
     )
 }
 
-// Candidate i.
-pub fn spread_offer(
+// What both candidates of a window ask for.
+pub fn find_opposite(
     vertices: &[f64],
     triangles: &[u32],
     edge_words: &[u32],
     edge_reals: &[f64],
     triangle_words: &[u32],
     triangle_reals: &[f64],
+    s: Spread,
+) -> Opposite
+    ensures { λ r. ⌜ r ≡ oppositeAt (given vertices) (given triangles) (given «edge_words») (given «edge_reals») (given «triangle_words») (given «triangle_reals») s ⌝ }
+{
+    match s {
+        Spread::Window {
+            edge,
+            into,
+            b0: _,
+            b1: _,
+            src: _,
+        } => {
+            let c = third(triangles, edge_words, edge, into);
+            let ahead = face_ahead(
+                vertices,
+                edge_words,
+                edge_reals,
+                triangle_words,
+                triangle_reals,
+                edge,
+                into,
+                c,
+            );
+            Opposite { c, ahead }
+        }
+        Spread::Vertex { vertex, d: _ } => {
+            let ahead = FaceAhead {
+                l: 0.0,
+                cx: 0.0,
+                cy: 0.0,
+            };
+            Opposite { c: vertex, ahead }
+        }
+    }
+}
+
+// Candidate i; o is what `find_opposite` tells.
+pub fn spread_offer(
+    vertices: &[f64],
+    edge_words: &[u32],
+    edge_reals: &[f64],
+    triangle_words: &[u32],
+    triangle_reals: &[f64],
     vertex_words: &[u32],
     round: &[u32],
+    o: Opposite,
     s: Spread,
     i: u32,
 ) -> Offered
-    ensures { λ r. ⌜ r ≡ spreadOfferAt (given vertices) (given triangles) (given «edge_words») (given «edge_reals») (given «triangle_words») (given «triangle_reals»)
-        (given «vertex_words») (given round) s i ⌝ }
+    ensures { λ r. ⌜ r ≡ spreadOfferAt (given vertices) (given «edge_words») (given «edge_reals») (given «triangle_words») (given «triangle_reals»)
+        (given «vertex_words») (given round) o s i ⌝ }
 {
     match s {
         Spread::Window {
@@ -273,12 +311,10 @@ pub fn spread_offer(
             b1,
             src,
         } => propagate_offer(
-            vertices,
-            triangles,
             edge_words,
             edge_reals,
             triangle_words,
-            triangle_reals,
+            o,
             edge,
             into,
             b0,

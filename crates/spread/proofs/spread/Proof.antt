@@ -1,32 +1,36 @@
 -- `spread::spread` meets its contract. Assumes nothing.
 use Prim.Native.Nat.{_-_}
 use native.Mathlib.Omega.{arith}
-use mathlib.Core.Path.{_∙_}
+use mathlib.Core.Path.{refl, _∙_}
 use Rattle.cut_lists.specs.Buffers.{cutBuffers}
 use Rattle.trim.specs.Buffers.{slices}
 use Rattle.offers.proofs.Walks.{sizes-same}
 use Rattle.offers.proofs.Loop.{LoopInv, loop-start, loop-fits, loop-next, loop-stopped, loop-over}
-use Rattle.spread.proofs.Laws.{reads-spread}
+use Rattle.spread.proofs.Laws.{reads-spread, read-first}
 use borrow.Author.Needs.{needs}
 use Rattle.spread.proofs.spread.Statement.{statement}
 use Rattle.spread.proofs.spread.Tie as tie
 
 abbrev Inv-loop : tie.InvT-loop
-Inv-loop vertices triangles edges₀ words₀ reals₀ keys₀ events₀ vertex₀ vertexWords round edgeReals triangleWords triangleReals pts₀ out₀ keep₀ next₀ s limit n now₀ i₀ edges words reals keys events vertex pts out keep next now i =
-    LoopInv limit vertexWords (reads-spread vertices triangles edgeReals triangleWords triangleReals vertexWords round s) now₀ (slices edges₀ words₀ reals₀ keys₀ events₀ vertex₀) (cutBuffers pts₀ out₀ keep₀ next₀)
+Inv-loop vertices triangles edges₀ words₀ reals₀ keys₀ events₀ vertex₀ vertexWords round edgeReals triangleWords triangleReals pts₀ out₀ keep₀ next₀ s limit o n now₀ i₀ edges words reals keys events vertex pts out keep next now i =
+    LoopInv limit vertexWords (reads-spread vertices triangles edgeReals triangleWords triangleReals vertexWords round s edges₀ o) now₀ (slices edges₀ words₀ reals₀ keys₀ events₀ vertex₀) (cutBuffers pts₀ out₀ keep₀ next₀)
     (slices edges words reals keys events vertex) (cutBuffers pts out keep next) now i
 
 abbrev μ-loop : tie.MeasureT-loop
-μ-loop vertices triangles edges₀ words₀ reals₀ keys₀ events₀ vertex₀ vertexWords round edgeReals triangleWords triangleReals pts₀ out₀ keep₀ next₀ s limit n now₀ i₀ edges words reals keys events vertex pts out keep next now i = n - i
+μ-loop vertices triangles edges₀ words₀ reals₀ keys₀ events₀ vertex₀ vertexWords round edgeReals triangleWords triangleReals pts₀ out₀ keep₀ next₀ s limit o n now₀ i₀ edges words reals keys events vertex pts out keep next now i = n - i
+
+find-opposite-requires : tie.Need-find-opposite-requires Inv-loop μ-loop
+find-opposite-requires c κs = search needs
 
 spread-count-requires : tie.Need-spread-count-requires Inv-loop μ-loop
 spread-count-requires c κs = search needs
 
 loop-holds : tie.Need-loop-holds Inv-loop μ-loop
 loop-holds c =
-    let start = c .before .before .before .before .before .before .before .before .before .before .before .before .before .before .before .before .before .before in
+    let face = c .before in
+    let start = face .before .before .before .before .before .before .before .before .before .before .before .before .before .before .before .before .before .before .before in
     let a = start .args in
-    loop-start (a .limit) (a .vertex-words .now) (reads-spread (a .vertices .now) (a .triangles .now) (a .edge-reals .now) (a .triangle-words .now) (a .triangle-reals .now) (a .vertex-words .now) (a .round .now) (a .s)) (a .counts)
+    loop-start (a .limit) (a .vertex-words .now) (reads-spread (a .vertices .now) (a .triangles .now) (a .edge-reals .now) (a .triangle-words .now) (a .triangle-reals .now) (a .vertex-words .now) (a .round .now) (a .s) (a .edge-words .now) (face .find-opposite .result)) (a .counts)
     (slices (a .edge-words .now) (a .words .now) (a .reals .now) (a .keys .now) (a .events .now) (a .vertex .now)) (cutBuffers (a .pts .now) (a .out .now) (a .keep .now) (a .next .now))
     (start .pre .0)
 
@@ -38,10 +42,11 @@ offer-requires c κs =
     let read = c .before .before .before .before .before .before .before .before .before .before in
     let tested = read .before .before in
     let loop = tested .before in
-    let start = loop .before .before .before .before .before .before .before .before .before .before .before .before .before .before .before .before .before .before .before in
+    let face = loop .before .before in
+    let start = face .before .before .before .before .before .before .before .before .before .before .before .before .before .before .before .before .before .before .before in
     let a = start .args in
     let l = loop .loop in (
-      loop-fits (a .limit) (a .vertex-words .now) (reads-spread (a .vertices .now) (a .triangles .now) (a .edge-reals .now) (a .triangle-words .now) (a .triangle-reals .now) (a .vertex-words .now) (a .round .now) (a .s)) (a .counts)
+      loop-fits (a .limit) (a .vertex-words .now) (reads-spread (a .vertices .now) (a .triangles .now) (a .edge-reals .now) (a .triangle-words .now) (a .triangle-reals .now) (a .vertex-words .now) (a .round .now) (a .s) (a .edge-words .now) (face .find-opposite .result)) (a .counts)
           (slices (a .edge-words .now) (a .words .now) (a .reals .now) (a .keys .now) (a .events .now) (a .vertex .now)) (cutBuffers (a .pts .now) (a .out .now) (a .keep .now) (a .next .now))
           (slices (l .edge-words) (l .words) (l .reals) (l .keys) (l .events) (l .vertex)) (cutBuffers (l .pts) (l .out) (l .keep) (l .next)) (l .now) (l .i) (l .inv)
           (omega (arith, tested .loop-test .taken, loop .before .spread-count .ensures)),
@@ -88,15 +93,18 @@ returns c =
     let read = offered .before .before .before .before .before .before .before .before .before .before .before in
     let tested = read .before .before in
     let loop = tested .before in
-    let a = loop .before .before .before .before .before .before .before .before .before .before .before .before .before .before .before .before .before .before .before .args in
+    let face = loop .before .before in
+    let a = face .before .before .before .before .before .before .before .before .before .before .before .before .before .before .before .before .before .before .before .args in
     let l = loop .loop in
     let r = offered .offer in
-    loop-stopped (a .limit) (a .vertex-words .now) (reads-spread (a .vertices .now) (a .triangles .now) (a .edge-reals .now) (a .triangle-words .now) (a .triangle-reals .now) (a .vertex-words .now) (a .round .now) (a .s)) (a .counts)
+    read-first (a .vertices .now) (a .triangles .now) (a .edge-reals .now) (a .triangle-words .now) (a .triangle-reals .now) (a .vertex-words .now) (a .round .now) (a .s) (a .edge-words .now) (face .find-opposite .result) (face .find-opposite .ensures) (a .limit) (a .counts)
+    (slices (a .edge-words .now) (a .words .now) (a .reals .now) (a .keys .now) (a .events .now) (a .vertex .now)) refl (cutBuffers (a .pts .now) (a .out .now) (a .keep .now) (a .next .now)) _ _
+    (loop-stopped (a .limit) (a .vertex-words .now) (reads-spread (a .vertices .now) (a .triangles .now) (a .edge-reals .now) (a .triangle-words .now) (a .triangle-reals .now) (a .vertex-words .now) (a .round .now) (a .s) (a .edge-words .now) (face .find-opposite .result)) (a .counts)
     (slices (a .edge-words .now) (a .words .now) (a .reals .now) (a .keys .now) (a .events .now) (a .vertex .now)) (cutBuffers (a .pts .now) (a .out .now) (a .keep .now) (a .next .now))
     (slices (l .edge-words) (l .words) (l .reals) (l .keys) (l .events) (l .vertex)) (cutBuffers (l .pts) (l .out) (l .keep) (l .next)) (l .now) (l .i) (l .inv)
     (omega (arith, tested .loop-test .taken, loop .before .spread-count .ensures)) (read .spread-offer .result) (read .spread-offer .ensures) (c .before .added .given .0 .0) (slices (r .last .0) (r .last .1 .0) (r .last .1 .1 .0) (r .last .1 .1 .1 .0) (r .last .1 .1 .1 .1 .0) (r .last .1 .1 .1 .1 .1 .0))
     (cutBuffers (r .last .1 .1 .1 .1 .1 .1 .1 .1 .0) (r .last .1 .1 .1 .1 .1 .1 .1 .1 .1 .0) (r .last .1 .1 .1 .1 .1 .1 .1 .1 .1 .1 .0) (r .last .1 .1 .1 .1 .1 .1 .1 .1 .1 .1 .1 .0))
-    (rw (c .before .added .given .1) at (r .ensures))
+    (rw (c .before .added .given .1) at (r .ensures)))
 
 enum-known-added-2 : tie.Need-enum-known-added-2 Inv-loop μ-loop
 enum-known-added-2 c = search needs
@@ -113,10 +121,11 @@ loop-again c =
     let read = offered .before .before .before .before .before .before .before .before .before .before .before in
     let tested = read .before .before in
     let loop = tested .before in
-    let a = loop .before .before .before .before .before .before .before .before .before .before .before .before .before .before .before .before .before .before .before .args in
+    let face = loop .before .before in
+    let a = face .before .before .before .before .before .before .before .before .before .before .before .before .before .before .before .before .before .before .before .args in
     let l = loop .loop in
     let r = offered .offer in
-    loop-next (a .limit) (a .vertex-words .now) (reads-spread (a .vertices .now) (a .triangles .now) (a .edge-reals .now) (a .triangle-words .now) (a .triangle-reals .now) (a .vertex-words .now) (a .round .now) (a .s)) (a .counts)
+    loop-next (a .limit) (a .vertex-words .now) (reads-spread (a .vertices .now) (a .triangles .now) (a .edge-reals .now) (a .triangle-words .now) (a .triangle-reals .now) (a .vertex-words .now) (a .round .now) (a .s) (a .edge-words .now) (face .find-opposite .result)) (a .counts)
     (slices (a .edge-words .now) (a .words .now) (a .reals .now) (a .keys .now) (a .events .now) (a .vertex .now)) (cutBuffers (a .pts .now) (a .out .now) (a .keep .now) (a .next .now))
     (slices (l .edge-words) (l .words) (l .reals) (l .keys) (l .events) (l .vertex)) (cutBuffers (l .pts) (l .out) (l .keep) (l .next)) (l .now) (l .i) (l .inv)
     (omega (arith, tested .loop-test .taken, loop .before .spread-count .ensures)) (read .spread-offer .result) (read .spread-offer .ensures) (c .before .added2 .given .0 .0) (slices (r .last .0) (r .last .1 .0) (r .last .1 .1 .0) (r .last .1 .1 .1 .0) (r .last .1 .1 .1 .1 .0) (r .last .1 .1 .1 .1 .1 .0))
@@ -157,12 +166,15 @@ same-length-20 c = c .before .loop .inv .same .next
 returns-2 : tie.Need-returns-2 Inv-loop μ-loop
 returns-2 c =
     let loop = c .before in
-    let a = loop .before .before .before .before .before .before .before .before .before .before .before .before .before .before .before .before .before .before .before .args in
+    let face = loop .before .before in
+    let a = face .before .before .before .before .before .before .before .before .before .before .before .before .before .before .before .before .before .before .before .args in
     let l = loop .loop in
-    loop-over (a .limit) (a .vertex-words .now) (reads-spread (a .vertices .now) (a .triangles .now) (a .edge-reals .now) (a .triangle-words .now) (a .triangle-reals .now) (a .vertex-words .now) (a .round .now) (a .s)) (a .counts)
+    read-first (a .vertices .now) (a .triangles .now) (a .edge-reals .now) (a .triangle-words .now) (a .triangle-reals .now) (a .vertex-words .now) (a .round .now) (a .s) (a .edge-words .now) (face .find-opposite .result) (face .find-opposite .ensures) (a .limit) (a .counts)
+    (slices (a .edge-words .now) (a .words .now) (a .reals .now) (a .keys .now) (a .events .now) (a .vertex .now)) refl (cutBuffers (a .pts .now) (a .out .now) (a .keep .now) (a .next .now)) _ _
+    (loop-over (a .limit) (a .vertex-words .now) (reads-spread (a .vertices .now) (a .triangles .now) (a .edge-reals .now) (a .triangle-words .now) (a .triangle-reals .now) (a .vertex-words .now) (a .round .now) (a .s) (a .edge-words .now) (face .find-opposite .result)) (a .counts)
     (slices (a .edge-words .now) (a .words .now) (a .reals .now) (a .keys .now) (a .events .now) (a .vertex .now)) (cutBuffers (a .pts .now) (a .out .now) (a .keep .now) (a .next .now))
     (slices (l .edge-words) (l .words) (l .reals) (l .keys) (l .events) (l .vertex)) (cutBuffers (l .pts) (l .out) (l .keep) (l .next)) (l .now) (l .i) (l .inv)
-    (omega (arith, c .loop-test .left, loop .before .spread-count .ensures))
+    (omega (arith, c .loop-test .left, loop .before .spread-count .ensures)))
 
 pub spread-spec : {M : Type 1} → statement M
 spread-spec =
@@ -170,6 +182,7 @@ spread-spec =
     (tie.spec
     Inv-loop
     μ-loop
+    find-opposite-requires
     spread-count-requires
     loop-holds
     spread-offer-requires

@@ -4,12 +4,6 @@ use borrow.Author.Needs.{needs}
 use Rattle.spread_offers.proofs.propagate_offer.Statement.{statement}
 use Rattle.spread_offers.proofs.propagate_offer.Tie as tie
 
-third-requires : tie.Need-third-requires
-third-requires c κs = search needs
-
-face-ahead-requires : tie.Need-face-ahead-requires
-face-ahead-requires c κs = search needs
-
 side-number-requires : tie.Need-side-number-requires
 side-number-requires c κs = search needs
 
@@ -39,19 +33,15 @@ returns c =
     let edge = next .before in
     let from = edge .before in
     let side = from .before in
-    let ahead = side .before in
-    let third = ahead .before in
-    let a = third .before .before .before .before .before .before .before .args in
-    propagate-is (a .vertices .now) (a .edge-words .now) (a .edge-reals .now) (a .triangle-words .now) (a .triangle-reals .now) (a .triangles .now) (a .e .0) (a .g .0) (a .b0) (a .b1) (a .src) (a .k) (third .third .result) (third .third .ensures)
-    (ahead .face-ahead .result) (ahead .face-ahead .ensures) (side .side-number .result) (side .side-number .ensures) (from .side-end .result) (from .side-end .ensures) (edge .edge-between .result) (edge .edge-between .ensures)
+    let a = side .before .before .before .before .before .before .args in
+    propagate-is (a .edge-words .now) (a .edge-reals .now) (a .triangle-words .now) (a .o) (a .e .0) (a .g .0) (a .b0) (a .b1) (a .src) (a .k)
+    (side .side-number .result) (side .side-number .ensures) (from .side-end .result) (from .side-end .ensures) (edge .edge-between .result) (edge .edge-between .ensures)
     (next .next-edge .result) (next .next-edge .ensures) (passed .propagate .result) (passed .propagate .ensures) (other .other .result) (other .other .ensures) (c .offered .result) (c .offered .ensures)
 
 pub propagate-offer-spec : {M : Type 1} → statement M
 propagate-offer-spec =
     tie.close
     (tie.spec
-    third-requires
-    face-ahead-requires
     side-number-requires
     side-end-requires
     edge-between-requires
