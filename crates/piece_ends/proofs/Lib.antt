@@ -3,4 +3,5 @@ pub mod Following
 pub mod Building
 pub mod Seeking
 pub mod Held
+pub mod NormAbove
 pub mod Unit

@@ -188,7 +188,7 @@ pub fn is_first(kinds: &[u8], coords: &[f64], words: &[u32], pieces: u32, e: u32
     leads(coords, words, pieces, e)
 }
 
-// Whether piece i is a segment of computed length above zero.
+// Whether piece i is a segment of computed length above zero. The length is a root, which is above zero exactly where its argument is.
 pub fn is_long(kinds: &[u8], coords: &[f64], i: u32) -> bool
     requires { ⌜ i < 2147483648 ⌝ }
     ensures { λ r. ⌜ r ≡ isLong (given kinds) (given coords) i ⌝ }
@@ -198,7 +198,8 @@ pub fn is_long(kinds: &[u8], coords: &[f64], i: u32) -> bool
     }
     let a = end_point(coords, 2 * i);
     let b = end_point(coords, 2 * i + 1);
-    if vec3::norm(vec3::sub(b, a)) > 0.0 {
+    let d = vec3::sub(b, a);
+    if vec3::dot(d, d) > 0.0 {
         return true;
     }
     false

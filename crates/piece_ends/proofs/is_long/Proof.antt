@@ -1,6 +1,7 @@
 -- `piece_ends::is_long` meets its contract. Assumes nothing.
-use mathlib.Core.Path.{sym, _∙_}
+use mathlib.Core.Path.{refl, sym, _∙_}
 use borrow.Author.Tests.{not-true, not-false}
+use Rattle.piece_ends.proofs.NormAbove.{norm-above, norm-not-above}
 use Rattle.piece_ends.proofs.Unit.{no-second, long-is, short-is}
 use borrow.Author.Needs.{needs}
 use Rattle.piece_ends.proofs.is_long.Statement.{statement}
@@ -39,30 +40,31 @@ end-point-requires-2 c κs = search needs
 sub-requires : tie.Need-sub-requires
 sub-requires c κs = search needs
 
-norm-requires : tie.Need-norm-requires
-norm-requires c κs = search needs
+dot-requires : tie.Need-dot-requires
+dot-requires c κs = search needs
 
 returns-2 : tie.Need-returns-2
 returns-2 c =
-    let norm = c .before in
-    let sub = norm .before in
+    let dot = c .before in
+    let sub = dot .before in
     let second = sub .before in
     let first = second .before in
     let branch = first .before in
     let test = branch .before in
     let a = test .before .before .before .args in
-    sym (long-is (a .kinds .now) (a .coords .now) (a .i) _ _ _ _ (first .end-point .ensures) (second .end-point2 .ensures) (sub .sub .ensures) (norm .norm .ensures) (sym (test .is-end .ensures) ∙ not-false _ (branch .if1 .left)) (c .if2 .taken))
+    sym (long-is (a .kinds .now) (a .coords .now) (a .i) _ _ _ _ (first .end-point .ensures) (second .end-point2 .ensures) (sub .sub .ensures) refl (sym (test .is-end .ensures) ∙ not-false _ (branch .if1 .left))
+    (norm-above (sub .sub .result) (dot .dot .result) (dot .dot .ensures) (c .if2 .taken)))
 
 returns-3 : tie.Need-returns-3
 returns-3 c =
-    let norm = c .before in
-    let sub = norm .before in
+    let dot = c .before in
+    let sub = dot .before in
     let second = sub .before in
     let first = second .before in
     let branch = first .before in
     let test = branch .before in
     let a = test .before .before .before .args in
-    sym (short-is (a .kinds .now) (a .coords .now) (a .i) _ _ _ _ (first .end-point .ensures) (second .end-point2 .ensures) (sub .sub .ensures) (norm .norm .ensures) (c .if2 .left))
+    sym (short-is (a .kinds .now) (a .coords .now) (a .i) _ _ _ _ (first .end-point .ensures) (second .end-point2 .ensures) (sub .sub .ensures) refl (norm-not-above (sub .sub .result) (dot .dot .result) (dot .dot .ensures) (c .if2 .left)))
 
 pub is-long-spec : {M : Type 1} → statement M
 is-long-spec =
@@ -78,6 +80,6 @@ is-long-spec =
     add-end-point
     end-point-requires-2
     sub-requires
-    norm-requires
+    dot-requires
     returns-2
     returns-3)
