@@ -14,7 +14,6 @@ ghost use Rattle.buffers.specs.Slots.{slotsOf};
 ghost use Rattle.buffers.specs.Lent.{given};
 ghost use Rattle.windows.specs.Windows.{capacityOf};
 ghost use Rattle.chains.specs.Chains.{links};
-ghost use Rattle.last_pass.specs.Buffers.{chainBehind};
 ghost use Rattle.edge_query.specs.EdgeDistance.{edgeDistanceIn};
 ghost use Rattle.edge_query.specs.Forward.{valueOf, passedValue, pastOf};
 ghost use Rattle.edge_query.specs.Resume.{fromHead, headCursor, cursorFor, cursorPast, ResumesAt, Resumes};
@@ -187,22 +186,4 @@ pub fn distance_from(
     let d = face_distance::through_ends(da, db, e.len, x);
     let from = cursor_for(cursor, e.id, made, x);
     least_on_chain(edge_words, words, reals, from, made, x, d)
-}
-
-// The same by a walk from the head.
-pub fn edge_distance(
-    edge_words: &[u32],
-    words: &[u32],
-    reals: &[f64],
-    vertex: &[f64],
-    e: Edge,
-    made: u32,
-    x: f64,
-) -> f64
-    requires { ⌜ (made ≤ capacityOf (length (now words)) (length (now reals))) × (e .id .0 < slotsOf (length (now «edge_words»)) wordsPerEdge) ⌝ }
-    ensures { λ r. ⌜ r ≡ edgeDistanceIn (given vertex) (links (given «edge_words») (given words)) (given reals) made e x ⌝ }
-{
-    let head = head_cursor(e.id, made);
-    let resumed = distance_from(edge_words, words, reals, vertex, e, made, head, x);
-    resumed.distance
 }

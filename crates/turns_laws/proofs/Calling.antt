@@ -127,7 +127,6 @@ module _ (limit : Float) (n : ℕ) (v : List Float) (buffer vw round : List ℕ)
         advances-then limit n v buffer vw round er tw tr (k .most) (turnsAsked ks) counts (toldCounts (k .told)) (getD (k .told) 2 0) b (k .left) c c long refl A
         (Went (lastCounts (toldCounts (k .told)) ks) (stepsTold ks)) (lastLeft (k .left) ks) (calls-advance (toldCounts (k .told)) (k .left) ks here (C .1))
 
-    -- and then one that is refused
     pub calls-long : (counts : Counts) (b : Slices) (ks : List Call) → Calls limit n v buffer vw round er tw tr slots counts b ks → AsLong b (lastLeft b ks)
     unfolding lastLeft Calls
     calls-long counts b [] C = record { edges = refl; words = refl; reals = refl; keys = refl; events = refl }
@@ -136,6 +135,7 @@ module _ (limit : Float) (n : ℕ) (v : List Float) (buffer vw round : List ℕ)
         let h = calls-long (toldCounts (k .told)) (k .left) ks (C .1) in
         record { edges = h .edges ∙ g .edges; words = h .words ∙ g .words; reals = h .reals ∙ g .reals; keys = h .keys ∙ g .keys; events = h .events ∙ g .events }
 
+    -- and then one that is refused
     pub calls-stopped : (counts : Counts) (b : Slices) (ks : List Call) (k : Call) (r : ℕ) → counts .made ≤ capacityOf (length (b .words)) (length (b .reals))
         → Calls limit n v buffer vw round er tw tr slots counts b ks → 0 < r → (r ≡ 20 → ⊥) → Called limit n v buffer vw round er tw tr slots (lastCounts counts ks) (lastLeft b ks) k r
         → StoppedBy r (λ (lack : Lack). Advances (turnsAsked ks + k .most) counts b c (Stopped lack) (k .left))

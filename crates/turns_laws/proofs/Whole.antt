@@ -252,7 +252,7 @@ module _ (j : Job) (b : FieldBuffers) (rows : RowsBeside b) where
             calls-advance (j .limit) (vertexCount j) (j .vertices) (j .triangles) (m₁ .vertex-words) (m₁ .round) (m₁ .edge-reals) (m₁ .triangle-words) (m₁ .triangle-reals) (cutCount (b .cuts)) cut cut-length
             (countsInserted told₁) at-first ks fits C
 
-        -- ---- a call is refused: so is the job, within every budget that they asked for
+        -- ---- a call is refused: so is the job, within every budget of at least the turns that they asked for
         pub turns-refused : (k : Call) (r : ℕ) → 0 < r → (r ≡ 20 → ⊥) → NextTurn j b m₁ s₁ told₁ ks k r → (more : ℕ) → computeOver inOrder j b ((turnsAsked ks + k .most) + more) ≡ refused r
         turns-refused k r some other D more =
             let stop = calls-stopped (j .limit) (vertexCount j) (j .vertices) (j .triangles) (m₁ .vertex-words) (m₁ .round) (m₁ .edge-reals) (m₁ .triangle-words) (m₁ .triangle-reals) (cutCount (b .cuts)) cut cut-length

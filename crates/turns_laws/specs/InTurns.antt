@@ -1,5 +1,5 @@
 -- A job in parts, by the contracts of the exports: `sirmolaat_insert`, then `sirmolaat_advance` any number of times, then `sirmolaat_finish`. What proofs/Whole.antt says of it: the answer
--- and every slice are then those of `compute`. Definitions only.
+-- is then that of `compute`, and of a field every slice too. Definitions only.
 use Prim.Native.Nat.{ℕ, _+_, _≤_}
 use mathlib.Core.List.{List, [], _∷_}
 use mathlib.Core.Path.{_≡_}
@@ -15,7 +15,6 @@ use Rattle.trim_split.specs.declared.Counts.{Counts}
 use Rattle.trim.specs.Buffers.{Slices}
 use Rattle.begin.specs.Begin.{WorkSlices, workSlices}
 use Rattle.insert_job.specs.Field.{trimSlices}
-use Rattle.zero_buffers.specs.ZeroIf.{zeroWords}
 use Rattle.finish.specs.Contents.{FieldBuffers}
 use Rattle.finish.specs.Refused.{FieldLengths}
 use Rattle.compute_spec.specs.Compute.{fieldBuffers, workIn}
@@ -74,7 +73,7 @@ module _ (limit : Float) (n : ℕ) (v : List Float) (buffer vertexWords round : 
   Calls counts b [] = Unit {0}
   Calls counts b (k ∷ ks) = Called counts b k 0 × Calls (toldCounts (k .told)) (k .left) ks
 
--- with the scratch rows that `compute` asks for beside the windows, to which nothing is written
+-- with scratch rows of exactly as many slots as there are for windows, to which nothing is written
 pub record RowsBeside (b : FieldBuffers) : Type 0 where
   pub scratch : slotsOf (length (b .scratch)) 1 ≡ capacityOf (length (b .words)) (length (b .reals))
   pub other-scratch : slotsOf (length (b .other-scratch)) 1 ≡ capacityOf (length (b .words)) (length (b .reals))
@@ -83,7 +82,7 @@ pub record RowsBeside (b : FieldBuffers) : Type 0 where
 abbrev pub countsInserted : List ℕ → Counts
 countsInserted told = record { made = getD told 1 0; queued = getD told 2 0 }
 
--- a job in buffers b: m₁, s₁ and told₁ are left by `sirmolaat_insert`, which answered 0; then come the calls
+-- a job in buffers b: m₁, s₁ and told₁ are left by `sirmolaat_insert`; then come the calls
 module _ (j : Job) (b : FieldBuffers) (m₁ : MeshBuffers) (s₁ : WorkSlices) (told₁ : List ℕ) where
   -- `sirmolaat_insert` answered r
   pub record Inserting (r : ℕ) : Type 0 where
@@ -112,7 +111,7 @@ module _ (j : Job) (b : FieldBuffers) (m₁ : MeshBuffers) (s₁ : WorkSlices) (
       fieldBuffers (meshBuffers (m₁ .vertex-words) (z .edges) (m₁ .edge-reals) (m₁ .round) (m₁ .triangle-words) (m₁ .triangle-reals))
       (workSlices (s₁ .piece-words) (s₁ .piece-reals) (z .vertex) (z .words) (z .reals) (z .keys) (z .events) (s₁ .entries)) c scratch other
 
-  -- `sirmolaat_finish` answered 0; c are the cut lists that it was lent
+  -- `sirmolaat_finish` answered 0; `cuts` are the cut lists that it was lent, and c′ those that it left
   pub record Finishing (ks : List Call) (z : Slices) (c′ : Cuts) : Type 0 where
     pub cuts : Cuts
     pub answers : FinishAnswer (getD told₁ 0 0) (lastCounts (countsInserted told₁) ks .made) (m₁ .edge-reals) (lastLeft slicesInserted ks) cuts 0 z c′

@@ -1,5 +1,3 @@
-use mathlib.Core.Path.{refl, sym, ap, _∙_}
-use Rattle.edge_query.specs.Resume.{cursorPast}
 use Rattle.edge_query.proofs.Resume.{cursor-ended, cursor-stays}
 use borrow.Author.Needs.{needs}
 use Rattle.edge_query.proofs.cursor_past.Statement.{statement}

@@ -1,7 +1,5 @@
-use Prim.Native.Nat.{ℕ}
-use mathlib.Core.Path.{ap, _∙_}
+use mathlib.Core.Path.{_∙_}
 use native.Mathlib.Omega.{arith}
-use lib.Ieee.{Float}
 use Rattle.actions.specs.Actions.{distanceOf}
 use Rattle.chains.specs.Chains.{links}
 use Rattle.last_pass.specs.Buffers.{chainBehind}
