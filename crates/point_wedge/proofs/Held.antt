@@ -26,6 +26,8 @@ use Rattle.mesh_readers.proofs.Held.{side-held, local-held, normal-held}
 use Rattle.mesh_readers.proofs.Sides.{side-to-held}
 use Rattle.source_windows.specs.Wedge.{wholeOf, wedgeOf}
 use Rattle.carriers.specs.Carrier.{otherCarrier}
+use Rattle.piece_ends.specs.Ends.{endsWithBits}
+use Rattle.piece_ends.specs.Table.{linkTo}
 use Rattle.piece_ends.specs.Walk.{HoldsTable}
 use Rattle.piece_ends.specs.Directions.{pieceReals}
 use Rattle.segments_behind.specs.Behind.{behindIn}
@@ -45,13 +47,14 @@ unfolding sideTo
 side-to-three triangles g h = at-most-three (hasFace triangles (triEdge triangles (3 * g)) h) (hasFace triangles (triEdge triangles (3 * g + 1)) h) (hasFace triangles (triEdge triangles (3 * g + 2)) h)
 
 module _ (v : List Float) (triangles : List ℕ) (n : ℕ) (edgeWords : List ℕ) (edgeReals : List Float) (triangleWords : List ℕ) (triangleReals : List Float)
-    (mesh : HoldsMesh v triangles n edgeWords edgeReals triangleWords triangleReals) (kinds faces : List ℕ) (coords : List Float) (words : List ℕ) (held : HoldsTable kinds coords words) (m : ℕ) (room : realsPerPiece * length kinds ≤ m) (p : Vec3) where
+    (mesh : HoldsMesh v triangles n edgeWords edgeReals triangleWords triangleReals) (kinds faces : List ℕ) (coords : List Float) (words : List ℕ) (held : HoldsTable kinds coords words) (m : ℕ) (room : realsPerPiece * length kinds ≤ m)
+    (p : Vec3) (first : ℕ) (is-first : first ≡ linkTo (endsWithBits kinds coords p)) where
   abbrev behind : ℕ → List Vec3
-  behind f = behindAt kinds faces coords words (pieceReals kinds coords m) (length kinds) f p
+  behind f = behindAt kinds faces coords words (pieceReals kinds coords m) (length kinds) f first
 
   behind-is : (f : ℕ) → behind f ≡ behindIn kinds faces coords f p
   unfolding behindAt
-  behind-is f = behind-held kinds faces coords words held f p m room
+  behind-is f = behind-held kinds faces coords words held f p first is-first m room
 
   normal-is : (f : ℕ) → f < length triangles / 3 → (e : ℕ) → normalIn triangleReals f (localAt triangleWords f e) ≡ yhat v triangles (3 * f + local triangles f e)
   normal-is f l e =
@@ -87,7 +90,7 @@ module _ (v : List Float) (triangles : List ℕ) (n : ℕ) (edgeWords : List ℕ
           (λ z. rw z (λ t. behind-is g t ++ map (laidOf (across-held i (omega (arith, eqb-false i 3 z)) t)) (behind-is h t)))
           (either (eqb i 3))
 
-      pair-held : pairAt edgeWords edgeReals triangleWords triangleReals kinds faces coords words (pieceReals kinds coords m) (length kinds) g h p ≡ pairAcross v triangles kinds faces coords g h (sideTo triangles g h) p
+      pair-held : pairAt edgeWords edgeReals triangleWords triangleReals kinds faces coords words (pieceReals kinds coords m) (length kinds) g h first ≡ pairAcross v triangles kinds faces coords g h (sideTo triangles g h) p
       unfolding pairAt
       pair-held =
           ap (λ (i : ℕ). cond (eqb i 3) [] (behind g ++ map (laidOf (acrossAt edgeReals triangleWords triangleReals g h (sideIn triangleWords g i))) (behind h)))
@@ -99,7 +102,7 @@ module _ (v : List Float) (triangles : List ℕ) (n : ℕ) (edgeWords : List ℕ
     IsOther carriers h = (a b : ℕ) → carriers ≡ a ∷ (b ∷ []) → (h ≡ otherCarrier g a b) × (h < length triangles / 3)
 
     abbrev directions : ℕ → ℕ → List Vec3
-    directions count h = directionsAt edgeWords edgeReals triangleWords triangleReals kinds faces coords words (pieceReals kinds coords m) (length kinds) g count h p
+    directions count h = directionsAt edgeWords edgeReals triangleWords triangleReals kinds faces coords words (pieceReals kinds coords m) (length kinds) g count h first
 
     pub directions-held : (carriers : List ℕ) (h : ℕ) → IsOther carriers h → directions (length carriers) h ≡ directionsIn v triangles kinds faces coords g carriers p
     unfolding directionsAt directionsIn
@@ -111,7 +114,7 @@ module _ (v : List Float) (triangles : List ℕ) (n : ℕ) (edgeWords : List ℕ
     directions-held (a ∷ (b ∷ (c ∷ cs))) h is = rw (ne-eqb (suc (suc (suc (length cs)))) 1 (λ z. omega arith), ne-eqb (suc (suc (suc (length cs)))) 2 (λ z. omega arith)) refl
 
     pub bounds-held : (k : ℕ) → k < 3 → (carriers : List ℕ) (h : ℕ) → IsOther carriers h
-        → boundsAt v edgeWords edgeReals triangleWords triangleReals kinds faces coords words (pieceReals kinds coords m) (length kinds) g k p (length carriers) h
+        → boundsAt v edgeWords edgeReals triangleWords triangleReals kinds faces coords words (pieceReals kinds coords m) (length kinds) g k p (length carriers) h first
         ≡ boundsIn v triangles kinds faces coords g k p carriers
     unfolding boundsAt boundsIn
     bounds-held k q carriers h is =

@@ -70,13 +70,13 @@ module _ (o p xhat : Vec3) (plane : Plane) (dir : ℕ → Vec3) (next : ℕ → 
         let a : at ≡ suc (at - 1) = omega arith in
         inv ∙ ((λ i. narrowed (r i) (a i) w) ∙ (one-more (rest - 1) (at - 1) w ∙ (λ i. narrowed (rest - 1) (sym is-k i) (sym is-part i))))
 
-pub walk-is : (kinds faces : List ℕ) (coords : List Float) (words : List ℕ) (reals : List Float) (pieces f : ℕ) (plane : Plane) (o p xhat : Vec3) (w : Bounds) (first : ℕ)
-    → first ≡ firstBehindAt kinds faces coords words pieces f p
-    → narrowed o p xhat plane (leavingAt reals) (nextBehindAt kinds faces coords words pieces f) (2 * pieces) first w
-    ≡ wedgeOf o p xhat w (map (laidOf plane) (behindAt kinds faces coords words reals pieces f p))
+pub walk-is : (kinds faces : List ℕ) (coords : List Float) (words : List ℕ) (reals : List Float) (pieces f first : ℕ) (plane : Plane) (o p xhat : Vec3) (w : Bounds) (at : ℕ)
+    → at ≡ firstBehindAt kinds faces coords words pieces f first
+    → narrowed o p xhat plane (leavingAt reals) (nextBehindAt kinds faces coords words pieces f) (2 * pieces) at w
+    ≡ wedgeOf o p xhat w (map (laidOf plane) (behindAt kinds faces coords words reals pieces f first))
 unfolding behindAt
-walk-is kinds faces coords words reals pieces f plane o p xhat w first is-first =
-    ap (λ (at : ℕ). narrowed o p xhat plane (leavingAt reals) (nextBehindAt kinds faces coords words pieces f) (2 * pieces) at w) is-first
+walk-is kinds faces coords words reals pieces f first plane o p xhat w at is-at =
+    ap (λ (k : ℕ). narrowed o p xhat plane (leavingAt reals) (nextBehindAt kinds faces coords words pieces f) (2 * pieces) k w) is-at
 
 pub end-is : (reals : List Float) (plane : Plane) (o p xhat : Vec3) (w : Bounds) (e : ℕ) (d there : Vec3) (r : Bounds)
     → d ≡ leavingAt reals e → there ≡ laidOf plane d → r ≡ behindOf o p xhat w there → r ≡ behindOf o p xhat w (laidOf plane (leavingAt reals e))
@@ -93,54 +93,54 @@ across-is er tw tr g h e i j xh yg yh is-x is-i is-g is-j is-h =
 
 -- ---- the carriers
 module _ (ew : List ℕ) (er : List Float) (tw : List ℕ) (tr : List Float) (kinds faces : List ℕ) (coords : List Float) (words : List ℕ) (reals : List Float) (pieces g : ℕ) where
-  abbrev behind : ℕ → Vec3 → List Vec3
+  abbrev behind : ℕ → ℕ → List Vec3
   behind = behindAt kinds faces coords words reals pieces
 
-  abbrev pair : ℕ → Vec3 → List Vec3
+  abbrev pair : ℕ → ℕ → List Vec3
   pair = pairAt ew er tw tr kinds faces coords words reals pieces g
 
-  abbrev directions : ℕ → ℕ → Vec3 → List Vec3
+  abbrev directions : ℕ → ℕ → ℕ → List Vec3
   directions = directionsAt ew er tw tr kinds faces coords words reals pieces g
 
-  module _ (o p xhat : Vec3) (w : Bounds) where
-    own-is : (r : Bounds) → r ≡ wedgeOf o p xhat w (map (laidOf Own) (behind g p)) → r ≡ wedgeOf o p xhat w (behind g p)
-    own-is r is-r = is-r ∙ ap (wedgeOf o p xhat w) (own-plane (behind g p))
+  module _ (first : ℕ) (o p xhat : Vec3) (w : Bounds) where
+    own-is : (r : Bounds) → r ≡ wedgeOf o p xhat w (map (laidOf Own) (behind g first)) → r ≡ wedgeOf o p xhat w (behind g first)
+    own-is r is-r = is-r ∙ ap (wedgeOf o p xhat w) (own-plane (behind g first))
 
     module _ (h i : ℕ) (is-i : i ≡ sideToAt ew tw g h) where
-      pub pair-none : i ≡ 3 → w ≡ wedgeOf o p xhat w (pair h p)
+      pub pair-none : i ≡ 3 → w ≡ wedgeOf o p xhat w (pair h first)
       unfolding pairAt
       pair-none z = rw (eq-eqb (sideToAt ew tw g h) 3 (sym is-i ∙ z)) (wedge-none o p xhat w)
 
       pub pair-both : (i ≡ 3 → ⊥) → (e : EdgeId) → e ≡ record { 0 = sideIn tw g i } → (plane : Plane) → plane ≡ acrossAt er tw tr g h (e .0)
-          → (own r : Bounds) → own ≡ wedgeOf o p xhat w (map (laidOf Own) (behind g p)) → r ≡ wedgeOf o p xhat own (map (laidOf plane) (behind h p)) → r ≡ wedgeOf o p xhat w (pair h p)
+          → (own r : Bounds) → own ≡ wedgeOf o p xhat w (map (laidOf Own) (behind g first)) → r ≡ wedgeOf o p xhat own (map (laidOf plane) (behind h first)) → r ≡ wedgeOf o p xhat w (pair h first)
       unfolding pairAt
       pair-both ne e is-e plane is-plane own r is-own is-r =
           let E : e .0 ≡ sideIn tw g (sideToAt ew tw g h) = (λ t. is-e t .0) ∙ ap (sideIn tw g) is-i in
           let P : plane ≡ acrossAt er tw tr g h (sideIn tw g (sideToAt ew tw g h)) = is-plane ∙ ap (acrossAt er tw tr g h) E in
-          let all : List Vec3 = behind g p ++ map (laidOf (acrossAt er tw tr g h (sideIn tw g (sideToAt ew tw g h)))) (behind h p) in
+          let all : List Vec3 = behind g first ++ map (laidOf (acrossAt er tw tr g h (sideIn tw g (sideToAt ew tw g h)))) (behind h first) in
           let d : r ≡ wedgeOf o p xhat w all =
-          is-r ∙ ((λ t. wedgeOf o p xhat (own-is own is-own t) (map (laidOf (P t)) (behind h p))) ∙ wedge-both o p xhat w (behind g p) (map (laidOf (acrossAt er tw tr g h (sideIn tw g (sideToAt ew tw g h)))) (behind h p))) in
+          is-r ∙ ((λ t. wedgeOf o p xhat (own-is own is-own t) (map (laidOf (P t)) (behind h first))) ∙ wedge-both o p xhat w (behind g first) (map (laidOf (acrossAt er tw tr g h (sideIn tw g (sideToAt ew tw g h)))) (behind h first))) in
           d ∙ ap (λ b. wedgeOf o p xhat w (cond b [] all)) (sym (ne-eqb (sideToAt ew tw g h) 3 (λ z. ne (is-i ∙ z))))
 
     module _ (count h : ℕ) where
-      pub wedge-one : count ≡ 1 → (r : Bounds) → r ≡ wedgeOf o p xhat w (map (laidOf Own) (behind g p)) → r ≡ wedgeOf o p xhat w (directions count h p)
+      pub wedge-one : count ≡ 1 → (r : Bounds) → r ≡ wedgeOf o p xhat w (map (laidOf Own) (behind g first)) → r ≡ wedgeOf o p xhat w (directions count h first)
       unfolding directionsAt
       wedge-one z r is-r = rw (eq-eqb count 1 z) (own-is r is-r)
 
-      pub wedge-two : (count ≡ 1 → ⊥) → count ≡ 2 → (r : Bounds) → r ≡ wedgeOf o p xhat w (pair h p) → r ≡ wedgeOf o p xhat w (directions count h p)
+      pub wedge-two : (count ≡ 1 → ⊥) → count ≡ 2 → (r : Bounds) → r ≡ wedgeOf o p xhat w (pair h first) → r ≡ wedgeOf o p xhat w (directions count h first)
       unfolding directionsAt
       wedge-two n z r is-r = rw (ne-eqb count 1 n, eq-eqb count 2 z) is-r
 
-      pub wedge-more : (count ≡ 1 → ⊥) → (count ≡ 2 → ⊥) → w ≡ wedgeOf o p xhat w (directions count h p)
+      pub wedge-more : (count ≡ 1 → ⊥) → (count ≡ 2 → ⊥) → w ≡ wedgeOf o p xhat w (directions count h first)
       unfolding directionsAt
       wedge-more n m = rw (ne-eqb count 1 n, ne-eqb count 2 m) (wedge-none o p xhat w)
 
-  pub bounds-is : (v : List Float) (k : ℕ) (p : Vec3) (count h : ℕ) (e : EdgeId) (ab : EdgeEnds) (o xhat : Vec3) (l : Float) (whole r : Bounds)
+  pub bounds-is : (v : List Float) (k : ℕ) (p : Vec3) (count h first : ℕ) (e : EdgeId) (ab : EdgeEnds) (o xhat : Vec3) (l : Float) (whole r : Bounds)
       → e ≡ record { 0 = sideIn tw g k } → ab ≡ endsAt ew (e .0) → o ≡ vertexAt v (ab .a .0) → xhat ≡ unitAt er (e .0) → l ≡ lengthAt er (e .0) → whole ≡ wholeOf l
-      → r ≡ wedgeOf o p xhat whole (directions count h p) → r ≡ boundsAt v ew er tw tr kinds faces coords words reals pieces g k p count h
+      → r ≡ wedgeOf o p xhat whole (directions count h first) → r ≡ boundsAt v ew er tw tr kinds faces coords words reals pieces g k p count h first
   unfolding boundsAt
-  bounds-is v k p count h e ab o xhat l whole r is-e is-ab is-o is-x is-l is-w is-r =
+  bounds-is v k p count h first e ab o xhat l whole r is-e is-ab is-o is-x is-l is-w is-r =
       let O : o ≡ originAt v ew (e .0) = is-o ∙ (λ t. vertexAt v (is-ab t .a .0)) in
       let W : whole ≡ wholeOf (lengthAt er (e .0)) = is-w ∙ (λ t. wholeOf (is-l t)) in
-      is-r ∙ ((λ t. wedgeOf (O t) p (is-x t) (W t) (directions count h p))
-      ∙ (λ t. let z = is-e t .0 in wedgeOf (originAt v ew z) p (unitAt er z) (wholeOf (lengthAt er z)) (directions count h p)))
+      is-r ∙ ((λ t. wedgeOf (O t) p (is-x t) (W t) (directions count h first))
+      ∙ (λ t. let z = is-e t .0 in wedgeOf (originAt v ew z) p (unitAt er z) (wholeOf (lengthAt er z)) (directions count h first)))

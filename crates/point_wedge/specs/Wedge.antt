@@ -57,27 +57,27 @@ unfoldable pub acrossAt : List Float → List ℕ → List Float → ℕ → ℕ
 acrossAt edgeReals triangleWords triangleReals g h e =
     Across (unitAt edgeReals e) (normalIn triangleReals g (localAt triangleWords g e)) (normalIn triangleReals h (localAt triangleWords h e))
 
--- the directions of face f at p, along the table's links
-unfoldable pub behindAt : List ℕ → List ℕ → List Float → List ℕ → List Float → ℕ → ℕ → Vec3 → List Vec3
-behindAt kinds faces coords words reals pieces f p =
-    map (leavingAt reals) (follow (nextBehindAt kinds faces coords words pieces f) (2 * pieces) (firstBehindAt kinds faces coords words pieces f p))
+-- the directions of face f at a point, along the table's links from the first end of its bits on
+unfoldable pub behindAt : List ℕ → List ℕ → List Float → List ℕ → List Float → ℕ → ℕ → ℕ → List Vec3
+behindAt kinds faces coords words reals pieces f first =
+    map (leavingAt reals) (follow (nextBehindAt kinds faces coords words pieces f) (2 * pieces) (firstBehindAt kinds faces coords words pieces f first))
 
 module _ (edgeWords : List ℕ) (edgeReals : List Float) (triangleWords : List ℕ) (triangleReals : List Float)
     (kinds faces : List ℕ) (coords : List Float) (words : List ℕ) (reals : List Float) (pieces g : ℕ) where
-  abbrev at : ℕ → Vec3 → List Vec3
+  abbrev at : ℕ → ℕ → List Vec3
   at = behindAt kinds faces coords words reals pieces
 
-  unfoldable pub pairAt : ℕ → Vec3 → List Vec3
-  pairAt h p =
+  unfoldable pub pairAt : ℕ → ℕ → List Vec3
+  pairAt h first =
       let i : ℕ = sideToAt edgeWords triangleWords g h in
-      cond (eqb i 3) [] (at g p ++ map (laidOf (acrossAt edgeReals triangleWords triangleReals g h (sideIn triangleWords g i))) (at h p))
+      cond (eqb i 3) [] (at g first ++ map (laidOf (acrossAt edgeReals triangleWords triangleReals g h (sideIn triangleWords g i))) (at h first))
 
   -- from the number of carriers, and the one that is not g where there are two
-  unfoldable pub directionsAt : ℕ → ℕ → Vec3 → List Vec3
-  directionsAt count h p = cond (eqb count 1) (at g p) (cond (eqb count 2) (pairAt h p) [])
+  unfoldable pub directionsAt : ℕ → ℕ → ℕ → List Vec3
+  directionsAt count h first = cond (eqb count 1) (at g first) (cond (eqb count 2) (pairAt h first) [])
 
-unfoldable pub boundsAt : List Float → List ℕ → List Float → List ℕ → List Float → List ℕ → List ℕ → List Float → List ℕ → List Float → ℕ → ℕ → ℕ → Vec3 → ℕ → ℕ → Bounds
-boundsAt v edgeWords edgeReals triangleWords triangleReals kinds faces coords words reals pieces g k p count h =
+unfoldable pub boundsAt : List Float → List ℕ → List Float → List ℕ → List Float → List ℕ → List ℕ → List Float → List ℕ → List Float → ℕ → ℕ → ℕ → Vec3 → ℕ → ℕ → ℕ → Bounds
+boundsAt v edgeWords edgeReals triangleWords triangleReals kinds faces coords words reals pieces g k p count h first =
     let e : ℕ = sideIn triangleWords g k in
     wedgeBounds (originAt v edgeWords e) p (unitAt edgeReals e) (lengthAt edgeReals e)
-    (directionsAt edgeWords edgeReals triangleWords triangleReals kinds faces coords words reals pieces g count h p)
+    (directionsAt edgeWords edgeReals triangleWords triangleReals kinds faces coords words reals pieces g count h first)

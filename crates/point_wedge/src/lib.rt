@@ -56,7 +56,7 @@ fn behind_end(
     source_windows::behind(o, p, xhat, w, there)
 }
 
-// The part of a range of the edge o + t xhat that lies behind every segment of face f that ends at p.
+// The part of a range of the edge o + t xhat that lies behind every segment of face f that ends at p; `first` is the link to the first end of its bits.
 fn narrow_behind(
     kinds: &[u8],
     faces: &[u32],
@@ -66,15 +66,16 @@ fn narrow_behind(
     pieces: u32,
     f: FaceId,
     plane: Plane,
+    first: u32,
     o: Vec3,
     p: Vec3,
     xhat: Vec3,
     w: Bounds,
 ) -> Bounds
     ensures { λ r. ⌜ r ≡ wedgeOf o p xhat w (map (laidOf plane)
-        (behindAt (given kinds) (given faces) (given coords) (given words) (given reals) pieces (f .0) p)) ⌝ }
+        (behindAt (given kinds) (given faces) (given coords) (given words) (given reals) pieces (f .0) first)) ⌝ }
 {
-    let mut at = first_behind(kinds, faces, coords, words, pieces, f, p);
+    let mut at = first_behind(kinds, faces, coords, words, pieces, f, first);
     let mut part = w;
     let mut rest = 2 * (pieces as u64);
     while rest > 0 {
@@ -121,6 +122,7 @@ fn narrow_pair(
     pieces: u32,
     g: FaceId,
     h: FaceId,
+    first: u32,
     o: Vec3,
     p: Vec3,
     xhat: Vec3,
@@ -128,7 +130,7 @@ fn narrow_pair(
 ) -> Bounds
     ensures { λ r. ⌜ r ≡ wedgeOf o p xhat w
         (pairAt (given «edge_words») (given «edge_reals») (given «triangle_words») (given «triangle_reals»)
-        (given kinds) (given faces) (given coords) (given words) (given reals) pieces (g .0) (h .0) p) ⌝ }
+        (given kinds) (given faces) (given coords) (given words) (given reals) pieces (g .0) (h .0) first) ⌝ }
 {
     let i = side_to(edge_words, triangle_words, g, h);
     if i == 3 {
@@ -145,6 +147,7 @@ fn narrow_pair(
         pieces,
         g,
         Plane::Own,
+        first,
         o,
         p,
         xhat,
@@ -159,6 +162,7 @@ fn narrow_pair(
         pieces,
         h,
         plane,
+        first,
         o,
         p,
         xhat,
@@ -181,6 +185,7 @@ fn narrow_wedge(
     g: FaceId,
     count: u32,
     h: FaceId,
+    first: u32,
     o: Vec3,
     p: Vec3,
     xhat: Vec3,
@@ -188,7 +193,7 @@ fn narrow_wedge(
 ) -> Bounds
     ensures { λ r. ⌜ r ≡ wedgeOf o p xhat w
         (directionsAt (given «edge_words») (given «edge_reals») (given «triangle_words») (given «triangle_reals»)
-        (given kinds) (given faces) (given coords) (given words) (given reals) pieces (g .0) count (h .0) p) ⌝ }
+        (given kinds) (given faces) (given coords) (given words) (given reals) pieces (g .0) count (h .0) first) ⌝ }
 {
     if count == 1 {
         return narrow_behind(
@@ -200,6 +205,7 @@ fn narrow_wedge(
             pieces,
             g,
             Plane::Own,
+            first,
             o,
             p,
             xhat,
@@ -220,6 +226,7 @@ fn narrow_wedge(
             pieces,
             g,
             h,
+            first,
             o,
             p,
             xhat,
@@ -247,9 +254,10 @@ pub fn bounds(
     p: Vec3,
     count: u32,
     h: FaceId,
+    first: u32,
 ) -> Bounds
     ensures { λ r. ⌜ r ≡ boundsAt (given vertices) (given «edge_words») (given «edge_reals») (given «triangle_words») (given «triangle_reals»)
-        (given kinds) (given faces) (given coords) (given words) (given reals) pieces (g .0) k p count (h .0) ⌝ }
+        (given kinds) (given faces) (given coords) (given words) (given reals) pieces (g .0) k p count (h .0) first ⌝ }
 {
     let e = side(triangle_words, g, k);
     let o = vertex(vertices, ends(edge_words, e).a);
@@ -269,6 +277,7 @@ pub fn bounds(
         g,
         count,
         h,
+        first,
         o,
         p,
         xhat,

@@ -77,13 +77,9 @@ module _ (reals : List Float) (e : ℕ) (d : Vec3) (is-d : d ≡ vectorFrom real
 
 -- ---- searches
 module _ (kinds faces : List ℕ) (coords : List Float) (words : List ℕ) (pieces : ℕ) where
-  pub first-behind-done : (g : ℕ) (p : Vec3) (link r : ℕ) → link ≡ firstLinkAt coords words pieces p → r ≡ findAlong (nextLinkAt coords words pieces) (inFace kinds faces coords g) (2 * pieces) link → r ≡ firstBehindAt kinds faces coords words pieces g p
-  unfolding firstBehindAt
-  first-behind-done g p link r is-link is-r = is-r ∙ ap (findAlong (nextLinkAt coords words pieces) (inFace kinds faces coords g) (2 * pieces)) is-link
-
-  pub next-behind-done : (g e link r : ℕ) → link ≡ nextLinkAt coords words pieces e → r ≡ findAlong (nextLinkAt coords words pieces) (inFace kinds faces coords g) (2 * pieces) link → r ≡ nextBehindAt kinds faces coords words pieces g e
+  pub next-behind-done : (g e link r : ℕ) → link ≡ nextLinkAt coords words pieces e → r ≡ firstBehindAt kinds faces coords words pieces g link → r ≡ nextBehindAt kinds faces coords words pieces g e
   unfolding nextBehindAt
-  next-behind-done g e link r is-link is-r = is-r ∙ ap (findAlong (nextLinkAt coords words pieces) (inFace kinds faces coords g) (2 * pieces)) is-link
+  next-behind-done g e link r is-link is-r = is-r ∙ ap (firstBehindAt kinds faces coords words pieces g) is-link
 
   module _ (triangles : List ℕ) (k : ℕ) (p : Vec3) (link r : ℕ) (is-link : link ≡ firstLinkAt coords words pieces p) (is-r : r ≡ findAlong (nextLinkAt coords words pieces) (isRound kinds faces coords triangles k) (2 * pieces) link) where
     found-is : r ≡ findAlong (nextLinkAt coords words pieces) (isRound kinds faces coords triangles k) (2 * pieces) (firstLinkAt coords words pieces p)

@@ -54,11 +54,15 @@ module _ (kinds faces : List ℕ) (coords : List Float) (words : List ℕ) (held
   abbrev next : ℕ → ℕ
   next = nextLinkAt coords words (length kinds)
 
+  -- a link to the first end of p's bits
+  abbrev pub IsFirst : Vec3 → ℕ → Type 0
+  IsFirst p link = link ≡ linkTo (endsWithBits kinds coords p)
+
   -- what a search along the ends of p's bits finds, from the first of them on
-  search-first : (p : Vec3) (inner : ℕ → Bool) → findAlong next inner (2 * length kinds) (firstLinkAt coords words (length kinds) p) ≡ linkTo (passing (λ (e : ℕ). hasBits kinds coords p e && inner e) (2 * length kinds) 0)
+  search-first : (p : Vec3) (inner : ℕ → Bool) (link : ℕ) → IsFirst p link → findAlong next inner (2 * length kinds) link ≡ linkTo (passing (λ (e : ℕ). hasBits kinds coords p e && inner e) (2 * length kinds) 0)
   unfolding endsWithBits
-  search-first p inner =
-      ap (findAlong next inner (2 * length kinds)) (first-held kinds coords words held p)
+  search-first p inner link is-link =
+      ap (findAlong next inner (2 * length kinds)) is-link
       ∙ search-left next (hasBits kinds coords p) (2 * length kinds) (bits-lead kinds coords words held p) inner (2 * length kinds) 0 (2 * length kinds) (omega arith) (omega arith)
 
   -- ---- the Rust's `behind`
@@ -66,9 +70,9 @@ module _ (kinds faces : List ℕ) (coords : List Float) (words : List ℕ) (held
     abbrev test : ℕ → Bool
     test e = hasBits kinds coords p e && inFace kinds faces coords g e
 
-    pub first-behind-held : firstBehindAt kinds faces coords words (length kinds) g p ≡ linkTo (endsBehind kinds faces coords g p)
-    unfolding firstBehindAt endsBehind
-    first-behind-held = search-first p (inFace kinds faces coords g)
+    pub first-behind-held : (link : ℕ) → IsFirst p link → firstBehindAt kinds faces coords words (length kinds) g link ≡ linkTo (endsBehind kinds faces coords g p)
+    unfolding endsBehind
+    first-behind-held link is-link = search-first p (inFace kinds faces coords g) link is-link
 
     pub next-behind-held : (k e : ℕ) → suc e + k ≡ 2 * length kinds → test e ≡ true → nextBehindAt kinds faces coords words (length kinds) g e ≡ linkTo (passing test k (suc e))
     unfolding nextBehindAt
@@ -77,10 +81,11 @@ module _ (kinds faces : List ℕ) (coords : List Float) (words : List ℕ) (held
         ∙ search-left next (hasBits kinds coords p) (2 * length kinds) (bits-lead kinds coords words held p) (inFace kinds faces coords g) k (suc e) (2 * length kinds) s (omega arith)
 
     -- the walk is all of these ends, in the Rust's order
-    pub behind-walk-held : follow (nextBehindAt kinds faces coords words (length kinds) g) (2 * length kinds) (firstBehindAt kinds faces coords words (length kinds) g p) ≡ endsBehind kinds faces coords g p
+    pub behind-walk-held : (link : ℕ) → IsFirst p link
+        → follow (nextBehindAt kinds faces coords words (length kinds) g) (2 * length kinds) (firstBehindAt kinds faces coords words (length kinds) g link) ≡ endsBehind kinds faces coords g p
     unfolding endsBehind
-    behind-walk-held =
-        ap (follow (nextBehindAt kinds faces coords words (length kinds) g) (2 * length kinds)) first-behind-held
+    behind-walk-held link is-link =
+        ap (follow (nextBehindAt kinds faces coords words (length kinds) g) (2 * length kinds)) (first-behind-held link is-link)
         ∙ follow-left (nextBehindAt kinds faces coords words (length kinds) g) test (2 * length kinds) next-behind-held (2 * length kinds) 0 (2 * length kinds) (omega arith) (omega arith)
 
     -- and the directions read at them are the Rust's
@@ -89,15 +94,16 @@ module _ (kinds faces : List ℕ) (coords : List Float) (words : List ℕ) (held
         let l : e < 2 * length kinds = end-below kinds coords e (has-end kinds coords p e (both (hasBits kinds coords p e) (inFace kinds faces coords g e) h .0) .0) in
         ap (turnedAt e) (direction-held kinds coords n (e / 2) (omega arith) room)
 
-    pub behind-held : (n : ℕ) → realsPerPiece * length kinds ≤ n → map (leavingAt (pieceReals kinds coords n)) (follow (nextBehindAt kinds faces coords words (length kinds) g) (2 * length kinds) (firstBehindAt kinds faces coords words (length kinds) g p)) ≡ behindIn kinds faces coords g p
+    pub behind-held : (link : ℕ) → IsFirst p link → (n : ℕ) → realsPerPiece * length kinds ≤ n
+        → map (leavingAt (pieceReals kinds coords n)) (follow (nextBehindAt kinds faces coords words (length kinds) g) (2 * length kinds) (firstBehindAt kinds faces coords words (length kinds) g link)) ≡ behindIn kinds faces coords g p
     unfolding behindIn endsBehind
-    behind-held n room =
-        ap (map (leavingAt (pieceReals kinds coords n))) behind-walk-held
+    behind-held link is-link n room =
+        ap (map (leavingAt (pieceReals kinds coords n))) (behind-walk-held link is-link)
         ∙ map-passing test (leavingAt (pieceReals kinds coords n)) (λ (e : ℕ). turnedAt e (directionOf kinds coords (e / 2))) (leaving-held n room) (2 * length kinds) 0
 
   -- ---- segments round a vertex
   pub any-round-held : (triangles : List ℕ) (k : ℕ) (p : Vec3) → anyRoundAt kinds faces coords triangles words (length kinds) k p ≡ anyRound kinds faces coords triangles k p
   unfolding anyRoundAt anyRound
   any-round-held triangles k p =
-      ap (λ (at : ℕ). not (eqb at 0)) (search-first p (isRound kinds faces coords triangles k))
+      ap (λ (at : ℕ). not (eqb at 0)) (search-first p (isRound kinds faces coords triangles k) (firstLinkAt coords words (length kinds) p) (first-held kinds coords words held p))
       ∙ some-link (λ (e : ℕ). hasBits kinds coords p e && isRound kinds faces coords triangles k e) (2 * length kinds) _ refl

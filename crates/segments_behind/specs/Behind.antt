@@ -13,7 +13,7 @@ use Rattle.vec3.specs.Vec.{scaleOf}
 use Rattle.frames.specs.Stored.{vectorAt}
 use Rattle.piece_ends.specs.Ends.{passing, hasBits}
 use Rattle.piece_ends.specs.Directions.{isLong, directionOf}
-use Rattle.piece_ends.specs.Walk.{findAlong, firstLinkAt, nextLinkAt}
+use Rattle.piece_ends.specs.Walk.{findAlong, nextLinkAt}
 
 -- end e of a segment with the direction d: the second end's is turned
 abbrev pub turnedAt : ℕ → Vec3 → Vec3
@@ -34,12 +34,12 @@ module _ (kinds faces : List ℕ) (coords : List Float) where
 
   -- ---- over the pieces' buffer
   module _ (words : List ℕ) (pieces : ℕ) where
-    -- the link to the first of these ends, and to the next behind end e
-    unfoldable pub firstBehindAt : ℕ → Vec3 → ℕ
-    firstBehindAt g p = findAlong (nextLinkAt coords words pieces) (inFace g) (2 * pieces) (firstLinkAt coords words pieces p)
+    -- the link to the first of these ends from a link on, and to the next behind end e
+    abbrev pub firstBehindAt : ℕ → ℕ → ℕ
+    firstBehindAt g link = findAlong (nextLinkAt coords words pieces) (inFace g) (2 * pieces) link
 
     unfoldable pub nextBehindAt : ℕ → ℕ → ℕ
-    nextBehindAt g e = findAlong (nextLinkAt coords words pieces) (inFace g) (2 * pieces) (nextLinkAt coords words pieces e)
+    nextBehindAt g e = firstBehindAt g (nextLinkAt coords words pieces e)
 
 -- the direction in which the segment of end e leaves it
 abbrev pub leavingAt : List Float → ℕ → Vec3

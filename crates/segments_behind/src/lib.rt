@@ -34,8 +34,8 @@ fn in_face(kinds: &[u8], faces: &[u32], coords: &[f64], g: FaceId, e: u32) -> bo
     is_long(kinds, coords, e / 2)
 }
 
-// The link to the first end, from a link on, whose segment is of face g.
-fn seek_in_face(
+// The link to the first end, from a link on along those of its bits, whose segment is of face g, in a table of so many pieces.
+pub fn first_behind(
     kinds: &[u8],
     faces: &[u32],
     coords: &[f64],
@@ -44,7 +44,7 @@ fn seek_in_face(
     g: FaceId,
     link: u32,
 ) -> u32
-    ensures { λ r. ⌜ r ≡ findAlong (nextLinkAt (given coords) (given words) pieces) (inFace (given kinds) (given faces) (given coords) (g .0)) (2 * pieces) link ⌝ }
+    ensures { λ r. ⌜ r ≡ firstBehindAt (given kinds) (given faces) (given coords) (given words) pieces (g .0) link ⌝ }
 {
     let mut at = link;
     let mut rest = 2 * (pieces as u64);
@@ -61,22 +61,6 @@ fn seek_in_face(
     0
 }
 
-// The link to the first end of p's bits whose segment is of face g, in a table of so many pieces.
-pub fn first_behind(
-    kinds: &[u8],
-    faces: &[u32],
-    coords: &[f64],
-    words: &[u32],
-    pieces: u32,
-    g: FaceId,
-    p: Vec3,
-) -> u32
-    ensures { λ r. ⌜ r ≡ firstBehindAt (given kinds) (given faces) (given coords) (given words) pieces (g .0) p ⌝ }
-{
-    let link = first_at(coords, words, pieces, p);
-    seek_in_face(kinds, faces, coords, words, pieces, g, link)
-}
-
 // The same behind end e, of its bits.
 pub fn next_behind(
     kinds: &[u8],
@@ -90,7 +74,7 @@ pub fn next_behind(
     ensures { λ r. ⌜ r ≡ nextBehindAt (given kinds) (given faces) (given coords) (given words) pieces (g .0) e ⌝ }
 {
     let link = next_at(coords, words, pieces, e);
-    seek_in_face(kinds, faces, coords, words, pieces, g, link)
+    first_behind(kinds, faces, coords, words, pieces, g, link)
 }
 
 // The direction in which the segment of end e leaves it, from the directions of all pieces.

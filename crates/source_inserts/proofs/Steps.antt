@@ -48,11 +48,11 @@ module _ (v : List Float) (ew : List ℕ) (er : List Float) (tw : List ℕ) (tr 
     no-point h = rw h refl
 
     pub point-is : isFirstAt kinds coords words pieces e ≡ true → (f : FaceId) (p : Vec3) (on : CarrierSimplex) → f ≡ record { 0 = getD faces (e / 2) 0 } → p ≡ endPoint coords e → on ≡ carrierAt v ew er tw tr (f .0) p
-        → Point f p (e / 2) part on ≡ endSourceAt v ew er tw tr kinds faces coords words pieces e part
+        → Point f p (e / 2) part on (e + 1) ≡ endSourceAt v ew er tw tr kinds faces coords words pieces e part
     unfolding endSourceAt
     point-is h f p on is-f is-p is-on =
         let C : on ≡ carrierAt v ew er tw tr (getD faces (e / 2) 0) (endPoint coords e) = is-on ∙ (λ t. carrierAt v ew er tw tr (is-f t .0) (is-p t)) in
-        rw h (λ t. Point (is-f t) (is-p t) (e / 2) part (C t))
+        rw h (λ t. Point (is-f t) (is-p t) (e / 2) part (C t) (e + 1))
 
   -- ---- either
   module _ (kinds faces : List ℕ) (coords : List Float) (words : List ℕ) (pieces j : ℕ) where
@@ -81,25 +81,25 @@ module _ (v : List Float) (ew : List ℕ) (er : List Float) (tw : List ℕ) (tr 
 
   -- ---- what a point does
   module _ (vw round kinds faces : List ℕ) (coords : List Float) (words : List ℕ) (reals : List Float) (pieces f : ℕ) (p : Vec3) (c : CarrierSimplex) where
-    pub side-is : (g k count : ℕ) (h : FaceId) (w : Bounds) (r : Offered)
+    pub side-is : (first g k count : ℕ) (h : FaceId) (w : Bounds) (r : Offered)
         → count ≡ carrierCountAt ew vw c → h ≡ record { 0 = otherCarrier g (carrierFaceAt ew vw round f c 0) (carrierFaceAt ew vw round f c 1) }
-        → w ≡ boundsAt v ew er tw tr kinds faces coords words reals pieces g k p count (h .0) → r ≡ pointOfferAt v ew er tw tr g k p w
-        → r ≡ pointSideAt v ew er tw tr vw round kinds faces coords words reals pieces f p c g k
+        → w ≡ boundsAt v ew er tw tr kinds faces coords words reals pieces g k p count (h .0) first → r ≡ pointOfferAt v ew er tw tr g k p w
+        → r ≡ pointSideAt v ew er tw tr vw round kinds faces coords words reals pieces f p c first g k
     unfolding pointSideAt
-    side-is g k count h w r is-count is-h is-w is-r =
-        is-r ∙ ap (pointOfferAt v ew er tw tr g k p) (is-w ∙ (λ t. boundsAt v ew er tw tr kinds faces coords words reals pieces g k p (is-count t) (is-h t .0)))
+    side-is first g k count h w r is-count is-h is-w is-r =
+        is-r ∙ ap (pointOfferAt v ew er tw tr g k p) (is-w ∙ (λ t. boundsAt v ew er tw tr kinds faces coords words reals pieces g k p (is-count t) (is-h t .0) first))
 
-    module _ (piece : ℕ) (part : Part) (i : ℕ) (g : FaceId) (is-g : g ≡ record { 0 = carrierFaceAt ew vw round f c (i / 4) }) where
-      pub point-entry : i % 4 ≡ 0 → Entry g (record { piece = piece; part = part }) ≡ pointInsertAt v ew er tw tr vw round kinds faces coords words reals pieces f p piece part c i
+    module _ (piece : ℕ) (part : Part) (first i : ℕ) (g : FaceId) (is-g : g ≡ record { 0 = carrierFaceAt ew vw round f c (i / 4) }) where
+      pub point-entry : i % 4 ≡ 0 → Entry g (record { piece = piece; part = part }) ≡ pointInsertAt v ew er tw tr vw round kinds faces coords words reals pieces f p piece part c first i
       unfolding pointInsertAt
       point-entry h = rw (eq-eqb (i % 4) 0 h) (λ t. Entry (is-g t) (record { piece = piece; part = part }))
 
-      pub point-side : (i % 4 ≡ 0 → ⊥) → (o : Offered) → o ≡ pointSideAt v ew er tw tr vw round kinds faces coords words reals pieces f p c (g .0) (i % 4 - 1)
-          → Offer o ≡ pointInsertAt v ew er tw tr vw round kinds faces coords words reals pieces f p piece part c i
+      pub point-side : (i % 4 ≡ 0 → ⊥) → (o : Offered) → o ≡ pointSideAt v ew er tw tr vw round kinds faces coords words reals pieces f p c first (g .0) (i % 4 - 1)
+          → Offer o ≡ pointInsertAt v ew er tw tr vw round kinds faces coords words reals pieces f p piece part c first i
       unfolding pointInsertAt
       point-side h o is-o =
-          let O : o ≡ pointSideAt v ew er tw tr vw round kinds faces coords words reals pieces f p c (carrierFaceAt ew vw round f c (i / 4)) (i % 4 - 1) =
-          is-o ∙ (λ t. pointSideAt v ew er tw tr vw round kinds faces coords words reals pieces f p c (is-g t .0) (i % 4 - 1)) in
+          let O : o ≡ pointSideAt v ew er tw tr vw round kinds faces coords words reals pieces f p c first (carrierFaceAt ew vw round f c (i / 4)) (i % 4 - 1) =
+          is-o ∙ (λ t. pointSideAt v ew er tw tr vw round kinds faces coords words reals pieces f p c first (is-g t .0) (i % 4 - 1)) in
           rw (ne-eqb (i % 4) 0 h) (λ t. Offer (O t))
 
 -- ---- how many

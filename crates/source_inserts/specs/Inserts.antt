@@ -19,7 +19,8 @@ use Rattle.source_offers.specs.Offering.{segmentOffer, pointOffer}
 use Rattle.carriers.specs.Carrier.{carrierOf, facesOf, InMesh}
 use Rattle.face_entries.specs.declared.Part.{Part}
 use Rattle.face_entries.specs.declared.Part.the-variants.{EndA, EndB, Whole}
-use Rattle.piece_ends.specs.Ends.{endPoint, firstOfBits}
+use Rattle.piece_ends.specs.Ends.{endPoint, firstOfBits, endsWithBits}
+use Rattle.piece_ends.specs.Table.{linkTo}
 use Rattle.point_wedge.specs.Wedge.{boundsIn}
 use Rattle.source_inserts.specs.declared.Insert.{Insert}
 use Rattle.source_inserts.specs.declared.Insert.the-variants.{Entry, Offer}
@@ -76,8 +77,9 @@ module _ (v : List Float) (triangles kinds faces : List ℕ) (coords : List Floa
   -- source s makes these, in a mesh of n vertices, and names what is there
   unfoldable pub SourceMakes : ℕ → List Insert → Source → Type 0
   SourceMakes n xs Absent = xs ≡ []
-  SourceMakes n xs (Point f p piece part on) =
-      (xs ≡ pointInserts (f .0) p piece part) × ((f .0 < length triangles / 3) × ((facesOf triangles (f .0) on ≡ carrierOf v triangles (f .0) p) × InMesh triangles n (f .0) on))
+  SourceMakes n xs (Point f p piece part on first) =
+      (xs ≡ pointInserts (f .0) p piece part)
+      × ((f .0 < length triangles / 3) × (((facesOf triangles (f .0) on ≡ carrierOf v triangles (f .0) p) × InMesh triangles n (f .0) on) × (first ≡ linkTo (endsWithBits kinds coords p))))
   SourceMakes n xs (Segment f a b piece) = (xs ≡ segmentInserts (f .0) a b piece) × (f .0 < length triangles / 3)
 
   -- s is source j

@@ -39,7 +39,7 @@ module _ (v : List Float) (edgeWords : List ℕ) (edgeReals : List Float) (trian
   endSourceAt kinds faces coords words pieces e part =
       let f : ℕ = getD faces (e / 2) 0 in
       let p : Vec3 = endPoint coords e in
-      cond (isFirstAt kinds coords words pieces e) (Point (record { 0 = f }) p (e / 2) part (carrierAt v edgeWords edgeReals triangleWords triangleReals f p)) Absent
+      cond (isFirstAt kinds coords words pieces e) (Point (record { 0 = f }) p (e / 2) part (carrierAt v edgeWords edgeReals triangleWords triangleReals f p) (e + 1)) Absent
 
   -- source j, of three for each piece: its end a, its end b, and the whole segment
   unfoldable pub jobSourceAt : List ℕ → List ℕ → List Float → List ℕ → ℕ → ℕ → Source
@@ -52,27 +52,27 @@ module _ (v : List Float) (edgeWords : List ℕ) (edgeReals : List Float) (trian
       cond (eqb i 0) (entryOf f piece Whole) (Offer (segmentOfferAt v edgeWords edgeReals triangleWords triangleReals f ((i - 1) / 2) a b (normalOfNumber ((i - 1) % 2))))
 
   module _ (vertexWords round kinds faces : List ℕ) (coords : List Float) (words : List ℕ) (reals : List Float) (pieces : ℕ) where
-    -- of the point p of face f, on c, to side k of carrier g
-    unfoldable pub pointSideAt : ℕ → Vec3 → CarrierSimplex → ℕ → ℕ → Offered
-    pointSideAt f p c g k =
+    -- of the point p of face f, on c, to side k of carrier g; the ends of p's bits are found from the first link on
+    unfoldable pub pointSideAt : ℕ → Vec3 → CarrierSimplex → ℕ → ℕ → ℕ → Offered
+    pointSideAt f p c first g k =
         let carrier : ℕ → ℕ = carrierFaceAt edgeWords vertexWords round f c in
         pointOfferAt v edgeWords edgeReals triangleWords triangleReals g k p
-        (boundsAt v edgeWords edgeReals triangleWords triangleReals kinds faces coords words reals pieces g k p (carrierCountAt edgeWords vertexWords c) (otherCarrier g (carrier 0) (carrier 1)))
+        (boundsAt v edgeWords edgeReals triangleWords triangleReals kinds faces coords words reals pieces g k p (carrierCountAt edgeWords vertexWords c) (otherCarrier g (carrier 0) (carrier 1)) first)
 
     -- the i-th of a point: four for each carrier, its entry and its three sides
-    unfoldable pub pointInsertAt : ℕ → Vec3 → ℕ → Part → CarrierSimplex → ℕ → Insert
-    pointInsertAt f p piece part c i =
+    unfoldable pub pointInsertAt : ℕ → Vec3 → ℕ → Part → CarrierSimplex → ℕ → ℕ → Insert
+    pointInsertAt f p piece part c first i =
         let g : ℕ = carrierFaceAt edgeWords vertexWords round f c (i / 4) in
-        cond (eqb (i % 4) 0) (entryOf g piece part) (Offer (pointSideAt f p c g (i % 4 - 1)))
+        cond (eqb (i % 4) 0) (entryOf g piece part) (Offer (pointSideAt f p c first g (i % 4 - 1)))
 
     -- the i-th of a source
     unfoldable pub insertAt : Source → ℕ → Insert
     insertAt Absent i = Offer Nothing
-    insertAt (Point f p piece part on) i = pointInsertAt (f .0) p piece part on i
+    insertAt (Point f p piece part on first) i = pointInsertAt (f .0) p piece part on first i
     insertAt (Segment f a b piece) i = segmentInsertAt (f .0) a b piece i
 
 -- how many a source makes; no mesh has a vertex of more than 1,073,741,823 faces
 unfoldable pub insertCountAt : List ℕ → List ℕ → Source → ℕ
 insertCountAt edgeWords vertexWords Absent = 0
-insertCountAt edgeWords vertexWords (Point f p piece part on) = 4 * min (carrierCountAt edgeWords vertexWords on) 1_073_741_823
+insertCountAt edgeWords vertexWords (Point f p piece part on first) = 4 * min (carrierCountAt edgeWords vertexWords on) 1_073_741_823
 insertCountAt edgeWords vertexWords (Segment f a b piece) = 7

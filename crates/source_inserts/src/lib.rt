@@ -29,7 +29,7 @@ pub enum Insert {
     Offer(Offered),
 }
 
-// A source: none; the point p of a face, which is a part of a piece and lies on a carrier; the segment from a to b of a face, which is a piece.
+// A source: none; the point p of a face, which is a part of a piece and lies on a carrier, with the link to the first end of its bits; the segment from a to b of a face, which is a piece.
 pub enum Source {
     Absent,
     Point {
@@ -38,6 +38,7 @@ pub enum Source {
         piece: u32,
         part: Part,
         on: CarrierSimplex,
+        first: u32,
     },
     Segment {
         face: FaceId,
@@ -62,6 +63,7 @@ fn end_source(
     e: u32,
     part: Part,
 ) -> Source
+    requires { ⌜ e < 4294967295 ⌝ }
     ensures { λ r. ⌜ r ≡ endSourceAt (given vertices) (given «edge_words») (given «edge_reals») (given «triangle_words») (given «triangle_reals»)
         (given kinds) (given faces) (given coords) (given «piece_words») pieces e part ⌝ }
 {
@@ -80,12 +82,14 @@ fn end_source(
         p,
     );
     let piece = e / 2;
+    let first = e + 1;
     Source::Point {
         face,
         p,
         piece,
         part,
         on,
+        first,
     }
 }
 
@@ -159,6 +163,7 @@ pub fn insert_count(edge_words: &[u32], vertex_words: &[u32], s: Source) -> u32
             piece,
             part,
             on,
+            first,
         } => {
             let count = carrier_count(edge_words, vertex_words, on);
             if count < 1073741823 {
@@ -170,7 +175,7 @@ pub fn insert_count(edge_words: &[u32], vertex_words: &[u32], s: Source) -> u32
     }
 }
 
-// What the point p of face f, on c, offers to side k of its carrier g.
+// What the point p of face f, on c, offers to side k of its carrier g; `first` is the link to the first end of its bits.
 fn point_side(
     vertices: &[f64],
     edge_words: &[u32],
@@ -188,11 +193,12 @@ fn point_side(
     f: FaceId,
     p: Vec3,
     c: CarrierSimplex,
+    first: u32,
     g: FaceId,
     k: u32,
 ) -> Offered
     ensures { λ r. ⌜ r ≡ pointSideAt (given vertices) (given «edge_words») (given «edge_reals») (given «triangle_words») (given «triangle_reals») (given «vertex_words») (given round)
-        (given kinds) (given faces) (given coords) (given «piece_words») (given «piece_reals») pieces (f .0) p c (g .0) k ⌝ }
+        (given kinds) (given faces) (given coords) (given «piece_words») (given «piece_reals») pieces (f .0) p c first (g .0) k ⌝ }
 {
     let count = carrier_count(edge_words, vertex_words, c);
     let h = other_carrier(edge_words, vertex_words, round, f, c, g);
@@ -213,6 +219,7 @@ fn point_side(
         p,
         count,
         h,
+        first,
     );
     point_offer(
         vertices,
@@ -247,10 +254,11 @@ fn point_insert(
     piece: u32,
     part: Part,
     c: CarrierSimplex,
+    first: u32,
     i: u32,
 ) -> Insert
     ensures { λ r. ⌜ r ≡ pointInsertAt (given vertices) (given «edge_words») (given «edge_reals») (given «triangle_words») (given «triangle_reals») (given «vertex_words») (given round)
-        (given kinds) (given faces) (given coords) (given «piece_words») (given «piece_reals») pieces (f .0) p piece part c i ⌝ }
+        (given kinds) (given faces) (given coords) (given «piece_words») (given «piece_reals») pieces (f .0) p piece part c first i ⌝ }
 {
     let g = carrier_face(edge_words, vertex_words, round, f, c, i / 4);
     if i % 4 == 0 {
@@ -274,6 +282,7 @@ fn point_insert(
         f,
         p,
         c,
+        first,
         g,
         i % 4 - 1,
     );
@@ -357,6 +366,7 @@ pub fn insert_at(
             piece,
             part,
             on,
+            first,
         } => point_insert(
             vertices,
             edge_words,
@@ -376,6 +386,7 @@ pub fn insert_at(
             piece,
             part,
             on,
+            first,
             i,
         ),
         Source::Segment { face, a, b, piece } => segment_insert(

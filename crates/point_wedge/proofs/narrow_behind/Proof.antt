@@ -9,13 +9,13 @@ use Rattle.point_wedge.proofs.narrow_behind.Statement.{statement}
 use Rattle.point_wedge.proofs.narrow_behind.Tie as tie
 
 abbrev Inv-loop : tie.InvT-loop
-Inv-loop kinds faces coords words reals pieces f plane o p xhat at₀ part₀ rest₀ at part rest =
+Inv-loop kinds faces coords words reals pieces f plane first o p xhat at₀ part₀ rest₀ at part rest =
     (at < 4294967296) × ((rest ≤ 2 * pieces)
     × (narrowed o p xhat plane (leavingAt reals) (nextBehindAt kinds faces coords words pieces (f .0)) (2 * pieces) at₀ part₀
     ≡ narrowed o p xhat plane (leavingAt reals) (nextBehindAt kinds faces coords words pieces (f .0)) rest at part))
 
 abbrev μ-loop : tie.MeasureT-loop
-μ-loop kinds faces coords words reals pieces f plane o p xhat at₀ part₀ rest₀ at part rest = rest
+μ-loop kinds faces coords words reals pieces f plane first o p xhat at₀ part₀ rest₀ at part rest = rest
 
 first-behind-requires : tie.Need-first-behind-requires Inv-loop μ-loop
 first-behind-requires c κs = search needs
@@ -32,7 +32,7 @@ returns c =
     let first = at .before in
     let a = first .before .before .before .before .before .before .args in
     narrow-ends (a .o) (a .p) (a .xhat) (a .plane) (leavingAt (a .reals .now)) (nextBehindAt (a .kinds .now) (a .faces .now) (a .coords .now) (a .words .now) (a .pieces) (a .f .0)) _ (at .loop .rest) (at .loop .at) (at .loop .part) (at .loop .inv .1 .1) (c .if1 .taken)
-    ∙ walk-is (a .kinds .now) (a .faces .now) (a .coords .now) (a .words .now) (a .reals .now) (a .pieces) (a .f .0) (a .plane) (a .o) (a .p) (a .xhat) (a .w) _ (first .first-behind .ensures)
+    ∙ walk-is (a .kinds .now) (a .faces .now) (a .coords .now) (a .words .now) (a .reals .now) (a .pieces) (a .f .0) (a .first) (a .plane) (a .o) (a .p) (a .xhat) (a .w) _ (first .first-behind .ensures)
 
 sub-behind-end : tie.Need-sub-behind-end Inv-loop μ-loop
 sub-behind-end c = search needs
@@ -68,7 +68,7 @@ returns-2 c =
     let first = at .before in
     let a = first .before .before .before .before .before .before .args in
     narrow-spent (a .o) (a .p) (a .xhat) (a .plane) (leavingAt (a .reals .now)) (nextBehindAt (a .kinds .now) (a .faces .now) (a .coords .now) (a .words .now) (a .pieces) (a .f .0)) _ (at .loop .rest) (at .loop .at) (at .loop .part) (at .loop .inv .1 .1) (c .loop-test .left)
-    ∙ walk-is (a .kinds .now) (a .faces .now) (a .coords .now) (a .words .now) (a .reals .now) (a .pieces) (a .f .0) (a .plane) (a .o) (a .p) (a .xhat) (a .w) _ (first .first-behind .ensures)
+    ∙ walk-is (a .kinds .now) (a .faces .now) (a .coords .now) (a .words .now) (a .reals .now) (a .pieces) (a .f .0) (a .first) (a .plane) (a .o) (a .p) (a .xhat) (a .w) _ (first .first-behind .ensures)
 
 pub narrow-behind-spec : {M : Type 1} → statement M
 narrow-behind-spec =

@@ -7,14 +7,14 @@ use Rattle.segments_behind.proofs.next_behind.Tie as tie
 next-at-requires : tie.Need-next-at-requires
 next-at-requires c κs = search needs
 
-seek-in-face-requires : tie.Need-seek-in-face-requires
-seek-in-face-requires c κs = search needs
+first-behind-requires : tie.Need-first-behind-requires
+first-behind-requires c κs = search needs
 
 returns : tie.Need-returns
 returns c =
     let link = c .before in
     let a = link .before .before .before .before .before .args in
-    next-behind-done (a .kinds .now) (a .faces .now) (a .coords .now) (a .words .now) (a .pieces) (a .g .0) (a .e) _ _ (link .next-at .ensures) (c .seek-in-face .ensures)
+    next-behind-done (a .kinds .now) (a .faces .now) (a .coords .now) (a .words .now) (a .pieces) (a .g .0) (a .e) _ _ (link .next-at .ensures) (c .first-behind .ensures)
 
 pub next-behind-spec : {M : Type 1} → statement M
-next-behind-spec = tie.close (tie.spec next-at-requires seek-in-face-requires returns)
+next-behind-spec = tie.close (tie.spec next-at-requires first-behind-requires returns)

@@ -25,6 +25,9 @@ end-point-requires c κs = search needs
 carrier-requires : tie.Need-carrier-requires
 carrier-requires c κs = search needs
 
+add-first : tie.Need-add-first
+add-first c = search needs
+
 returns-2 : tie.Need-returns-2
 returns-2 c =
     let point = c .before in
@@ -38,4 +41,4 @@ returns-2 c =
 pub end-source-spec : {M : Type 1} → statement M
 end-source-spec =
     tie.close
-    (tie.spec is-first-requires returns face-of-requires end-point-requires carrier-requires returns-2)
+    (tie.spec is-first-requires returns face-of-requires end-point-requires carrier-requires add-first returns-2)

@@ -12,7 +12,7 @@ returns c =
     let face = c .before in
     let a = face .before .before .before .before .before .before .before .before .before .before .before .before .before .args in
     point-entry (a .vertices .now) (a .edge-words .now) (a .edge-reals .now) (a .triangle-words .now) (a .triangle-reals .now) (a .vertex-words .now) (a .round .now) (a .kinds .now) (a .faces .now) (a .coords .now) (a .piece-words .now) (a .piece-reals .now) (a .pieces)
-    (a .f .0) (a .p) (a .c) (a .piece) (a .part) (a .i) (face .carrier-face .result) (face .carrier-face .ensures) (c .if1 .taken)
+    (a .f .0) (a .p) (a .c) (a .piece) (a .part) (a .first) (a .i) (face .carrier-face .result) (face .carrier-face .ensures) (c .if1 .taken)
 
 sub-point-side : tie.Need-sub-point-side
 sub-point-side c = search needs
@@ -26,7 +26,7 @@ returns-2 c =
     let face = branch .before in
     let a = face .before .before .before .before .before .before .before .before .before .before .before .before .before .args in
     point-side (a .vertices .now) (a .edge-words .now) (a .edge-reals .now) (a .triangle-words .now) (a .triangle-reals .now) (a .vertex-words .now) (a .round .now) (a .kinds .now) (a .faces .now) (a .coords .now) (a .piece-words .now) (a .piece-reals .now) (a .pieces)
-    (a .f .0) (a .p) (a .c) (a .piece) (a .part) (a .i) (face .carrier-face .result) (face .carrier-face .ensures) (branch .if1 .left) (c .point-side .result) (c .point-side .ensures)
+    (a .f .0) (a .p) (a .c) (a .piece) (a .part) (a .first) (a .i) (face .carrier-face .result) (face .carrier-face .ensures) (branch .if1 .left) (c .point-side .result) (c .point-side .ensures)
 
 pub point-insert-spec : {M : Type 1} → statement M
 point-insert-spec =

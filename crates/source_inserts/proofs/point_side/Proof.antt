@@ -23,7 +23,7 @@ returns c =
     let count = other .before in
     let a = count .before .before .before .before .before .before .before .before .before .before .before .before .before .args in
     side-is (a .vertices .now) (a .edge-words .now) (a .edge-reals .now) (a .triangle-words .now) (a .triangle-reals .now) (a .vertex-words .now) (a .round .now) (a .kinds .now) (a .faces .now) (a .coords .now) (a .piece-words .now) (a .piece-reals .now) (a .pieces)
-    (a .f .0) (a .p) (a .c) (a .g .0) (a .k) (count .carrier-count .result) (other .other-carrier .result) (part .bounds .result) (c .point-offer .result)
+    (a .f .0) (a .p) (a .c) (a .first) (a .g .0) (a .k) (count .carrier-count .result) (other .other-carrier .result) (part .bounds .result) (c .point-offer .result)
     (count .carrier-count .ensures) (other .other-carrier .ensures) (part .bounds .ensures) (c .point-offer .ensures)
 
 pub point-side-spec : {M : Type 1} → statement M
