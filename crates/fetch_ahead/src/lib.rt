@@ -242,3 +242,23 @@ pub fn fetch_faces(
     );
     float64::min(a, float64::min(b, c))
 }
+
+// The head of the chain of one of the eight edges from 8 k on: its field, counted from the first one's slot.
+fn run_head(edge_words: &[u32], made: u32, k: u32, field: u32) -> u32 {
+    within(read_u32(edge_words, 8 * WORDS_PER_EDGE, k, field), made)
+}
+
+// The windows of the eight edges from 8 k on.
+pub fn fetch_run(edge_words: &[u32], words: &[u32], reals: &[f64], made: u32, k: u32) -> f64 {
+    let first = Walks {
+        a: run_head(edge_words, made, k, EDGE_HEAD),
+        b: run_head(edge_words, made, k, WORDS_PER_EDGE + EDGE_HEAD),
+        c: run_head(edge_words, made, k, 2 * WORDS_PER_EDGE + EDGE_HEAD),
+        d: run_head(edge_words, made, k, 3 * WORDS_PER_EDGE + EDGE_HEAD),
+        e: run_head(edge_words, made, k, 4 * WORDS_PER_EDGE + EDGE_HEAD),
+        f: run_head(edge_words, made, k, 5 * WORDS_PER_EDGE + EDGE_HEAD),
+        g: run_head(edge_words, made, k, 6 * WORDS_PER_EDGE + EDGE_HEAD),
+        h: run_head(edge_words, made, k, 7 * WORDS_PER_EDGE + EDGE_HEAD),
+    };
+    walk(words, reals, made, first)
+}

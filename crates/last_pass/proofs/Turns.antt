@@ -1,5 +1,6 @@
 -- What the functions of the last pass come to, by what their callees answer, and that no slice changes its length. Assumes nothing.
-use Prim.Native.Nat.{ℕ, zero, suc, _-_, _<_}
+use Prim.Native.Nat.{ℕ, zero, suc, _-_, _<_, _+_, _≤_}
+use native.Mathlib.Omega.{arith}
 use mathlib.Core.List.{List, [], _∷_}
 use mathlib.Core.Logic.{_≢_}
 use mathlib.Core.Path.{_≡_, refl, sym, ap, _∙_}
@@ -15,7 +16,7 @@ use Rattle.actions.specs.Actions.{distanceOf, withDistance}
 use Rattle.chains.specs.Chains.{Links, linkIn, linkAt}
 use Rattle.mesh_readers.specs.Readers.{trimEdgeAt}
 use Rattle.last_pass.specs.Lowered.{lowered, loweredBy, loweredEdge}
-use Rattle.last_pass.specs.Buffers.{chainBehind, winsOn, loweredAllAt}
+use Rattle.last_pass.specs.Buffers.{chainBehind, winsOn, loweredAt, loweredAllAt, loweredFrom}
 use Rattle.last_pass.proofs.Chains.{chain-end, chain-next, chain-out}
 
 -- ---- one vertex, and the two ends of an edge
@@ -63,14 +64,43 @@ module _ (made : ℕ) (edgeReals : List Float) (b : Links) (f : List Float) wher
   unfolding loweredAllAt
   none-yet vertex = refl
 
-  pub one-edge : (n : ℕ) (vertex₀ vertex vertex′ : List Float) (e : Edge) → e ≡ trimEdgeAt (b .edges) edgeReals n → vertex ≡ loweredAllAt made edgeReals b f n vertex₀
-      → vertex′ ≡ loweredEdge e (winsOn (b .words) f (chainBehind made b (e .id .0) made 0)) vertex → vertex′ ≡ loweredAllAt made edgeReals b f (suc n) vertex₀
-  unfolding loweredAllAt
-  one-edge n vertex₀ vertex vertex′ e is h g = g ∙ (λ i. loweredEdge (is i) (winsOn (b .words) f (chainBehind made b (is i .id .0) made 0)) (h i))
-
   pub length-all : (n : ℕ) (vertex : List Float) → length (loweredAllAt made edgeReals b f n vertex) ≡ length vertex
   unfolding loweredAllAt
   length-all zero vertex = refl
   length-all (suc n) vertex =
       length-edge (trimEdgeAt (b .edges) edgeReals n) (winsOn (b .words) f (chainBehind made b n made 0)) (loweredAllAt made edgeReals b f n vertex)
       ∙ length-all n vertex
+
+  -- ---- a group of edges, and the groups one behind another
+  pub none-of-group : (e : ℕ) (vertex : List Float) → vertex ≡ loweredFrom made edgeReals b f e 0 vertex
+  unfolding loweredFrom
+  none-of-group e vertex = refl
+
+  pub one-of-group : (from n : ℕ) → from ≤ n → (vertex₀ vertex vertex′ : List Float) (e : Edge) → e ≡ trimEdgeAt (b .edges) edgeReals n → vertex ≡ loweredFrom made edgeReals b f from (n - from) vertex₀
+      → vertex′ ≡ loweredEdge e (winsOn (b .words) f (chainBehind made b (e .id .0) made 0)) vertex → vertex′ ≡ loweredFrom made edgeReals b f from (suc n - from) vertex₀
+  unfolding loweredFrom
+  one-of-group from n l vertex₀ vertex vertex′ e is h g =
+      let last : n ≡ from + (n - from) = omega arith in
+      let more : suc (n - from) ≡ suc n - from = omega arith in
+      g ∙ ((λ i. loweredEdge (is i) (winsOn (b .words) f (chainBehind made b (is i .id .0) made 0)) (h i))
+      ∙ (ap (λ (k : ℕ). loweredAt made edgeReals b f k (loweredFrom made edgeReals b f from (n - from) vertex₀)) last ∙ ap (λ (k : ℕ). loweredFrom made edgeReals b f from k vertex₀) more))
+
+  group-behind : (e k : ℕ) (vertex : List Float) → loweredFrom made edgeReals b f e k (loweredAllAt made edgeReals b f e vertex) ≡ loweredAllAt made edgeReals b f (e + k) vertex
+  unfolding loweredFrom loweredAllAt
+  group-behind e zero vertex = let z : e ≡ e + 0 = omega arith in ap (λ (n : ℕ). loweredAllAt made edgeReals b f n vertex) z
+  group-behind e (suc k) vertex =
+      let z : suc (e + k) ≡ e + suc k = omega arith in
+      ap (loweredAt made edgeReals b f (e + k)) (group-behind e k vertex) ∙ ap (λ (n : ℕ). loweredAllAt made edgeReals b f n vertex) z
+
+  pub one-group : (e end : ℕ) → e ≤ end → (vertex₀ vertex vertex′ : List Float) → vertex ≡ loweredAllAt made edgeReals b f e vertex₀
+      → vertex′ ≡ loweredFrom made edgeReals b f e (end - e) vertex → vertex′ ≡ loweredAllAt made edgeReals b f end vertex₀
+  one-group e end l vertex₀ vertex vertex′ h g =
+      let z : e + (end - e) ≡ end = omega arith in
+      g ∙ (ap (loweredFrom made edgeReals b f e (end - e)) h ∙ (group-behind e (end - e) vertex₀ ∙ ap (λ (n : ℕ). loweredAllAt made edgeReals b f n vertex₀) z))
+
+  pub length-group : (e k : ℕ) (vertex : List Float) → length (loweredFrom made edgeReals b f e k vertex) ≡ length vertex
+  unfolding loweredFrom
+  length-group e zero vertex = refl
+  length-group e (suc k) vertex =
+      length-edge (trimEdgeAt (b .edges) edgeReals (e + k)) (winsOn (b .words) f (chainBehind made b (e + k) made 0)) (loweredFrom made edgeReals b f e k vertex)
+      ∙ length-group e k vertex

@@ -1,5 +1,5 @@
 -- The last pass over whatever the buffers hold. Definitions only.
-use Prim.Native.Nat.{ℕ, zero, suc}
+use Prim.Native.Nat.{ℕ, zero, suc, _+_}
 use mathlib.Core.List.{List, [], _∷_, map}
 use lib.Ieee.{Float}
 use Rattle.source.specs.declared.Win.{Win}
@@ -33,3 +33,9 @@ module _ (made : ℕ) (edgeReals : List Float) (b : Links) (f : List Float) wher
   unfolding loweredEdge chainBehind
   loweredAllAt zero vertex = vertex
   loweredAllAt (suc n) vertex = loweredAt n (loweredAllAt n vertex)
+
+  -- by those of k edges from e on
+  unfoldable pub loweredFrom : ℕ → ℕ → List Float → List Float
+  unfolding loweredEdge chainBehind
+  loweredFrom e zero vertex = vertex
+  loweredFrom e (suc k) vertex = loweredAt (e + k) (loweredFrom e k vertex)

@@ -1,12 +1,10 @@
 use Prim.Native.Nat.{ℕ, _≤_, _-_}
 use mathlib.Core.Path.{_≡_, ap, _∙_}
 use native.Mathlib.Omega.{arith}
-use native.Mathlib.Numerals.{add-one}
 use lib.ListN.{length}
-use Rattle.windows.specs.declared.Edge.{Edge}
 use Rattle.chains.specs.Chains.{links}
 use Rattle.last_pass.specs.Buffers.{loweredAllAt}
-use Rattle.last_pass.proofs.Turns.{none-yet, one-edge, length-all}
+use Rattle.last_pass.proofs.Turns.{none-yet, one-group, length-all}
 use borrow.Author.Needs.{needs}
 use Rattle.last_pass.proofs.lower_all.Statement.{statement}
 use Rattle.last_pass.proofs.lower_all.Tie as tie
@@ -22,17 +20,14 @@ loop-holds c =
     let a = c .before .before .before .before .before .args in
     (omega arith, none-yet (a .made) (a .edge-reals .now) (links (a .edge-words .now) (a .words .now)) (a .reals .now) (a .vertex .now))
 
-edge-requires : tie.Need-edge-requires Inv-loop μ-loop
-edge-requires c κs = search needs
+group-end-requires : tie.Need-group-end-requires Inv-loop μ-loop
+group-end-requires c κs = search needs
 
-lower-edge-requires : tie.Need-lower-edge-requires Inv-loop μ-loop
-lower-edge-requires c κs =
-    let read = c .before in
-    let p = read .before .before .before .before .before .before .before .before .pre in
-    (p .0, omega (arith, p .1, read .before .loop-test .taken, ap (λ (x : Edge). x .id .0) (read .edge .ensures)))
-
-add-e : tie.Need-add-e Inv-loop μ-loop
-add-e c = search needs
+lower-group-requires : tie.Need-lower-group-requires Inv-loop μ-loop
+lower-group-requires c κs =
+    let group = c .before in
+    let p = group .before .before .before .before .before .before .before .before .pre in
+    (p .0, (omega (arith, p .1, group .group-end .ensures .1), omega (arith, group .group-end .ensures .0)))
 
 loop-less : tie.Need-loop-less Inv-loop μ-loop
 loop-less c = search needs
@@ -40,12 +35,12 @@ loop-less c = search needs
 loop-again : tie.Need-loop-again Inv-loop μ-loop
 loop-again c =
     let lowered = c .before .before in
-    let read = lowered .before .before in
-    let l = read .before .before .loop in
-    let a = read .before .before .before .before .before .before .before .before .args in (
-      omega (arith, read .before .loop-test .taken),
-      rw (add-one (l .e))
-          (one-edge (a .made) (a .edge-reals .now) (links (a .edge-words .now) (a .words .now)) (a .reals .now) (l .e) (a .vertex .now) (l .vertex) _ (read .edge .result) (read .edge .ensures) (l .inv .1) (lowered .lower-edge .ensures)),
+    let group = lowered .before .before in
+    let l = group .before .before .loop in
+    let a = group .before .before .before .before .before .before .before .before .args in (
+      omega (arith, group .group-end .ensures .1),
+      one-group (a .made) (a .edge-reals .now) (links (a .edge-words .now) (a .words .now)) (a .reals .now) (l .e) (group .group-end .result) (omega (arith, group .group-end .ensures .0)) (a .vertex .now) (l .vertex) _
+          (l .inv .1) (lowered .lower-group .ensures),
     )
 
 returns : tie.Need-returns Inv-loop μ-loop
@@ -66,9 +61,8 @@ lower-all-spec =
     Inv-loop
     μ-loop
     loop-holds
-    edge-requires
-    lower-edge-requires
-    add-e
+    group-end-requires
+    lower-group-requires
     loop-less
     loop-again
     same-length
