@@ -1,32 +1,20 @@
 -- A push and the ways that a touch can go, by what the queue answers.
-use Prim.Native.Nat.{ℕ, _+_, _*_, _≤_}
-use mathlib.Core.Bool.{Bool, true, false, _&&_}
+use Prim.Native.Nat.{ℕ, _+_, _*_}
+use mathlib.Core.Bool.{Bool, true, false}
 use mathlib.Core.List.{List}
-use mathlib.Core.Path.{_≡_, refl, ap, sym, _∙_}
-use borrow.Author.Tests.{le-ltb}
+use mathlib.Core.Path.{_≡_, ap, sym, _∙_}
 use lib.Dec.{eqb}
-use lib.ListN.{length, getD}
-use lib.Ieee.{Float, nan, inf, fin, lt, le}
-use Rattle.layout.specs.Layout.{wordsPerVertex, vertexFlag, realsPerVertex, vertexEmitted}
+use lib.ListN.{getD}
+use lib.Ieee.{Float, lt, le}
+use Rattle.layout.specs.Layout.{wordsPerVertex, vertexFlag}
 use Rattle.heap.specs.declared.Event.{Event}
 use Rattle.heap.specs.declared.Pushed.{Pushed}
 use Rattle.heap.specs.declared.Pushed.the-variants.{Queued}
 use Rattle.heap.specs.declared.Item.the-variants.{Vertex}
 use Rattle.heap.specs.Queue.{Queue, pushing}
-use Rattle.actions.specs.Actions.{push, touch, stock, went, distanceOf, withDistance, queueing, act}
-
-below-nan : (d : Float) → lt d nan ≡ false
-unfolding lt
-below-nan nan = refl
-below-nan (inf s) = refl
-below-nan (fin s m e) = refl
+use Rattle.actions.specs.Actions.{push, touch, stock, distanceOf, withDistance, queueing, act}
 
 module _ (cuts windows : ℕ) (limit : Float) (flags : List ℕ) (made n : ℕ) (q : Queue) (vertex : List Float) where
-  -- a vertex whose two numbers are not both there is not reached
-  pub touch-half : (v : ℕ) (d : Float) → length vertex ≤ realsPerVertex * v + vertexEmitted → act cuts windows limit flags (touch v d) (stock made n q vertex) ≡ went (stock made n q vertex)
-  unfolding act
-  touch-half v d h = rw (le-ltb (realsPerVertex * v + vertexEmitted) (length vertex) h, below-nan d)
-
   -- what `heap::push` ensures
   pub push-is : (e : Event) (p : Pushed × Queue) → p ≡ pushing q n e → act cuts windows limit flags (push e) (stock made n q vertex) ≡ queueing made vertex p
   unfolding act

@@ -12,7 +12,7 @@ use Rattle.propagation.proofs.Infinity.{infinity-is}
 use Rattle.buffers.specs.Slots.{fill}
 use Rattle.buffers.specs.Zero.{zeroFrom}
 use Rattle.frames.specs.Stored.{withRows}
-use Rattle.frames.proofs.Rows.{length-rows, rows-at, zero-past-rows}
+use Rattle.frames.proofs.Rows.{rows-at, zero-past-rows}
 use Rattle.begin.specs.Begin.{unreached, vertexReals}
 
 -- one written
@@ -29,10 +29,6 @@ vertices-made n r₀ r out written zeroed =
     zeroed ∙ (ap (zeroFrom zero64 (realsPerVertex * n)) written ∙ zero-past-rows zero64 realsPerVertex (λ (v : ℕ). unreached) (λ k. refl) n r₀)
 
 -- ---- read
-pub length-vertices : (n size : ℕ) → length (vertexReals n size) ≡ size
-unfolding vertexReals
-length-vertices n size = length-rows realsPerVertex (λ (v : ℕ). unreached) (λ k. refl) n (replicate size zero64) ∙ length-replicate size zero64
-
 -- every vertex is infinitely far and has emitted nothing
 pub vertex-unreached : (n size v : ℕ) → v < n → realsPerVertex * n ≤ size
     → (getD (vertexReals n size) (realsPerVertex * v + vertexDistance) nan ≡ inf false) × (getD (vertexReals n size) (realsPerVertex * v + vertexEmitted) nan ≡ inf false)

@@ -1,10 +1,10 @@
 -- How a zeroed list is read, and the turns of the loop that makes it.
-use Prim.Native.Nat.{ℕ, zero, suc, _+_, _-_, _<_, _≤_}
+use Prim.Native.Nat.{ℕ, zero, suc, _+_, _<_, _≤_}
 use native.Mathlib.Omega.{arith}
 use native.Mathlib.Numerals.{add-one}
 use mathlib.Core.Path.{_≡_, refl, ap}
 use mathlib.Core.List.{List, [], _∷_}
-use lib.ListN.{length, getD, replicate, drop, take, set, length-replicate}
+use lib.ListN.{length, getD, replicate, set}
 use Rattle.buffers.specs.Zero.{zeroFrom}
 
 module _ {A : Type 0} (z : A) where
@@ -16,25 +16,6 @@ module _ {A : Type 0} (z : A) where
   pub zero-whole : (l : List A) → zeroFrom z 0 l ≡ replicate (length l) z
   unfolding zeroFrom
   zero-whole l = refl
-
-  pub length-zeroFrom : (n : ℕ) (l : List A) → length (zeroFrom z n l) ≡ length l
-  unfolding zeroFrom
-  length-zeroFrom zero l = length-replicate (length l) z
-  length-zeroFrom (suc n) [] = refl
-  length-zeroFrom (suc n) (x ∷ l) = ap suc (length-zeroFrom n l)
-
-  -- the front is kept and the tail is zero
-  pub take-zeroFrom : (n : ℕ) (l : List A) → take n (zeroFrom z n l) ≡ take n l
-  unfolding zeroFrom
-  take-zeroFrom zero l = refl
-  take-zeroFrom (suc n) [] = refl
-  take-zeroFrom (suc n) (x ∷ l) = ap (λ t. x ∷ t) (take-zeroFrom n l)
-
-  pub drop-zeroFrom : (n : ℕ) (l : List A) → drop n (zeroFrom z n l) ≡ replicate (length l - n) z
-  unfolding zeroFrom
-  drop-zeroFrom zero l = let e : length l - 0 ≡ length l = omega arith in rw e refl
-  drop-zeroFrom (suc n) [] = let e : 0 - suc n ≡ 0 = omega arith in rw e refl
-  drop-zeroFrom (suc n) (x ∷ l) = let e : suc (length l) - suc n ≡ length l - n = omega arith in rw e (drop-zeroFrom n l)
 
   -- a turn stores z at n and leaves what zeroing from n on would make; past the end there is nothing to zero
   zero-suc : (n : ℕ) (l : List A) → n < length l → zeroFrom z n l ≡ zeroFrom z (suc n) (set l n z)

@@ -7,12 +7,12 @@ use native.Mathlib.Omega.{arith}
 use borrow.Author.Tests.{lt-ltb, le-ltb}
 use lib.Dec.{ltb}
 use lib.ListN.{length, getD}
-use Rattle.layout.specs.Layout.{wordsPerRound, roundHead, wordsPerEdge, edgeLow, edgeHigh, edgeFirstFace, edgeSecondFace, edgeHead, edgeScratch, wordsPerTriangle}
+use Rattle.layout.specs.Layout.{wordsPerEdge, edgeLow, edgeHigh, edgeFirstFace, edgeSecondFace, edgeHead, edgeScratch, wordsPerTriangle}
 use Rattle.job_checks.specs.Refusals.{maxVertices}
 use Rattle.job_checks.specs.Sound.{ValidTriangles}
 use Rattle.topology.specs.Edges.{noEdge, edges, triEdge, edgeFaces, face}
-use Rattle.edge_table.specs.Words.{lastIn, headWord, edgeRow, edgeWord, triangleWord}
-use Rattle.edge_table.specs.Table.{Mesh, headWords, edgeWords, triangleWords}
+use Rattle.edge_table.specs.Words.{edgeRow, edgeWord, triangleWord}
+use Rattle.edge_table.specs.Table.{Mesh, edgeWords, triangleWords}
 use Rattle.edge_table.proofs.Holding.{words-at, words-zero}
 
 pub mesh-of : (triangles : List ℕ) (n : ℕ) → ValidTriangles triangles n → n ≤ maxVertices → Mesh triangles n
@@ -57,16 +57,6 @@ module _ (triangles : List ℕ) (n : ℕ) where
   pub scratch-read : (e : ℕ) → getD (edgeWords triangles n) (wordsPerEdge * e + edgeScratch) 0 ≡ 0
   unfolding edgeWords edgeWord edgeRow
   scratch-read e = words-zero n wordsPerEdge (edgeWord (edges triangles) (edgeFaces triangles)) e edgeScratch (omega arith) (no-matter (ltb e (length (edges triangles))))
-
-  -- a slot that no edge takes
-  pub untaken-read : (e a : ℕ) → length (edges triangles) ≤ e → a < wordsPerEdge → wordsPerEdge * e + a < n → getD (edgeWords triangles n) (wordsPerEdge * e + a) 0 ≡ 0
-  unfolding edgeWords edgeWord
-  untaken-read e a l k m = words-at n wordsPerEdge (edgeWord (edges triangles) (edgeFaces triangles)) e a k m ∙ rw (le-ltb e (length (edges triangles)) l) refl
-
-  -- the head of a bucket
-  pub bucket-read : (b : ℕ) → b < n → getD (headWords triangles n) (wordsPerRound * b + roundHead) 0 ≡ lastIn (length triangles) (edges triangles) b (length (edges triangles))
-  unfolding headWords headWord
-  bucket-read b m = words-at n wordsPerRound (headWord (length triangles) (edges triangles)) b roundHead (omega arith) (omega arith)
 
   -- the edge of a side
   pub number-read : (f k : ℕ) → k < 3 → 3 * f + k < length triangles → wordsPerTriangle * f + k < n → getD (triangleWords triangles n) (wordsPerTriangle * f + k) 0 ≡ triEdge triangles (3 * f + k)

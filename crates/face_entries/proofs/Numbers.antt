@@ -10,19 +10,12 @@ use lib.Dec.{eqb}
 use lib.ListN.{length}
 use Rattle.nat_laws.specs.Lists.{All}
 use Rattle.nat_laws.proofs.Lists.{all-map}
-use Rattle.face_entries.specs.Entries.{FaceEntry, entriesOf, numbersFrom, numbersOf, finalLink}
+use Rattle.face_entries.specs.Entries.{FaceEntry, numbersFrom, numbersOf, finalLink}
 
 -- ---- one push more
 cond-cons : {A : Type 0} (b : Bool) (i : A) (l m k : List A) → l ≡ m ++ k → cond b (i ∷ l) l ≡ cond b (i ∷ m) m ++ k
 cond-cons true i l m k e = λ t. i ∷ e t
 cond-cons false i l m k e = e
-
--- it stands at the end of its face's list, and the other lists stay
-pub entries-snoc : (f : ℕ) (xs : List FaceEntry) (x : FaceEntry) → entriesOf f (xs ++ (x ∷ [])) ≡ entriesOf f xs ++ cond (eqb (x .face) f) (x .entry ∷ []) []
-unfolding entriesOf
-entries-snoc f [] x = refl
-entries-snoc f (y ∷ xs) x =
-    cond-cons (eqb (y .face) f) (y .entry) (entriesOf f (xs ++ (x ∷ []))) (entriesOf f xs) (cond (eqb (x .face) f) (x .entry ∷ []) []) (entries-snoc f xs x)
 
 pub numbers-snoc : (i f : ℕ) (xs : List FaceEntry) (x : FaceEntry) → numbersFrom i f (xs ++ (x ∷ [])) ≡ numbersFrom i f xs ++ cond (eqb (x .face) f) ((i + length xs) ∷ []) []
 unfolding numbersFrom

@@ -1,18 +1,17 @@
 -- A walk from a face's first entry along the links reads its entries, in the order of the pushes. Assumes nothing.
-use Prim.Native.Nat.{ℕ, zero, suc, _≤_, _<_}
+use Prim.Native.Nat.{ℕ, zero, suc, _≤_}
 use native.Mathlib.Omega.{arith}
 use mathlib.Core.Bool.{Bool, true, false, cond}
 use mathlib.Core.List.{List, [], _∷_}
-use mathlib.Core.Path.{_≡_, refl, ap, subst, _∙_}
+use mathlib.Core.Path.{_≡_, refl, ap, _∙_}
 use lib.Dec.{eqb}
 use lib.ListN.{length}
-use Rattle.nat_laws.specs.Lists.{All}
 use Rattle.face_entries.specs.declared.Part.{Part}
 use Rattle.face_entries.specs.declared.Part.the-variants.{EndA, EndB, Whole}
 use Rattle.face_entries.specs.declared.PiecePart.{PiecePart}
 use Rattle.face_entries.specs.Buffers.{partNumber, partOfNumber, firstEntryOf, partAt, nextEntryOf}
 use Rattle.face_entries.specs.Entries.{FaceEntry, entriesOf, numbersFrom, numbersOf, EntryChain, HasEntry, StoredFrom, HoldsEntries, entriesFrom}
-use Rattle.face_entries.proofs.Numbers.{numbers-few, numbers-below}
+use Rattle.face_entries.proofs.Numbers.{numbers-few}
 
 pub part-read : (p : Part) → partOfNumber (partNumber p) ≡ p
 unfolding partOfNumber
@@ -47,7 +46,3 @@ module _ (count : ℕ) (t w : List ℕ) (xs : List FaceEntry) (H : HoldsEntries 
   -- as many steps as there are entries are enough
   pub walk-entries : (n f : ℕ) → count ≤ n → entriesFrom n w (firstEntryOf t f) ≡ entriesOf f xs
   walk-entries n f h = walk-chain n w (firstEntryOf t f) (numbersOf f xs) (omega (arith, h, numbers-few 0 f xs, H .counted)) (H .chain f) ∙ parts-are w 0 f xs (H .stored)
-
-  -- every number that is met is below the count
-  pub met-below : (f : ℕ) → All (λ k. k < count) (numbersOf f xs)
-  met-below f = subst (λ (n : ℕ). All (λ k. k < n) (numbersOf f xs)) (H .counted) (numbers-below f xs)

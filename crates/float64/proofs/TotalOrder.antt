@@ -101,18 +101,11 @@ totalKey-less (fin false m e) (fin true n d) p q =
     rw and-false (le-ltb (totalKey (fin false m e)) (totalKey (fin true n d)) (omega (arith, key-plus m e p, key-minus n d q)))
 
 -- ---- a key is a number of 64 bits, and tells the value
-turned-lt : (b : ℕ) → b < 0x1_0000_0000_0000_0000 → turned b < 0x1_0000_0000_0000_0000
-turned-lt b h = elim (decLe halfRange b) [ yes x ↦ omega (arith, turned-high b x) | no x ↦ omega (arith, turned-low b (omega arith)) ]
-
 turned-back : (b : ℕ) → b < 0x1_0000_0000_0000_0000 → cond (ltb (turned b) halfRange) (0xffff_ffff_ffff_ffff - turned b) (turned b - halfRange) ≡ b
 turned-back b h = elim (decLe halfRange b) [
   | yes x ↦ let e = turned-high b x in rw (lt-ltb (turned b) halfRange (omega arith)) (omega arith)
   | no x ↦ let e = turned-low b (omega arith) in rw (le-ltb (turned b) halfRange (omega arith)) (omega arith)
 ]
-
-pub totalKey-lt : (x : Float) → T (fits binary64 x) → totalKey x < 0x1_0000_0000_0000_0000
-unfolding totalKey
-totalKey-lt x p = turned-lt (toBits binary64 x) (toBits-lt binary64 x p)
 
 pub totalKey-injective : (x y : Float) → T (fits binary64 x) → T (fits binary64 y) → totalKey x ≡ totalKey y → x ≡ y
 unfolding totalKey

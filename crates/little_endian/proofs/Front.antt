@@ -15,10 +15,6 @@ module _ {A : Type 0} where
   unfolding atFront
   front-none l = refl
 
-  pub length-atFront : (xs l : List A) → length xs ≤ length l → length (atFront xs l) ≡ length l
-  unfolding atFront
-  length-atFront xs l h = length-append xs (drop (length xs) l) ∙ simp length-drop (omega arith)
-
   -- what is written behind the front becomes its end
   pub front-more : (xs vs l : List A) (n : ℕ) → length xs ≡ n → n + length vs ≤ length l → sets (atFront xs l) n vs ≡ atFront (xs ++ vs) l
   unfolding atFront

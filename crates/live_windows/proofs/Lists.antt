@@ -39,10 +39,6 @@ pub last-snoc : (xs : List Window) (u : Window) → lastLink (xs ++ (u ∷ [])) 
 unfolding nums endLink
 last-snoc xs u = ap (endLink 0) (nums-append xs (u ∷ [])) ∙ end-append 0 (nums xs) (u .num ∷ [])
 
-pub first-cons : (u : Window) (zs : List Window) → firstLink (nums (u ∷ zs)) ≡ suc (u .num)
-unfolding nums firstLink
-first-cons u zs = refl
-
 -- a link of 0 is the end, and another leads to a window
 pub record Starts (zs : List Window) (r : ℕ) : Type 0 where
   pub first : Window

@@ -126,12 +126,6 @@ module _ (v : List Float) (triangles flags : List ℕ) (t : Table) (before after
   unfolding topologyOf
   made-filled = made .buffers ∙ rw (has-edges triangles t (made .answer) n e .0) refl
 
-  pub made-held : FitsIn v triangles flags before → Held v triangles flags after
-  made-held fit = subst (Held v triangles flags) (sym made-filled) (filled-held v triangles flags before fit)
-
-  pub made-fresh : Fresh after
-  made-fresh = subst Fresh (sym made-filled) (filled-fresh v triangles flags before)
-
 after-none : (v : List Float) (triangles flags : List ℕ) (m after : MeshBuffers) (k : ℕ) → k ≡ 0 → sharedByThree triangles ≡ false → after ≡ afterwards k m (topologyOf v triangles flags m) → after ≡ filled v triangles flags m
 unfolding afterwards topologyOf
 after-none v triangles flags m after k z s e = e ∙ rw (z, s) refl
@@ -149,9 +143,6 @@ module _ (j : Job) (others : OtherCounts) (r : Meshed) (before after : MeshBuffe
   both =
       let p = both-passed ((10, sharedByThree (j .triangles)) ∷ []) (refusals j (countsIn before others)) (refusals-numbered j (countsIn before others)) (sym unrefused) in
       (p .0, passed-here 10 (sharedByThree (j .triangles)) [] (omega arith) (p .1))
-
-  pub counted-edges : n ≡ length (edges (j .triangles))
-  counted-edges = same-number e (answered .edge-count (sym unrefused))
 
   is-filled : after ≡ filled (j .vertices) (j .triangles) (j .flags) before
   is-filled = after-none (j .vertices) (j .triangles) (j .flags) before after (refusalOf j (countsIn before others)) (both .0) (both .1) (answered .buffers)

@@ -4,27 +4,13 @@ use mathlib.Core.Path.{_≡_, refl, subst, sym, ap, _∙_}
 use mathlib.Core.List.{List}
 use mathlib.Core.Logic.{_≢_}
 use native.Mathlib.Omega.{arith}
-use lib.ListN.{length, getD}
+use lib.ListN.{getD}
 use lib.Ieee.{Float}
 use Rattle.layout.specs.Layout.{wordsPerVertex, vertexStart, vertexEnd, vertexFlag, wordsPerEdge, edgeLow, edgeHigh, edgeFirstFace, edgeSecondFace, edgeHead, edgeScratch, wordsPerTriangle, triangleFirstEntry, triangleLastEntry}
 use Rattle.vertex_faces.specs.Ranges.{startOf}
 use Rattle.frames.specs.Held.{HoldsEdges, HoldsFaces, HoldsSides, HoldsLengths, HoldsNormals}
 use Rattle.mesh.specs.Topology.{MeshBuffers, meshBuffers}
 use Rattle.mesh.specs.Held.{Held, Worked}
-
-pub worked-none : (m : MeshBuffers) → Worked m m
-worked-none m = record { vertex-words = refl; edge-words = λ i ne. refl; edge-reals = refl; round = refl; triangle-words = λ i ne. refl; triangle-reals = refl }
-
-pub worked-on : (m m′ m″ : MeshBuffers) → Worked m m′ → Worked m′ m″ → Worked m m″
-worked-on m m′ m″ p q =
-    record {
-      vertex-words = q .vertex-words ∙ p .vertex-words;
-      edge-words = λ i ne. q .edge-words i ne ∙ p .edge-words i ne;
-      edge-reals = q .edge-reals ∙ p .edge-reals;
-      round = q .round ∙ p .round;
-      triangle-words = λ i ne. q .triangle-words i ne ∙ p .triangle-words i ne;
-      triangle-reals = q .triangle-reals ∙ p .triangle-reals;
-    }
 
 -- An addition writes only the words of edges, and of these only the head and the scratch word of edges at work: what it keeps is field `edges` of trim_split's `Untouched`.
 pub worked-edges : (m : MeshBuffers) (AtWork : ℕ → Type 0) (ew : List ℕ)

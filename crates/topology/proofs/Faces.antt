@@ -1,19 +1,19 @@
 -- Laws of the faces of an edge: they are the triangles of the sides that have the edge; where no edge lies in more than two triangles a side's face is one of
 -- its edge's two. Assumes nothing.
-use Prim.Native.Nat.{ℕ, zero, suc, _+_, _*_, _/_, _<_, _≤_}
-use mathlib.Core.Path.{_≡_, refl, subst, _∙_}
+use Prim.Native.Nat.{ℕ, zero, suc, _*_, _/_, _<_, _≤_}
+use mathlib.Core.Path.{_≡_, refl, subst}
 use mathlib.Core.Bool.{Bool, true, false, cond}
 use mathlib.Core.List.{List, [], _∷_, _++_}
-use mathlib.Core.Logic.{⊎-elim, _⊎_, inl, inr}
+use mathlib.Core.Logic.{_⊎_, inl, inr}
 use native.Mathlib.Nat.{le-of-suc-le-suc, not-suc-le-zero}
 use native.Mathlib.Omega.{arith}
 use borrow.Author.Tests.{ltb-false}
 use lib.ListN.{length, getD}
 use Rattle.job_checks.proofs.Any.{none-below}
-use Rattle.topology.specs.Edges.{EndPair, noEdge, noFace, sameEdge, sideEdge, edges, triEdge, facesAmong, edgeFaces, overfull, sharedByThree, face}
+use Rattle.topology.specs.Edges.{EndPair, noEdge, noFace, sameEdge, sideEdge, edges, triEdge, facesAmong, edgeFaces, overfull, sharedByThree}
 use Rattle.topology.proofs.Find.{same-self}
 use Rattle.topology.proofs.Chosen.{Listed, chosen, chosen-listed, listed-chosen, chosen-pairs}
-use Rattle.topology.proofs.Edges.{FromSide, edge-is-side, tri-edge-there, tri-edge-is}
+use Rattle.topology.proofs.Edges.{FromSide, edge-is-side, tri-edge-is}
 
 module _ (triangles : List ℕ) (e : EndPair) where
   -- the sides that have the edge
@@ -75,8 +75,3 @@ module _ (triangles : List ℕ) (sound : sharedByThree triangles ≡ false) wher
       place zero m q = inl q
       place (suc zero) m q = inr q
       place (suc (suc i)) m q = absurd (not-suc-le-zero (le-of-suc-le-suc (le-of-suc-le-suc m)))
-
-  -- a side's face is one of its edge's two
-  pub face-of-side : (h : ℕ) → h < length triangles → (face triangles (triEdge triangles h) 0 ≡ h / 3) ⊎ (face triangles (triEdge triangles h) 1 ≡ h / 3)
-  unfolding face
-  face-of-side h l = first-or-second (h / 3) (edgeFaces triangles (triEdge triangles h)) (two-faces (triEdge triangles h) (tri-edge-there triangles h l)) (side-listed triangles h l)

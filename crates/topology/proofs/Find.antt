@@ -28,11 +28,6 @@ either false = inr refl
 
 -- A list that has e, at find e, and one that does not.
 module _ (e : EndPair) where
-  pub find-le : (es : List EndPair) → find e es ≤ length es
-  unfolding find
-  find-le [] = omega arith
-  find-le (x ∷ es) = ⊎-elim (λ q. rw q (omega arith)) (λ q. rw q (omega (arith, find-le es))) (either (sameEdge x e))
-
   pub find-at : (es : List EndPair) → find e es < length es → getD es (find e es) noEdge ≡ e
   unfolding find
   find-at [] l = absurd (not-suc-le-zero l)

@@ -1,6 +1,6 @@
 -- Laws of `other` for a mesh of valid triangles that has no edge in more than two of them: the face beyond an edge, and back. Assumes nothing.
-use Prim.Native.Nat.{ℕ, zero, suc, _/_, _<_, _≤_}
-use mathlib.Core.Path.{_≡_, refl, sym, ap, subst, _∙_}
+use Prim.Native.Nat.{ℕ, _/_, _<_, _≤_}
+use mathlib.Core.Path.{_≡_, refl, sym, ap, _∙_}
 use mathlib.Core.Bool.{true, false}
 use mathlib.Core.List.{List}
 use mathlib.Core.Logic.{⊎-elim, _⊎_, inl, inr}
@@ -63,11 +63,6 @@ module _ (triangles : List ℕ) (count : ℕ) (s : ValidTriangles triangles coun
   unfolding other
   other-second = rw (ne-eqb (face triangles e 0) (face triangles e 1) two-differ)
 
-  -- whatever the number asked for, the answer is a triangle of the mesh or none
-  pub other-in-range : (f : ℕ) → (other triangles e f < length triangles / 3) ⊎ (other triangles e f ≡ noFace)
-  unfolding other
-  other-in-range f = ⊎-elim (λ q. rw q (face-or-none 1)) (λ q. rw q (face-or-none 0)) (either (eqb (face triangles e 0) f))
-
   -- a face that has the edge, or none
   face-listed-or-none : (i : ℕ) → Listed (face triangles e i) (edgeFaces triangles e) ⊎ (face triangles e i ≡ noFace)
   unfolding face
@@ -80,12 +75,6 @@ module _ (triangles : List ℕ) (count : ℕ) (s : ValidTriangles triangles coun
   unfolding other
   other-listed f = ⊎-elim (λ q. rw q (face-listed-or-none 1)) (λ q. rw q (face-listed-or-none 0)) (either (eqb (face triangles e 0) f))
 
-  -- and back from each of the two, from none too
-  pub other-back : (i : ℕ) → i < 2 → other triangles e (other triangles e (face triangles e i)) ≡ face triangles e i
-  other-back zero m = ap (other triangles e) (other-first triangles e) ∙ other-second
-  other-back (suc zero) m = ap (other triangles e) other-second ∙ other-first triangles e
-  other-back (suc (suc i)) m = absurd (omega arith)
-
   -- A face of the edge is one of two, and the answer is the one that it is not.
   module _ (no-third : sharedByThree triangles ≡ false) (f : ℕ) (of : Listed f (edgeFaces triangles e)) where
     one-of-two : (face triangles e 0 ≡ f) ⊎ (face triangles e 1 ≡ f)
@@ -96,13 +85,4 @@ module _ (triangles : List ℕ) (count : ℕ) (s : ValidTriangles triangles coun
     other-is =
         ⊎-elim (λ q. inl (sym q, ap (other triangles e) (sym q) ∙ other-first triangles e))
         (λ q. inr (sym q, ap (other triangles e) (sym q) ∙ other-second))
-        one-of-two
-
-    pub other-differs : other triangles e f ≡ f → ⊥
-    other-differs r = ⊎-elim (λ w. two-differ (sym (w .0) ∙ (sym r ∙ w .1))) (λ w. two-differ (sym (w .1) ∙ (r ∙ w .0))) other-is
-
-    pub other-returns : other triangles e (other triangles e f) ≡ f
-    other-returns =
-        ⊎-elim (λ q. subst (λ (x : ℕ). other triangles e (other triangles e x) ≡ x) q (other-back 0 (omega arith)))
-        (λ q. subst (λ (x : ℕ). other triangles e (other triangles e x) ≡ x) q (other-back 1 (omega arith)))
         one-of-two

@@ -178,18 +178,6 @@ module _ (better : Better) (t : Float) where
       ∙ ap (λ (m : List Window). resultOf t (unqueued w) (before t (unqueued w) (map unqueued l)) m (walkFlags (visits better t w (run t w l) (start w made)))) (behind-flags t w l)
       ∙ ap (resultOf t (unqueued w) (before t (unqueued w) (map unqueued l)) (behind t (unqueued w) (map unqueued l))) (ended-flags better t w l made)
 
-  -- its live windows
-  pub add-flags-live : (w : Window) (l : List Window) (made : ℕ) → map unqueued (addTo better t w l made .live) ≡ addTo better t (unqueued w) (map unqueued l) made .live
-  add-flags-live w l made = ap (λ (a : AddOutcome). a .live) (add-flags w l made)
-
-  -- the number made
-  pub add-flags-made : (w : Window) (l : List Window) (made : ℕ) → addTo better t w l made .made ≡ addTo better t (unqueued w) (map unqueued l) made .made
-  add-flags-made w l made = ap (λ (a : AddOutcome). a .made) (add-flags w l made)
-
-  -- its slivers
-  pub add-flags-slivers : (w : Window) (l : List Window) (made : ℕ) → addTo better t w l made .slivers ≡ addTo better t (unqueued w) (map unqueued l) made .slivers
-  add-flags-slivers w l made = ap (λ (a : AddOutcome). a .slivers) (add-flags w l made)
-
   -- windows and lists that differ in flags alone
   module _ (w w' : Window) (l l' : List Window) (made : ℕ) (h : unqueued w ≡ unqueued w') (k : map unqueued l ≡ map unqueued l') where
     -- give results that differ in flags alone
@@ -207,10 +195,6 @@ module _ (better : Better) (t : Float) where
     -- the number made
     pub add-same-made : addTo better t w l made .made ≡ addTo better t w' l' made .made
     add-same-made = ap (λ (a : AddOutcome). a .made) add-same
-
-    -- the slivers
-    pub add-same-slivers : addTo better t w l made .slivers ≡ addTo better t w' l' made .slivers
-    add-same-slivers = ap (λ (a : AddOutcome). a .slivers) add-same
 
 -- ---- what does not look at the flag holds of both lists or of neither
 module _ (P : Window → Type 0) (f : (u : Window) → P u → P (unqueued u)) (g : (u : Window) → P (unqueued u) → P u) where

@@ -3,14 +3,13 @@ use Prim.Native.Nat.{ℕ, suc}
 use mathlib.Core.Bool.{Bool, cond}
 use mathlib.Core.List.{List, [], _∷_, _++_}
 use mathlib.Core.Path.{_≡_, refl, subst}
-use lib.Dec.{eqb}
 use lib.Ieee.{Float, le}
 use Rattle.source.specs.Distance.{lowestOf}
 use Rattle.better.specs.Stretches.{Interval}
-use Rattle.trim_model.specs.Intervals.{width, tinyOf, pieces, wideOf}
+use Rattle.trim_model.specs.Intervals.{width, pieces, wideOf}
 use Rattle.trim_model.specs.Windows.{Window, fresh, split, sorted}
 use Rattle.trim_model.specs.Add.{Better, Walk, before, run, behind, start, untouched, meet, visit, visits, addTo, sharedLo, sharedHi}
-use Rattle.trim_model.specs.Model.{Candidate, Model, empty, asWindow, admits, updated, admit, step, steps}
+use Rattle.trim_model.specs.Model.{Model}
 use Rattle.better.specs.Claim.{All}
 use Rattle.trim_model.proofs.Ranks.{by-cases}
 use Rattle.trim_model.proofs.Lists.{all-append, all-left, all-right}
@@ -62,19 +61,3 @@ module _ (better : Better) (t : Float) (w : Window) where
 module _ (better : Better) (limit : Float) (len : ℕ → Float) where
   abbrev Lows : Model → Type 0
   Lows m = (e : ℕ) → All LowRight (m .edge e .live)
-
-  admit-low : (c : Candidate) (m : Model) → Lows m → Lows (admit better limit len c m)
-  unfolding admit
-  admit-low c m h e =
-      let t = tinyOf (len (c .edge)) in
-      let s = m .edge (c .edge) in
-      let a = addTo better t (asWindow c) (s .live) (m .made) in
-      by-cases (λ (b : Bool). All LowRight ((cond b (updated c s a) (m .edge e)) .live)) (eqb e (c .edge)) (λ y. add-low better t (asWindow c) (s .live) (m .made) (h (c .edge))) (λ y. h e)
-
-  steps-low : (cs : List Candidate) (m : Model) → Lows m → Lows (steps better limit len cs m)
-  unfolding steps step
-  steps-low [] m h e = h e
-  steps-low (c ∷ cs) m h e = steps-low cs (step better limit len c m) (by-cases (λ (b : Bool). Lows (cond b (admit better limit len c m) m)) (admits limit len c) (λ y. admit-low c m h) (λ y. h)) e
-
-  pub low-right : (cs : List Candidate) → Lows (steps better limit len cs empty)
-  low-right cs e = steps-low cs empty (λ (i : ℕ). tt) e

@@ -1,15 +1,14 @@
 -- The model's steps: a candidate that is not admitted changes nothing, an admitted one leaves the other edges, and a list is taken in two parts. Assumes nothing.
-use Prim.Native.Nat.{ℕ, _+_}
+use Prim.Native.Nat.{ℕ}
 use mathlib.Core.Bool.{Bool, not, cond}
 use mathlib.Core.List.{List, [], _∷_, _++_}
 use mathlib.Core.Path.{_≡_, refl, ap}
-use native.Mathlib.Omega.{arith}
 use lib.Dec.{T, eqb, eqb→eq}
 use lib.Ieee.{Float}
 use lib.Ieee.Bits.{is-true, is-false}
 use Rattle.trim_model.specs.Intervals.{tinyOf}
 use Rattle.trim_model.specs.Add.{Better, addTo}
-use Rattle.trim_model.specs.Model.{Candidate, Model, asWindow, admits, updated, admit, step, steps, stepsBound}
+use Rattle.trim_model.specs.Model.{Candidate, Model, asWindow, admits, updated, admit, step, steps}
 use Rattle.trim_model.proofs.Ranks.{by-cases}
 
 module _ (better : Better) (limit : Float) (len : ℕ → Float) where
@@ -32,8 +31,3 @@ module _ (better : Better) (limit : Float) (len : ℕ → Float) where
   unfolding steps
   steps-append [] ds m = refl
   steps-append (c ∷ cs) ds m = steps-append cs ds (step better limit len c m)
-
-  pub bound-append : (e : ℕ) (cs ds : List Candidate) (m : Model) → stepsBound better limit len e (cs ++ ds) m ≡ stepsBound better limit len e cs m + stepsBound better limit len e ds (steps better limit len cs m)
-  unfolding steps stepsBound
-  bound-append e [] ds m = omega arith
-  bound-append e (c ∷ cs) ds m = omega (arith, bound-append e cs ds (step better limit len c m))

@@ -1,11 +1,11 @@
 -- Parts of `add` one after the other. Assumes nothing.
-use Prim.Native.Nat.{ℕ, _≤_, _<_}
+use Prim.Native.Nat.{ℕ, _≤_}
 use mathlib.Core.List.{List, [], _++_, append-assoc, append-nil}
 use mathlib.Core.Path.{_≡_, sym, ap, _∙_, subst}
 use lib.Ieee.{Float}
 use Rattle.windows.specs.declared.WindowRecord.{WindowRecord}
 use Rattle.actions.specs.Actions.{Action, winsAfter}
-use Rattle.actions.proofs.Play.{wins-none, wins-append, play-nil, play-stop-append, play-go-append}
+use Rattle.actions.proofs.Play.{wins-none, wins-append, play-nil, play-go-append}
 use Rattle.trim_model.specs.Windows.{Window}
 use Rattle.trim_state.specs.State.{put}
 use Rattle.live_windows.specs.Live.{HoldsWindows, lastLink}
@@ -51,10 +51,6 @@ module _ (cuts windows : ℕ) (limit : Float) (flags : List ℕ) (e : ℕ) where
     pub does-then : (end : End) → Does cuts windows limit flags e vs o2 n2 p1 end → Does cuts windows limit flags e (us ++ vs) (o1 ++ o2) (n1 ++ n2) p end
     does-then (stopped n) h = play-go-append cuts windows limit flags us vs (stockOf p) (stockOf p1) (first .plays) ∙ h
     does-then (at p2) h = ran-then p2 h
-
-  -- a first part that is stopped stops all
-  pub does-stop : (us vs : List Action) (old new : List Window) (p : Snapshot) (n : ℕ) → Does cuts windows limit flags e us [] [] p (stopped n) → Does cuts windows limit flags e (us ++ vs) old new p (stopped n)
-  does-stop us vs old new p n h = play-stop-append cuts windows limit flags us vs (stockOf p) n h
 
   -- the same, told otherwise
   pub does-as : {us vs : List Action} {old old′ new new′ : List Window} (p : Snapshot) (end : End) → us ≡ vs → old ≡ old′ → new ≡ new′ → Does cuts windows limit flags e us old new p end → Does cuts windows limit flags e vs old′ new′ p end

@@ -20,7 +20,6 @@ use Rattle.trim_model.proofs.Model.{model-ok}
 use Rattle.trim_model.proofs.Demand3.{stretches, demand3-of-better}
 use Rattle.trim_model.proofs.Steps.{step-not, step-admitted, steps-append}
 use Rattle.trim_model.proofs.Numbers.{numbered}
-use Rattle.trim_model.proofs.Low.{LowRight, low-right}
 use Rattle.trim_model.proofs.Flags.{add-same-live, add-same-made, all-same, pairs-same, cross-same, tidy-same, trimmed-same}
 use Rattle.trim_state.specs.State.{put}
 use Rattle.trim_state.specs.Follows.{Follows}
@@ -112,7 +111,3 @@ module _ {limit : Float} {len : ℕ → Float} where
     -- nor of two edges
     pub follows-apart : (e f : ℕ) → ((e ≡ f) → ⊥) → All (λ (u : Window). All (λ (v : Window). (u .num ≡ v .num) → ⊥) (live f)) (live e)
     follows-apart e f d = cross-same (λ (u v : Window). (u .num ≡ v .num) → ⊥) (λ u v k. k) (λ u v k. k) (now .edge e .live) (live e) (now .edge f .live) (live f) (sym (F .same e)) (sym (F .same f)) (numbered betterOf limit len cs .apart e f d)
-
-    -- each one's lowest value is that of its source over its ends
-    pub follows-low : (e : ℕ) → All LowRight (live e)
-    follows-low e = all-same LowRight (λ u k. k) (λ u k. k) (now .edge e .live) (live e) (sym (F .same e)) (low-right betterOf limit len cs e)

@@ -1,7 +1,7 @@
 -- An addition of an admitted candidate to a tidy list, told as one walk forward: past the windows before the run, over the run, and from its start once more to seat the new windows. Assumes nothing.
 use Prim.Native.Nat.{ℕ}
-use mathlib.Core.List.{List, [], _∷_, _++_}
-use mathlib.Core.Path.{_≡_, ap, _∙_, subst}
+use mathlib.Core.List.{List, _++_}
+use mathlib.Core.Path.{_≡_, ap, subst}
 use lib.Dec.{T}
 use lib.Ieee.{Float, lt, le}
 use Rattle.float64.specs.Notation.{_⊕_}
@@ -10,7 +10,7 @@ use Rattle.better.specs.Stretches.{betterOf}
 use Rattle.better.proofs.Stretches.{better-separates}
 use Rattle.trim_model.specs.Intervals.{width, tinyOf, wideOf}
 use Rattle.trim_model.specs.Windows.{Window, fresh, takeWhile, dropWhile}
-use Rattle.trim_model.specs.Add.{Walk, startsBefore, passes, before, run, behind, start, visits, addTo}
+use Rattle.trim_model.specs.Add.{Walk, startsBefore, passes, run, behind, start, visits, addTo}
 use Rattle.trim_model.specs.Model.{Candidate, asWindow, admits}
 use Rattle.trim_model.specs.Claim.{Proper}
 use Rattle.trim_model.proofs.Ranks.{Nonneg, wide-no, tiny-nonneg}
@@ -20,7 +20,7 @@ use Rattle.trim_model.proofs.Demand3.{stretches}
 use Rattle.trim_model.proofs.Model.{not-or}
 use Rattle.trim_model.proofs.Forward.{before-is}
 use Rattle.trim_model.specs.Seat.{seatAll}
-use Rattle.trim_model.proofs.Seat.{Ready, news-ready, add-seated}
+use Rattle.trim_model.proofs.Seat.{add-seated}
 use Rattle.trim_model.proofs.Turns.{run-is, behind-is}
 
 -- tiny of a proper candidate's edge is not below zero
@@ -59,20 +59,9 @@ module _ (t : Float) (w : Window) (l : List Window) (made : ℕ) where
   abbrev asBefore : List Window → List Window → List Window → Walk → Type 0
   asBefore pre suf live s = live ≡ seatAll (fresh w (s .made) (wideOf t (s .keep))) pre (s .survivors ++ suf)
 
-  abbrev readyBefore : List Window → List Window → Walk → Type 0
-  readyBefore pre suf s = Ready (fresh w (s .made) (wideOf t (s .keep))) pre (s .survivors ++ suf)
-
   module _ (t0 : Nonneg t) (W : Wide t w) (h : Tidy t l) where
     walked-is : visits betterOf t w (run t w l) (start w made) ≡ walked
     walked-is = ap (λ (us : List Window). visits betterOf t w us (start w made)) (run-is t w l h)
-
-    -- the new windows can be seated one after the other
-    pub walk-ready : Ready newsOf passed (walked .survivors ++ beyond)
-    walk-ready =
-        subst (λ (s : Walk). readyBefore passed beyond s) walked-is
-        (subst (λ (suf : List Window). readyBefore passed suf (visits betterOf t w (run t w l) (start w made))) (behind-is t w l h)
-        (subst (λ (pre : List Window). readyBefore pre (behind t w l) (visits betterOf t w (run t w l) (start w made))) (before-is t w l h)
-        (news-ready t0 (stretches better-separates) W made l h)))
 
     -- and that is what the addition leaves
     pub walk-seated : addTo betterOf t w l made .live ≡ seatAll newsOf passed (walked .survivors ++ beyond)

@@ -94,10 +94,6 @@ module _ (w : List ℕ) (f : List Float) (k : ℕ) where
   unfolding windowAt winAt
   b1-is = refl
 
-  pub low-is : windowAt w f k .win .low ≡ getD f (realsPerWindow * k + windowLow) nan
-  unfolding windowAt winAt
-  low-is = refl
-
 -- the flags are read as they were put together
 decoded : (line alive queued : Bool) → (hasFlag (flagsOf line alive queued) lineFlag ≡ line) × ((hasFlag (flagsOf line alive queued) aliveFlag ≡ alive) × (hasFlag (flagsOf line alive queued) queuedFlag ≡ queued))
 decoded false false false = (refl, (refl, refl))
