@@ -20,7 +20,7 @@ ghost use Rattle.compute_spec.specs.Compute.{buffersBefore, buffersAfter};
 ghost use Rattle.field_check.specs.FieldCheck.{jobSlices, fieldSlices};
 ghost use Rattle.text_out.specs.Text.{Puts};
 ghost use Rattle.print_out.specs.PrintOut.{liveCount, textOf};
-ghost use Rattle.slip.specs.Reading.{rows};
+ghost use Rattle.slip.specs.Reading.{jobRows};
 ghost use Rattle.field_c.specs.Exports.{fieldTold, ToldOf};
 ghost use Rattle.field_c.specs.Asked.{toldField, toldAnswer, fits, askedFace, askedEdge};
 ghost use Rattle.field_c.specs.Slips.{slipTold, ReadTold, lengthTold, WriteTold};
@@ -289,8 +289,8 @@ pub extern "C" fn sirmolaat_read_slip(
     told: &mut [u32],
     limit: &mut [f64],
 ) -> u32
-    ensures { λ r. ⌜ ReadTold (given slip) (rows (given vertices) (given triangles) (given flags) (given kinds) (given faces) (given coords)) (given told) (given limit)
-        r (rows (left vertices) (left triangles) (left flags) (left kinds) (left faces) (left coords)) (left told) (left limit) ⌝ }
+    ensures { λ r. ⌜ ReadTold (given slip) (jobRows (given vertices) (given triangles) (given flags) (given kinds) (given faces) (given coords)) (given told) (given limit)
+        r (jobRows (left vertices) (left triangles) (left flags) (left kinds) (left faces) (left coords)) (left told) (left limit) ⌝ }
 {
     let read = slip::read(slip, vertices, triangles, flags, kinds, faces, coords);
     tell_slip(read, told, limit)
