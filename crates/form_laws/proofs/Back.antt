@@ -1,13 +1,12 @@
 -- A slip that is moved to a form is moved back to the same bytes. Assumes nothing.
-use Prim.Native.Nat.{ℕ, zero, suc, _+_, _-_, _*_, _≤_, _<_}
-use native.Mathlib.Nat.{add-zero, zero-add}
+use Prim.Native.Nat.{ℕ, _+_, _-_, _≤_, _<_}
 use native.Mathlib.Omega.{arith}
 use mathlib.Core.Path.{_≡_, refl, sym, ap, _∙_}
 use mathlib.Core.Bool.{Bool, true, false, cond}
 use mathlib.Core.List.{List, [], _∷_, _++_, append-assoc, append-nil}
-use borrow.Author.Tests.{lt-ltb, le-ltb, ltb-true, ltb-false, eq-eqb, eqb-true}
+use borrow.Author.Tests.{lt-ltb, ltb-true, ltb-false, eqb-true}
 use lib.Dec.{eqb, ltb}
-use lib.ListN.{length, getD, take, drop, length-append, drop-of-length-le}
+use lib.ListN.{length, getD, drop, length-append, drop-of-length-le}
 use lib.Seq.{drop-append-seam}
 use Rattle.groups.specs.declared.Form.{Form}
 use Rattle.groups.specs.declared.Form.the-variants.{Plain, Groups}
@@ -25,7 +24,7 @@ use Rattle.slip_moves.proofs.Whole.{refused-head, counted-head}
 use Rattle.slip_laws.proofs.Parts.{past}
 use Rattle.slip_laws.proofs.Stands.{Stands, stands-none, stands-then, stands-byte}
 use Rattle.form_laws.proofs.Numbers.{number-read, number-stood}
-use Rattle.form_laws.proofs.Turns.{Bytes, Turn, back-body}
+use Rattle.form_laws.proofs.Turns.{Bytes, back-body}
 
 pub no-head : {A : Type 0} {v t p i : ℕ} {why : Refusal} → Refused why ≡ Counts v t p i → A
 no-head e = absurd (let z : _≡_ {A = ℕ} 0 1 = cc e in omega arith)

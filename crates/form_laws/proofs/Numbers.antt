@@ -1,7 +1,6 @@
 -- A number in either form is read as it was written, and what is read is what was written. Assumes nothing.
 -- One induction each way over the groups that may follow; callers know numbers only by `number-read` and `number-stood`.
 use Prim.Native.Nat.{ℕ, zero, suc, _+_, _-_, _*_, _/_, _%_, _≤_, _<_}
-use native.Mathlib.Nat.{add-zero}
 use native.Mathlib.Omega.{arith}
 use native.Mathlib.Decide.{decLe}
 use mathlib.Core.Path.{_≡_, refl, sym, ap, _∙_}

@@ -1,6 +1,6 @@
 -- One job has one form in groups. Assumes nothing.
 -- A plain slip that a move walks to its end is a slip that the reader accepts where there is room for its counts (`shape-accepted`), so that `one-slip` holds of it; and `one-form` goes from the plain slips to those in groups.
-use Prim.Native.Nat.{ℕ, zero, suc, _+_, _*_, _≤_, _<_}
+use Prim.Native.Nat.{ℕ, zero, suc, _+_, _*_, _≤_}
 use native.Mathlib.Omega.{arith}
 use mathlib.Core.Path.{_≡_, refl, sym, ap, _∙_}
 use mathlib.Core.Bool.{Bool, true, false, cond, _||_}
@@ -23,7 +23,7 @@ use Rattle.slip_laws.proofs.Back.{vertices-told, triangles-told, pieces-told, o
 use Rattle.slip_moves.specs.declared.Refusal.the-variants.{TooShort, UnknownKind}
 use Rattle.slip_moves.specs.declared.Head.{Head}
 use Rattle.slip_moves.specs.declared.Head.the-variants.{Counts, Refused}
-use Rattle.slip_moves.specs.Moves.{Part, put, stop, then, withCount, countsAt, bytesMoved, numberWritten, endsSize, numberMoved, numbersMoved, pieceOfKind, pieceMoved, piecesMoved, headAt, headBytes, meshMoved, restMoved, bodyMoved, ended, slipMoved}
+use Rattle.slip_moves.specs.Moves.{put, stop, then, withCount, countsAt, bytesMoved, numberWritten, endsSize, numberMoved, numbersMoved, pieceOfKind, pieceMoved, piecesMoved, headAt, headBytes, meshMoved, restMoved, bodyMoved, ended, slipMoved}
 use Rattle.slip_moves.proofs.Parts.{no-part}
 use Rattle.slip_moves.proofs.Whole.{refused-head, counted-head}
 use Rattle.form_laws.proofs.Turns.{Bytes}

@@ -10,8 +10,7 @@ use borrow.Author.Tests.{ltb-false}
 use lib.Dec.{eqb, ltb}
 use lib.ListN.{length, getD, take, drop, length-append, length-take, length-drop, List·getD-append}
 use lib.Seq.{getD-drop, drop-drop}
-use lib.Ieee.{Float, ofBits, binary64}
-use Rattle.nat_laws.specs.Lists.{listOf}
+use lib.Ieee.{ofBits, binary64}
 use Rattle.nat_laws.proofs.Lists.{listOf-same}
 use Rattle.little_endian.specs.Bytes.{numberFrom, doubleFrom, doublesFrom, numbersFrom, bytesFrom, numberBytes}
 use Rattle.groups.specs.declared.Form.the-variants.{Plain, Groups}
@@ -32,7 +31,7 @@ use Rattle.form_read.specs.Places.{numberRead, placeBehind, numberPlace, number
 use Rattle.form_read.proofs.Parts.{put-of, is-put, then-put, then-is, ends-bounds, bytes-put, numbers-put, mesh-put}
 use Rattle.form_laws.proofs.Numbers.{number-stood}
 use Rattle.form_laws.proofs.Turns.{Bytes}
-use Rattle.form_laws.proofs.Back.{Small, head-stood}
+use Rattle.form_laws.proofs.Back.{head-stood}
 
 -- a part and what stands behind it, with the bytes of both
 pub record Split (x : Part) (k : ℕ → Part) (j : ℕ) (bs : List ℕ) : Type 0 where

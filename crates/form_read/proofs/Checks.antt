@@ -3,7 +3,7 @@ use Prim.Native.Nat.{ℕ, _+_, _*_, _≤_, _<_}
 use native.Mathlib.Omega.{arith}
 use mathlib.Core.Path.{_≡_, refl, sym, ap, _∙_}
 use mathlib.Core.Bool.{Bool, true, false, cond, _||_, true≢false}
-use mathlib.Core.List.{List, _++_}
+use mathlib.Core.List.{List}
 use borrow.Author.Tests.{ltb-false}
 use lib.Dec.{ltb}
 use lib.ListN.{length}
@@ -16,7 +16,7 @@ use Rattle.slip_moves.specs.declared.Head.{Head}
 use Rattle.slip_moves.specs.declared.Head.the-variants as head
 use Rattle.slip_moves.specs.declared.Moved.{Moved}
 use Rattle.slip_moves.specs.declared.Moved.the-variants as moved
-use Rattle.slip_moves.specs.Moves.{Part, put, stop, also, then, headAt, headBytes, bytesMoved, piecesMoved, meshMoved, restMoved, bodyMoved, ended, slipMoved, answerOfMove, SmallCounts}
+use Rattle.slip_moves.specs.Moves.{Part, put, stop, then, headAt, headBytes, bytesMoved, piecesMoved, meshMoved, restMoved, bodyMoved, ended, slipMoved, answerOfMove}
 use Rattle.slip_moves.proofs.Whole.{counted-head}
 use Rattle.slip_moves.proofs.Reach.{reach-mesh}
 use Rattle.form_read.specs.declared.Answer.{Answer}
@@ -66,14 +66,14 @@ module _ (out : List ℕ) {out′ : List ℕ} {r : Moved} where
   moved-no-room {n} (stop w) e h = absurd (let f : moved.Refused w ≡ moved.NoRoom n = sym (ap (λ (p : Moved × List ℕ). p .0) e) ∙ h in let z : _≡_ {A = ℕ} 0 1 = cc f in omega arith)
 
 -- the parts of a slip that is walked over to its end
-pub record Walked (s : List ℕ) (v t p i : ℕ) : Type 0 where
+pub record WalkedSlip (s : List ℕ) (v t p i : ℕ) : Type 0 where
   pub mesh : isPut (meshMoved Groups Plain s v t i) ≡ true
   pub pieces : isPut (piecesMoved Groups Plain s p (firstPiece s v t i)) ≡ true
   pub near : firstPiece s v t i ≤ i + (25 * v + 15 * t)
   pub long : 8 ≤ length s
 
 module _ (s : List ℕ) {v t p i : ℕ} (e : headAt Groups s ≡ head.Counts v t p i) where
-  pub slip-walked : isPut (slipMoved Groups Plain s) ≡ true → Walked s v t p i
+  pub slip-walked : isPut (slipMoved Groups Plain s) ≡ true → WalkedSlip s v t p i
   unfolding bodyMoved restMoved
   slip-walked m =
       let whole : isPut (then (bodyMoved Groups Plain s v t p i) (ended s)) ≡ true =

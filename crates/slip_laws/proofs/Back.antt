@@ -1,29 +1,26 @@
 -- What the reader accepts is the slip of the job that it reads: no other slip gives that job. Assumes nothing.
-use Prim.Native.Nat.{ℕ, zero, suc, _+_, _-_, _*_, _/_, _%_, _≤_, _<_}
-use native.Mathlib.Nat.{add-zero}
+use Prim.Native.Nat.{ℕ, zero, suc, _+_, _-_, _*_, _%_, _≤_, _<_}
 use native.Mathlib.Omega.{arith}
 use native.Mathlib.Decide.{decLe}
 use mathlib.Core.Path.{_≡_, refl, sym, ap, _∙_}
 use mathlib.Core.Bool.{Bool, true, false, cond}
 use mathlib.Core.List.{List, [], _∷_, _++_, append-nil}
-use borrow.Author.Tests.{ltb-false, eqb-true, eqb-false}
+use borrow.Author.Tests.{ltb-false, eqb-false}
 use lib.Dec.{eqb, ltb}
 use lib.ListN.{length, getD, drop, List·getD-append, drop-of-length-le}
 use lib.Seq.{getD-append-add}
-use lib.Ieee.{Float, nan, binary64}
-use lib.Ieee.Bits.{ofBits-fits}
-use Rattle.nat_laws.specs.Lists.{All, listOf}
+use lib.Ieee.{Float, nan}
+use Rattle.nat_laws.specs.Lists.{All}
 use Rattle.nat_laws.proofs.Lists.{length-listOf, getD-listOf}
-use Rattle.float64.specs.Scalar.{zero64}
 use Rattle.job_checks.specs.Job.{Job}
 use Rattle.job_checks.specs.Job as job
 use Rattle.little_endian.specs.Bytes.{numberFrom, doubleFrom, doublesFrom, numbersFrom, bytesFrom, numberBytes, doubleBytes}
 use Rattle.slip.specs.declared.Slip.{Slip}
 use Rattle.slip.specs.declared.Slip.the-variants.{TooShort, LeftOver, UnknownKind}
 use Rattle.slip.specs.declared.Slip.the-variants as slip
-use Rattle.slip.specs.Format.{isJob, vertexCountIn, triangleCountIn, pieceCountIn, verticesFrom, trianglesFrom, flagsFrom, piecesFrom, pieceSize, pieceFrom, secondAt, pieceCoords, kindsIn, facesIn, coordsIn, jobIn, exceeds, afterPieces, answerTo}
+use Rattle.slip.specs.Format.{isJob, vertexCountIn, triangleCountIn, pieceCountIn, trianglesFrom, flagsFrom, piecesFrom, pieceSize, pieceFrom, secondAt, pieceCoords, kindsIn, facesIn, coordsIn, jobIn, exceeds, afterPieces, answerTo}
 use Rattle.slip.proofs.Pieces.{job-else, size-bounds, stands}
-use Rattle.slip.proofs.Room.{Fits, job-fits}
+use Rattle.slip.proofs.Room.{job-fits}
 use Rattle.slip.proofs.Walk.{length-coordsIn}
 use Rattle.slip_write.specs.Write.{doublesBytes, numbersBytes, threeBytes, pieceBytes, piecesBytes, countsBytes, meshBytes, restBytes, slipOf}
 use Rattle.slip_laws.specs.Plain.{IsByte, PlainAt, Plain}

@@ -3,7 +3,6 @@ use Rattle.form_read.proofs.Checks.{did-read, did-refuse}
 use Rattle.form_read.specs.FormReading.{isRead, groupsAnswer}
 use Rattle.slip.specs.Reading.{Rows, jobRows, vertexSlots, triangleSlots, pieceSlots}
 use mathlib.Core.Path.{_≡_, sym, ap, _∙_}
-use native.Mathlib.Omega.{arith}
 use borrow.Author.Needs.{needs}
 use Rattle.form_read.proofs.read_groups.Statement.{statement}
 use Rattle.form_read.proofs.read_groups.Tie as tie

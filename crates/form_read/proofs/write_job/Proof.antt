@@ -2,7 +2,6 @@
 use Rattle.form_read.proofs.Checks.{mesh-ready, pieces-ready, none-written, job-filled}
 use Rattle.slip.specs.Reading.{jobRows}
 use mathlib.Core.Path.{sym, _∙_}
-use native.Mathlib.Omega.{arith}
 use borrow.Author.Needs.{needs}
 use Rattle.form_read.proofs.write_job.Statement.{statement}
 use Rattle.form_read.proofs.write_job.Tie as tie

@@ -1,6 +1,5 @@
 -- `slip_program::print_slip` meets its contract. Assumes nothing.
 use mathlib.Core.Path.{ap, _∙_}
-use Prim.Native.Nat.{ℕ}
 use Rattle.slip.specs.Reading.{jobRows}
 use Rattle.print_out.specs.PrintOut.{refusedLine, textOf}
 use Rattle.slip_program.proofs.Texts.{puts-same}
