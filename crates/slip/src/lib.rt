@@ -55,6 +55,7 @@ pub fn is_job(slip: Slip) -> bool
     }
 }
 
+// The lesser of two numbers.
 pub fn least(m: usize, n: usize) -> usize
     ensures { λ r. ⌜ r ≡ min m n ⌝ }
 {
