@@ -75,9 +75,9 @@ unfolding stored
 bettering size out pts gs = cond (leb (length pts) size) (cond (hasEntries gs out) (Entries (length gs)) Full, stored gs out) (Full, out)
 
 -- the walk in the buffer of its points: the stretches gs between them stand in front of it; or the points have more entries than the buffer
-abbrev pub Walked : Listed → List Float → List Float → List Interval → Type 0
-Walked Full buffer pts gs = length buffer < length pts
-Walked (Entries m) buffer pts gs = (length pts ≤ length buffer) × ((m + m ≤ length buffer) × (pairs m buffer ≡ gs))
+abbrev pub WalkedPoints : Listed → List Float → List Float → List Interval → Type 0
+WalkedPoints Full buffer pts gs = length buffer < length pts
+WalkedPoints (Entries m) buffer pts gs = (length pts ≤ length buffer) × ((m + m ≤ length buffer) × (pairs m buffer ≡ gs))
 
 -- what follows: the stretches stand in front of `out`; or the points or the stretches have more entries than their buffer
 abbrev pub Answers : Listed → ℕ → List Float → List Float → List Interval → Type 0

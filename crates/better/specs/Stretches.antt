@@ -39,8 +39,8 @@ abbrev pub settling : Cut → Bool → Resolved
 settling Nowhere b = Settled b
 settling (At c) b = CutAt c
 
-unfoldable pub turnOf : Src → Src → Float → Float → Resolved
-turnOf p q x0 x1 = settling (cutOf p q x0 x1) (shorterBetween p q x0 x1)
+unfoldable pub turnBetween : Src → Src → Float → Float → Resolved
+turnBetween p q x0 x1 = settling (cutOf p q x0 x1) (shorterBetween p q x0 x1)
 
 -- the loop over neighbours x0 and x1
 unfoldable pub stretches : Src → Src → Float → List Float → List Interval → List Interval

@@ -8,8 +8,8 @@ use Rattle.source.specs.Distance.{evalOf}
 use Rattle.source.specs.declared.Win.{Win}
 
 -- 1e-300: a segment's square is not taken below it, so that a segment of no length divides by a number above zero
-abbrev pub leastSquare : Float
-leastSquare = ofBits binary64 0x01a5_6e1f_c2f8_f359
+abbrev pub leastSegmentSquare : Float
+leastSegmentSquare = ofBits binary64 0x01a5_6e1f_c2f8_f359
 
 -- from p to a source point q of the face, and to the nearest point of a source segment from a to b
 unfoldable pub toPoint : Vec3 → Vec3 → Float
@@ -18,7 +18,7 @@ toPoint p q = normOf (subOf p q)
 unfoldable pub toSegment : Vec3 → Vec3 → Vec3 → Float
 toSegment p a b =
     let ab = subOf b a in
-    let s = clampOf (dotOf (subOf p a) ab ⊘ maxOf (dotOf ab ab) leastSquare) zero64 one in
+    let s = clampOf (dotOf (subOf p a) ab ⊘ maxOf (dotOf ab ab) leastSegmentSquare) zero64 one in
     normOf (subOf p (axpyOf a s ab))
 
 -- through a vertex v at distance d

@@ -20,7 +20,7 @@ use Rattle.chains.specs.Chains.{firstLink}
 use Rattle.face_entries.specs.declared.Part.the-variants.{EndA, EndB, Whole}
 use Rattle.layout.specs.Layout.{wordsPerTriangle, triangleFirstEntry, triangleLastEntry, wordsPerEntry}
 use Rattle.face_entries.specs.Buffers.{EntryBuffers, entryBuffers, entryCapacity, firstEntryOf, lastEntryOf, partNumber, nextEntryOf, enteredIn}
-use Rattle.face_entries.specs.Entries.{FaceEntry, faceEntry, numbersFrom, numbersOf, finalLink, EntryChain, StoredFrom, HoldsEntries, HoldsOnly, entryWordsFrom, entryWords, wordWith, trianglesWith}
+use Rattle.face_entries.specs.Entries.{FaceEntry, faceEntry, entryNumbersFrom, numbersOf, finalLink, EntryChain, StoredFrom, HoldsEntries, HoldsOnly, entryWordsFrom, entryWords, wordWith, trianglesWith}
 use Rattle.face_entries.proofs.Linking.{chain-first}
 use Rattle.face_entries.proofs.Keeping.{none-only, enter-only, entered-words}
 
@@ -36,12 +36,12 @@ unfolding slot
 slot-is w i = refl
 
 -- ---- the link of an entry is that of the next one of its face
-own-link : (w : List ℕ) (i : ℕ) (x : FaceEntry) (xs : List FaceEntry) → EntryChain w (firstLink (numbersFrom i (x .face) (x ∷ xs))) (numbersFrom i (x .face) (x ∷ xs)) → nextEntryOf w i ≡ firstLink (numbersFrom (suc i) (x .face) xs)
-unfolding numbersFrom EntryChain
+own-link : (w : List ℕ) (i : ℕ) (x : FaceEntry) (xs : List FaceEntry) → EntryChain w (firstLink (entryNumbersFrom i (x .face) (x ∷ xs))) (entryNumbersFrom i (x .face) (x ∷ xs)) → nextEntryOf w i ≡ firstLink (entryNumbersFrom (suc i) (x .face) xs)
+unfolding entryNumbersFrom EntryChain
 own-link w i x xs p = go (eqb (x .face) (x .face)) (eq-eqb (x .face) (x .face) refl) p where
-  go : (b : Bool) → b ≡ true → EntryChain w (firstLink (cond b (i ∷ numbersFrom (suc i) (x .face) xs) (numbersFrom (suc i) (x .face) xs))) (cond b (i ∷ numbersFrom (suc i) (x .face) xs) (numbersFrom (suc i) (x .face) xs))
-      → nextEntryOf w i ≡ firstLink (numbersFrom (suc i) (x .face) xs)
-  go true e q = chain-first w (nextEntryOf w i) (numbersFrom (suc i) (x .face) xs) (q .1)
+  go : (b : Bool) → b ≡ true → EntryChain w (firstLink (cond b (i ∷ entryNumbersFrom (suc i) (x .face) xs) (entryNumbersFrom (suc i) (x .face) xs))) (cond b (i ∷ entryNumbersFrom (suc i) (x .face) xs) (entryNumbersFrom (suc i) (x .face) xs))
+      → nextEntryOf w i ≡ firstLink (entryNumbersFrom (suc i) (x .face) xs)
+  go true e q = chain-first w (nextEntryOf w i) (entryNumbersFrom (suc i) (x .face) xs) (q .1)
   go false e q = let z : _≡_ {A = ℕ} 0 1 = cc in absurd (omega (arith, z))
 
 tail-chain : (w : List ℕ) (b : Bool) (i : ℕ) (is : List ℕ) → EntryChain w (firstLink (cond b (i ∷ is) is)) (cond b (i ∷ is) is) → EntryChain w (firstLink is) is
@@ -49,12 +49,12 @@ unfolding EntryChain
 tail-chain w true i is p = subst (λ (l : ℕ). EntryChain w l is) (chain-first w (nextEntryOf w i) is (p .1)) (p .1)
 tail-chain w false i is p = p
 
-rest-chain : (w : List ℕ) (i g : ℕ) (x : FaceEntry) (xs : List FaceEntry) → EntryChain w (firstLink (numbersFrom i g (x ∷ xs))) (numbersFrom i g (x ∷ xs)) → EntryChain w (firstLink (numbersFrom (suc i) g xs)) (numbersFrom (suc i) g xs)
-unfolding numbersFrom
-rest-chain w i g x xs p = tail-chain w (eqb (x .face) g) i (numbersFrom (suc i) g xs) p
+rest-chain : (w : List ℕ) (i g : ℕ) (x : FaceEntry) (xs : List FaceEntry) → EntryChain w (firstLink (entryNumbersFrom i g (x ∷ xs))) (entryNumbersFrom i g (x ∷ xs)) → EntryChain w (firstLink (entryNumbersFrom (suc i) g xs)) (entryNumbersFrom (suc i) g xs)
+unfolding entryNumbersFrom
+rest-chain w i g x xs p = tail-chain w (eqb (x .face) g) i (entryNumbersFrom (suc i) g xs) p
 
 -- ---- the words of all entries
-words-from : (w : List ℕ) (i : ℕ) (xs : List FaceEntry) → wordsPerEntry * (i + length xs) ≤ length w → StoredFrom w i xs → ((g : ℕ) → EntryChain w (firstLink (numbersFrom i g xs)) (numbersFrom i g xs))
+words-from : (w : List ℕ) (i : ℕ) (xs : List FaceEntry) → wordsPerEntry * (i + length xs) ≤ length w → StoredFrom w i xs → ((g : ℕ) → EntryChain w (firstLink (entryNumbersFrom i g xs)) (entryNumbersFrom i g xs))
     → take (wordsPerEntry * length xs) (drop (wordsPerEntry * i) w) ≡ entryWordsFrom i xs
 unfolding entryWordsFrom StoredFrom
 words-from w i [] h s c = refl
@@ -63,8 +63,8 @@ words-from w i (x ∷ xs) h s c =
     let d : 3 * i + 3 ≡ 3 * suc i = omega arith in
     let fits : 3 * i + 3 ≤ length w = omega (arith, h) in
     let at : (a : ℕ) → a < 3 → getD (slot 3 w i) a 0 ≡ getD w (3 * i + a) 0 = λ a l. slot-at 3 w i a 0 l in
-    let link : nextEntryOf w i ≡ firstLink (numbersFrom (suc i) (x .face) xs) = own-link w i x xs (c (x .face)) in
-    let here : take 3 (drop (3 * i) w) ≡ x .entry .piece ∷ partNumber (x .entry .part) ∷ firstLink (numbersFrom (suc i) (x .face) xs) ∷ [] =
+    let link : nextEntryOf w i ≡ firstLink (entryNumbersFrom (suc i) (x .face) xs) = own-link w i x xs (c (x .face)) in
+    let here : take 3 (drop (3 * i) w) ≡ x .entry .piece ∷ partNumber (x .entry .part) ∷ firstLink (entryNumbersFrom (suc i) (x .face) xs) ∷ [] =
     slot-is w i
     ∙ three (slot 3 w i) (length-slot 3 w i fits)
     ∙ (λ t. (at 0 (omega arith) ∙ s .0 .0) t ∷ (at 1 (omega arith) ∙ s .0 .1) t ∷ (at 2 (omega arith) ∙ link) t ∷ []) in
@@ -169,9 +169,9 @@ example : List FaceEntry
 example = faceEntry 0 7 EndA ∷ faceEntry 1 8 EndB ∷ faceEntry 0 9 Whole ∷ []
 
 example-words : entryWords 12 example ≡ 7 ∷ 0 ∷ 3 ∷ 8 ∷ 1 ∷ 0 ∷ 9 ∷ 2 ∷ 0 ∷ 0 ∷ 0 ∷ 0 ∷ []
-unfolding example entryWordsFrom numbersFrom firstLink
+unfolding example entryWordsFrom entryNumbersFrom firstLink
 example-words = refl
 
 example-triangles : trianglesWith (4 ∷ 5 ∷ 6 ∷ 0 ∷ 0 ∷ 0 ∷ 4 ∷ 5 ∷ 6 ∷ 0 ∷ 0 ∷ 0 ∷ []) example ≡ 4 ∷ 5 ∷ 6 ∷ 1 ∷ 3 ∷ 0 ∷ 4 ∷ 5 ∷ 6 ∷ 2 ∷ 2 ∷ 0 ∷ []
-unfolding example listOf wordWith numbersFrom firstLink finalLink
+unfolding example listOf wordWith entryNumbersFrom firstLink finalLink
 example-triangles = refl

@@ -22,7 +22,7 @@ use Rattle.face_entries.specs.declared.Entered.{Entered}
 use Rattle.face_entries.specs.declared.Entered.the-variants.{Full, Count}
 use Rattle.layout.specs.Layout.{wordsPerTriangle, triangleFirstEntry, triangleLastEntry, wordsPerEntry, entryLink}
 use Rattle.face_entries.specs.Buffers.{EntryBuffers, entryBuffers, entryCapacity, firstEntryOf, lastEntryOf, nextEntryOf, storedIn, linkedIn, enteredIn, entering}
-use Rattle.face_entries.specs.Entries.{FaceEntry, numbersFrom, numbersOf, finalLink, EntryChain, HasEntry, StoredFrom, HoldsEntries, HoldsOnly}
+use Rattle.face_entries.specs.Entries.{FaceEntry, entryNumbersFrom, numbersOf, finalLink, EntryChain, HasEntry, StoredFrom, HoldsEntries, HoldsOnly}
 use Rattle.face_entries.proofs.Numbers.{Numbered, each-numbered, numbers-snoc, numbers-below, faces-apart, final-in, final-snoc, final-none}
 use Rattle.face_entries.proofs.Linking.{chain-same, chain-end, chain-grown, length-stored, stored-other, stored-here, stored-behind, stored-snoc, linked-others, linked-triangles, linked-words, linked-behind}
 
@@ -60,7 +60,7 @@ module _ (b : EntryBuffers) (count f : ℕ) (x : PiecePart) where
 
 -- ---- at first there are none
 pub none-held : (t w : List ℕ) → ((f : ℕ) → (firstEntryOf t f ≡ 0) × (lastEntryOf t f ≡ 0)) → HoldsEntries 0 t w []
-unfolding StoredFrom EntryChain numbersFrom finalLink
+unfolding StoredFrom EntryChain entryNumbersFrom finalLink
 none-held t w z = record { counted = refl; fits = omega arith; stored = tt; chain = λ f. z f .0; last = λ f. z f .1 }
 
 pub none-only : (t w : List ℕ) → ((f : ℕ) → (firstEntryOf t f ≡ 0) × (lastEntryOf t f ≡ 0)) → ((p : ℕ) → getD w p 0 ≡ 0) → HoldsOnly t 0 t w []

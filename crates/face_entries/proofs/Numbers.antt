@@ -10,20 +10,20 @@ use lib.Dec.{eqb}
 use lib.ListN.{length}
 use Rattle.nat_laws.specs.Lists.{All}
 use Rattle.nat_laws.proofs.Lists.{all-map}
-use Rattle.face_entries.specs.Entries.{FaceEntry, numbersFrom, numbersOf, finalLink}
+use Rattle.face_entries.specs.Entries.{FaceEntry, entryNumbersFrom, numbersOf, finalLink}
 
 -- ---- one push more
 cond-cons : {A : Type 0} (b : Bool) (i : A) (l m k : List A) → l ≡ m ++ k → cond b (i ∷ l) l ≡ cond b (i ∷ m) m ++ k
 cond-cons true i l m k e = λ t. i ∷ e t
 cond-cons false i l m k e = e
 
-pub numbers-snoc : (i f : ℕ) (xs : List FaceEntry) (x : FaceEntry) → numbersFrom i f (xs ++ (x ∷ [])) ≡ numbersFrom i f xs ++ cond (eqb (x .face) f) ((i + length xs) ∷ []) []
-unfolding numbersFrom
+pub numbers-snoc : (i f : ℕ) (xs : List FaceEntry) (x : FaceEntry) → entryNumbersFrom i f (xs ++ (x ∷ [])) ≡ entryNumbersFrom i f xs ++ cond (eqb (x .face) f) ((i + length xs) ∷ []) []
+unfolding entryNumbersFrom
 numbers-snoc i f [] x = let e : i ≡ i + 0 = omega arith in ap (λ (j : ℕ). cond (eqb (x .face) f) (j ∷ []) []) e
 numbers-snoc i f (y ∷ xs) x =
     let e : suc i + length xs ≡ i + suc (length xs) = omega arith in
-    cond-cons (eqb (y .face) f) i (numbersFrom (suc i) f (xs ++ (x ∷ []))) (numbersFrom (suc i) f xs) (cond (eqb (x .face) f) ((i + suc (length xs)) ∷ []) [])
-    (numbers-snoc (suc i) f xs x ∙ ap (λ (j : ℕ). numbersFrom (suc i) f xs ++ cond (eqb (x .face) f) (j ∷ []) []) e)
+    cond-cons (eqb (y .face) f) i (entryNumbersFrom (suc i) f (xs ++ (x ∷ []))) (entryNumbersFrom (suc i) f xs) (cond (eqb (x .face) f) ((i + suc (length xs)) ∷ []) [])
+    (numbers-snoc (suc i) f xs x ∙ ap (λ (j : ℕ). entryNumbersFrom (suc i) f xs ++ cond (eqb (x .face) f) (j ∷ []) []) e)
 
 -- ---- each number is that of one entry, of one face
 unfoldable pub faceFrom : ℕ → List FaceEntry → ℕ → ℕ
@@ -43,11 +43,11 @@ here : (i : ℕ) (x : FaceEntry) (xs : List FaceEntry) → Numbered i (x .face) 
 unfolding faceFrom
 here i x xs = record { low = omega arith; high = omega arith; face = rw (eq-eqb i i refl) refl }
 
-pub each-numbered : (i f : ℕ) (xs : List FaceEntry) → All (Numbered i f xs) (numbersFrom i f xs)
-unfolding numbersFrom
+pub each-numbered : (i f : ℕ) (xs : List FaceEntry) → All (Numbered i f xs) (entryNumbersFrom i f xs)
+unfolding entryNumbersFrom
 each-numbered i f [] = tt
-each-numbered i f (x ∷ xs) = go (eqb (x .face) f) refl (all-map {P = Numbered (suc i) f xs} {Q = Numbered i f (x ∷ xs)} (later i f x xs) (numbersFrom (suc i) f xs) (each-numbered (suc i) f xs)) where
-  go : (b : Bool) → eqb (x .face) f ≡ b → All (Numbered i f (x ∷ xs)) (numbersFrom (suc i) f xs) → All (Numbered i f (x ∷ xs)) (cond b (i ∷ numbersFrom (suc i) f xs) (numbersFrom (suc i) f xs))
+each-numbered i f (x ∷ xs) = go (eqb (x .face) f) refl (all-map {P = Numbered (suc i) f xs} {Q = Numbered i f (x ∷ xs)} (later i f x xs) (entryNumbersFrom (suc i) f xs) (each-numbered (suc i) f xs)) where
+  go : (b : Bool) → eqb (x .face) f ≡ b → All (Numbered i f (x ∷ xs)) (entryNumbersFrom (suc i) f xs) → All (Numbered i f (x ∷ xs)) (cond b (i ∷ entryNumbersFrom (suc i) f xs) (entryNumbersFrom (suc i) f xs))
   go true e r = (subst (λ (g : ℕ). Numbered i g (x ∷ xs) i) (eqb-true (x .face) f e) (here i x xs), r)
   go false e r = r
 
@@ -59,11 +59,11 @@ pub faces-apart : (f g : ℕ) (xs : List FaceEntry) (k : ℕ) → f ≢ g → Nu
 faces-apart f g xs k ne h =
     all-map {P = Numbered 0 g xs} {Q = λ i. i ≢ k} (λ i n e. ne (sym (h .face) ∙ ap (faceFrom 0 xs) (sym e) ∙ n .face)) (numbersOf g xs) (each-numbered 0 g xs)
 
-pub numbers-few : (i f : ℕ) (xs : List FaceEntry) → length (numbersFrom i f xs) ≤ length xs
-unfolding numbersFrom
+pub numbers-few : (i f : ℕ) (xs : List FaceEntry) → length (entryNumbersFrom i f xs) ≤ length xs
+unfolding entryNumbersFrom
 numbers-few i f [] = omega arith
 numbers-few i f (x ∷ xs) = go (eqb (x .face) f) (numbers-few (suc i) f xs) where
-  go : (b : Bool) → length (numbersFrom (suc i) f xs) ≤ length xs → length (cond b (i ∷ numbersFrom (suc i) f xs) (numbersFrom (suc i) f xs)) ≤ suc (length xs)
+  go : (b : Bool) → length (entryNumbersFrom (suc i) f xs) ≤ length xs → length (cond b (i ∷ entryNumbersFrom (suc i) f xs) (entryNumbersFrom (suc i) f xs)) ≤ suc (length xs)
   go true h = omega (arith, h)
   go false h = omega (arith, h)
 

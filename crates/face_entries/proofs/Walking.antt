@@ -10,7 +10,7 @@ use Rattle.face_entries.specs.declared.Part.{Part}
 use Rattle.face_entries.specs.declared.Part.the-variants.{EndA, EndB, Whole}
 use Rattle.face_entries.specs.declared.PiecePart.{PiecePart}
 use Rattle.face_entries.specs.Buffers.{partNumber, partOfNumber, firstEntryOf, partAt, nextEntryOf}
-use Rattle.face_entries.specs.Entries.{FaceEntry, entriesOf, numbersFrom, numbersOf, EntryChain, HasEntry, StoredFrom, HoldsEntries, entriesFrom}
+use Rattle.face_entries.specs.Entries.{FaceEntry, entriesOf, entryNumbersFrom, numbersOf, EntryChain, HasEntry, StoredFrom, HoldsEntries, entriesFrom}
 use Rattle.face_entries.proofs.Numbers.{numbers-few}
 
 pub part-read : (p : Part) → partOfNumber (partNumber p) ≡ p
@@ -34,11 +34,11 @@ walk-chain zero w l (i ∷ is) h p = absurd (omega arith)
 walk-chain (suc n) w l [] h p = ap (entriesFrom (suc n) w) p
 walk-chain (suc n) w l (i ∷ is) h p = ap (entriesFrom (suc n) w) (p .0) ∙ ap (λ (r : List PiecePart). partAt w i ∷ r) (walk-chain n w (nextEntryOf w i) is (omega arith) (p .1))
 
-parts-are : (w : List ℕ) (i f : ℕ) (xs : List FaceEntry) → StoredFrom w i xs → partsAt w (numbersFrom i f xs) ≡ entriesOf f xs
-unfolding numbersFrom entriesOf StoredFrom
+parts-are : (w : List ℕ) (i f : ℕ) (xs : List FaceEntry) → StoredFrom w i xs → partsAt w (entryNumbersFrom i f xs) ≡ entriesOf f xs
+unfolding entryNumbersFrom entriesOf StoredFrom
 parts-are w i f [] s = refl
 parts-are w i f (x ∷ xs) s = go (eqb (x .face) f) (parts-are w (suc i) f xs (s .1)) where
-  go : (b : Bool) → partsAt w (numbersFrom (suc i) f xs) ≡ entriesOf f xs → partsAt w (cond b (i ∷ numbersFrom (suc i) f xs) (numbersFrom (suc i) f xs)) ≡ cond b (x .entry ∷ entriesOf f xs) (entriesOf f xs)
+  go : (b : Bool) → partsAt w (entryNumbersFrom (suc i) f xs) ≡ entriesOf f xs → partsAt w (cond b (i ∷ entryNumbersFrom (suc i) f xs) (entryNumbersFrom (suc i) f xs)) ≡ cond b (x .entry ∷ entriesOf f xs) (entriesOf f xs)
   go true e = λ t. entry-read w i (x .entry) (s .0) t ∷ e t
   go false e = e
 

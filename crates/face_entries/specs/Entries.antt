@@ -27,12 +27,12 @@ entriesOf f [] = []
 entriesOf f (x ∷ xs) = cond (eqb (x .face) f) (x .entry ∷ entriesOf f xs) (entriesOf f xs)
 
 -- the numbers of the entries of face f, where the first of the list is number i; entries are numbered in the order of their pushes
-unfoldable pub numbersFrom : ℕ → ℕ → List FaceEntry → List ℕ
-numbersFrom i f [] = []
-numbersFrom i f (x ∷ xs) = cond (eqb (x .face) f) (i ∷ numbersFrom (suc i) f xs) (numbersFrom (suc i) f xs)
+unfoldable pub entryNumbersFrom : ℕ → ℕ → List FaceEntry → List ℕ
+entryNumbersFrom i f [] = []
+entryNumbersFrom i f (x ∷ xs) = cond (eqb (x .face) f) (i ∷ entryNumbersFrom (suc i) f xs) (entryNumbersFrom (suc i) f xs)
 
 abbrev pub numbersOf : ℕ → List FaceEntry → List ℕ
-numbersOf f xs = numbersFrom 0 f xs
+numbersOf f xs = entryNumbersFrom 0 f xs
 
 -- the link of the last number of a list
 unfoldable pub finalLink : List ℕ → ℕ
@@ -73,7 +73,7 @@ entriesFrom (suc n) w (suc i) = partAt w i ∷ entriesFrom n w (nextEntryOf w i)
 -- three words for each entry, the first of which is number i: the piece, the part and the link of the next entry of the same face
 unfoldable pub entryWordsFrom : ℕ → List FaceEntry → List ℕ
 entryWordsFrom i [] = []
-entryWordsFrom i (x ∷ xs) = x .entry .piece ∷ partNumber (x .entry .part) ∷ firstLink (numbersFrom (suc i) (x .face) xs) ∷ entryWordsFrom (suc i) xs
+entryWordsFrom i (x ∷ xs) = x .entry .piece ∷ partNumber (x .entry .part) ∷ firstLink (entryNumbersFrom (suc i) (x .face) xs) ∷ entryWordsFrom (suc i) xs
 
 -- n words: these, and zeros behind
 abbrev pub entryWords : ℕ → List FaceEntry → List ℕ

@@ -4,16 +4,16 @@ use native.Mathlib.Omega.{arith}
 use mathlib.Core.Bool.{Bool, true, false, _&&_}
 use mathlib.Core.List.{List}
 use mathlib.Core.Path.{_≡_, refl, sym, ap, _∙_}
-use borrow.Author.Tests.{leb-true, le-leb, lt-leb, eq-eqb, ne-eqb}
+use borrow.Author.Tests.{leb-true, le-leb, lt-leb}
 use lib.Dec.{leb}
 use lib.Ieee.{Float}
-use lib.ListN.{getD, set}
+use lib.ListN.{set}
 use Rattle.layout.specs.Layout.{wordsPerEdge}
 use Rattle.buffers.specs.Slots.{slotsOf}
 use Rattle.vec3.specs.declared.Vec3.{Vec3}
 use Rattle.windows.specs.Windows.{capacityOf}
 use Rattle.computed.specs.declared.Computed.{Computed}
-use Rattle.computed.specs.declared.Computed.the-variants.{Refused, Field as isField}
+use Rattle.computed.specs.declared.Computed.the-variants.{Field as isField}
 use Rattle.computed.specs.declared.Field.{Field}
 use Rattle.field_check.specs.FieldCheck.{JobSlices, FieldSlices, fieldUnsound}
 use Rattle.queries.specs.declared.FaceDistance.{FaceDistance}
@@ -21,20 +21,7 @@ use Rattle.queries.specs.declared.EdgeDistance.{EdgeDistance}
 use Rattle.queries.specs.Answers.{faceNumber, edgeNumber, faceValue, edgeValue}
 use Rattle.queries.specs.Queries.{faceAnswer, edgeAnswer, faceQuery, edgeQuery}
 use Rattle.queries.proofs.Checked.{enough, taken, left}
-use Rattle.field_c.specs.Asked.{toldField, toldAnswer, fits, fitsIn, askedFace, askedEdge}
-
-pub told-is : (t : List ℕ) {a b c d e f : ℕ} → a ≡ getD t 0 0 → b ≡ getD t 1 0 → c ≡ getD t 2 0 → d ≡ getD t 3 0 → e ≡ getD t 4 0 → f ≡ getD t 5 0
-    → _≡_ {A = Field} (record { vertices = a; triangles = b; pieces = c; edges = d; windows = e; steps = f }) (toldField t)
-unfolding toldField
-told-is t a b c d e f = λ i. record { vertices = a i; triangles = b i; pieces = c i; edges = d i; windows = e i; steps = f i }
-
-pub answer-field : (k : ℕ) (t : List ℕ) {f : Field} → k ≡ 0 → f ≡ toldField t → isField f ≡ toldAnswer k t
-unfolding toldAnswer
-answer-field k t h e = ap (λ (g : Field). isField g) e ∙ taken _ _ _ (eq-eqb k 0 h)
-
-pub answer-refused : (k : ℕ) (t : List ℕ) → (k ≡ 0 → ⊥) → Refused k ≡ toldAnswer k t
-unfolding toldAnswer
-answer-refused k t h = left _ _ _ _ (ne-eqb k 0 h) refl
+use Rattle.field_c.specs.Asked.{fits, fitsIn, askedFace, askedEdge}
 
 both-left : (a b : Bool) → (a && b) ≡ true → a ≡ true
 both-left true b e = refl

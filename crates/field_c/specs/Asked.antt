@@ -2,28 +2,18 @@
 use Prim.Native.Nat.{ℕ}
 use mathlib.Core.Bool.{Bool, _&&_}
 use mathlib.Core.List.{List}
-use lib.Dec.{leb, eqb}
+use lib.Dec.{leb}
 use lib.Ieee.{Float}
-use lib.ListN.{length, getD, set}
+use lib.ListN.{length, set}
 use Rattle.layout.specs.Layout.{wordsPerEdge}
 use Rattle.float64.specs.Notation.{if_then_else_}
 use Rattle.buffers.specs.Slots.{slotsOf}
 use Rattle.vec3.specs.declared.Vec3.{Vec3}
 use Rattle.windows.specs.Windows.{capacityOf}
-use Rattle.computed.specs.declared.Computed.{Computed}
-use Rattle.computed.specs.declared.Computed.the-variants.{Refused, Field as isField}
 use Rattle.computed.specs.declared.Field.{Field}
 use Rattle.field_check.specs.FieldCheck.{JobSlices, FieldSlices}
 use Rattle.queries.specs.Answers.{faceNumber, edgeNumber, faceValue, edgeValue}
 use Rattle.queries.specs.Queries.{faceAnswer, edgeAnswer}
-
--- the counts of a field, as the whole job told them
-unfoldable pub toldField : List ℕ → Field
-toldField t = record { vertices = getD t 0 0; triangles = getD t 1 0; pieces = getD t 2 0; edges = getD t 3 0; windows = getD t 4 0; steps = getD t 5 0 }
-
-unfoldable pub toldAnswer : ℕ → List ℕ → Computed
-unfolding toldField
-toldAnswer k t = if eqb k 0 then isField (toldField t) else Refused k
 
 -- slices of so many numbers have a slot for each edge and each window of the field
 unfoldable pub fits : Field → ℕ → ℕ → ℕ → Bool

@@ -9,6 +9,8 @@ use computed::Field;
 use layout::REALS_PER_WINDOW;
 use layout::WORDS_PER_EDGE;
 use layout::WORDS_PER_WINDOW;
+use queries::told_answer;
+use queries::told_field;
 use slip::Slip;
 use slip_write::Written;
 use vec3::Vec3;
@@ -18,11 +20,12 @@ ghost use Rattle.buffers.specs.Lent.{given, left};
 ghost use Rattle.job_checks.specs.Job.{job};
 ghost use Rattle.compute_spec.specs.Compute.{buffersBefore, buffersAfter};
 ghost use Rattle.field_check.specs.FieldCheck.{jobSlices, fieldSlices};
+ghost use Rattle.queries.specs.Told.{toldField, toldAnswer};
 ghost use Rattle.text_out.specs.Text.{Puts};
 ghost use Rattle.print_out.specs.PrintOut.{liveCount, textOf};
-ghost use Rattle.slip.specs.Reading.{rows};
+ghost use Rattle.slip.specs.Reading.{jobRows};
 ghost use Rattle.field_c.specs.Exports.{fieldTold, ToldOf};
-ghost use Rattle.field_c.specs.Asked.{toldField, toldAnswer, fits, askedFace, askedEdge};
+ghost use Rattle.field_c.specs.Asked.{fits, askedFace, askedEdge};
 ghost use Rattle.field_c.specs.Slips.{slipTold, ReadTold, lengthTold, WriteTold};
 
 // The number of this interface: another one where a name, the order of arguments or the layout of a buffer is another.
@@ -120,19 +123,6 @@ pub extern "C" fn sirmolaat_compute(
         other_scratch,
     );
     tell(computed, told)
-}
-
-fn told_field(told: &[u32]) -> Field
-    ensures { λ r. ⌜ r ≡ toldField (given told) ⌝ }
-{
-    Field {
-        vertices: read_u32(told, 6, 0, 0),
-        triangles: read_u32(told, 6, 0, 1),
-        pieces: read_u32(told, 6, 0, 2),
-        edges: read_u32(told, 6, 0, 3),
-        windows: read_u32(told, 6, 0, 4),
-        steps: read_u32(told, 6, 0, 5),
-    }
 }
 
 fn has_slots(n: Field, edge_words: usize, words: usize, reals: usize) -> bool
@@ -289,8 +279,8 @@ pub extern "C" fn sirmolaat_read_slip(
     told: &mut [u32],
     limit: &mut [f64],
 ) -> u32
-    ensures { λ r. ⌜ ReadTold (given slip) (rows (given vertices) (given triangles) (given flags) (given kinds) (given faces) (given coords)) (given told) (given limit)
-        r (rows (left vertices) (left triangles) (left flags) (left kinds) (left faces) (left coords)) (left told) (left limit) ⌝ }
+    ensures { λ r. ⌜ ReadTold (given slip) (jobRows (given vertices) (given triangles) (given flags) (given kinds) (given faces) (given coords)) (given told) (given limit)
+        r (jobRows (left vertices) (left triangles) (left flags) (left kinds) (left faces) (left coords)) (left told) (left limit) ⌝ }
 {
     let read = slip::read(slip, vertices, triangles, flags, kinds, faces, coords);
     tell_slip(read, told, limit)
@@ -312,17 +302,6 @@ pub extern "C" fn sirmolaat_write_slip(
 {
     let written = slip_write::write(vertices, triangles, flags, kinds, faces, coords, limit, out);
     length_told(written)
-}
-
-// The job's answer: 0 and what it told of its field, or a refusal's number.
-fn told_answer(refusal: u32, told: &[u32]) -> Computed
-    ensures { λ r. ⌜ r ≡ toldAnswer refusal (given told) ⌝ }
-{
-    if refusal == 0 {
-        let field = told_field(told);
-        return Computed::Field(field);
-    }
-    Computed::Refused(refusal)
 }
 
 // The print-out of a job's answer, as far as `out` goes: how many bytes it has. `words` and `vertex` are those of the field's buffers.

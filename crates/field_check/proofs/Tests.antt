@@ -6,10 +6,10 @@ use mathlib.Core.List.{List}
 use mathlib.Core.Logic.{_≢_}
 use mathlib.Core.Path.{_≡_, refl, sym, ap, _∙_}
 use borrow.Author.Tests.{le-leb, lt-leb, eq-eqb, ne-eqb}
-use lib.Dec.{eqb, leb}
+use lib.Dec.{eqb}
 use lib.Ieee.{Float, lt}
 use Rattle.topology.specs.Edges.{noFace}
-use Rattle.field_check.specs.FieldCheck.{faceOutside, startOf, notRising}
+use Rattle.field_check.specs.FieldCheck.{faceOutside, windowStart, notRising}
 
 -- ---- tests one after the other
 pub holds : (a b : Bool) → a ≡ true → true ≡ (a || b)
@@ -37,7 +37,7 @@ pub rising-first : (f : List Float) (before i : ℕ) → before ≡ 0 → false 
 unfolding notRising
 rising-first f before i h = rw h refl
 
-pub rising-next : (f : List Float) (before i : ℕ) → before ≢ 0 → not (lt (startOf f (before - 1)) (startOf f i)) ≡ notRising f before i
+pub rising-next : (f : List Float) (before i : ℕ) → before ≢ 0 → not (lt (windowStart f (before - 1)) (windowStart f i)) ≡ notRising f before i
 unfolding notRising
 rising-next f zero i q = absurd (q refl)
-rising-next f (suc j) i q = ap (λ (k : ℕ). not (lt (startOf f k) (startOf f i))) (let e : suc j - 1 ≡ j = omega arith in e)
+rising-next f (suc j) i q = ap (λ (k : ℕ). not (lt (windowStart f k) (windowStart f i))) (let e : suc j - 1 ≡ j = omega arith in e)

@@ -12,7 +12,7 @@ use lib.Dec.{ltb}
 use lib.ListN.{length}
 use Rattle.job_checks.specs.Any.{anyBelow}
 use Rattle.job_checks.proofs.Any.{none-yet, none-more, found}
-use Rattle.field_check.specs.declared.Walked.{Walked}
+use Rattle.field_check.specs.declared.ChainWalk.{ChainWalk}
 use Rattle.field_check.specs.Chains.{unsoundWalk, soundWalk, linksFrom, anyBad, walkOf, chainOf, linkTotal, chainsUnsound}
 
 module _ (next : ℕ → ℕ) (bad : ℕ → ℕ → Bool) where
@@ -64,7 +64,7 @@ module _ (next : ℕ → ℕ) (bad : ℕ → ℕ → Bool) where
   TellsBy n before is left true = (n < length is) ⊎ (anyBad next bad before is ≡ true)
   TellsBy n before is left false = (n ≡ left + length is) × (anyBad next bad before is ≡ false)
 
-  abbrev Tells : ℕ → ℕ → List ℕ → Walked → Type 0
+  abbrev Tells : ℕ → ℕ → List ℕ → ChainWalk → Type 0
   Tells n before is r = TellsBy n before is (r .left) (r .unsound)
 
   or-true-right : (a : Bool) {b : Bool} → b ≡ true → (a || b) ≡ true
@@ -113,9 +113,9 @@ module _ (next : ℕ → ℕ) (bad : ℕ → ℕ → Bool) where
       go (yes g) below = omega (arith, below g, total-suc m)
       go (no g) below = let e : k ≡ suc m = omega arith in rw e (omega arith)
 
-    module _ (left k : ℕ) (s : SoundSoFar left k) (r : Walked) (is : r ≡ walkOf next bad left 0 (head k)) where
+    module _ (left k : ℕ) (s : SoundSoFar left k) (r : ChainWalk) (is : r ≡ walkOf next bad left 0 (head k)) where
       tells : Tells left 0 (chainOf next bad head count k) r
-      tells = subst (λ (z : Walked). Tells left 0 (chainOf next bad head count k) z) (sym is) (walk-tells (suc count) left 0 (head k) (omega (arith, s .total)))
+      tells = subst (λ (z : ChainWalk). Tells left 0 (chainOf next bad head count k) z) (sym is) (walk-tells (suc count) left 0 (head k) (omega (arith, s .total)))
 
       pub sound-on : r .unsound ≡ false → SoundSoFar (r .left) (k + 1)
       sound-on e =

@@ -5,13 +5,13 @@ use mathlib.Core.List.{List, [], _∷_}
 use lib.Dec.{ltb}
 use lib.ListN.{length}
 use Rattle.job_checks.specs.Any.{anyBelow}
-use Rattle.field_check.specs.declared.Walked.{Walked}
+use Rattle.field_check.specs.declared.ChainWalk.{ChainWalk}
 
 -- what a walk comes to: a chain that is no field's, or so many links left
-abbrev pub unsoundWalk : Walked
+abbrev pub unsoundWalk : ChainWalk
 unsoundWalk = record { unsound = true; left = 0 }
 
-abbrev pub soundWalk : ℕ → Walked
+abbrev pub soundWalk : ℕ → ChainWalk
 soundWalk n = record { unsound = false; left = n }
 
 -- `next` is the link behind a number; `bad` tests a number, given the link that led to the one before it, 0 at the start of a chain
@@ -27,7 +27,7 @@ module _ (next : ℕ → ℕ) (bad : ℕ → ℕ → Bool) where
   anyBad before (i ∷ is) = bad before i || anyBad (suc i) is
 
   -- one walk along a chain: how many links are left of n, or that a number is bad or the chain has more than n
-  unfoldable pub walkOf : ℕ → ℕ → ℕ → Walked
+  unfoldable pub walkOf : ℕ → ℕ → ℕ → ChainWalk
   walkOf zero before zero = soundWalk 0
   walkOf zero before (suc i) = unsoundWalk
   walkOf (suc n) before zero = soundWalk (suc n)

@@ -119,17 +119,17 @@ entryOutside pieces entryWords i =
     || ltb (entryCapacity (length entryWords)) (nextEntryOf entryWords i))
 
 -- ---- the lists of the edges
-abbrev pub startOf : List Float → ℕ → Float
-startOf f i = getD f (realsPerWindow * i + windowB0) nan
+abbrev pub windowStart : List Float → ℕ → Float
+windowStart f i = getD f (realsPerWindow * i + windowB0) nan
 
 -- a listed window's start isn't a number below its end, or the starts don't rise from the window before it
 unfoldable pub notRising : List Float → ℕ → ℕ → Bool
 notRising f zero i = false
-notRising f (suc j) i = not (lt (startOf f j) (startOf f i))
+notRising f (suc j) i = not (lt (windowStart f j) (windowStart f i))
 
 unfoldable pub windowUnsound : List Float → ℕ → ℕ → Bool
 unfolding notRising
-windowUnsound f before i = not (lt (startOf f i) (getD f (realsPerWindow * i + windowB1) nan)) || notRising f before i
+windowUnsound f before i = not (lt (windowStart f i) (getD f (realsPerWindow * i + windowB1) nan)) || notRising f before i
 
 -- the windows' chains, at so many windows and edges
 unfoldable pub windowsUnsound : List ℕ → List ℕ → List Float → ℕ → ℕ → Bool

@@ -42,10 +42,10 @@ ghost use Rattle.job_checks.specs.Any.{anyBelow};
 ghost use Rattle.job_checks.specs.Refusals.{aboveOne};
 ghost use Rattle.face_entries.specs.Buffers.{entryCapacity, nextEntryOf};
 ghost use Rattle.field_check.specs.Chains.{walkOf};
-ghost use Rattle.field_check.specs.FieldCheck.{jobSlices, fieldSlices, tooFewSlots, recordsDiffer, countsDiffer, meetsRefusal, faceOutside, edgeOutside, triangleOutside, windowOutside, entryOutside, startOf, notRising, windowUnsound, windowsUnsound, entriesUnsound, pointsOutside, listsUnsound, fieldUnsound};
+ghost use Rattle.field_check.specs.FieldCheck.{jobSlices, fieldSlices, tooFewSlots, recordsDiffer, countsDiffer, meetsRefusal, faceOutside, edgeOutside, triangleOutside, windowOutside, entryOutside, windowStart, notRising, windowUnsound, windowsUnsound, entriesUnsound, pointsOutside, listsUnsound, fieldUnsound};
 
 // What a walk along a chain comes to: that it is no field's, or how many more links there may be.
-pub struct Walked {
+pub struct ChainWalk {
     pub unsound: bool,
     pub left: u32,
 }
@@ -296,7 +296,7 @@ fn any_window_outside(n: Field, made: u32, words: &[u32]) -> bool
 }
 
 fn not_rising(reals: &[f64], before: u32, start: f64) -> bool
-    ensures { λ r. ⌜ ((i : ℕ) → start ≡ startOf (given reals) i → r ≡ notRising (given reals) before i) ⌝ }
+    ensures { λ r. ⌜ ((i : ℕ) → start ≡ windowStart (given reals) i → r ≡ notRising (given reals) before i) ⌝ }
 {
     if before == 0 {
         return false;
@@ -316,7 +316,7 @@ fn window_unsound(reals: &[f64], before: u32, i: u32) -> bool
 }
 
 // Along the list of an edge, of which `head` is the first link.
-fn walk_windows(words: &[u32], reals: &[f64], head: u32, most: u32) -> Walked
+fn walk_windows(words: &[u32], reals: &[f64], head: u32, most: u32) -> ChainWalk
     ensures { λ r. ⌜ r ≡ walkOf (linkOf (given words)) (windowUnsound (given reals)) most 0 head ⌝ }
 {
     let mut before = 0;
@@ -324,13 +324,13 @@ fn walk_windows(words: &[u32], reals: &[f64], head: u32, most: u32) -> Walked
     let mut left = most;
     while 0 < at {
         if left == 0 {
-            return Walked {
+            return ChainWalk {
                 unsound: true,
                 left: 0,
             };
         }
         if window_unsound(reals, before, at - 1) {
-            return Walked {
+            return ChainWalk {
                 unsound: true,
                 left: 0,
             };
@@ -339,7 +339,7 @@ fn walk_windows(words: &[u32], reals: &[f64], head: u32, most: u32) -> Walked
         at = read_u32(words, WORDS_PER_WINDOW, at - 1, WINDOW_LINK);
         left -= 1;
     }
-    Walked {
+    ChainWalk {
         unsound: false,
         left,
     }
@@ -379,7 +379,7 @@ fn entry_outside(entry_words: &[u32], pieces: u32, entries: u32, i: u32) -> bool
 }
 
 // Along the entries of a face, of which `first` is the first link.
-fn walk_entries(entry_words: &[u32], pieces: u32, first: u32, most: u32) -> Walked
+fn walk_entries(entry_words: &[u32], pieces: u32, first: u32, most: u32) -> ChainWalk
     ensures { λ r. ⌜ r ≡ walkOf (nextEntryOf (given «entry_words»)) (λ (before i : ℕ). entryOutside pieces (given «entry_words») i) most 0 first ⌝ }
 {
     let entries = face_entries::capacity(entry_words);
@@ -387,13 +387,13 @@ fn walk_entries(entry_words: &[u32], pieces: u32, first: u32, most: u32) -> Walk
     let mut left = most;
     while 0 < at {
         if left == 0 {
-            return Walked {
+            return ChainWalk {
                 unsound: true,
                 left: 0,
             };
         }
         if entry_outside(entry_words, pieces, entries, at - 1) {
-            return Walked {
+            return ChainWalk {
                 unsound: true,
                 left: 0,
             };
@@ -401,7 +401,7 @@ fn walk_entries(entry_words: &[u32], pieces: u32, first: u32, most: u32) -> Walk
         at = read_u32(entry_words, WORDS_PER_ENTRY, at - 1, ENTRY_LINK);
         left -= 1;
     }
-    Walked {
+    ChainWalk {
         unsound: false,
         left,
     }

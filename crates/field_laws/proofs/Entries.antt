@@ -20,7 +20,7 @@ use Rattle.carriers.specs.Carrier.{carrierOf}
 use Rattle.offers.proofs.Each.{each-all}
 use Rattle.face_entries.specs.declared.Part.{Part}
 use Rattle.face_entries.specs.declared.Part.the-variants.{EndA, EndB}
-use Rattle.face_entries.specs.Entries.{FaceEntry, numbersFrom, numbersOf, finalLink, entryWordsFrom}
+use Rattle.face_entries.specs.Entries.{FaceEntry, entryNumbersFrom, numbersOf, finalLink, entryWordsFrom}
 use Rattle.face_entries.proofs.Numbers.{Numbered, each-numbered, numbers-below, final-in}
 use Rattle.piece_ends.specs.Ends.{endPoint, firstOfBits}
 use Rattle.point_wedge.specs.Wedge.{boundsIn}
@@ -109,8 +109,8 @@ link-below k [] i l = absurd (omega (arith, l))
 link-below k (x ∷ xs) zero l =
     let m = suc k + length xs in
     let e : m ≡ k + suc (length xs) = omega arith in
-    subst (λ (z : ℕ). firstLink (numbersFrom (suc k) (x .face) xs) ≤ z) e
-    (first-within m (numbersFrom (suc k) (x .face) xs) (all-map {P = Numbered (suc k) (x .face) xs} {Q = λ (z : ℕ). z < m} (λ z q. q .high) (numbersFrom (suc k) (x .face) xs) (each-numbered (suc k) (x .face) xs)))
+    subst (λ (z : ℕ). firstLink (entryNumbersFrom (suc k) (x .face) xs) ≤ z) e
+    (first-within m (entryNumbersFrom (suc k) (x .face) xs) (all-map {P = Numbered (suc k) (x .face) xs} {Q = λ (z : ℕ). z < m} (λ z q. q .high) (entryNumbersFrom (suc k) (x .face) xs) (each-numbered (suc k) (x .face) xs)))
 link-below k (x ∷ xs) (suc i) l =
     let e : 3 * suc i + 2 ≡ suc (suc (suc (3 * i + 2))) = omega arith in
     let z = link-below (suc k) xs i (omega (arith, l)) in

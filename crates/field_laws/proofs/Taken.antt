@@ -29,7 +29,7 @@ use Rattle.mesh.specs.Topology.{MeshBuffers, vertexWords, filled}
 use Rattle.piece_ends.specs.Directions.{pieceReals, directionOf}
 use Rattle.trim_model.specs.Windows.{Window}
 use Rattle.live_windows.specs.Live.{nums}
-use Rattle.face_entries.specs.Entries.{FaceEntry, numbersFrom, numbersOf, finalLink, wordWith, trianglesWith}
+use Rattle.face_entries.specs.Entries.{FaceEntry, entryNumbersFrom, numbersOf, finalLink, wordWith, trianglesWith}
 use Rattle.finish.specs.Contents.{edgeWordWith, edgesWith}
 use Rattle.work_laws.proofs.Zeros.{zeros-at, zeros-behind, rows-zero}
 
@@ -49,12 +49,12 @@ edge-zero t live i a m none h = zero-in (length t) (edgeWordWith t live) (wordsP
   go false = h
 
 -- a face past those that the entries name has none
-pub none-numbered : (n f : ℕ) → n ≤ f → (i : ℕ) (xs : List FaceEntry) → All (λ (x : FaceEntry). x .face < n) xs → numbersFrom i f xs ≡ []
-unfolding numbersFrom
+pub none-numbered : (n f : ℕ) → n ≤ f → (i : ℕ) (xs : List FaceEntry) → All (λ (x : FaceEntry). x .face < n) xs → entryNumbersFrom i f xs ≡ []
+unfolding entryNumbersFrom
 none-numbered n f h i [] a = refl
 none-numbered n f h i (x ∷ xs) a =
     let l = a .0 in
-    ap (λ (b : Bool). cond b (i ∷ numbersFrom (suc i) f xs) (numbersFrom (suc i) f xs)) (ne-eqb (x .face) f (λ z. omega (arith, l, h, z))) ∙ none-numbered n f h (suc i) xs (a .1)
+    ap (λ (b : Bool). cond b (i ∷ entryNumbersFrom (suc i) f xs) (entryNumbersFrom (suc i) f xs)) (ne-eqb (x .face) f (λ z. omega (arith, l, h, z))) ∙ none-numbered n f h (suc i) xs (a .1)
 
 triangle-zero : (t : List ℕ) (xs : List FaceEntry) (i a : ℕ) → a < wordsPerTriangle → numbersOf i xs ≡ [] → getD t (wordsPerTriangle * i + a) 0 ≡ 0 → getD (trianglesWith t xs) (wordsPerTriangle * i + a) 0 ≡ 0
 unfolding wordWith firstLink finalLink

@@ -12,7 +12,7 @@ use Rattle.heap.specs.declared.Popped.{Popped}
 use Rattle.heap.specs.declared.Popped.the-variants.{Empty, First}
 use Rattle.heap.specs.Order.{order}
 use Rattle.heap.specs.Queue.{Queue, at, HasSlots, pushed, popped, slots, popping}
-use Rattle.heap.specs.Model.{WellFormed, insert, sum, weightOf, SameEvents, TakenFrom, nothing, event, TakesLeast, none, one}
+use Rattle.heap.specs.Model.{WellFormed, insertEvent, sum, weightOf, SameEvents, TakenFrom, nothing, event, TakesLeast, none, one}
 use Rattle.heap.proofs.SameAnswers.{order-same, sum-insert, mark, mark-own, found-list, Holds, empty-holds, push-holds, pop-holds, push-slots, pop-slots, has-slots}
 
 -- a heap of n events in q and a queue of the events c hold the same, in so many slots
@@ -47,7 +47,7 @@ unfolding sum
 push-same cap c d n q e l p t s =
     let there : HasSlots (n + 1) q = has-slots (n + 1) q (omega (arith, l, s .room)) in
     record {
-      ordered = insert e (s .ordered);
+      ordered = insertEvent e (s .ordered);
       holds = push-holds n q (s .ordered) e there p (s .holds);
       sums = λ w. sym (t .sums w) ∙ ap (λ (k : ℕ). k + w e) (s .sums w) ∙ sym (sum-insert w e (s .ordered));
       proper = t .each WellFormed (p, s .proper);

@@ -2,7 +2,7 @@
 use mathlib.Core.List.{List, [], _∷_}
 use mathlib.Core.Path.{_≡_}
 use Rattle.heap.specs.declared.Event.{Event}
-use Rattle.heap.specs.Model.{insert, SameEvents, TakenFrom, nothing, event, TakesLeast, AnyQueue}
+use Rattle.heap.specs.Model.{insertEvent, SameEvents, TakenFrom, nothing, event, TakesLeast, AnyQueue}
 
 -- its states, the events that wait in each, in some order, and what a push and a pop make of it
 pub record QueueKind : Type 1 where
@@ -18,7 +18,7 @@ firstTaken [] = nothing
 firstTaken (x ∷ l) = event x l
 
 abbrev pub inOrder : QueueKind
-inOrder = record { State = List Event; events = λ (l : List Event). l; start = []; put = insert; take = firstTaken }
+inOrder = record { State = List Event; events = λ (l : List Event). l; start = []; put = insertEvent; take = firstTaken }
 
 -- ---- any queue, in whatever states it comes to: a pop takes an event that none comes before, and leaves the rest
 abbrev pub OfRest : {S : Type 0} → (S → Type 0) → TakenFrom S → Type 0

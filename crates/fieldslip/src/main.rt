@@ -3,14 +3,14 @@ use libc::STDIN_FILENO;
 use libc::STDOUT_FILENO;
 ghost use Prim.Native.Nat.{_≤_};
 
-fn least(n: usize, most: usize) -> usize
+fn at_most(n: usize, most: usize) -> usize
     ensures { λ r. ⌜ r ≤ most ⌝ }
 {
     if n < most { n } else { most }
 }
 
 fn write_front(text: &[u8], n: usize) {
-    let end = least(n, text.len());
+    let end = at_most(n, text.len());
     io::write_all(STDOUT_FILENO, &text[..end]);
 }
 

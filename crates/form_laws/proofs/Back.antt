@@ -1,13 +1,12 @@
 -- A slip that is moved to a form is moved back to the same bytes. Assumes nothing.
-use Prim.Native.Nat.{ℕ, zero, suc, _+_, _-_, _*_, _≤_, _<_}
-use native.Mathlib.Nat.{add-zero, zero-add}
+use Prim.Native.Nat.{ℕ, _+_, _-_, _≤_, _<_}
 use native.Mathlib.Omega.{arith}
 use mathlib.Core.Path.{_≡_, refl, sym, ap, _∙_}
 use mathlib.Core.Bool.{Bool, true, false, cond}
 use mathlib.Core.List.{List, [], _∷_, _++_, append-assoc, append-nil}
-use borrow.Author.Tests.{lt-ltb, le-ltb, ltb-true, ltb-false, eq-eqb, eqb-true}
+use borrow.Author.Tests.{lt-ltb, ltb-true, ltb-false, eqb-true}
 use lib.Dec.{eqb, ltb}
-use lib.ListN.{length, getD, take, drop, length-append, drop-of-length-le}
+use lib.ListN.{length, getD, drop, length-append, drop-of-length-le}
 use lib.Seq.{drop-append-seam}
 use Rattle.groups.specs.declared.Form.{Form}
 use Rattle.groups.specs.declared.Form.the-variants.{Plain, Groups}
@@ -18,20 +17,20 @@ use Rattle.slip_moves.specs.declared.Refusal.{Refusal}
 use Rattle.slip_moves.specs.declared.Refusal.the-variants.{TooShort, NotGroups, LeftOver}
 use Rattle.slip_moves.specs.declared.Head.{Head}
 use Rattle.slip_moves.specs.declared.Head.the-variants.{Counts, Refused}
-use Rattle.slip_moves.specs.Moves.{Part, put, stop, also, then, counted, countsAt, headAt, firstByte, headOf, bodyMoved, ended, slipMoved}
+use Rattle.slip_moves.specs.Moves.{Part, put, stop, also, then, withCount, countsAt, headAt, firstByte, headBytes, bodyMoved, ended, slipMoved}
 use Rattle.slip_moves.proofs.Parts.{no-part}
 use Rattle.slip_moves.proofs.Ways.{at-end}
 use Rattle.slip_moves.proofs.Whole.{refused-head, counted-head}
 use Rattle.slip_laws.proofs.Parts.{past}
 use Rattle.slip_laws.proofs.Stands.{Stands, stands-none, stands-then, stands-byte}
 use Rattle.form_laws.proofs.Numbers.{number-read, number-stood}
-use Rattle.form_laws.proofs.Turns.{Bytes, Turn, back-body}
+use Rattle.form_laws.proofs.Turns.{Bytes, back-body}
 
 pub no-head : {A : Type 0} {v t p i : ℕ} {why : Refusal} → Refused why ≡ Counts v t p i → A
 no-head e = absurd (let z : _≡_ {A = ℕ} 0 1 = cc e in omega arith)
 
-pub counted-cases : {v t p i : ℕ} (x : Number) (rest : ℕ → ℕ → Head) → counted x rest ≡ Counts v t p i → (n next : ℕ) × ((x ≡ Is n next) × (rest n next ≡ Counts v t p i))
-unfolding counted
+pub counted-cases : {v t p i : ℕ} (x : Number) (rest : ℕ → ℕ → Head) → withCount x rest ≡ Counts v t p i → (n next : ℕ) × ((x ≡ Is n next) × (rest n next ≡ Counts v t p i))
+unfolding withCount
 counted-cases Short rest e = no-head e
 counted-cases Over rest e = no-head e
 counted-cases (Is n next) rest e = (n, next, (refl, e))
@@ -48,8 +47,8 @@ module _ (s : List ℕ) (b : Bytes s) {v t p i : ℕ} where
       → Stands s 0 (pre ++ numberOf form v ++ numberOf form t ++ numberOf form p) i × Small v t p
   unfolding countsAt
   counts-stood form i₀ pre d e =
-      let one = counted-cases (numberAt form s i₀) (λ x j. counted (numberAt form s j) (λ y k. counted (numberAt form s k) (λ z l. Counts x y z l))) e in
-      let two = counted-cases (numberAt form s (one .1)) (λ y k. counted (numberAt form s k) (λ z l. Counts (one .0) y z l)) (one .2 .1) in
+      let one = counted-cases (numberAt form s i₀) (λ x j. withCount (numberAt form s j) (λ y k. withCount (numberAt form s k) (λ z l. Counts x y z l))) e in
+      let two = counted-cases (numberAt form s (one .1)) (λ y k. withCount (numberAt form s k) (λ z l. Counts (one .0) y z l)) (one .2 .1) in
       let three = counted-cases (numberAt form s (two .1)) (λ z l. Counts (one .0) (two .0) z l) (two .2 .1) in
       let q : Counts (one .0) (two .0) (three .0) (three .1) ≡ Counts v t p i = three .2 .1 in
       let ev : one .0 ≡ v = cc q in
@@ -65,8 +64,8 @@ module _ (s : List ℕ) (b : Bytes s) {v t p i : ℕ} where
         record { vertices = omega (arith, ev, a .1); triangles = omega (arith, et, c .1); pieces = omega (arith, ep, f .1) },
       )
 
-  pub head-stood : (form : Form) → headAt form s ≡ Counts v t p i → Stands s 0 (headOf form v t p) i × Small v t p
-  unfolding headAt headOf firstByte
+  pub head-stood : (form : Form) → headAt form s ≡ Counts v t p i → Stands s 0 (headBytes form v t p) i × Small v t p
+  unfolding headAt headBytes firstByte
   head-stood Plain e = counts-stood Plain 0 [] (stands-none s 0 0 refl) e
   head-stood Groups e = go (ltb 0 (length s)) (eqb (getD s 0 0) 2) refl refl e
     where
@@ -80,7 +79,7 @@ module _ (s : List ℕ) (b : Bytes s) {v t p i : ℕ} where
 module _ {v t p : ℕ} (small : Small v t p) where
   counts-read : (form : Form) (l : List ℕ) (i : ℕ) (rest : List ℕ) → drop i l ≡ numberOf form v ++ (numberOf form t ++ (numberOf form p ++ rest))
       → countsAt form l i ≡ Counts v t p (i + length (numberOf form v) + length (numberOf form t) + length (numberOf form p))
-  unfolding countsAt counted
+  unfolding countsAt withCount
   counts-read form l i rest d =
       let d₁ = past l i (numberOf form v) (numberOf form t ++ (numberOf form p ++ rest)) (length (numberOf form v)) refl d in
       let d₂ = past l (i + length (numberOf form v)) (numberOf form t) (numberOf form p ++ rest) (length (numberOf form t)) refl d₁ in
@@ -90,8 +89,8 @@ module _ {v t p : ℕ} (small : Small v t p) where
         number-read form p l (i + length (numberOf form v) + length (numberOf form t)) rest (small .pieces) d₂,
       )
 
-  pub head-read : (form : Form) (rest : List ℕ) → headAt form (headOf form v t p ++ rest) ≡ Counts v t p (length (headOf form v t p))
-  unfolding headAt headOf firstByte
+  pub head-read : (form : Form) (rest : List ℕ) → headAt form (headBytes form v t p ++ rest) ≡ Counts v t p (length (headBytes form v t p))
+  unfolding headAt headBytes firstByte
   head-read Plain rest =
       counts-read Plain (numberOf Plain v ++ numberOf Plain t ++ numberOf Plain p ++ rest) 0 rest (simp append-assoc)
       ∙ ap (Counts v t p) (simp length-append (omega arith))
@@ -102,22 +101,22 @@ module _ {v t p : ℕ} (small : Small v t p) where
 -- ---- the theorem
 
 module _ (f g : Form) (s : List ℕ) (b : Bytes s) (j : ℕ) (bs : List ℕ) where
-  module _ {v t p i : ℕ} (head : headAt f s ≡ Counts v t p i) (j₁ : ℕ) (b₁ : List ℕ) (body : bodyMoved f g s v t p i ≡ put j₁ b₁) (all : length s ≤ j₁) (whole : headOf g v t p ++ b₁ ≡ bs) where
+  module _ {v t p i : ℕ} (head : headAt f s ≡ Counts v t p i) (j₁ : ℕ) (b₁ : List ℕ) (body : bodyMoved f g s v t p i ≡ put j₁ b₁) (all : length s ≤ j₁) (whole : headBytes g v t p ++ b₁ ≡ bs) where
     turned : slipMoved g f bs ≡ put (length bs) s
     unfolding then also
     turned =
         let first = head-stood s b f head in
-        let h = headOf g v t p in
+        let h = headBytes g v t p in
         let u = back-body v t p f g s b i j₁ b₁ body in
         let again : headAt g bs ≡ Counts v t p (length h) = ap (headAt g) (sym whole) ∙ head-read (first .1) g b₁ in
         let size : length h + length b₁ ≡ length bs = sym (length-append h b₁) ∙ ap length whole in
         let behind : drop (length h) bs ≡ b₁ ++ [] = ap (drop (length h)) (sym whole) ∙ drop-append-seam h b₁ ∙ sym (append-nil b₁) in
         let turn : bodyMoved g f bs v t p (length h) ≡ put (length bs) (u .bytes) =
         u .back bs (length h) [] (omega (arith, size)) behind ∙ ap (λ (k : ℕ). put k (u .bytes)) size in
-        let was : s ≡ headOf f v t p ++ (u .bytes ++ []) =
-        first .0 ∙ ap (λ l. headOf f v t p ++ l) (u .stood ∙ ap (λ l. u .bytes ++ l) (drop-of-length-le s {i = j₁} all)) in
-        counted-head g f bs again ∙ ap (λ x. also (headOf f v t p) (then x (ended bs))) turn
-        ∙ ap (λ x. also (headOf f v t p) (also (u .bytes) x)) (at-end bs (length bs) (omega arith)) ∙ ap (put (length bs)) (sym was)
+        let was : s ≡ headBytes f v t p ++ (u .bytes ++ []) =
+        first .0 ∙ ap (λ l. headBytes f v t p ++ l) (u .stood ∙ ap (λ l. u .bytes ++ l) (drop-of-length-le s {i = j₁} all)) in
+        counted-head g f bs again ∙ ap (λ x. also (headBytes f v t p) (then x (ended bs))) turn
+        ∙ ap (λ x. also (headBytes f v t p) (also (u .bytes) x)) (at-end bs (length bs) (omega arith)) ∙ ap (put (length bs)) (sym was)
 
   -- whatever the forms: what a slip is moved to is moved back to it
   pub moved-back : slipMoved f g s ≡ put j bs → slipMoved g f bs ≡ put (length bs) s
@@ -125,13 +124,13 @@ module _ (f g : Form) (s : List ℕ) (b : Bytes s) (j : ℕ) (bs : List ℕ) whe
   moved-back e = go (headAt f s) refl
     where
       end : {v t p i : ℕ} → headAt f s ≡ Counts v t p i → (j₁ : ℕ) (b₁ : List ℕ) → bodyMoved f g s v t p i ≡ put j₁ b₁ → (c : Bool) → ltb j₁ (length s) ≡ c
-          → also (headOf g v t p) (also b₁ (cond c (stop LeftOver) (put j₁ []))) ≡ put j bs → slipMoved g f bs ≡ put (length bs) s
+          → also (headBytes g v t p) (also b₁ (cond c (stop LeftOver) (put j₁ []))) ≡ put j bs → slipMoved g f bs ≡ put (length bs) s
       end head j₁ b₁ body true ec h = no-part (sym h)
       end {v} {t} {p} head j₁ b₁ body false ec h =
-          let q : headOf g v t p ++ (b₁ ++ []) ≡ bs = cc h in
-          turned head j₁ b₁ body (ltb-false j₁ (length s) ec) (ap (λ l. headOf g v t p ++ l) (sym (append-nil b₁)) ∙ q)
+          let q : headBytes g v t p ++ (b₁ ++ []) ≡ bs = cc h in
+          turned head j₁ b₁ body (ltb-false j₁ (length s) ec) (ap (λ l. headBytes g v t p ++ l) (sym (append-nil b₁)) ∙ q)
 
-      through : {v t p i : ℕ} → headAt f s ≡ Counts v t p i → (x : Part) → bodyMoved f g s v t p i ≡ x → also (headOf g v t p) (then x (ended s)) ≡ put j bs → slipMoved g f bs ≡ put (length bs) s
+      through : {v t p i : ℕ} → headAt f s ≡ Counts v t p i → (x : Part) → bodyMoved f g s v t p i ≡ x → also (headBytes g v t p) (then x (ended s)) ≡ put j bs → slipMoved g f bs ≡ put (length bs) s
       through head (stop r) ex h = no-part (sym h)
       through head (put j₁ b₁) ex h = end head j₁ b₁ ex (ltb j₁ (length s)) refl h
 

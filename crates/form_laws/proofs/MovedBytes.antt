@@ -16,7 +16,7 @@ use Rattle.slip_laws.specs.Plain.{IsByte}
 use Rattle.slip_moves.specs.declared.Refusal.the-variants.{TooShort, UnknownKind}
 use Rattle.slip_moves.specs.declared.Head.{Head}
 use Rattle.slip_moves.specs.declared.Head.the-variants.{Counts, Refused}
-use Rattle.slip_moves.specs.Moves.{Part, put, stop, then, bytesMoved, endsSize, numberMoved, numbersMoved, pieceOfKind, pieceMoved, piecesMoved, headAt, firstByte, headOf, meshMoved, restMoved, bodyMoved, ended, slipMoved}
+use Rattle.slip_moves.specs.Moves.{Part, put, stop, then, bytesMoved, endsSize, numberMoved, numbersMoved, pieceOfKind, pieceMoved, piecesMoved, headAt, firstByte, headBytes, meshMoved, restMoved, bodyMoved, ended, slipMoved}
 use Rattle.slip_moves.proofs.Parts.{no-part}
 use Rattle.slip_moves.proofs.Whole.{refused-head, counted-head}
 use Rattle.form_laws.proofs.Turns.{Bytes}
@@ -76,8 +76,8 @@ module _ (t : List ℕ) (b : Bytes t) where
       (λ m r. both-bytes (numbersMoved Groups Plain t (3 * n) m) (bytesMoved t v) k r (of-numbers (3 * n) m) (λ q. copied v q k)))
       (λ k l. both-bytes (piecesMoved Groups Plain t p k) (bytesMoved t 8) j l (of-pieces p k) (λ m. copied 8 m j)) e
 
-  of-head : (v n p : ℕ) → All IsByte (headOf Plain v n p)
-  unfolding headOf firstByte numberOf
+  of-head : (v n p : ℕ) → All IsByte (headBytes Plain v n p)
+  unfolding headBytes firstByte numberOf
   of-head v n p =
       all-append IsByte (numberBytes v ++ numberBytes n) (numberBytes p) (all-append IsByte (numberBytes v) (numberBytes n) (number-bytes v) (number-bytes n)) (number-bytes p)
 
@@ -87,6 +87,6 @@ module _ (t : List ℕ) (b : Bytes t) where
       go : (h : Head) → headAt Groups t ≡ h → All IsByte s
       go (Refused r) eh = no-part (sym e ∙ refused-head Groups Plain t eh)
       go (Counts v n p i) eh =
-          let whole = also-split (headOf Plain v n p) (then (bodyMoved Groups Plain t v n p i) (ended t)) j s (sym (counted-head Groups Plain t eh) ∙ e) in
+          let whole = also-split (headBytes Plain v n p) (then (bodyMoved Groups Plain t v n p i) (ended t)) j s (sym (counted-head Groups Plain t eh) ∙ e) in
           let behind = both-bytes (bodyMoved Groups Plain t v n p i) (ended t) j (whole .0) (of-body v n p i) (λ k l q. subst (All IsByte) (at-its-end t k j l q .1 .1) tt) (whole .1 .0) in
-          subst (All IsByte) (whole .1 .1) (all-append IsByte (headOf Plain v n p) (whole .0) (of-head v n p) behind)
+          subst (All IsByte) (whole .1 .1) (all-append IsByte (headBytes Plain v n p) (whole .0) (of-head v n p) behind)

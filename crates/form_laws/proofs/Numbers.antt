@@ -1,7 +1,6 @@
 -- A number in either form is read as it was written, and what is read is what was written. Assumes nothing.
 -- One induction each way over the groups that may follow; callers know numbers only by `number-read` and `number-stood`.
 use Prim.Native.Nat.{ℕ, zero, suc, _+_, _-_, _*_, _/_, _%_, _≤_, _<_}
-use native.Mathlib.Nat.{add-zero}
 use native.Mathlib.Omega.{arith}
 use native.Mathlib.Decide.{decLe}
 use mathlib.Core.Path.{_≡_, refl, sym, ap, _∙_}
@@ -15,7 +14,7 @@ use Rattle.groups.specs.declared.Form.{Form}
 use Rattle.groups.specs.declared.Form.the-variants.{Plain, Groups}
 use Rattle.groups.specs.declared.Number.{Number}
 use Rattle.groups.specs.declared.Number.the-variants.{Short, Over, Is}
-use Rattle.groups.specs.Groups.{groupsOf, joined, groupAt, grouped, numberAt, numberOf}
+use Rattle.groups.specs.Groups.{groupsOf, joinedGroup, groupAt, grouped, numberAt, numberOf}
 use Rattle.groups.proofs.Small.{groups-small}
 use Rattle.groups.proofs.Putting.{most, one-group, more-groups}
 use Rattle.slip_laws.specs.Plain.{IsByte}
@@ -36,8 +35,8 @@ followed : (s : List ℕ) (i : ℕ) (x : Number) → i < length s → 128 ≤ ge
 unfolding groupAt
 followed s i x l h = rw (lt-ltb i (length s) l, le-ltb (getD s i 0) 128 h)
 
-joined-is : (low n j : ℕ) → 0 < n → low + 128 * n < 4_294_967_296 → joined low (Is n j) ≡ Is (low + 128 * n) j
-unfolding joined
+joined-is : (low n j : ℕ) → 0 < n → low + 128 * n < 4_294_967_296 → joinedGroup low (Is n j) ≡ Is (low + 128 * n) j
+unfolding joinedGroup
 joined-is low n j h l = rw (ne-eqb n 0 (λ e. omega (arith, e)), le-ltb 4_294_967_295 (low + 128 * n) (omega arith))
 
 single-read : (k n : ℕ) (s : List ℕ) (i : ℕ) (rest : List ℕ) → n < 128 → drop i s ≡ n ∷ rest → grouped s i k ≡ Is n (i + 1)
@@ -46,7 +45,7 @@ single-read zero n s i rest h e =
     let f = front s i n rest e in single s i Over (f .0) (rw (f .1 .0) h) ∙ ap (λ x. Is x (i + 1)) (f .1 .0)
 single-read (suc k) n s i rest h e =
     let f = front s i n rest e in
-    single s i (joined (getD s i 0 - 128) (grouped s (i + 1) k)) (f .0) (rw (f .1 .0) h) ∙ ap (λ x. Is x (i + 1)) (f .1 .0)
+    single s i (joinedGroup (getD s i 0 - 128) (grouped s (i + 1) k)) (f .0) (rw (f .1 .0) h) ∙ ap (λ x. Is x (i + 1)) (f .1 .0)
 
 groups-read : (k n : ℕ) (s : List ℕ) (i : ℕ) (rest : List ℕ) → n < most k → n < 4_294_967_296 → drop i s ≡ groupsOf k n ++ rest
     → grouped s i k ≡ Is n (i + length (groupsOf k n))
@@ -66,7 +65,7 @@ groups-read (suc k) n s i rest hm hn e =
         let low : getD s i 0 - 128 ≡ n % 128 = omega (arith, f .1 .0) in
         let all : n % 128 + 128 * (n / 128) ≡ n = omega arith in
         let place : i + 1 + length (groupsOf k (n / 128)) ≡ i + length (groupsOf (suc k) n) = rw some (omega arith) in
-        followed s i (joined (getD s i 0 - 128) (grouped s (i + 1) k)) (f .0) (omega (arith, f .1 .0))
+        followed s i (joinedGroup (getD s i 0 - 128) (grouped s (i + 1) k)) (f .0) (omega (arith, f .1 .0))
         ∙ rw (low, behind (f .1 .1)) (joined-is (n % 128) (n / 128) (i + 1 + length (groupsOf k (n / 128))) (omega arith) (omega arith))
         ∙ (λ t. Is (all t) (place t))
 
@@ -93,8 +92,8 @@ group-cases {P} s i x n j e last more = go (ltb i (length s)) (ltb (getD s i 0) 
     go true true ea eb h = last (ltb-true i (length s) ea) (ltb-true (getD s i 0) 128 eb) (cc h) (cc h)
     go true false ea eb h = more (ltb-true i (length s) ea) (ltb-false (getD s i 0) 128 eb) h
 
-joined-cases : (low : ℕ) (x : Number) (n j : ℕ) → joined low x ≡ Is n j → (m : ℕ) × ((x ≡ Is m j) × ((0 < m) × (n ≡ low + 128 * m)))
-unfolding joined
+joined-cases : (low : ℕ) (x : Number) (n j : ℕ) → joinedGroup low x ≡ Is n j → (m : ℕ) × ((x ≡ Is m j) × ((0 < m) × (n ≡ low + 128 * m)))
+unfolding joinedGroup
 joined-cases low Short n j h = absurd (let z : _≡_ {A = ℕ} 0 1 = cc h in omega arith)
 joined-cases low Over n j h = absurd (let z : _≡_ {A = ℕ} 0 1 = cc h in omega arith)
 joined-cases low (Is m next) n j h = go (eqb m 0) (ltb 4_294_967_295 (low + 128 * m)) refl h
@@ -116,7 +115,7 @@ module _ (s : List ℕ) (bytes : (i : ℕ) → IsByte (getD s i 0)) where
   groups-stand zero i n j e =
       group-cases s i Over n j e (λ l h en ej. last-stands zero i n j l h en ej) (λ l h x. absurd (let z : _≡_ {A = ℕ} 0 1 = cc x in omega arith))
   groups-stand (suc k) i n j e =
-      group-cases s i (joined (getD s i 0 - 128) (grouped s (i + 1) k)) n j e (λ l h en ej. last-stands (suc k) i n j l h en ej)
+      group-cases s i (joinedGroup (getD s i 0 - 128) (grouped s (i + 1) k)) n j e (λ l h en ej. last-stands (suc k) i n j l h en ej)
       (λ l h x. let m = joined-cases (getD s i 0 - 128) (grouped s (i + 1) k) n j x in more-stand (m .0) l h (m .1 .1 .0) (m .1 .1 .1) (groups-stand k (i + 1) (m .0) j (m .1 .0)))
     where
       more-stand : (m : ℕ) → i < length s → 128 ≤ getD s i 0 → 0 < m → n ≡ getD s i 0 - 128 + 128 * m → Stands s (i + 1) (groupsOf k m) j → Stands s i (groupsOf (suc k) n) j

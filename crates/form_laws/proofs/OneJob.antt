@@ -1,6 +1,6 @@
 -- One job has one form in groups. Assumes nothing.
 -- A plain slip that a move walks to its end is a slip that the reader accepts where there is room for its counts (`shape-accepted`), so that `one-slip` holds of it; and `one-form` goes from the plain slips to those in groups.
-use Prim.Native.Nat.{ℕ, zero, suc, _+_, _*_, _≤_, _<_}
+use Prim.Native.Nat.{ℕ, zero, suc, _+_, _*_, _≤_}
 use native.Mathlib.Omega.{arith}
 use mathlib.Core.Path.{_≡_, refl, sym, ap, _∙_}
 use mathlib.Core.Bool.{Bool, true, false, cond, _||_}
@@ -17,13 +17,13 @@ use Rattle.groups.specs.declared.Number.the-variants.{Short, Is}
 use Rattle.groups.specs.Groups.{numberAt}
 use Rattle.slip.specs.declared.Slip.{Slip}
 use Rattle.slip.specs.declared.Slip.the-variants as slip
-use Rattle.slip.specs.Format.{isJob, vertexCount, triangleCount, pieceCount, piecesFrom, pieceSize, jobIn, exceeds, afterPieces, answerTo}
+use Rattle.slip.specs.Format.{isJob, vertexCountIn, triangleCountIn, pieceCountIn, piecesFrom, pieceSize, jobIn, exceeds, afterPieces, answerTo}
 use Rattle.slip_laws.specs.Plain as plain
 use Rattle.slip_laws.proofs.Back.{vertices-told, triangles-told, pieces-told, one-slip}
 use Rattle.slip_moves.specs.declared.Refusal.the-variants.{TooShort, UnknownKind}
 use Rattle.slip_moves.specs.declared.Head.{Head}
 use Rattle.slip_moves.specs.declared.Head.the-variants.{Counts, Refused}
-use Rattle.slip_moves.specs.Moves.{Part, put, stop, then, counted, countsAt, bytesMoved, numberWritten, endsSize, numberMoved, numbersMoved, pieceOfKind, pieceMoved, piecesMoved, headAt, headOf, meshMoved, restMoved, bodyMoved, ended, slipMoved}
+use Rattle.slip_moves.specs.Moves.{put, stop, then, withCount, countsAt, bytesMoved, numberWritten, endsSize, numberMoved, numbersMoved, pieceOfKind, pieceMoved, piecesMoved, headAt, headBytes, meshMoved, restMoved, bodyMoved, ended, slipMoved}
 use Rattle.slip_moves.proofs.Parts.{no-part}
 use Rattle.slip_moves.proofs.Whole.{refused-head, counted-head}
 use Rattle.form_laws.proofs.Turns.{Bytes}
@@ -66,11 +66,11 @@ module _ (s : List ℕ) where
           let ei : i + 4 ≡ next = cc h in (ltb-false (length s) (i + 4) eb, (sym en, sym ei))
 
   -- the three counts stand in the first twelve bytes
-  plain-head : {v t p i : ℕ} → headAt Plain s ≡ Counts v t p i → (12 ≤ length s) × ((v ≡ vertexCount s) × ((t ≡ triangleCount s) × ((p ≡ pieceCount s) × (i ≡ 12))))
+  plain-head : {v t p i : ℕ} → headAt Plain s ≡ Counts v t p i → (12 ≤ length s) × ((v ≡ vertexCountIn s) × ((t ≡ triangleCountIn s) × ((p ≡ pieceCountIn s) × (i ≡ 12))))
   unfolding headAt countsAt
   plain-head {v} {t} {p} {i} e =
-      let one = counted-cases (numberAt Plain s 0) (λ x j. counted (numberAt Plain s j) (λ y k. counted (numberAt Plain s k) (λ z l. Counts x y z l))) e in
-      let two = counted-cases (numberAt Plain s (one .1)) (λ y k. counted (numberAt Plain s k) (λ z l. Counts (one .0) y z l)) (one .2 .1) in
+      let one = counted-cases (numberAt Plain s 0) (λ x j. withCount (numberAt Plain s j) (λ y k. withCount (numberAt Plain s k) (λ z l. Counts x y z l))) e in
+      let two = counted-cases (numberAt Plain s (one .1)) (λ y k. withCount (numberAt Plain s k) (λ z l. Counts (one .0) y z l)) (one .2 .1) in
       let three = counted-cases (numberAt Plain s (two .1)) (λ z l. Counts (one .0) (two .0) z l) (two .2 .1) in
       let q : Counts (one .0) (two .0) (three .0) (three .1) ≡ Counts v t p i = three .2 .1 in
       let ev : one .0 ≡ v = cc q in
@@ -142,8 +142,8 @@ module _ (s : List ℕ) where
     unfolding afterPieces
     limit-accepted i e = rw (le-ltb (length s) (i + 8) (omega (arith, e)), le-ltb (i + 8) (length s) (omega (arith, e))) refl
 
-    body-accepted : (v t p i j : ℕ) (bs : List ℕ) → (12 ≤ length s) × ((v ≡ vertexCount s) × ((t ≡ triangleCount s) × ((p ≡ pieceCount s) × (i ≡ 12))))
-        → bodyMoved Plain g s v t p i ≡ put j bs → length s ≤ j → isJob (answerTo s (vertexCount s) (triangleCount s) (pieceCount s)) ≡ true
+    body-accepted : (v t p i j : ℕ) (bs : List ℕ) → (12 ≤ length s) × ((v ≡ vertexCountIn s) × ((t ≡ triangleCountIn s) × ((p ≡ pieceCountIn s) × (i ≡ 12))))
+        → bodyMoved Plain g s v t p i ≡ put j bs → length s ≤ j → isJob (answerTo s (vertexCountIn s) (triangleCountIn s) (pieceCountIn s)) ≡ true
     unfolding bodyMoved meshMoved restMoved answerTo exceeds
     body-accepted v t p i j bs h e l =
         let ev = h .1 .0 in
@@ -161,20 +161,20 @@ module _ (s : List ℕ) where
         let there : piecesFrom s ≤ length s = omega (arith, place, c .0, c .1) in
         let last = limit-accepted (rest .middle) (omega (arith, d .0, d .1, l)) in
         let pieces = pieces-accepted p (body .middle) (rest .middle) (rest .first) (rest .one) last in
-        let these : isJob (afterPieces s (pieceCount s) (piecesFrom s)) ≡ true = (λ k. isJob (afterPieces s (sym ep k) (sym place k))) ∙ pieces in
-        passed (ltb (length s) 12) (ltb (vertexCount s) (vertexCount s) || ltb (triangleCount s) (triangleCount s) || ltb (pieceCount s) (pieceCount s)) (ltb (length s) (piecesFrom s))
-        slip.TooShort slip.TooMany slip.TooShort (afterPieces s (pieceCount s) (piecesFrom s)) (le-ltb (length s) 12 (h .0))
-        (rw (le-ltb (vertexCount s) (vertexCount s) (omega arith), le-ltb (triangleCount s) (triangleCount s) (omega arith), le-ltb (pieceCount s) (pieceCount s) (omega arith)) refl)
+        let these : isJob (afterPieces s (pieceCountIn s) (piecesFrom s)) ≡ true = (λ k. isJob (afterPieces s (sym ep k) (sym place k))) ∙ pieces in
+        passed (ltb (length s) 12) (ltb (vertexCountIn s) (vertexCountIn s) || ltb (triangleCountIn s) (triangleCountIn s) || ltb (pieceCountIn s) (pieceCountIn s)) (ltb (length s) (piecesFrom s))
+        slip.TooShort slip.TooMany slip.TooShort (afterPieces s (pieceCountIn s) (piecesFrom s)) (le-ltb (length s) 12 (h .0))
+        (rw (le-ltb (vertexCountIn s) (vertexCountIn s) (omega arith), le-ltb (triangleCountIn s) (triangleCountIn s) (omega arith), le-ltb (pieceCountIn s) (pieceCountIn s) (omega arith)) refl)
         (le-ltb (length s) (piecesFrom s) there) these
 
     -- a plain slip that a move takes is a slip that the reader takes, where there is room for its counts
-    pub shape-accepted : (j : ℕ) (bs : List ℕ) → slipMoved Plain g s ≡ put j bs → isJob (answerTo s (vertexCount s) (triangleCount s) (pieceCount s)) ≡ true
+    pub shape-accepted : (j : ℕ) (bs : List ℕ) → slipMoved Plain g s ≡ put j bs → isJob (answerTo s (vertexCountIn s) (triangleCountIn s) (pieceCountIn s)) ≡ true
     shape-accepted j bs e = go (headAt Plain s) refl
       where
-        go : (h : Head) → headAt Plain s ≡ h → isJob (answerTo s (vertexCount s) (triangleCount s) (pieceCount s)) ≡ true
+        go : (h : Head) → headAt Plain s ≡ h → isJob (answerTo s (vertexCountIn s) (triangleCountIn s) (pieceCountIn s)) ≡ true
         go (Refused r) eh = no-part (sym e ∙ refused-head Plain g s eh)
         go (Counts v t p i) eh =
-            let whole = also-split (headOf g v t p) (then (bodyMoved Plain g s v t p i) (ended s)) j bs (sym (counted-head Plain g s eh) ∙ e) in
+            let whole = also-split (headBytes g v t p) (then (bodyMoved Plain g s v t p i) (ended s)) j bs (sym (counted-head Plain g s eh) ∙ e) in
             let last = split (bodyMoved Plain g s v t p i) (ended s) j (whole .0) (whole .1 .0) in
             let end = at-its-end s (last .middle) j (last .rest) (last .two) in
             body-accepted v t p i (last .middle) (last .first) (plain-head eh) (last .one) (end .0)
@@ -187,10 +187,10 @@ module _ (t u : List ℕ) (bt : Bytes t) (bu : Bytes u) (j k : ℕ) (s w : List 
       let bw = moved-bytes u bu k w eu in
       let js = shape-accepted s Groups (length s) t (moved-back Groups Plain t bt j s et) in
       let jw = shape-accepted w Groups (length w) u (moved-back Groups Plain u bu k w eu) in
-      let v : vertexCount w ≡ vertexCount s = sym (vertices-told w) ∙ ap job.vertexCount (sym e) ∙ vertices-told s in
-      let n : triangleCount w ≡ triangleCount s = sym (triangles-told w) ∙ ap job.triangleCount (sym e) ∙ triangles-told s in
-      let p : pieceCount w ≡ pieceCount s = sym (pieces-told w) ∙ ap job.pieceCount (sym e) ∙ pieces-told s in
-      let same : s ≡ w = one-slip s w bs bw ps pw (vertexCount s) (triangleCount s) (pieceCount s) js ((λ q. isJob (answerTo w (sym v q) (sym n q) (sym p q))) ∙ jw) e in
+      let v : vertexCountIn w ≡ vertexCountIn s = sym (vertices-told w) ∙ ap job.vertexCount (sym e) ∙ vertices-told s in
+      let n : triangleCountIn w ≡ triangleCountIn s = sym (triangles-told w) ∙ ap job.triangleCount (sym e) ∙ triangles-told s in
+      let p : pieceCountIn w ≡ pieceCountIn s = sym (pieces-told w) ∙ ap job.pieceCount (sym e) ∙ pieces-told s in
+      let same : s ≡ w = one-slip s w bs bw ps pw (vertexCountIn s) (triangleCountIn s) (pieceCountIn s) js ((λ q. isJob (answerTo w (sym v q) (sym n q) (sym p q))) ∙ jw) e in
       one-form Groups Plain t u bt bu j k w (et ∙ ap (put j) same) eu
 
   pub one-job : {v n p i v′ n′ p′ i′ : ℕ} → headAt Groups t ≡ Counts v n p i → headAt Groups u ≡ Counts v′ n′ p′ i′ → plain.Plain s → plain.Plain w

@@ -14,9 +14,9 @@ use Rattle.groups.specs.declared.Form.the-variants.{Plain, Groups}
 use Rattle.groups.specs.Groups.{numberAt}
 use Rattle.slip.specs.declared.Slip.{Slip}
 use Rattle.slip.specs.declared.Slip.the-variants as slip
-use Rattle.slip.specs.Format.{isJob, vertexCount, triangleCount, pieceCount, piecesFrom, jobIn, afterPieces, answerTo}
+use Rattle.slip.specs.Format.{isJob, vertexCountIn, triangleCountIn, pieceCountIn, piecesFrom, jobIn, afterPieces, answerTo}
 use Rattle.slip.specs.Format as format
-use Rattle.slip.specs.Reading.{Rows, vertexSlots, triangleSlots, pieceSlots, filled, written, answer, reading}
+use Rattle.slip.specs.Reading.{Rows, vertexSlots, triangleSlots, pieceSlots, filled, written, slipAnswer, reading}
 use Rattle.slip.proofs.Room.{job-fits}
 use Rattle.slip_laws.specs.Whole.{answerOf}
 use Rattle.slip_laws.proofs.Back.{vertices-told, triangles-told, pieces-told, answer-told}
@@ -62,7 +62,7 @@ read-is (slip.Job r) = refl
 
 module _ (t : List ℕ) (bytes : Bytes t) (j : ℕ) (s : List ℕ) (moved : slipMoved Groups Plain t ≡ put j s) {v n p i : ℕ} (head : headAt Groups t ≡ Counts v n p i) where
   -- both slips have the same counts
-  counts-same : (vertexCount s ≡ v) × ((triangleCount s ≡ n) × (pieceCount s ≡ p))
+  counts-same : (vertexCountIn s ≡ v) × ((triangleCountIn s ≡ n) × (pieceCountIn s ≡ p))
   counts-same =
       let e = same-job t bytes head j s moved in (
         sym (vertices-told s) ∙ ap job.vertexCount (sym e) ∙ vertices-at t v n p i,
@@ -74,9 +74,9 @@ module _ (t : List ℕ) (bytes : Bytes t) (j : ℕ) (s : List ℕ) (moved : slip
   unfolding countsExceed answerTo format.exceeds
   plain-accepted vertices triangles pieces h =
       let c = counts-same in
-      let f = job-fits s (vertexCount s) (triangleCount s) (pieceCount s) (shape-accepted s Groups (length s) t (moved-back Groups Plain t bytes j s moved)) in
-      passed (ltb (length s) 12) (ltb vertices (vertexCount s) || ltb triangles (triangleCount s) || ltb pieces (pieceCount s)) (ltb (length s) (piecesFrom s)) slip.TooShort slip.TooMany slip.TooShort
-      (afterPieces s (pieceCount s) (piecesFrom s)) (le-ltb (length s) 12 (f .counts)) ((λ q. ltb vertices (c .0 q) || ltb triangles (c .1 .0 q) || ltb pieces (c .1 .1 q)) ∙ h) (le-ltb (length s) (piecesFrom s) (f .mesh))
+      let f = job-fits s (vertexCountIn s) (triangleCountIn s) (pieceCountIn s) (shape-accepted s Groups (length s) t (moved-back Groups Plain t bytes j s moved)) in
+      passed (ltb (length s) 12) (ltb vertices (vertexCountIn s) || ltb triangles (triangleCountIn s) || ltb pieces (pieceCountIn s)) (ltb (length s) (piecesFrom s)) slip.TooShort slip.TooMany slip.TooShort
+      (afterPieces s (pieceCountIn s) (piecesFrom s)) (le-ltb (length s) 12 (f .counts)) ((λ q. ltb vertices (c .0 q) || ltb triangles (c .1 .0 q) || ltb pieces (c .1 .1 q)) ∙ h) (le-ltb (length s) (piecesFrom s) (f .mesh))
       (f .rest)
 
   -- and only there
@@ -109,7 +109,7 @@ module _ (t : List ℕ) (bytes : Bytes t) (j : ℕ) (s : List ℕ) (moved : slip
         ∙ ap (λ x. ofSlip (answerOf x)) (sym (same-job t bytes head j s moved)) ∙ sym counts-told
 
     same-rows : isRead (groupsReading t b .0) ≡ true → _≡_ {A = Answer × Rows} (ofSlip (reading s b .0), reading s b .1) (groupsReading t b)
-    unfolding groupsReading reading answer formWritten jobWritten passedAnswer
+    unfolding groupsReading reading slipAnswer formWritten jobWritten passedAnswer
     same-rows h = go (countsExceed v n p (vertexSlots b) (triangleSlots b) (pieceSlots b)) refl
       where
         go : (c : Bool) → countsExceed v n p (vertexSlots b) (triangleSlots b) (pieceSlots b) ≡ c → _≡_ {A = Answer × Rows} (ofSlip (reading s b .0), reading s b .1) (groupsReading t b)
@@ -125,7 +125,7 @@ module _ (t : List ℕ) (bytes : Bytes t) (j : ℕ) (s : List ℕ) (moved : slip
 
     -- the theorem: what is accepted of one form is accepted of the other, with the same answer, and leaves the same
     pub same-accepted : isRead (formReading Plain s b .0) ≡ true → isRead (formReading Groups t b .0) ≡ true
-    unfolding formReading groupsReading reading answer passedAnswer
+    unfolding formReading groupsReading reading slipAnswer passedAnswer
     same-accepted h =
         let accepted : isJob (answerTo s (vertexSlots b) (triangleSlots b) (pieceSlots b)) ≡ true = sym (read-is (answerTo s (vertexSlots b) (triangleSlots b) (pieceSlots b))) ∙ h in
         ap isRead answer-is ∙ ap (λ x. isRead (cond x answers.TooMany (passedAnswer t v n p))) (counts-fit (vertexSlots b) (triangleSlots b) (pieceSlots b) accepted)

@@ -10,8 +10,7 @@ use borrow.Author.Tests.{ltb-false}
 use lib.Dec.{eqb, ltb}
 use lib.ListN.{length, getD, take, drop, length-append, length-take, length-drop, List·getD-append}
 use lib.Seq.{getD-drop, drop-drop}
-use lib.Ieee.{Float, ofBits, binary64}
-use Rattle.nat_laws.specs.Lists.{listOf}
+use lib.Ieee.{ofBits, binary64}
 use Rattle.nat_laws.proofs.Lists.{listOf-same}
 use Rattle.little_endian.specs.Bytes.{numberFrom, doubleFrom, doublesFrom, numbersFrom, bytesFrom, numberBytes}
 use Rattle.groups.specs.declared.Form.the-variants.{Plain, Groups}
@@ -21,8 +20,8 @@ use Rattle.groups.specs.Groups.{numberAt, numberOf}
 use Rattle.slip_moves.specs.declared.Refusal.the-variants.{TooShort, UnknownKind, LeftOver}
 use Rattle.slip_moves.specs.declared.Head.the-variants.{Counts}
 use Rattle.float64.specs.Scalar.{zero64}
-use Rattle.slip.specs.Format.{piecesFrom, pieceSize, pieceFrom, secondAt, coordsAt, kindsIn, facesIn, coordsIn, jobIn}
-use Rattle.slip_moves.specs.Moves.{Part, put, stop, also, then, bytesMoved, numberWritten, endsSize, numberMoved, numbersMoved, pieceOfKind, pieceMoved, piecesMoved, headAt, firstByte, headOf, meshMoved, restMoved, bodyMoved, ended, slipMoved}
+use Rattle.slip.specs.Format.{piecesFrom, pieceSize, pieceFrom, secondAt, pieceCoords, kindsIn, facesIn, coordsIn, jobIn}
+use Rattle.slip_moves.specs.Moves.{Part, put, stop, also, then, bytesMoved, numberWritten, endsSize, numberMoved, numbersMoved, pieceOfKind, pieceMoved, piecesMoved, headAt, firstByte, headBytes, meshMoved, restMoved, bodyMoved, ended, slipMoved}
 use Rattle.slip_moves.proofs.Parts.{no-part}
 use Rattle.slip_moves.proofs.Ways.{pieces-next, no-pieces}
 use Rattle.slip_moves.proofs.Whole.{counted-head}
@@ -32,7 +31,7 @@ use Rattle.form_read.specs.Places.{numberRead, placeBehind, numberPlace, number
 use Rattle.form_read.proofs.Parts.{put-of, is-put, then-put, then-is, ends-bounds, bytes-put, numbers-put, mesh-put}
 use Rattle.form_laws.proofs.Numbers.{number-stood}
 use Rattle.form_laws.proofs.Turns.{Bytes}
-use Rattle.form_laws.proofs.Back.{Small, head-stood}
+use Rattle.form_laws.proofs.Back.{head-stood}
 
 -- a part and what stands behind it, with the bytes of both
 pub record Split (x : Part) (k : ℕ → Part) (j : ℕ) (bs : List ℕ) : Type 0 where
@@ -206,8 +205,8 @@ module _ (s t : List ℕ) (b : Bytes t) where
       go false true x = no-part (sym x)
       go false false x = of-kind-same q j bs a rest x h
 
-  coords-same : (q j a : ℕ) (rest : List ℕ) → PieceSame q j a rest → endsIn t q ≡ coordsAt s a
-  unfolding endsIn coordsAt secondIn secondAt
+  coords-same : (q j a : ℕ) (rest : List ℕ) → PieceSame q j a rest → endsIn t q ≡ pieceCoords s a
+  unfolding endsIn pieceCoords secondIn secondAt
   coords-same q j a rest w = go (eqb (getD t q 0) 0) refl
     where
       at : (k m : ℕ) → a + k ≡ a + 5 + m → m + 8 ≤ endsSize (getD t q 0) → doubleFrom t (endsFrom t q + m) ≡ doubleFrom s (a + k)
@@ -321,10 +320,10 @@ told s t v n p i cv cn cp ev en ef ek ec eo el =
 -- the theorem: a slip in groups and the plain slip that it is moved to hold the same job
 module _ (t : List ℕ) (b : Bytes t) {v n p i : ℕ} (head : headAt Groups t ≡ Counts v n p i) (j : ℕ) (s : List ℕ) (moved : slipMoved Groups Plain t ≡ put j s) where
   pub same-job : jobAt t v n p i ≡ jobIn s
-  unfolding headOf firstByte numberOf bodyMoved meshMoved restMoved flagsPlace
+  unfolding headBytes firstByte numberOf bodyMoved meshMoved restMoved flagsPlace
   same-job =
       let small = head-stood t b Groups head .1 in
-      let whole = also-split (headOf Plain v n p) (then (bodyMoved Groups Plain t v n p i) (ended t)) j s (sym (counted-head Groups Plain t head) ∙ moved) in
+      let whole = also-split (headBytes Plain v n p) (then (bodyMoved Groups Plain t v n p i) (ended t)) j s (sym (counted-head Groups Plain t head) ∙ moved) in
       let last = split (bodyMoved Groups Plain t v n p i) (ended t) j (whole .0) (whole .1 .0) in
       let end = at-its-end t (last .middle) j (last .rest) (last .two) in
       let body = split (meshMoved Groups Plain t v n i) (restMoved Groups Plain t p) (last .middle) (last .first) (last .one) in

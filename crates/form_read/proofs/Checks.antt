@@ -3,20 +3,20 @@ use Prim.Native.Nat.{ℕ, _+_, _*_, _≤_, _<_}
 use native.Mathlib.Omega.{arith}
 use mathlib.Core.Path.{_≡_, refl, sym, ap, _∙_}
 use mathlib.Core.Bool.{Bool, true, false, cond, _||_, true≢false}
-use mathlib.Core.List.{List, _++_}
+use mathlib.Core.List.{List}
 use borrow.Author.Tests.{ltb-false}
 use lib.Dec.{ltb}
 use lib.ListN.{length}
 use lib.Ieee.{Float}
 use Rattle.little_endian.specs.Bytes.{atFront, doublesFrom, bytesFrom}
-use Rattle.slip.specs.Reading.{Rows, vertexSlots, triangleSlots, pieceSlots, filled, rows}
+use Rattle.slip.specs.Reading.{Rows, vertexSlots, triangleSlots, pieceSlots, filled, jobRows}
 use Rattle.groups.specs.declared.Form.the-variants.{Plain, Groups}
 use Rattle.slip_moves.specs.declared.Refusal.{Refusal}
 use Rattle.slip_moves.specs.declared.Head.{Head}
 use Rattle.slip_moves.specs.declared.Head.the-variants as head
 use Rattle.slip_moves.specs.declared.Moved.{Moved}
 use Rattle.slip_moves.specs.declared.Moved.the-variants as moved
-use Rattle.slip_moves.specs.Moves.{Part, put, stop, also, then, headAt, headOf, bytesMoved, piecesMoved, meshMoved, restMoved, bodyMoved, ended, slipMoved, answerOfMove, SmallCounts}
+use Rattle.slip_moves.specs.Moves.{Part, put, stop, then, headAt, headBytes, bytesMoved, piecesMoved, meshMoved, restMoved, bodyMoved, ended, slipMoved, answerOfMove}
 use Rattle.slip_moves.proofs.Whole.{counted-head}
 use Rattle.slip_moves.proofs.Reach.{reach-mesh}
 use Rattle.form_read.specs.declared.Answer.{Answer}
@@ -66,18 +66,18 @@ module _ (out : List ℕ) {out′ : List ℕ} {r : Moved} where
   moved-no-room {n} (stop w) e h = absurd (let f : moved.Refused w ≡ moved.NoRoom n = sym (ap (λ (p : Moved × List ℕ). p .0) e) ∙ h in let z : _≡_ {A = ℕ} 0 1 = cc f in omega arith)
 
 -- the parts of a slip that is walked over to its end
-pub record Walked (s : List ℕ) (v t p i : ℕ) : Type 0 where
+pub record WalkedSlip (s : List ℕ) (v t p i : ℕ) : Type 0 where
   pub mesh : isPut (meshMoved Groups Plain s v t i) ≡ true
   pub pieces : isPut (piecesMoved Groups Plain s p (firstPiece s v t i)) ≡ true
   pub near : firstPiece s v t i ≤ i + (25 * v + 15 * t)
   pub long : 8 ≤ length s
 
 module _ (s : List ℕ) {v t p i : ℕ} (e : headAt Groups s ≡ head.Counts v t p i) where
-  pub slip-walked : isPut (slipMoved Groups Plain s) ≡ true → Walked s v t p i
+  pub slip-walked : isPut (slipMoved Groups Plain s) ≡ true → WalkedSlip s v t p i
   unfolding bodyMoved restMoved
   slip-walked m =
       let whole : isPut (then (bodyMoved Groups Plain s v t p i) (ended s)) ≡ true =
-      also-put (headOf Plain v t p) (then (bodyMoved Groups Plain s v t p i) (ended s)) (rw (counted-head Groups Plain s e) at m) in
+      also-put (headBytes Plain v t p) (then (bodyMoved Groups Plain s v t p i) (ended s)) (rw (counted-head Groups Plain s e) at m) in
       let body = then-put (bodyMoved Groups Plain s v t p i) (ended s) whole in
       let mesh = then-put (meshMoved Groups Plain s v t i) (restMoved Groups Plain s p) (is-put (bodyMoved Groups Plain s v t p i) (body .2 .0)) in
       let first = mesh-put s v t i (mesh .0) (mesh .1) (mesh .2 .0) in
@@ -178,9 +178,9 @@ module _ (s : List ℕ) (b : Rows) where
 pub job-filled : {v t p i at : ℕ} {vs cs : List Float} {ts fs ks ns : List ℕ} (s : List ℕ) (b : Rows) → headAt Groups s ≡ head.Counts v t p i → at ≡ firstPiece s v t i
     → vs ≡ atFront (doublesFrom s i (3 * v)) (b .vertices) → ts ≡ atFront (numbersIn s (i + 24 * v) (3 * t)) (b .triangles) → fs ≡ atFront (bytesFrom s (flagsPlace s v t i) v) (b .flags)
     → ks ≡ atFront (kindsFrom s at p) (b .kinds) → ns ≡ atFront (facesFrom s at p) (b .faces) → cs ≡ atFront (coordsFrom s at p) (b .coords)
-    → rows vs ts fs ks ns cs ≡ jobWritten s (headAt Groups s) b
+    → jobRows vs ts fs ks ns cs ≡ jobWritten s (headAt Groups s) b
 unfolding filled jobWritten jobAt
 job-filled {v} {t} {p} {i} {at} s b e ea ev et ef ek en ec =
     rw e
-    (λ j. rows (ev j) (et j) (ef j) ((ek ∙ ap (λ (q : ℕ). atFront (kindsFrom s q p) (b .kinds)) ea) j) ((en ∙ ap (λ (q : ℕ). atFront (facesFrom s q p) (b .faces)) ea) j)
+    (λ j. jobRows (ev j) (et j) (ef j) ((ek ∙ ap (λ (q : ℕ). atFront (kindsFrom s q p) (b .kinds)) ea) j) ((en ∙ ap (λ (q : ℕ). atFront (facesFrom s q p) (b .faces)) ea) j)
     ((ec ∙ ap (λ (q : ℕ). atFront (coordsFrom s q p) (b .coords)) ea) j))

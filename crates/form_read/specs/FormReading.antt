@@ -13,14 +13,14 @@ use Rattle.groups.specs.declared.Form.the-variants.{Plain, Groups}
 use Rattle.slip_moves.specs.declared.Refusal.the-variants.{TooShort, LeftOver, UnknownKind}
 use Rattle.slip_moves.specs.declared.Head.{Head}
 use Rattle.slip_moves.specs.declared.Head.the-variants as head
-use Rattle.slip_moves.specs.Moves.{Part, put, stop, refusalNumber, headAt, slipMoved}
+use Rattle.slip_moves.specs.Moves.{Part, put, stop, slipRefusalNumber, headAt, slipMoved}
 use Rattle.form_read.specs.declared.Answer.{Answer}
 use Rattle.form_read.specs.declared.Answer.the-variants as answer
 use Rattle.form_read.specs.Places.{jobAt}
 
 -- each answer's number: 30 to 33 in document 01, 34 and 35 in document 02; 0 is no refusal
 abbrev pub answerNumber : Answer → ℕ
-answerNumber (answer.Refused why) = refusalNumber why
+answerNumber (answer.Refused why) = slipRefusalNumber why
 answerNumber answer.TooMany = 33
 answerNumber (answer.Job j) = 0
 

@@ -7,6 +7,7 @@ use little_endian::read_bytes;
 use little_endian::read_doubles;
 use slip::Slip;
 use slip::SlipJob;
+use slip::least;
 use slip_moves::Head;
 use slip_moves::Moved;
 use slip_moves::Refusal;
@@ -15,13 +16,13 @@ use slip_moves::move_slip;
 use slip_moves::read_head;
 ghost use mathlib.Core.Path.{_≡_};
 ghost use mathlib.Core.Bool.{true};
-ghost use Prim.Native.Nat.{_+_, _*_, _≤_, _<_, min};
+ghost use Prim.Native.Nat.{_+_, _*_, _≤_, _<_};
 ghost use lib.ListN.{length, getD};
 ghost use Rattle.buffers.specs.Lent.{given, left};
 ghost use Rattle.buffers.specs.Slots.{fill};
 ghost use Rattle.little_endian.specs.Bytes.{doublesFrom, bytesFrom, atFront};
 ghost use Rattle.groups.specs.declared.Form.the-variants.{Plain, Groups};
-ghost use Rattle.slip.specs.Reading.{rows};
+ghost use Rattle.slip.specs.Reading.{jobRows};
 ghost use Rattle.slip_moves.specs.Moves.{headAt};
 ghost use Rattle.form_read.specs.Places.{numberRead, placeBehind, numberPlace, numbersIn, secondIn, endsIn, kindsFrom, facesFrom, coordsFrom, flagsPlace, firstPiece};
 ghost use Rattle.form_read.specs.FormReading.{answerNumber, isRead, ofSlip, countsExceed, passedAnswer, groupsAnswer, jobWritten, groupsReading, formReading};
@@ -64,12 +65,6 @@ fn of_slip(slip: Slip) -> Answer
         Slip::TooMany => Answer::TooMany,
         Slip::Job(job) => Answer::Job(job),
     }
-}
-
-fn least(m: usize, n: usize) -> usize
-    ensures { λ r. ⌜ r ≡ min m n ⌝ }
-{
-    if m <= n { m } else { n }
 }
 
 fn value(number: Number) -> usize
@@ -247,9 +242,9 @@ fn write_job(
     faces: &mut [u32],
     coords: &mut [f64],
 )
-    requires { ⌜ JobThere (now s) (rows (now vertices) (now triangles) (now flags) (now kinds) (now faces) (now coords)) ⌝ }
-    ensures { λ r. ⌜ rows (left vertices) (left triangles) (left flags) (left kinds) (left faces) (left coords)
-        ≡ jobWritten (given s) (headAt Groups (given s)) (rows (given vertices) (given triangles) (given flags) (given kinds) (given faces) (given coords)) ⌝ }
+    requires { ⌜ JobThere (now s) (jobRows (now vertices) (now triangles) (now flags) (now kinds) (now faces) (now coords)) ⌝ }
+    ensures { λ r. ⌜ jobRows (left vertices) (left triangles) (left flags) (left kinds) (left faces) (left coords)
+        ≡ jobWritten (given s) (headAt Groups (given s)) (jobRows (given vertices) (given triangles) (given flags) (given kinds) (given faces) (given coords)) ⌝ }
 {
     if let Head::Counts(v, t, p, i) = read_head(Form::Groups, s) {
         let at = write_mesh(s, i, v, t, vertices, triangles, flags);
@@ -266,8 +261,8 @@ fn read_groups(
     faces: &mut [u32],
     coords: &mut [f64],
 ) -> Answer
-    ensures { λ r. ⌜ (r, rows (left vertices) (left triangles) (left flags) (left kinds) (left faces) (left coords))
-        ≡ groupsReading (given s) (rows (given vertices) (given triangles) (given flags) (given kinds) (given faces) (given coords)) ⌝ }
+    ensures { λ r. ⌜ (r, jobRows (left vertices) (left triangles) (left flags) (left kinds) (left faces) (left coords))
+        ≡ groupsReading (given s) (jobRows (given vertices) (given triangles) (given flags) (given kinds) (given faces) (given coords)) ⌝ }
 {
     let vertex_room = least(vertices.len() / 3, flags.len());
     let piece_room = least(kinds.len(), least(faces.len(), coords.len() / 6));
@@ -289,8 +284,8 @@ pub fn read(
     faces: &mut [u32],
     coords: &mut [f64],
 ) -> Answer
-    ensures { λ r. ⌜ (r, rows (left vertices) (left triangles) (left flags) (left kinds) (left faces) (left coords))
-        ≡ formReading form (given s) (rows (given vertices) (given triangles) (given flags) (given kinds) (given faces) (given coords)) ⌝ }
+    ensures { λ r. ⌜ (r, jobRows (left vertices) (left triangles) (left flags) (left kinds) (left faces) (left coords))
+        ≡ formReading form (given s) (jobRows (given vertices) (given triangles) (given flags) (given kinds) (given faces) (given coords)) ⌝ }
 {
     match form {
         Form::Plain => of_slip(slip::read(s, vertices, triangles, flags, kinds, faces, coords)),

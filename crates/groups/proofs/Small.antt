@@ -12,7 +12,7 @@ use Rattle.groups.specs.declared.Form.{Form}
 use Rattle.groups.specs.declared.Form.the-variants.{Plain, Groups}
 use Rattle.groups.specs.declared.Number.{Number}
 use Rattle.groups.specs.declared.Number.the-variants.{Short, Over, Is}
-use Rattle.groups.specs.Groups.{groupsOf, joined, groupAt, grouped, numberAt, numberOf, Found}
+use Rattle.groups.specs.Groups.{groupsOf, joinedGroup, groupAt, grouped, numberAt, numberOf, Found}
 
 -- a number below 2 ^ 32 and a place not past `far`
 abbrev Near : ℕ → Number → Type 0
@@ -30,8 +30,8 @@ near-is far m j hm hj n next e =
     let ej : j ≡ next = cc e in
     (omega (arith, en), omega (arith, ej))
 
-near-joined : (far low : ℕ) (x : Number) → Near far x → Near far (joined low x)
-unfolding joined
+near-joined : (far low : ℕ) (x : Number) → Near far x → Near far (joinedGroup low x)
+unfolding joinedGroup
 near-joined far low Short h = near-short far
 near-joined far low Over h = near-over far
 near-joined far low (Is m j) h = go (eqb m 0) (ltb 4_294_967_295 (low + 128 * m)) refl
@@ -54,7 +54,7 @@ near-grouped : (s : List ℕ) (k i far : ℕ) → i + k + 1 ≤ far → Near far
 unfolding grouped
 near-grouped s zero i far l = near-group s i far Over (omega arith) (near-over far)
 near-grouped s (suc k) i far l =
-    near-group s i far (joined (getD s i 0 - 128) (grouped s (i + 1) k)) (omega arith) (near-joined far (getD s i 0 - 128) (grouped s (i + 1) k) (near-grouped s k (i + 1) far (omega arith)))
+    near-group s i far (joinedGroup (getD s i 0 - 128) (grouped s (i + 1) k)) (omega arith) (near-joined far (getD s i 0 - 128) (grouped s (i + 1) k) (near-grouped s k (i + 1) far (omega arith)))
 
 pub groups-small : (s : List ℕ) (i n next : ℕ) → grouped s i 4 ≡ Is n next → (n < 4_294_967_296) × (next ≤ i + 5)
 groups-small s i n next e = near-grouped s 4 i (i + 5) (omega arith) n next e
@@ -96,6 +96,6 @@ unfolding numberAt
 groups-found s i r e = record { answer = e; small = λ n next h. groups-small s i n next (sym e ∙ h) }
 
 -- a group in front of what was read behind it
-pub one-more : {a b : Number} (s : List ℕ) (i j k : ℕ) → j ≡ i + 1 → a ≡ grouped s j k → b ≡ groupAt s i (joined (getD s i 0 - 128) a) → b ≡ grouped s i (suc k)
+pub one-more : {a b : Number} (s : List ℕ) (i j k : ℕ) → j ≡ i + 1 → a ≡ grouped s j k → b ≡ groupAt s i (joinedGroup (getD s i 0 - 128) a) → b ≡ grouped s i (suc k)
 unfolding grouped
-one-more s i j k ej ea eb = eb ∙ ap (λ x. groupAt s i (joined (getD s i 0 - 128) x)) (ea ∙ ap (λ (p : ℕ). grouped s p k) ej)
+one-more s i j k ej ea eb = eb ∙ ap (λ x. groupAt s i (joinedGroup (getD s i 0 - 128) x)) (ea ∙ ap (λ (p : ℕ). grouped s p k) ej)

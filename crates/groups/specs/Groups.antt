@@ -17,10 +17,10 @@ groupsOf zero n = n ∷ []
 groupsOf (suc k) n = cond (ltb n 128) (n ∷ []) ((128 + n % 128) ∷ groupsOf k (n / 128))
 
 -- a group and the number that stands behind it: too many groups where that is 0, too large above 2 ^ 32 - 1
-unfoldable pub joined : ℕ → Number → Number
-joined low Short = Short
-joined low Over = Over
-joined low (Is n next) = cond (eqb n 0) Over (cond (ltb 4_294_967_295 (low + 128 * n)) Over (Is (low + 128 * n) next))
+unfoldable pub joinedGroup : ℕ → Number → Number
+joinedGroup low Short = Short
+joinedGroup low Over = Over
+joinedGroup low (Is n next) = cond (eqb n 0) Over (cond (ltb 4_294_967_295 (low + 128 * n)) Over (Is (low + 128 * n) next))
 
 -- the group at byte i, where `behind` is what its number and those of the groups behind it make
 unfoldable pub groupAt : List ℕ → ℕ → Number → Number
@@ -28,9 +28,9 @@ groupAt s i behind = cond (ltb i (length s)) (cond (ltb (getD s i 0) 128) (Is (g
 
 -- the number in groups from byte i on, of which k more may follow the first
 unfoldable pub grouped : List ℕ → ℕ → ℕ → Number
-unfolding joined groupAt
+unfolding joinedGroup groupAt
 grouped s i zero = groupAt s i Over
-grouped s i (suc k) = groupAt s i (joined (getD s i 0 - 128) (grouped s (i + 1) k))
+grouped s i (suc k) = groupAt s i (joinedGroup (getD s i 0 - 128) (grouped s (i + 1) k))
 
 -- the number that stands at byte i and the place behind it; its bytes
 unfoldable pub numberAt : Form → List ℕ → ℕ → Number

@@ -7,7 +7,7 @@ ghost use Prim.Native.Nat.{_+_, _-_, _≤_, _<_};
 ghost use lib.ListN.{length, getD};
 ghost use Rattle.buffers.specs.Lent.{given, left};
 ghost use Rattle.text_out.specs.Text.{Puts};
-ghost use Rattle.groups.specs.Groups.{groupsOf, joined, groupAt, grouped, numberOf, Found};
+ghost use Rattle.groups.specs.Groups.{groupsOf, joinedGroup, groupAt, grouped, numberOf, Found};
 
 // The forms of a slip: numbers of four bytes, or in groups.
 pub enum Form {
@@ -31,7 +31,7 @@ fn wide(x: u8) -> usize
 // A group in front of a number.
 fn join(low: usize, behind: Number) -> Number
     requires { ⌜ low < 128 ⌝ }
-    ensures { λ r. ⌜ r ≡ joined low behind ⌝ }
+    ensures { λ r. ⌜ r ≡ joinedGroup low behind ⌝ }
 {
     match behind {
         Number::Short => Number::Short,
@@ -66,7 +66,7 @@ fn last_group(s: &[u8], i: usize) -> Number
 // The group at byte i, in front of a number.
 fn group(s: &[u8], i: usize, behind: Number) -> Number
     requires { ⌜ i < 9_000_000_000_000_000_000 ⌝ }
-    ensures { λ r. ⌜ r ≡ groupAt (given s) i (joined (getD (given s) i 0 - 128) behind) ⌝ }
+    ensures { λ r. ⌜ r ≡ groupAt (given s) i (joinedGroup (getD (given s) i 0 - 128) behind) ⌝ }
 {
     if s.len() <= i {
         return Number::Short;

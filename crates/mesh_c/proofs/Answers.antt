@@ -12,18 +12,18 @@ use Rattle.mesh.specs.declared.Meshed.the-variants.{Edges, Refused, ThirdFace}
 use Rattle.mesh.specs.Topology.{MeshBuffers}
 use Rattle.mesh.proofs.Fields.{same-number}
 use Rattle.mesh.specs.Answer.{meshedNumber, countsIn, meshRefusal, Answered}
-use Rattle.mesh_c.specs.Exports.{noOthers, packed, PackedAnswer}
+use Rattle.mesh_c.specs.Exports.{noOthers, refusalOrCount, PackedAnswer}
 
 not-refused : {m : Meshed} {n : ℕ} {c : Checked} → m ≡ Edges n → m ≡ Refused c → ⊥
 not-refused e f = let z : _≡_ {A = ℕ} 0 1 = cc in omega arith
 
 -- a number that is no refusal's, and one that is
-unrefused : (r n k : ℕ) → r ≡ 0 → k ≡ n → k ≡ packed r n
-unfolding packed
+unrefused : (r n k : ℕ) → r ≡ 0 → k ≡ n → k ≡ refusalOrCount r n
+unfolding refusalOrCount
 unrefused r n k e f = rw e f
 
-refused : (r n k : ℕ) → (r ≡ 0 → ⊥) → k ≡ r → 4_294_967_296 * k ≡ packed r n
-unfolding packed
+refused : (r n k : ℕ) → (r ≡ 0 → ⊥) → k ≡ r → 4_294_967_296 * k ≡ refusalOrCount r n
+unfolding refusalOrCount
 refused zero n k e f = absurd (e refl)
 refused (suc r) n k e f = ap (λ (x : ℕ). 4_294_967_296 * x) f
 

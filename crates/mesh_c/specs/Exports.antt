@@ -36,10 +36,10 @@ plenty =
     }
 
 -- a refusal above 32 bits, or else a count
-unfoldable pub packed : ℕ → ℕ → ℕ
-packed zero n = n
-packed (suc k) n = 4_294_967_296 * suc k
+unfoldable pub refusalOrCount : ℕ → ℕ → ℕ
+refusalOrCount zero n = n
+refusalOrCount (suc k) n = 4_294_967_296 * suc k
 
 pub record PackedAnswer (j : Job) (r : ℕ) (before after : MeshBuffers) : Type 0 where
-  pub number : r ≡ packed (meshRefusal j (countsIn before noOthers)) (length (edges (j .triangles)))
+  pub number : r ≡ refusalOrCount (meshRefusal j (countsIn before noOthers)) (length (edges (j .triangles)))
   pub buffers : after ≡ afterwards (refusalOf j (countsIn before noOthers)) before (topologyOf (j .vertices) (j .triangles) (j .flags) before)

@@ -10,7 +10,7 @@ use Rattle.groups.specs.declared.Form.{Form}
 use Rattle.groups.specs.declared.Form.the-variants.{Plain, Groups}
 use Rattle.slip_moves.specs.declared.Moved.{Moved}
 use Rattle.slip_moves.specs.declared.Moved.the-variants.{Length, NoRoom, Refused}
-use Rattle.slip_moves.specs.Moves.{refusalNumber, movedNumber, moving}
+use Rattle.slip_moves.specs.Moves.{slipRefusalNumber, movedNumber, moving}
 use Rattle.form_read.specs.declared.Answer.{Answer}
 use Rattle.form_read.specs.declared.Answer.the-variants as answer
 use Rattle.form_read.specs.FormReading.{formReading}
@@ -30,7 +30,7 @@ exported from to s out told = (movedNumber (moving from to s out .0), (moving fr
 
 -- the number that is answered; three counts and the limit, as far as there is a slice for them
 unfoldable pub readTold : Answer → List ℕ → List Float → ℕ × (List ℕ × List Float)
-readTold (answer.Refused why) t l = (refusalNumber why, (t, l))
+readTold (answer.Refused why) t l = (slipRefusalNumber why, (t, l))
 readTold answer.TooMany t l = (33, (t, l))
 readTold (answer.Job j) t l = (0, (set (set (set t 0 (j .vertices)) 1 (j .triangles)) 2 (j .pieces), set l 0 (j .limit)))
 

@@ -9,7 +9,7 @@ ghost use lib.ListN.{set};
 ghost use Rattle.buffers.specs.Lent.{given, left};
 ghost use Rattle.groups.specs.declared.Form.the-variants.{Plain, Groups};
 ghost use Rattle.slip_moves.specs.Moves.{movedNumber};
-ghost use Rattle.slip.specs.Reading.{rows};
+ghost use Rattle.slip.specs.Reading.{jobRows};
 ghost use Rattle.moves_c.specs.Exports.{toldLength, exported, readTold, formRead, exportedRead};
 
 fn set_first(told: &mut [usize], n: usize)
@@ -80,8 +80,8 @@ fn read_told(
     told: &mut [u32],
     limit: &mut [f64],
 ) -> u32
-    ensures { λ r. ⌜ (r, (rows (left vertices) (left triangles) (left flags) (left kinds) (left faces) (left coords), (left told, left limit))) ≡ formRead form (given slip)
-        (rows (given vertices) (given triangles) (given flags) (given kinds) (given faces) (given coords)) (given told) (given limit) ⌝ }
+    ensures { λ r. ⌜ (r, (jobRows (left vertices) (left triangles) (left flags) (left kinds) (left faces) (left coords), (left told, left limit))) ≡ formRead form (given slip)
+        (jobRows (given vertices) (given triangles) (given flags) (given kinds) (given faces) (given coords)) (given told) (given limit) ⌝ }
 {
     let answer = form_read::read(form, slip, vertices, triangles, flags, kinds, faces, coords);
     tell_read(answer, told, limit)
@@ -102,8 +102,8 @@ pub extern "C" fn sirmolaat_read_slip_form(
     told: &mut [u32],
     limit: &mut [f64],
 ) -> u32
-    ensures { λ r. ⌜ (r, (rows (left vertices) (left triangles) (left flags) (left kinds) (left faces) (left coords), (left told, left limit)))
-        ≡ exportedRead form (given slip) (rows (given vertices) (given triangles) (given flags) (given kinds) (given faces) (given coords)) (given told) (given limit) ⌝ }
+    ensures { λ r. ⌜ (r, (jobRows (left vertices) (left triangles) (left flags) (left kinds) (left faces) (left coords), (left told, left limit)))
+        ≡ exportedRead form (given slip) (jobRows (given vertices) (given triangles) (given flags) (given kinds) (given faces) (given coords)) (given told) (given limit) ⌝ }
 {
     if form == 1 {
         return read_told(

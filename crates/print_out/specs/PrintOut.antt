@@ -86,12 +86,12 @@ distanceText (inf false) = farText
 distanceText (inf true) = nanText
 distanceText (fin s m e) = signed s (thousandthsOf s (fin s m e))
 
-unfoldable pub counted : List ℕ → ℕ → List ℕ
-counted word n = word ++ decimal n
+unfoldable pub countText : List ℕ → ℕ → List ℕ
+countText word n = word ++ decimal n
 
 unfoldable pub cornerLine : ℕ → Float → List ℕ
-unfolding counted distanceText
-cornerLine k x = counted cornerText k ++ spaceText ++ distanceText x ++ endOfLine
+unfolding countText distanceText
+cornerLine k x = countText cornerText k ++ spaceText ++ distanceText x ++ endOfLine
 
 -- a line for each of n vertices
 unfoldable pub cornerLines : List Float → ℕ → List ℕ
@@ -100,16 +100,16 @@ cornerLines vertex zero = []
 cornerLines vertex (suc n) = cornerLines vertex n ++ cornerLine n (getD vertex (realsPerVertex * n + vertexDistance) nan)
 
 unfoldable pub edgesLine : ℕ → List ℕ
-unfolding counted
-edgesLine edges = counted edgesText edges ++ endOfLine
+unfolding countText
+edgesLine edges = countText edgesText edges ++ endOfLine
 
 unfoldable pub windowsLine : ℕ → ℕ → ℕ → List ℕ
-unfolding counted
-windowsLine windows live steps = counted windowsText windows ++ counted liveText live ++ counted stepsText steps ++ endOfLine
+unfolding countText
+windowsLine windows live steps = countText windowsText windows ++ countText liveText live ++ countText stepsText steps ++ endOfLine
 
 unfoldable pub refusedLine : ℕ → List ℕ
-unfolding counted
-refusedLine number = counted refusedText number ++ endOfLine
+unfolding countText
+refusedLine number = countText refusedText number ++ endOfLine
 
 unfoldable pub fieldText : Field → ℕ → List Float → List ℕ
 unfolding edgesLine windowsLine cornerLines

@@ -21,7 +21,7 @@ ghost use lib.ListN.{length};
 ghost use Rattle.buffers.specs.Lent.{given, left};
 ghost use Rattle.text_out.specs.Text.{Puts};
 ghost use Rattle.thousandths.specs.Thousandths.{thousandthsOf};
-ghost use Rattle.print_out.specs.PrintOut.{isLive, liveCount, minusText, signed, counted, distanceText, cornerLine, cornerLines, edgesLine, windowsLine, refusedLine, fieldText, textOf};
+ghost use Rattle.print_out.specs.PrintOut.{isLive, liveCount, minusText, signed, countText, distanceText, cornerLine, cornerLines, edgesLine, windowsLine, refusedLine, fieldText, textOf};
 
 fn one_if(b: bool) -> u32
     ensures { λ r. ⌜ (r ≡ cond b 1 0) × (r ≤ 1) ⌝ }
@@ -56,7 +56,7 @@ pub fn live_count(words: &[u32], n: u32) -> u32
 // A word and a number.
 fn put_count(out: &mut [u8], i: usize, word: &[u8], n: u32) -> usize
     requires { ⌜ (i < 8_000_000_000_000_000_000) × (length (now word) ≤ 20) ⌝ }
-    ensures { λ r. ⌜ Puts (given out) i (counted (given word) n) (left out) r × (r ≤ i + 40) ⌝ }
+    ensures { λ r. ⌜ Puts (given out) i (countText (given word) n) (left out) r × (r ≤ i + 40) ⌝ }
 {
     let j = put_text(out, i, word);
     put_decimal(out, j, n as u64)

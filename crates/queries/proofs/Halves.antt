@@ -20,7 +20,7 @@ use Rattle.edge_query.specs.EdgeDistance.{partitionPoint}
 use Rattle.edge_query.specs.Halves.{byHalves, startsBy, Rising}
 use Rattle.edge_query.proofs.Halves.{halves-is}
 use Rattle.field_check.specs.Chains.{linksFrom, anyBad, linkTotal, chainOf, chainsUnsound}
-use Rattle.field_check.specs.FieldCheck.{JobSlices, FieldSlices, startOf, notRising, windowUnsound, windowsUnsound, entriesUnsound, tooFewSlots, countsDiffer, meetsRefusal, pointsOutside, listsUnsound, fieldUnsound}
+use Rattle.field_check.specs.FieldCheck.{JobSlices, FieldSlices, windowStart, notRising, windowUnsound, windowsUnsound, entriesUnsound, tooFewSlots, countsDiffer, meetsRefusal, pointsOutside, listsUnsound, fieldUnsound}
 use Rattle.queries.proofs.Checked.{left-none, right-none}
 
 module _ (made : ℕ) (edgeWords words : List ℕ) (f : List Float) (e : ℕ) where
@@ -40,7 +40,7 @@ module _ (made : ℕ) (edgeWords words : List ℕ) (f : List Float) (e : ℕ) wh
     go on l false q = tt
     go on zero true q = tt
     go on (suc i) true q = (
-      right-none (not (lt (startOf f i) (getD f (realsPerWindow * i + windowB1) nan))) (notRising f k i) (left-none (windowUnsound f k i) (anyBad (linkOf words) (windowUnsound f) (suc i) (linksFrom (linkOf words) (windowUnsound f) m (linkOf words i))) q),
+      right-none (not (lt (windowStart f i) (getD f (realsPerWindow * i + windowB1) nan))) (notRising f k i) (left-none (windowUnsound f k i) (anyBad (linkOf words) (windowUnsound f) (suc i) (linksFrom (linkOf words) (windowUnsound f) m (linkOf words i))) q),
       on i (right-none (windowUnsound f k i) (anyBad (linkOf words) (windowUnsound f) (suc i) (linksFrom (linkOf words) (windowUnsound f) m (linkOf words i))) q),
     )
 
@@ -48,7 +48,7 @@ module _ (made : ℕ) (edgeWords words : List ℕ) (f : List Float) (e : ℕ) wh
   unfolding RisesFrom Rising notRising windowAt winAt
   rising k [] r = tt
   rising k (i ∷ []) r = tt
-  rising k (i ∷ i′ ∷ is) r = (holds (lt (startOf f i) (startOf f i′)) (not-false (lt (startOf f i) (startOf f i′)) (r .1 .0)), rising (suc i) (i′ ∷ is) (r .1))
+  rising k (i ∷ i′ ∷ is) r = (holds (lt (windowStart f i) (windowStart f i′)) (not-false (lt (windowStart f i) (windowStart f i′)) (r .1 .0)), rising (suc i) (i′ ∷ is) (r .1))
 
 module _ (n : Field) (j : JobSlices) (b : FieldSlices) (sound : fieldUnsound n j b ≡ false) (e : ℕ) (h : e < n .edges) where
   chain-sound : anyBad (linkOf (b .words)) (windowUnsound (b .reals)) 0 (linksFrom (linkOf (b .words)) (windowUnsound (b .reals)) (suc (n .windows)) (headOf (b .edge-words) e)) ≡ false

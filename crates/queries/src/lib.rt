@@ -5,6 +5,7 @@ use buffers::EdgeId;
 use buffers::FaceId;
 use buffers::VertexId;
 use buffers::WindowId;
+use buffers::read_u32;
 use computed::Computed;
 use computed::Field;
 use edge_query::Cursor;
@@ -25,6 +26,7 @@ ghost use Rattle.edge_query.specs.Resume.{Resumes};
 ghost use Rattle.field_check.specs.FieldCheck.{jobSlices, fieldSlices};
 ghost use Rattle.queries.specs.Answers.{faceNumber, edgeNumber, vertexNumber, windowNumber, faceValue, edgeValue, vertexValue};
 ghost use Rattle.queries.specs.Queries.{pointOutside, placeOutside, placeLink, linkedWindow, faceAnswer, edgeAnswer, vertexAnswer, windowAnswer, faceQuery, edgeQuery, vertexQuery, windowQuery};
+ghost use Rattle.queries.specs.Told.{toldField, toldAnswer};
 
 // The answers: `faceNumber`, `edgeNumber`, `vertexNumber` and `windowNumber` of specs/ give each case its number.
 pub enum FaceDistance {
@@ -643,4 +645,29 @@ pub fn window_at(
         e,
         place,
     )
+}
+
+// The vertices, triangles, pieces, edges, windows and steps of a field, as a caller tells them.
+pub fn told_field(told: &[u32]) -> Field
+    ensures { λ r. ⌜ r ≡ toldField (given told) ⌝ }
+{
+    Field {
+        vertices: read_u32(told, 6, 0, 0),
+        triangles: read_u32(told, 6, 0, 1),
+        pieces: read_u32(told, 6, 0, 2),
+        edges: read_u32(told, 6, 0, 3),
+        windows: read_u32(told, 6, 0, 4),
+        steps: read_u32(told, 6, 0, 5),
+    }
+}
+
+// The job's answer: 0 and what it told of its field, or a refusal's number.
+pub fn told_answer(refusal: u32, told: &[u32]) -> Computed
+    ensures { λ r. ⌜ r ≡ toldAnswer refusal (given told) ⌝ }
+{
+    if refusal == 0 {
+        let field = told_field(told);
+        return Computed::Field(field);
+    }
+    Computed::Refused(refusal)
 }

@@ -1,28 +1,14 @@
--- The answer that a caller says, and the row that it is told. Assumes nothing.
+-- The row that a caller is told. Assumes nothing.
 use Prim.Native.Nat.{ℕ}
 use mathlib.Core.List.{List}
-use mathlib.Core.Path.{_≡_, refl, _∙_}
-use borrow.Author.Tests.{eq-eqb, ne-eqb}
+use mathlib.Core.Path.{_≡_, _∙_}
 use lib.Ieee.{Float}
-use lib.ListN.{getD}
 use Rattle.computed.specs.declared.Computed.{Computed}
-use Rattle.computed.specs.declared.Computed.the-variants.{Refused, Field as isField}
 use Rattle.query_rows.specs.declared.RowAnswer.{RowAnswer}
 use Rattle.field_check.specs.FieldCheck.{JobSlices, FieldSlices}
 use Rattle.query_rows.specs.Rows.{RowResult, rowResult, rowNumber, faceRow, edgeRow, vertexRow}
 use Rattle.window_rows.specs.WindowRows.{windowResult, windowRow}
-use Rattle.query_c.specs.Exports.{toldAnswer, toldRow, toldWindows}
-use Rattle.queries.proofs.Checked.{taken, left}
-
-module _ (k : ℕ) (t : List ℕ) where
-  pub told-field : {a b c d e f : ℕ} → k ≡ 0 → a ≡ getD t 0 0 → b ≡ getD t 1 0 → c ≡ getD t 2 0 → d ≡ getD t 3 0 → e ≡ getD t 4 0 → f ≡ getD t 5 0
-      → isField (record { vertices = a; triangles = b; pieces = c; edges = d; windows = e; steps = f }) ≡ toldAnswer k t
-  unfolding toldAnswer
-  told-field h a b c d e f = (λ i. isField (record { vertices = a i; triangles = b i; pieces = c i; edges = d i; windows = e i; steps = f i })) ∙ taken _ _ _ (eq-eqb k 0 h)
-
-  pub told-refused : (k ≡ 0 → ⊥) → Refused k ≡ toldAnswer k t
-  unfolding toldAnswer
-  told-refused h = left _ _ _ _ (ne-eqb k 0 h) refl
+use Rattle.query_c.specs.Exports.{toldRow, toldWindows}
 
 row-told : (row : Computed → RowResult) {x y : Computed} {r : RowAnswer} {k : ℕ} {n : List ℕ} {d : List Float} → k ≡ rowNumber r → rowResult r n d ≡ row x → x ≡ y → (k, (n, d)) ≡ toldRow (row y)
 row-told row {n = n} {d = d} h e s = (λ i. (h i, (n, d))) ∙ (λ i. toldRow (e i)) ∙ (λ i. toldRow (row (s i)))

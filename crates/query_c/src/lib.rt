@@ -1,32 +1,13 @@
 // Rows of questions to a field, for programs in C and Rust. `refusal` and `told` are what the whole job answered: 0 and the field's counts, or a refusal's number.
-use buffers::read_u32;
-use computed::Computed;
-use computed::Field;
+use queries::told_answer;
 use query_rows::RowAnswer;
 ghost use mathlib.Core.Path.{_≡_};
 ghost use Rattle.buffers.specs.Lent.{given, left};
 ghost use Rattle.field_check.specs.FieldCheck.{jobSlices, fieldSlices};
+ghost use Rattle.queries.specs.Told.{toldAnswer};
 ghost use Rattle.query_rows.specs.Rows.{rowNumber, faceRow, edgeRow, vertexRow};
 ghost use Rattle.window_rows.specs.WindowRows.{windowRow};
-ghost use Rattle.query_c.specs.Exports.{toldAnswer, toldRow, toldWindows};
-
-// The job's answer: `told` has the vertices, triangles, pieces, edges, windows and steps of a field.
-fn told_answer(refusal: u32, told: &[u32]) -> Computed
-    ensures { λ r. ⌜ r ≡ toldAnswer refusal (given told) ⌝ }
-{
-    if refusal == 0 {
-        let field = Field {
-            vertices: read_u32(told, 6, 0, 0),
-            triangles: read_u32(told, 6, 0, 1),
-            pieces: read_u32(told, 6, 0, 2),
-            edges: read_u32(told, 6, 0, 3),
-            windows: read_u32(told, 6, 0, 4),
-            steps: read_u32(told, 6, 0, 5),
-        };
-        return Computed::Field(field);
-    }
-    Computed::Refused(refusal)
-}
+ghost use Rattle.query_c.specs.Exports.{toldRow, toldWindows};
 
 fn row_number(answer: RowAnswer) -> u32
     ensures { λ r. ⌜ r ≡ rowNumber answer ⌝ }

@@ -32,7 +32,7 @@ use Rattle.better.specs.declared.Compared.the-variants.{Shorter, Equal, Longer}
 use Rattle.better.specs.declared.Cut.the-variants.{Nowhere}
 use Rattle.better.specs.Claim.{Point}
 use Rattle.better.specs.Cutting.{shorter, longer, signOf, changeOf, cutOf}
-use Rattle.better.specs.Points.{rootList, insideOf, inside, insertOf, sorted, ptsOf, behind, walkOf}
+use Rattle.better.specs.Points.{rootList, insideOf, inside, insertOf, sortedPoints, ptsOf, pointsBehind, walkOf}
 use Rattle.better.specs.Stretches.{Interval, interval, joined, shorterBetween, stretches, outOf, betterOf}
 use Rattle.better.proofs.Cutting.{cut-none, cut-flat}
 use Rattle.better.proofs.Points.{Rising, Rises, Le, Inside, walk-next, pts-all, pts-rises}
@@ -58,10 +58,10 @@ insert-last hi x (y ∷ ys) h = by-cases
     (λ (b : Bool). (if b then y ∷ insertOf x (ys ++ (hi ∷ [])) else x ∷ y ∷ ys ++ (hi ∷ [])) ≡ (if b then y ∷ insertOf x ys else x ∷ y ∷ ys) ++ (hi ∷ []))
     (totalLess y x) (λ t. ap (λ (l : List Float). y ∷ l) (insert-last hi x ys h)) (λ t. refl)
 
-sort-last : (lo hi : Float) (xs : List Float) → All (Strict lo hi) xs → sorted (xs ++ (hi ∷ [])) ≡ sorted xs ++ (hi ∷ [])
+sort-last : (lo hi : Float) (xs : List Float) → All (Strict lo hi) xs → sortedPoints (xs ++ (hi ∷ [])) ≡ sortedPoints xs ++ (hi ∷ [])
 unfolding sortBy insertBy
 sort-last lo hi [] a = refl
-sort-last lo hi (x ∷ xs) a = ap (λ (l : List Float). insertOf x l) (sort-last lo hi xs (a .1)) ∙ insert-last hi x (sorted xs) (a .0 .1)
+sort-last lo hi (x ∷ xs) a = ap (λ (l : List Float). insertOf x l) (sort-last lo hi xs (a .1)) ∙ insert-last hi x (sortedPoints xs) (a .0 .1)
 
 insert-first : (lo hi : Float) (ys : List Float) → T (lt lo hi) → All (Strict lo hi) ys → insertOf lo (ys ++ (hi ∷ [])) ≡ lo ∷ ys ++ (hi ∷ [])
 unfolding insertBy
@@ -83,14 +83,14 @@ unfolding insertBy
 length-insert x [] = refl
 length-insert x (y ∷ ys) = branch (λ (l : List Float). length l ≡ suc (suc (length ys))) (totalLess y x) (λ t. ap suc (length-insert x ys)) (λ t. refl)
 
-length-sorted : (xs : List Float) → length (sorted xs) ≡ length xs
+length-sorted : (xs : List Float) → length (sortedPoints xs) ≡ length xs
 unfolding sortBy
 length-sorted [] = refl
-length-sorted (x ∷ xs) = length-insert x (sorted xs) ∙ ap suc (length-sorted xs)
+length-sorted (x ∷ xs) = length-insert x (sortedPoints xs) ∙ ap suc (length-sorted xs)
 
 -- the ties, in order
 abbrev ties : Src → Src → Float → Float → List Float
-ties p q lo hi = sorted (inside lo hi (rootList (tiesOf p q)))
+ties p q lo hi = sortedPoints (inside lo hi (rootList (tiesOf p q)))
 
 module _ (p q : Src) (lo hi : Float) (rise : T (lt lo hi)) where
   ties-strict : All (Strict lo hi) (ties p q lo hi)
@@ -139,7 +139,7 @@ module _ (p q : Src) (lo hi : Float) (S : Stretch lo hi) where
         (λ t e. cut-flat p q x0 x1 e) refl)
 
     walk-same : (xs : List Float) → All (Inside lo hi) xs → walkOf p q xs ≡ xs
-    unfolding walkOf behind
+    unfolding walkOf pointsBehind
     walk-same [] a = refl
     walk-same (x ∷ []) a = refl
     walk-same (x0 ∷ x1 ∷ xs) a = walk-next p q x0 x1 xs (no-cut x0 x1 (a .0) (a .1 .0)) ∙ ap (λ (l : List Float). x0 ∷ l) (walk-same (x1 ∷ xs) (a .1))

@@ -23,7 +23,7 @@ use Rattle.face_entries.specs.Entries.{FaceEntry, numbersOf, EntryChain, Stored
 use Rattle.face_entries.proofs.Numbers.{faceFrom, Numbered, each-numbered}
 use Rattle.computed.specs.declared.Field.{Field}
 use Rattle.field_check.specs.Chains.{anyBad}
-use Rattle.field_check.specs.FieldCheck.{FieldSlices, startOf, notRising, windowUnsound, windowsUnsound, entryOutside, entriesUnsound}
+use Rattle.field_check.specs.FieldCheck.{FieldSlices, windowStart, notRising, windowUnsound, windowsUnsound, entryOutside, entriesUnsound}
 use Rattle.returned_fields.specs.Held.{HeldWindows, HeldEntries}
 use Rattle.returned_fields.proofs.Counting.{Run, chains-sound}
 
@@ -37,7 +37,7 @@ path-run w l [] p = p
 path-run w l (i ∷ is) p = (p .0, path-run w (linkOf w i) is (p .1))
 
 module _ (w : List ℕ) (f : List Float) where
-  start-is : (u : Window) → Alive w f u → startOf f (u .num) ≡ u .b0
+  start-is : (u : Window) → Alive w f u → windowStart f (u .num) ≡ u .b0
   unfolding windowAt winAt
   start-is u a = ap (λ (z : Window). z .b0) (a .same)
 

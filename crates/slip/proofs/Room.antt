@@ -10,9 +10,9 @@ use lib.ListN.{length}
 use Rattle.slip.specs.declared.Slip.{Slip}
 use Rattle.slip.specs.declared.Slip.the-variants.{TooShort, LeftOver, UnknownKind, TooMany}
 use Rattle.slip.specs.declared.Slip.the-variants as slip
-use Rattle.slip.specs.Format.{isJob, vertexCount, triangleCount, pieceCount, piecesFrom, exceeds, afterPieces, answerTo}
+use Rattle.slip.specs.Format.{isJob, vertexCountIn, triangleCountIn, pieceCountIn, piecesFrom, exceeds, afterPieces, answerTo}
 use Rattle.slip.specs.Format.{jobIn}
-use Rattle.slip.specs.Reading.{Rows, vertexSlots, triangleSlots, pieceSlots, filled, written, answer, reading}
+use Rattle.slip.specs.Reading.{Rows, vertexSlots, triangleSlots, pieceSlots, filled, written, slipAnswer, reading}
 use Rattle.slip.proofs.Pieces.{job-else}
 
 or-false : (a b : Bool) → a || b ≡ false → (a ≡ false) × (b ≡ false)
@@ -21,22 +21,22 @@ or-false false b h = (refl, h)
 
 pub record Fits (s : List ℕ) (vertices triangles pieces : ℕ) : Type 0 where
   pub counts : 12 ≤ length s
-  pub vertices-fit : vertexCount s ≤ vertices
-  pub triangles-fit : triangleCount s ≤ triangles
-  pub pieces-fit : pieceCount s ≤ pieces
+  pub vertices-fit : vertexCountIn s ≤ vertices
+  pub triangles-fit : triangleCountIn s ≤ triangles
+  pub pieces-fit : pieceCountIn s ≤ pieces
   pub mesh : piecesFrom s ≤ length s
-  pub rest : isJob (afterPieces s (pieceCount s) (piecesFrom s)) ≡ true
+  pub rest : isJob (afterPieces s (pieceCountIn s) (piecesFrom s)) ≡ true
 
 pub job-fits : (s : List ℕ) (v t p : ℕ) → isJob (answerTo s v t p) ≡ true → Fits s v t p
 unfolding answerTo exceeds
 job-fits s v t p h =
-    let behind = afterPieces s (pieceCount s) (piecesFrom s) in
+    let behind = afterPieces s (pieceCountIn s) (piecesFrom s) in
     let whole-mesh = cond (ltb (length s) (piecesFrom s)) TooShort behind in
     let a = job-else (ltb (length s) 12) TooShort (cond (exceeds s v t p) TooMany whole-mesh) refl h in
     let b = job-else (exceeds s v t p) TooMany whole-mesh refl (a .1) in
     let c = job-else (ltb (length s) (piecesFrom s)) TooShort behind refl (b .1) in
-    let most = or-false (ltb v (vertexCount s) || ltb t (triangleCount s)) (ltb p (pieceCount s)) (b .0) in
-    let two = or-false (ltb v (vertexCount s)) (ltb t (triangleCount s)) (most .0) in
+    let most = or-false (ltb v (vertexCountIn s) || ltb t (triangleCountIn s)) (ltb p (pieceCountIn s)) (b .0) in
+    let two = or-false (ltb v (vertexCountIn s)) (ltb t (triangleCountIn s)) (most .0) in
     record {
       counts = ltb-false _ _ (a .0);
       vertices-fit = ltb-false _ _ (two .0);
@@ -49,16 +49,16 @@ job-fits s v t p h =
 pub record Ready (s : List ℕ) (b : Rows) : Type 0 where
   pub counts : 12 ≤ length s
   pub mesh : piecesFrom s ≤ length s
-  pub rest : isJob (afterPieces s (pieceCount s) (piecesFrom s)) ≡ true
-  pub vertices : 3 * vertexCount s ≤ length (b .vertices)
-  pub triangles : 3 * triangleCount s ≤ length (b .triangles)
-  pub flags : vertexCount s ≤ length (b .flags)
-  pub kinds : pieceCount s ≤ length (b .kinds)
-  pub faces : pieceCount s ≤ length (b .faces)
-  pub coords : 6 * pieceCount s ≤ length (b .coords)
+  pub rest : isJob (afterPieces s (pieceCountIn s) (piecesFrom s)) ≡ true
+  pub vertices : 3 * vertexCountIn s ≤ length (b .vertices)
+  pub triangles : 3 * triangleCountIn s ≤ length (b .triangles)
+  pub flags : vertexCountIn s ≤ length (b .flags)
+  pub kinds : pieceCountIn s ≤ length (b .kinds)
+  pub faces : pieceCountIn s ≤ length (b .faces)
+  pub coords : 6 * pieceCountIn s ≤ length (b .coords)
 
-pub ready : (s : List ℕ) (b : Rows) → isJob (answer s b) ≡ true → Ready s b
-unfolding answer vertexSlots triangleSlots pieceSlots
+pub ready : (s : List ℕ) (b : Rows) → isJob (slipAnswer s b) ≡ true → Ready s b
+unfolding slipAnswer vertexSlots triangleSlots pieceSlots
 ready s b h =
     let f = job-fits s (vertexSlots b) (triangleSlots b) (pieceSlots b) h in
     record {
@@ -91,7 +91,7 @@ module _ (s : List ℕ) (b : Rows) where
   of-refusal TooMany h = refl
   of-refusal (slip.Job j) h = absurd (true≢false h)
 
-  module _ (r : Slip) (e : r ≡ answer s b) where
+  module _ (r : Slip) (e : r ≡ slipAnswer s b) where
     pub did-read : (b′ : Rows) → isJob r ≡ true → b′ ≡ filled (jobIn s) b → (r, b′) ≡ reading s b
     unfolding reading
     did-read b′ j w = λ i. (e i, (w ∙ of-job r j ∙ ap (λ a. written s a b) e) i)

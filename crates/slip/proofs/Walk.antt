@@ -13,13 +13,13 @@ use Rattle.buffers.specs.Slots.{fill}
 use Rattle.buffers.proofs.Strides.{fill-is, length-fill}
 use Rattle.little_endian.specs.Bytes.{numberFrom, atFront}
 use Rattle.little_endian.proofs.Front.{front-none, front-more, front-next}
-use Rattle.slip.specs.Format.{isJob, pieceSize, pieceFrom, coordsAt, kindsIn, facesIn, coordsIn, piecesFrom, afterPieces}
+use Rattle.slip.specs.Format.{isJob, pieceSize, pieceFrom, pieceCoords, kindsIn, facesIn, coordsIn, piecesFrom, afterPieces}
 use Rattle.slip.proofs.Pieces.{stands}
 
 pub length-coordsIn : (s : List ℕ) (k : ℕ) → length (coordsIn s k) ≡ 6 * k
-unfolding coordsIn coordsAt
+unfolding coordsIn pieceCoords
 length-coordsIn s zero = refl
-length-coordsIn s (suc k) = length-append (coordsIn s k) (coordsAt s (pieceFrom s k)) ∙ rw (length-coordsIn s k) (omega arith)
+length-coordsIn s (suc k) = length-append (coordsIn s k) (pieceCoords s (pieceFrom s k)) ∙ rw (length-coordsIn s k) (omega arith)
 
 pub record Walk (s : List ℕ) (n : ℕ) (kinds₀ faces₀ : List ℕ) (coords₀ : List Float) (kinds faces : List ℕ) (coords : List Float) (at k : ℕ) : Type 0 where
   pub same-kinds : length kinds ≡ length kinds₀
@@ -60,13 +60,13 @@ module _ {s : List ℕ} {n : ℕ} {kinds₀ faces₀ : List ℕ} {coords₀ : Li
     pub piece-fits : at + pieceSize (getD s at 0) ≤ length s
     piece-fits = stands s (n - k) at (omega arith) (w .rest) .0
 
-    coords-next : fill 6 coords k 0 (coordsAt s at) ≡ atFront (coordsIn s (k + 1)) coords₀
-    unfolding coordsIn coordsAt
+    coords-next : fill 6 coords k 0 (pieceCoords s at) ≡ atFront (coordsIn s (k + 1)) coords₀
+    unfolding coordsIn pieceCoords
     coords-next =
-        fill-is 6 (coordsAt s at) coords k 0 ∙ rw (add-zero, w .coords-are, w .place, add-one)
-        (front-more (coordsIn s k) (coordsAt s (pieceFrom s k)) coords₀ (6 * k) (length-coordsIn s k) (omega (arith, w .room-coords)))
+        fill-is 6 (pieceCoords s at) coords k 0 ∙ rw (add-zero, w .coords-are, w .place, add-one)
+        (front-more (coordsIn s k) (pieceCoords s (pieceFrom s k)) coords₀ (6 * k) (length-coordsIn s k) (omega (arith, w .room-coords)))
 
-    pub one-more : (face : ℕ) (coords′ : List Float) (size : ℕ) → face ≡ numberFrom s (at + 1) → coords′ ≡ fill 6 coords k 0 (coordsAt s at) → size ≡ pieceSize (getD s at 0)
+    pub one-more : (face : ℕ) (coords′ : List Float) (size : ℕ) → face ≡ numberFrom s (at + 1) → coords′ ≡ fill 6 coords k 0 (pieceCoords s at) → size ≡ pieceSize (getD s at 0)
         → Walk s n kinds₀ faces₀ coords₀ (set kinds k (getD s at 0)) (set faces k face) coords′ (at + size) (k + 1)
     unfolding kindsIn facesIn pieceFrom
     one-more face coords′ size ef ec ez =
@@ -74,7 +74,7 @@ module _ {s : List ℕ} {n : ℕ} {kinds₀ faces₀ : List ℕ} {coords₀ : Li
         record {
           same-kinds = length-set kinds k (getD s at 0) ∙ w .same-kinds;
           same-faces = length-set faces k face ∙ w .same-faces;
-          same-coords = ap length ec ∙ length-fill 6 (coordsAt s at) coords k 0 ∙ w .same-coords;
+          same-coords = ap length ec ∙ length-fill 6 (pieceCoords s at) coords k 0 ∙ w .same-coords;
           room-kinds = w .room-kinds;
           room-faces = w .room-faces;
           room-coords = w .room-coords;

@@ -31,26 +31,26 @@ isJob (slip.Job j) = true
 
 -- ---- where the parts stand
 
-abbrev pub vertexCount : List ℕ → ℕ
-vertexCount s = numberFrom s 0
+abbrev pub vertexCountIn : List ℕ → ℕ
+vertexCountIn s = numberFrom s 0
 
-abbrev pub triangleCount : List ℕ → ℕ
-triangleCount s = numberFrom s 4
+abbrev pub triangleCountIn : List ℕ → ℕ
+triangleCountIn s = numberFrom s 4
 
-abbrev pub pieceCount : List ℕ → ℕ
-pieceCount s = numberFrom s 8
+abbrev pub pieceCountIn : List ℕ → ℕ
+pieceCountIn s = numberFrom s 8
 
 abbrev pub verticesFrom : ℕ
 verticesFrom = 12
 
 abbrev pub trianglesFrom : List ℕ → ℕ
-trianglesFrom s = verticesFrom + 24 * vertexCount s
+trianglesFrom s = verticesFrom + 24 * vertexCountIn s
 
 abbrev pub flagsFrom : List ℕ → ℕ
-flagsFrom s = trianglesFrom s + 12 * triangleCount s
+flagsFrom s = trianglesFrom s + 12 * triangleCountIn s
 
 abbrev pub piecesFrom : List ℕ → ℕ
-piecesFrom s = flagsFrom s + vertexCount s
+piecesFrom s = flagsFrom s + vertexCountIn s
 
 -- how many bytes a piece of a kind has, and where piece i starts
 unfoldable pub pieceSize : ℕ → ℕ
@@ -67,9 +67,9 @@ pieceFrom s (suc i) = pieceFrom s i + pieceSize (getD s (pieceFrom s i) 0)
 unfoldable pub secondAt : List ℕ → ℕ → ℕ → Float
 secondAt s i k = cond (eqb (getD s i 0) 0) zero64 (doubleFrom s (i + k))
 
-unfoldable pub coordsAt : List ℕ → ℕ → List Float
+unfoldable pub pieceCoords : List ℕ → ℕ → List Float
 unfolding secondAt
-coordsAt s i = doubleFrom s (i + 5) ∷ doubleFrom s (i + 13) ∷ doubleFrom s (i + 21) ∷ secondAt s i 29 ∷ secondAt s i 37 ∷ secondAt s i 45 ∷ []
+pieceCoords s i = doubleFrom s (i + 5) ∷ doubleFrom s (i + 13) ∷ doubleFrom s (i + 21) ∷ secondAt s i 29 ∷ secondAt s i 37 ∷ secondAt s i 45 ∷ []
 
 -- of the first n pieces the kinds, the faces and the coordinates
 unfoldable pub kindsIn : List ℕ → ℕ → List ℕ
@@ -81,20 +81,20 @@ unfolding pieceFrom
 facesIn s n = listOf n (λ i. numberFrom s (pieceFrom s i + 1))
 
 unfoldable pub coordsIn : List ℕ → ℕ → List Float
-unfolding pieceFrom coordsAt
+unfolding pieceFrom pieceCoords
 coordsIn s zero = []
-coordsIn s (suc n) = coordsIn s n ++ coordsAt s (pieceFrom s n)
+coordsIn s (suc n) = coordsIn s n ++ pieceCoords s (pieceFrom s n)
 
 unfoldable pub jobIn : List ℕ → Job
 unfolding doublesFrom numbersFrom bytesFrom pieceFrom kindsIn facesIn coordsIn
 jobIn s = record {
-  vertices = doublesFrom s verticesFrom (3 * vertexCount s);
-  triangles = numbersFrom s (trianglesFrom s) (3 * triangleCount s);
-  flags = bytesFrom s (flagsFrom s) (vertexCount s);
-  kinds = kindsIn s (pieceCount s);
-  faces = facesIn s (pieceCount s);
-  coords = coordsIn s (pieceCount s);
-  limit = doubleFrom s (pieceFrom s (pieceCount s));
+  vertices = doublesFrom s verticesFrom (3 * vertexCountIn s);
+  triangles = numbersFrom s (trianglesFrom s) (3 * triangleCountIn s);
+  flags = bytesFrom s (flagsFrom s) (vertexCountIn s);
+  kinds = kindsIn s (pieceCountIn s);
+  faces = facesIn s (pieceCountIn s);
+  coords = coordsIn s (pieceCountIn s);
+  limit = doubleFrom s (pieceFrom s (pieceCountIn s));
 }
 
 -- ---- what reading answers: 33 once the counts are read, 30 and 32 as met, 31 last
@@ -105,7 +105,7 @@ unfolding pieceSize
 afterPieces s zero i =
     cond (ltb (length s) (i + 8)) TooShort
     (cond (ltb (i + 8) (length s)) LeftOver
-    (slip.Job (record { vertices = vertexCount s; triangles = triangleCount s; pieces = pieceCount s; limit = doubleFrom s i })))
+    (slip.Job (record { vertices = vertexCountIn s; triangles = triangleCountIn s; pieces = pieceCountIn s; limit = doubleFrom s i })))
 afterPieces s (suc n) i =
     cond (ltb (length s) (i + 1)) TooShort
     (cond (ltb 1 (getD s i 0)) UnknownKind
@@ -114,7 +114,7 @@ afterPieces s (suc n) i =
 
 -- a count is above what there is room for
 unfoldable pub exceeds : List ℕ → ℕ → ℕ → ℕ → Bool
-exceeds s vertices triangles pieces = ltb vertices (vertexCount s) || ltb triangles (triangleCount s) || ltb pieces (pieceCount s)
+exceeds s vertices triangles pieces = ltb vertices (vertexCountIn s) || ltb triangles (triangleCountIn s) || ltb pieces (pieceCountIn s)
 
 unfoldable pub answerTo : List ℕ → ℕ → ℕ → ℕ → Slip
 unfolding exceeds afterPieces
@@ -122,4 +122,4 @@ answerTo s vertices triangles pieces =
     cond (ltb (length s) 12) TooShort
     (cond (exceeds s vertices triangles pieces) TooMany
     (cond (ltb (length s) (piecesFrom s)) TooShort
-    (afterPieces s (pieceCount s) (piecesFrom s))))
+    (afterPieces s (pieceCountIn s) (piecesFrom s))))

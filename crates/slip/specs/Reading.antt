@@ -17,8 +17,8 @@ pub record Rows : Type 0 where
   pub faces : List ℕ
   pub coords : List Float
 
-abbrev pub rows : List Float → List ℕ → List ℕ → List ℕ → List ℕ → List Float → Rows
-rows v t f k n c = record { vertices = v; triangles = t; flags = f; kinds = k; faces = n; coords = c }
+abbrev pub jobRows : List Float → List ℕ → List ℕ → List ℕ → List ℕ → List Float → Rows
+jobRows v t f k n c = record { vertices = v; triangles = t; flags = f; kinds = k; faces = n; coords = c }
 
 -- how many vertices, triangles and pieces there is room for: the whole records that all slices of each have
 unfoldable pub vertexSlots : Rows → ℕ
@@ -34,7 +34,7 @@ pieceSlots b = min (length (b .kinds)) (min (length (b .faces)) (length (b .coor
 unfoldable pub filled : Job → Rows → Rows
 unfolding atFront
 filled j b =
-    rows (atFront (j .vertices) (b .vertices)) (atFront (j .triangles) (b .triangles)) (atFront (j .flags) (b .flags))
+    jobRows (atFront (j .vertices) (b .vertices)) (atFront (j .triangles) (b .triangles)) (atFront (j .flags) (b .flags))
     (atFront (j .kinds) (b .kinds)) (atFront (j .faces) (b .faces)) (atFront (j .coords) (b .coords))
 
 -- a refusal changes nothing
@@ -46,10 +46,10 @@ written s slip.UnknownKind b = b
 written s slip.TooMany b = b
 written s (slip.Job j) b = filled (jobIn s) b
 
-unfoldable pub answer : List ℕ → Rows → Slip
+unfoldable pub slipAnswer : List ℕ → Rows → Slip
 unfolding vertexSlots triangleSlots pieceSlots answerTo
-answer s b = answerTo s (vertexSlots b) (triangleSlots b) (pieceSlots b)
+slipAnswer s b = answerTo s (vertexSlots b) (triangleSlots b) (pieceSlots b)
 
 unfoldable pub reading : List ℕ → Rows → Slip × Rows
-unfolding written answer
-reading s b = (answer s b, written s (answer s b) b)
+unfolding written slipAnswer
+reading s b = (slipAnswer s b, written s (slipAnswer s b) b)

@@ -11,8 +11,8 @@ ghost use lib.ListN.{length, getD};
 ghost use Rattle.buffers.specs.Lent.{given, left};
 ghost use Rattle.buffers.specs.Slots.{fill};
 ghost use Rattle.little_endian.specs.Bytes.{numberFrom, atFront};
-ghost use Rattle.slip.specs.Format.{slipNumber, isJob, vertexCount, triangleCount, pieceCount, trianglesFrom, flagsFrom, piecesFrom, pieceSize, secondAt, coordsAt, jobIn, exceeds, afterPieces, answerTo};
-ghost use Rattle.slip.specs.Reading.{rows, reading};
+ghost use Rattle.slip.specs.Format.{slipNumber, isJob, vertexCountIn, triangleCountIn, pieceCountIn, trianglesFrom, flagsFrom, piecesFrom, pieceSize, secondAt, pieceCoords, jobIn, exceeds, afterPieces, answerTo};
+ghost use Rattle.slip.specs.Reading.{jobRows, reading};
 
 // What the slip of a job says beside its lists.
 pub struct SlipJob {
@@ -55,7 +55,8 @@ pub fn is_job(slip: Slip) -> bool
     }
 }
 
-fn least(m: usize, n: usize) -> usize
+// The lesser of two numbers.
+pub fn least(m: usize, n: usize) -> usize
     ensures { λ r. ⌜ r ≡ min m n ⌝ }
 {
     if m <= n { m } else { n }
@@ -182,7 +183,7 @@ fn check(s: &[u8], vertices: usize, triangles: usize, pieces: usize) -> Slip
 
 fn write_mesh(s: &[u8], vertices: &mut [f64], triangles: &mut [u32], flags: &mut [u8])
     requires { ⌜ (12 ≤ length (now s)) × ((piecesFrom (now s) ≤ length (now s)) ×
-        ((3 * vertexCount (now s) ≤ length (now vertices)) × ((3 * triangleCount (now s) ≤ length (now triangles)) × (vertexCount (now s) ≤ length (now flags))))) ⌝ }
+        ((3 * vertexCountIn (now s) ≤ length (now vertices)) × ((3 * triangleCountIn (now s) ≤ length (now triangles)) × (vertexCountIn (now s) ≤ length (now flags))))) ⌝ }
     ensures { λ r. ⌜ (left vertices ≡ atFront (jobIn (given s) .vertices) (given vertices)) ×
         ((left triangles ≡ atFront (jobIn (given s) .triangles) (given triangles)) × (left flags ≡ atFront (jobIn (given s) .flags) (given flags))) ⌝ }
 {
@@ -208,7 +209,7 @@ fn second(s: &[u8], i: usize, k: usize) -> f64
 // The coordinates of the piece at i, to place k.
 fn write_coords(s: &[u8], i: usize, k: usize, coords: &mut [f64])
     requires { ⌜ (i < length (now s)) × ((i + pieceSize (getD (now s) i 0) ≤ length (now s)) × (6 * k + 6 ≤ length (now coords))) ⌝ }
-    ensures { λ r. ⌜ left coords ≡ fill 6 (given coords) k 0 (coordsAt (given s) i) ⌝ }
+    ensures { λ r. ⌜ left coords ≡ fill 6 (given coords) k 0 (pieceCoords (given s) i) ⌝ }
 {
     coords[6 * k] = double_at(s, i + 5);
     coords[6 * k + 1] = double_at(s, i + 13);
@@ -219,8 +220,8 @@ fn write_coords(s: &[u8], i: usize, k: usize, coords: &mut [f64])
 }
 
 fn write_pieces(s: &[u8], kinds: &mut [u8], faces: &mut [u32], coords: &mut [f64])
-    requires { ⌜ (12 ≤ length (now s)) × ((isJob (afterPieces (now s) (pieceCount (now s)) (piecesFrom (now s))) ≡ true) ×
-        ((pieceCount (now s) ≤ length (now kinds)) × ((pieceCount (now s) ≤ length (now faces)) × (6 * pieceCount (now s) ≤ length (now coords))))) ⌝ }
+    requires { ⌜ (12 ≤ length (now s)) × ((isJob (afterPieces (now s) (pieceCountIn (now s)) (piecesFrom (now s))) ≡ true) ×
+        ((pieceCountIn (now s) ≤ length (now kinds)) × ((pieceCountIn (now s) ≤ length (now faces)) × (6 * pieceCountIn (now s) ≤ length (now coords))))) ⌝ }
     ensures { λ r. ⌜ (left kinds ≡ atFront (jobIn (given s) .kinds) (given kinds)) ×
         ((left faces ≡ atFront (jobIn (given s) .faces) (given faces)) × (left coords ≡ atFront (jobIn (given s) .coords) (given coords))) ⌝ }
 {
@@ -247,8 +248,8 @@ pub fn read(
     faces: &mut [u32],
     coords: &mut [f64],
 ) -> Slip
-    ensures { λ r. ⌜ (r, rows (left vertices) (left triangles) (left flags) (left kinds) (left faces) (left coords)) ≡ reading (given s)
-        (rows (given vertices) (given triangles) (given flags) (given kinds) (given faces) (given coords)) ⌝ }
+    ensures { λ r. ⌜ (r, jobRows (left vertices) (left triangles) (left flags) (left kinds) (left faces) (left coords)) ≡ reading (given s)
+        (jobRows (given vertices) (given triangles) (given flags) (given kinds) (given faces) (given coords)) ⌝ }
 {
     let vertex_room = least(vertices.len() / 3, flags.len());
     let piece_room = least(kinds.len(), least(faces.len(), coords.len() / 6));

@@ -1,8 +1,7 @@
 -- Pieces that stand in a slip are read as they were written. Assumes nothing.
-use Prim.Native.Nat.{ℕ, zero, suc, _+_, _*_, _≤_, _<_}
+use Prim.Native.Nat.{ℕ, _+_, _*_}
 use native.Mathlib.Omega.{arith}
-use native.Mathlib.Numerals.{add-one}
-use mathlib.Core.Path.{_≡_, refl, sym, ap, _∙_}
+use mathlib.Core.Path.{_≡_, refl, sym, _∙_}
 use mathlib.Core.Bool.{Bool, true, false, cond}
 use mathlib.Core.List.{List, [], _∷_, _++_, append-assoc}
 use borrow.Author.Tests.{eqb-true}
@@ -11,7 +10,7 @@ use lib.ListN.{length, getD, drop}
 use lib.Ieee.{Float, nan}
 use Rattle.float64.specs.Scalar.{zero64}
 use Rattle.little_endian.specs.Bytes.{numberFrom, doubleFrom, numberBytes, doubleBytes}
-use Rattle.slip.specs.Format.{pieceSize, secondAt, coordsAt}
+use Rattle.slip.specs.Format.{pieceSize, secondAt, pieceCoords}
 use Rattle.slip_write.specs.Write.{threeBytes, pieceBytes}
 use Rattle.slip_laws.specs.Whole.{IsDouble, IsNumber, NoSecond}
 use Rattle.slip_laws.proofs.Parts.{past, first-here, number-here, double-here}
@@ -91,8 +90,8 @@ module _ (s : List ℕ) (kinds faces : List ℕ) (c : List Float) (i k : ℕ) (r
   from-second =
       let place : i + 29 ≡ i + 5 + 24 = omega arith in rw place (past s (i + 5) (threeBytes c (6 * k)) (second-bytes ++ rest) 24 refl from-coords)
 
-  pub coords-here : ((m : ℕ) → IsDouble (getD c m nan)) → (getD kinds k 0 ≡ 0 → NoSecond c k) → coordsAt s i ≡ six c (6 * k)
-  unfolding coordsAt secondAt second-bytes
+  pub coords-here : ((m : ℕ) → IsDouble (getD c m nan)) → (getD kinds k 0 ≡ 0 → NoSecond c k) → pieceCoords s i ≡ six c (6 * k)
+  unfolding pieceCoords secondAt second-bytes
   coords-here doubles point =
       let p13 : i + 13 ≡ i + 5 + 8 = omega arith in
       let p21 : i + 21 ≡ i + 5 + 16 = omega arith in

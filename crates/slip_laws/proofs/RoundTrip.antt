@@ -10,7 +10,7 @@ use Rattle.job_checks.specs.Job.{Job, vertexCount, triangleCount, pieceCount}
 use Rattle.little_endian.specs.Bytes.{numberFrom, doubleFrom, doublesFrom, numbersFrom, bytesFrom, numberBytes, doubleBytes}
 use Rattle.slip.specs.declared.Slip.the-variants as slip
 use Rattle.slip.specs.Format.{trianglesFrom, flagsFrom, piecesFrom, pieceFrom, kindsIn, facesIn, coordsIn, jobIn, afterPieces, exceeds, answerTo}
-use Rattle.slip.specs.Reading.{Rows, vertexSlots, triangleSlots, pieceSlots, filled, written, answer, reading}
+use Rattle.slip.specs.Reading.{Rows, vertexSlots, triangleSlots, pieceSlots, filled, written, slipAnswer, reading}
 use Rattle.slip_write.specs.Write.{doublesBytes, numbersBytes, piecesBytes, countsBytes, meshBytes, restBytes, slipOf}
 use Rattle.slip_laws.specs.Whole.{IsDouble, IsNumber, Whole, answerOf}
 use Rattle.slip_laws.proofs.Parts.{past, reaches, number-here, double-here}
@@ -182,5 +182,5 @@ module _ (j : Job) (w : Whole j) where
   -- reading it leaves the job at the fronts
   pub slip-read : (b : Rows) → vertexCount j ≤ vertexSlots b → triangleCount j ≤ triangleSlots b → pieceCount j ≤ pieceSlots b
       → reading (slipOf j) b ≡ (answerOf j, filled j b)
-  unfolding reading answer written
+  unfolding reading slipAnswer written
   slip-read b hv ht hp = rw (slip-answer (vertexSlots b) (triangleSlots b) (pieceSlots b) hv ht hp) (ap (λ (k : Job). (answerOf j, filled k b)) job-back)

@@ -1,12 +1,11 @@
 -- Rows that stand in a slip are read as they were written. Assumes nothing.
-use Prim.Native.Nat.{ℕ, zero, suc, _+_, _*_, _≤_, _<_}
+use Prim.Native.Nat.{ℕ, zero, suc, _+_, _*_, _<_}
 use native.Mathlib.Omega.{arith}
 use mathlib.Core.Path.{_≡_, refl, sym, ap, _∙_}
 use mathlib.Core.List.{List, [], _∷_, _++_, append-assoc}
-use lib.Dec.{T}
 use lib.ListN.{length, getD, drop, length-append, List·getD-append}
 use lib.Seq.{ext-getD, getD-drop}
-use lib.Ieee.{Float, nan, binary64, fits}
+use lib.Ieee.{Float, nan, fits}
 use Rattle.nat_laws.specs.Lists.{All, listOf}
 use Rattle.nat_laws.proofs.Lists.{length-listOf, getD-listOf}
 use Rattle.little_endian.specs.Bytes.{numberFrom, doubleFrom, doublesFrom, numbersFrom, bytesFrom, numberBytes, doubleBytes}

@@ -7,8 +7,7 @@ use mathlib.Core.List.{List, [], _∷_, _++_, append-assoc}
 use lib.ListN.{length, getD, drop}
 use lib.Ieee.{Float, nan}
 use Rattle.nat_laws.specs.Lists.{listOf}
-use Rattle.little_endian.specs.Bytes.{numberFrom}
-use Rattle.slip.specs.Format.{pieceSize, piecesFrom, pieceFrom, coordsAt, kindsIn, facesIn, coordsIn, afterPieces}
+use Rattle.slip.specs.Format.{pieceSize, piecesFrom, pieceFrom, kindsIn, facesIn, coordsIn, afterPieces}
 use Rattle.slip.proofs.Pieces.{size-bounds, next-piece}
 use Rattle.slip_write.specs.Write.{pieceBytes, piecesBytes}
 use Rattle.slip_laws.specs.Whole.{IsDouble, IsNumber, NoSecond}

@@ -6,7 +6,7 @@ use mathlib.Core.Path.{_≡_}
 use lib.ListN.{getD}
 use lib.Ieee.{isNan}
 use Rattle.little_endian.specs.Bytes.{numberFrom, doubleFrom}
-use Rattle.slip.specs.Format.{vertexCount, pieceCount, verticesFrom, pieceFrom}
+use Rattle.slip.specs.Format.{vertexCountIn, pieceCountIn, verticesFrom, pieceFrom}
 
 abbrev pub IsByte : ℕ → Type 0
 IsByte n = n < 256
@@ -21,7 +21,7 @@ PlainAt s i = isNan (doubleFrom s i) ≡ true → patternFrom s i ≡ 0x7ff8_000
 
 -- so are all doubles of the slip: the vertices', those of the ends of its pieces, the limit
 pub record Plain (s : List ℕ) : Type 0 where
-  pub vertices : (k : ℕ) → k < 3 * vertexCount s → PlainAt s (verticesFrom + 8 * k)
-  pub ends : (i k : ℕ) → i < pieceCount s → k < 3 → PlainAt s (pieceFrom s i + 5 + 8 * k)
-  pub second-ends : (i k : ℕ) → i < pieceCount s → getD s (pieceFrom s i) 0 ≡ 1 → k < 3 → PlainAt s (pieceFrom s i + 29 + 8 * k)
-  pub limit : PlainAt s (pieceFrom s (pieceCount s))
+  pub vertices : (k : ℕ) → k < 3 * vertexCountIn s → PlainAt s (verticesFrom + 8 * k)
+  pub ends : (i k : ℕ) → i < pieceCountIn s → k < 3 → PlainAt s (pieceFrom s i + 5 + 8 * k)
+  pub second-ends : (i k : ℕ) → i < pieceCountIn s → getD s (pieceFrom s i) 0 ≡ 1 → k < 3 → PlainAt s (pieceFrom s i + 29 + 8 * k)
+  pub limit : PlainAt s (pieceFrom s (pieceCountIn s))

@@ -1,7 +1,7 @@
 -- The ways that reading the counts can go. Assumes nothing.
-use Prim.Native.Nat.{ℕ, _+_, _<_, _≤_}
+use Prim.Native.Nat.{ℕ, _<_, _≤_}
 use native.Mathlib.Omega.{arith}
-use mathlib.Core.Path.{_≡_, refl, sym, ap, _∙_}
+use mathlib.Core.Path.{_≡_, sym, _∙_}
 use mathlib.Core.List.{List}
 use Rattle.groups.specs.declared.Form.{Form}
 use Rattle.groups.specs.declared.Number.{Number}
@@ -11,7 +11,7 @@ use Rattle.slip_moves.specs.declared.Refusal.{Refusal}
 use Rattle.slip_moves.specs.declared.Refusal.the-variants.{TooShort, TooManyGroups}
 use Rattle.slip_moves.specs.declared.Head.{Head}
 use Rattle.slip_moves.specs.declared.Head.the-variants.{Counts, Refused}
-use Rattle.slip_moves.specs.Moves.{counted, SmallCounts}
+use Rattle.slip_moves.specs.Moves.{withCount, SmallCounts}
 
 pub refused-small : (why : Refusal) (far : ℕ) → SmallCounts (Refused why) far
 refused-small why far = record { small = λ v t p i e. absurd (let z : _≡_ {A = ℕ} 0 1 = cc e in omega arith) }
@@ -32,14 +32,14 @@ wider {h} {a} {b} l w = record {
 }
 
 module _ {form : Form} {s : List ℕ} {i : ℕ} {x : Number} (f : Found form s i x) (rest : ℕ → ℕ → Head) where
-  pub count-short : x ≡ Short → Refused TooShort ≡ counted (numberAt form s i) rest
-  unfolding counted
+  pub count-short : x ≡ Short → Refused TooShort ≡ withCount (numberAt form s i) rest
+  unfolding withCount
   count-short e = rw (sym (f .answer) ∙ e)
 
-  pub count-over : x ≡ Over → Refused TooManyGroups ≡ counted (numberAt form s i) rest
-  unfolding counted
+  pub count-over : x ≡ Over → Refused TooManyGroups ≡ withCount (numberAt form s i) rest
+  unfolding withCount
   count-over e = rw (sym (f .answer) ∙ e)
 
-  pub count-is : {n next : ℕ} → x ≡ Is n next → rest n next ≡ counted (numberAt form s i) rest
-  unfolding counted
+  pub count-is : {n next : ℕ} → x ≡ Is n next → rest n next ≡ withCount (numberAt form s i) rest
+  unfolding withCount
   count-is e = rw (sym (f .answer) ∙ e)

@@ -1,11 +1,11 @@
 -- Parts moved one behind the other. Assumes nothing.
 -- `Far l o whole rest m p`: of `whole`, moved to place o of l, what is left to move is `rest`; the list is m by now and the next place p. Each step of a
 -- function takes it on by one part, and a stop or the last part ends it in what the contract asks.
-use Prim.Native.Nat.{ℕ, zero, suc, _+_, _-_, _<_, _≤_}
+use Prim.Native.Nat.{ℕ, _+_, _-_}
 use native.Mathlib.Nat.{add-zero}
 use native.Mathlib.Omega.{arith}
-use mathlib.Core.Path.{_≡_, refl, sym, ap, subst, _∙_}
-use mathlib.Core.List.{List, [], _∷_, _++_, append-nil, append-assoc}
+use mathlib.Core.Path.{_≡_, refl, sym, ap, _∙_}
+use mathlib.Core.List.{List, [], _++_, append-assoc}
 use lib.ListN.{length, length-append}
 use lib.Seq.{sets}
 use Rattle.text_out.specs.Text.{Puts}

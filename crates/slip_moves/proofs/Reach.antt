@@ -1,21 +1,21 @@
 -- How far a part goes: at most so many bytes are read, and at most so many are written. Assumes nothing.
-use Prim.Native.Nat.{ℕ, zero, suc, _+_, _-_, _*_, _<_, _≤_}
+use Prim.Native.Nat.{ℕ, zero, suc, _+_, _-_, _*_, _≤_}
 use native.Mathlib.Omega.{arith}
 use mathlib.Core.Path.{_≡_, refl, sym, ap, _∙_}
 use mathlib.Core.Bool.{Bool, true, false, cond}
-use mathlib.Core.List.{List, [], _∷_, _++_}
+use mathlib.Core.List.{List, [], _++_}
 use lib.Dec.{eqb, ltb}
 use lib.ListN.{length, getD, take, drop, length-append, length-take}
 use Rattle.groups.specs.declared.Form.{Form}
-use Rattle.groups.specs.declared.Form.the-variants.{Plain, Groups}
+use Rattle.groups.specs.declared.Form.the-variants.{Groups}
 use Rattle.groups.specs.declared.Number.{Number}
 use Rattle.groups.specs.declared.Number.the-variants.{Short, Over, Is}
-use Rattle.groups.specs.Groups.{groupsOf, numberAt, numberOf}
+use Rattle.groups.specs.Groups.{numberAt, numberOf}
 use Rattle.groups.proofs.Small.{number-near, number-length}
 use Rattle.slip_moves.specs.declared.Refusal.{Refusal}
 use Rattle.slip_moves.specs.declared.Step.{Step}
-use Rattle.slip_moves.specs.declared.Step.the-variants.{Went, Stopped}
-use Rattle.slip_moves.specs.Moves.{Part, put, stop, also, then, bytesMoved, numberWritten, endsSize, numberMoved, numbersMoved, pieceOfKind, pieceMoved, piecesMoved, meshMoved, restMoved, Moves}
+use Rattle.slip_moves.specs.declared.Step.the-variants.{Went}
+use Rattle.slip_moves.specs.Moves.{Part, put, stop, also, then, bytesMoved, numberWritten, endsSize, numberMoved, numbersMoved, pieceOfKind, pieceMoved, piecesMoved, meshMoved, Moves}
 use Rattle.slip_moves.proofs.Parts.{no-step}
 
 -- from place i on

@@ -1,16 +1,16 @@
 -- The ways that moving a part can go. Assumes nothing.
 use Prim.Native.Nat.{ℕ, zero, suc, _+_, _-_, _<_, _≤_}
 use native.Mathlib.Omega.{arith}
-use mathlib.Core.Path.{_≡_, refl, sym, ap, _∙_}
+use mathlib.Core.Path.{_≡_, refl, sym, _∙_}
 use mathlib.Core.List.{List, []}
 use borrow.Author.Tests.{lt-ltb, le-ltb}
 use lib.ListN.{length, getD, take, drop}
 use Rattle.groups.specs.declared.Form.{Form}
 use Rattle.groups.specs.declared.Number.{Number}
 use Rattle.groups.specs.declared.Number.the-variants.{Short, Over, Is}
-use Rattle.groups.specs.Groups.{numberAt, numberOf, Found}
+use Rattle.groups.specs.Groups.{numberOf, Found}
 use Rattle.slip_moves.specs.declared.Refusal.the-variants.{TooShort, LeftOver, UnknownKind, TooManyGroups}
-use Rattle.slip_moves.specs.Moves.{Part, put, stop, then, numberWritten, bytesMoved, ended, numberMoved, numbersMoved, pieceOfKind, pieceMoved, piecesMoved}
+use Rattle.slip_moves.specs.Moves.{put, stop, then, numberWritten, bytesMoved, ended, numberMoved, numbersMoved, pieceOfKind, pieceMoved, piecesMoved}
 
 module _ (s : List ℕ) (i : ℕ) where
   pub bytes-short : (n : ℕ) → length s < i + n → bytesMoved s n i ≡ stop TooShort

@@ -2,7 +2,7 @@
 use Prim.Native.Nat.{ℕ, _+_, _<_, _≤_}
 use native.Mathlib.Nat.{zero-add}
 use native.Mathlib.Omega.{arith}
-use mathlib.Core.Path.{_≡_, refl, sym, ap, _∙_}
+use mathlib.Core.Path.{_≡_, refl, sym, _∙_}
 use mathlib.Core.List.{List}
 use borrow.Author.Tests.{lt-ltb, le-ltb}
 use lib.ListN.{length}
@@ -14,7 +14,7 @@ use Rattle.slip_moves.specs.declared.Head.the-variants.{Counts, Refused}
 use Rattle.slip_moves.specs.declared.Step.{Step}
 use Rattle.slip_moves.specs.declared.Step.the-variants.{Went, Stopped}
 use Rattle.slip_moves.specs.declared.Moved.the-variants as moved
-use Rattle.slip_moves.specs.Moves.{Part, put, stop, also, then, headAt, headOf, bodyMoved, ended, behindHead, slipMoved, answerOfMove, Moves}
+use Rattle.slip_moves.specs.Moves.{Part, put, stop, also, then, headAt, headBytes, bodyMoved, ended, behindHead, slipMoved, answerOfMove, Moves}
 use Rattle.slip_moves.proofs.Parts.{no-step}
 
 module _ (from to : Form) (s : List ℕ) where
@@ -22,7 +22,7 @@ module _ (from to : Form) (s : List ℕ) where
   unfolding slipMoved behindHead
   refused-head e = rw e
 
-  pub counted-head : {v t p i : ℕ} → headAt from s ≡ Counts v t p i → slipMoved from to s ≡ also (headOf to v t p) (then (bodyMoved from to s v t p i) (ended s))
+  pub counted-head : {v t p i : ℕ} → headAt from s ≡ Counts v t p i → slipMoved from to s ≡ also (headBytes to v t p) (then (bodyMoved from to s v t p i) (ended s))
   unfolding slipMoved behindHead
   counted-head e = rw e
 

@@ -22,27 +22,27 @@ use Rattle.slip_moves.specs.declared.Moved.{Moved}
 use Rattle.slip_moves.specs.declared.Moved.the-variants as moved
 
 -- each refusal's number: 30 to 32 in document 01, 34 and 35 in document 02
-abbrev pub refusalNumber : Refusal → ℕ
-refusalNumber TooShort = 30
-refusalNumber LeftOver = 31
-refusalNumber UnknownKind = 32
-refusalNumber NotGroups = 34
-refusalNumber TooManyGroups = 35
+abbrev pub slipRefusalNumber : Refusal → ℕ
+slipRefusalNumber TooShort = 30
+slipRefusalNumber LeftOver = 31
+slipRefusalNumber UnknownKind = 32
+slipRefusalNumber NotGroups = 34
+slipRefusalNumber TooManyGroups = 35
 
 -- ---- the first byte and the three counts
 
 -- the counts of vertices, triangles and pieces, one behind the other, as met
-unfoldable pub counted : Number → (ℕ → ℕ → Head) → Head
-counted Short rest = Refused TooShort
-counted Over rest = Refused TooManyGroups
-counted (Is n next) rest = rest n next
+unfoldable pub withCount : Number → (ℕ → ℕ → Head) → Head
+withCount Short rest = Refused TooShort
+withCount Over rest = Refused TooManyGroups
+withCount (Is n next) rest = rest n next
 
 unfoldable pub countsAt : Form → List ℕ → ℕ → Head
-unfolding numberAt counted
+unfolding numberAt withCount
 countsAt form s i =
-    counted (numberAt form s i)
-    (λ vertices j. counted (numberAt form s j)
-    (λ triangles k. counted (numberAt form s k)
+    withCount (numberAt form s i)
+    (λ vertices j. withCount (numberAt form s j)
+    (λ triangles k. withCount (numberAt form s k)
     (λ pieces l. Counts vertices triangles pieces l)))
 
 pub record SmallCounts (h : Head) (far : ℕ) : Type 0 where
@@ -59,9 +59,9 @@ unfoldable pub firstByte : Form → List ℕ
 firstByte Plain = []
 firstByte Groups = 2 ∷ []
 
-unfoldable pub headOf : Form → ℕ → ℕ → ℕ → List ℕ
+unfoldable pub headBytes : Form → ℕ → ℕ → ℕ → List ℕ
 unfolding numberOf firstByte
-headOf form vertices triangles pieces = firstByte form ++ numberOf form vertices ++ numberOf form triangles ++ numberOf form pieces
+headBytes form vertices triangles pieces = firstByte form ++ numberOf form vertices ++ numberOf form triangles ++ numberOf form pieces
 
 -- ---- parts
 
@@ -136,9 +136,9 @@ module _ (from to : Form) (s : List ℕ) where
   bodyMoved vertices triangles pieces i = then (meshMoved vertices triangles i) (restMoved pieces)
 
   unfoldable pub behindHead : Head → Part
-  unfolding also then headOf bodyMoved ended
+  unfolding also then headBytes bodyMoved ended
   behindHead (Refused r) = stop r
-  behindHead (Counts vertices triangles pieces i) = also (headOf to vertices triangles pieces) (then (bodyMoved vertices triangles pieces i) (ended s))
+  behindHead (Counts vertices triangles pieces i) = also (headBytes to vertices triangles pieces) (then (bodyMoved vertices triangles pieces i) (ended s))
 
   -- the whole slip
   unfoldable pub slipMoved : Part
@@ -149,7 +149,7 @@ module _ (from to : Form) (s : List ℕ) where
 abbrev pub movedNumber : Moved → ℕ
 movedNumber (moved.Length n) = 0
 movedNumber (moved.NoRoom n) = 36
-movedNumber (moved.Refused r) = refusalNumber r
+movedNumber (moved.Refused r) = slipRefusalNumber r
 
 abbrev pub movedLength : Moved → ℕ
 movedLength (moved.Length n) = n

@@ -11,7 +11,7 @@ ghost use lib.ListN.{length, getD};
 ghost use Rattle.buffers.specs.Lent.{given, left};
 ghost use Rattle.text_out.specs.Text.{Puts};
 ghost use Rattle.groups.specs.Groups.{numberAt};
-ghost use Rattle.slip_moves.specs.Moves.{refusalNumber, movedNumber, movedLength, counted, countsAt, headAt, firstByte, headOf, bytesMoved, endsSize, numberMoved, numbersMoved, pieceOfKind, pieceMoved, piecesMoved, meshMoved, restMoved, bodyMoved, ended, then, slipMoved, moving, Moves, SmallCounts};
+ghost use Rattle.slip_moves.specs.Moves.{slipRefusalNumber, movedNumber, movedLength, withCount, countsAt, headAt, firstByte, headBytes, bytesMoved, endsSize, numberMoved, numbersMoved, pieceOfKind, pieceMoved, piecesMoved, meshMoved, restMoved, bodyMoved, ended, then, slipMoved, moving, Moves, SmallCounts};
 
 pub enum Refusal {
     TooShort,
@@ -23,7 +23,7 @@ pub enum Refusal {
 
 // The number of a refusal in documents 01 and 02.
 pub fn refusal_number(refusal: Refusal) -> u32
-    ensures { λ r. ⌜ r ≡ refusalNumber refusal ⌝ }
+    ensures { λ r. ⌜ r ≡ slipRefusalNumber refusal ⌝ }
 {
     match refusal {
         Refusal::TooShort => 30,
@@ -78,7 +78,7 @@ pub fn moved_length(moved: Moved) -> usize
 
 fn third_count(form: Form, s: &[u8], i: usize, vertices: usize, triangles: usize) -> Head
     requires { ⌜ (i < 100) × ((vertices < 4_294_967_296) × (triangles < 4_294_967_296)) ⌝ }
-    ensures { λ r. ⌜ (r ≡ counted (numberAt form (given s) i) (λ pieces l. Head.Counts vertices triangles pieces l)) × SmallCounts r (i + 5) ⌝ }
+    ensures { λ r. ⌜ (r ≡ withCount (numberAt form (given s) i) (λ pieces l. Head.Counts vertices triangles pieces l)) × SmallCounts r (i + 5) ⌝ }
 {
     match read_number(form, s, i) {
         Number::Short => Head::Refused(Refusal::TooShort),
@@ -89,7 +89,7 @@ fn third_count(form: Form, s: &[u8], i: usize, vertices: usize, triangles: usize
 
 fn second_count(form: Form, s: &[u8], i: usize, vertices: usize) -> Head
     requires { ⌜ (i < 90) × (vertices < 4_294_967_296) ⌝ }
-    ensures { λ r. ⌜ (r ≡ counted (numberAt form (given s) i) (λ triangles k. counted (numberAt form (given s) k) (λ pieces l. Head.Counts vertices triangles pieces l)))
+    ensures { λ r. ⌜ (r ≡ withCount (numberAt form (given s) i) (λ triangles k. withCount (numberAt form (given s) k) (λ pieces l. Head.Counts vertices triangles pieces l)))
         × SmallCounts r (i + 10) ⌝ }
 {
     match read_number(form, s, i) {
@@ -143,7 +143,7 @@ fn put_first_byte(form: Form, out: &mut [u8]) -> usize
 
 fn put_head(form: Form, out: &mut [u8], vertices: usize, triangles: usize, pieces: usize) -> usize
     requires { ⌜ (vertices < 4_294_967_296) × ((triangles < 4_294_967_296) × (pieces < 4_294_967_296)) ⌝ }
-    ensures { λ r. ⌜ Puts (given out) 0 (headOf form vertices triangles pieces) (left out) r × (r ≤ 16) ⌝ }
+    ensures { λ r. ⌜ Puts (given out) 0 (headBytes form vertices triangles pieces) (left out) r × (r ≤ 16) ⌝ }
 {
     let a = put_first_byte(form, out);
     let b = put_number(form, out, a, vertices);

@@ -7,7 +7,6 @@ use mathlib.Core.List.{List, [], _∷_, _++_}
 use lib.Dec.{ltb}
 use lib.ListN.{length, getD, take, drop, replicate, length-append, length-replicate}
 use lib.Seq.{take-at}
-use lib.Ieee.{Float}
 use types.Run.{OneOf, miss}
 use denote.Enum.Declared.{tagOf}
 use Rattle.nat_laws.proofs.Lists.{length-listOf}
@@ -18,8 +17,8 @@ use Rattle.slip.specs.declared.Slip.the-variants.{TooShort, LeftOver, UnknownKi
 use Rattle.slip.specs.declared.Slip.the-variants as slip
 use Rattle.slip.specs.declared.SlipJob.{SlipJob}
 use Rattle.slip.proofs.Slip.{the-type}
-use Rattle.slip.specs.Format.{slipNumber, isJob, vertexCount, triangleCount, pieceCount, trianglesFrom, flagsFrom, piecesFrom, pieceSize, pieceFrom, kindsIn, facesIn, jobIn, afterPieces, exceeds, answerTo}
-use Rattle.slip.specs.Reading.{Rows, rows, vertexSlots, triangleSlots, pieceSlots, filled, written, answer, reading}
+use Rattle.slip.specs.Format.{slipNumber, isJob, vertexCountIn, triangleCountIn, pieceCountIn, trianglesFrom, flagsFrom, piecesFrom, pieceSize, pieceFrom, kindsIn, facesIn, jobIn, afterPieces, exceeds, answerTo}
+use Rattle.slip.specs.Reading.{Rows, jobRows, vertexSlots, triangleSlots, pieceSlots, filled, written, slipAnswer, reading}
 use Rattle.slip.proofs.Walk.{length-coordsIn}
 use Rattle.print_out.specs.PrintOut.{refusedLine}
 use Rattle.slip_program.specs.Program.{jobText, slipText, programText}
@@ -40,7 +39,7 @@ told-or n (slip.Job m) = m
 module _ (s : List ℕ) where
   -- the counts, and the limit behind the first i pieces
   abbrev behind : ℕ → SlipJob
-  behind i = record { vertices = vertexCount s; triangles = triangleCount s; pieces = pieceCount s; limit = doubleFrom s (pieceFrom s i) }
+  behind i = record { vertices = vertexCountIn s; triangles = triangleCountIn s; pieces = pieceCountIn s; limit = doubleFrom s (pieceFrom s i) }
 
   pieces-told : (m k : ℕ) (n : SlipJob) → afterPieces s m (pieceFrom s k) ≡ slip.Job n → n ≡ behind (k + m)
   unfolding afterPieces pieceFrom told-or
@@ -60,15 +59,15 @@ module _ (s : List ℕ) where
       let long = job-behind (ltb 1 kind) UnknownKind whole n refl known in
       pieces-told m (suc k) n (job-behind (ltb (length s) (i + pieceSize kind)) TooShort rest n refl long) ∙ ap behind next
 
-  answer-told : (v t p : ℕ) (n : SlipJob) → answerTo s v t p ≡ slip.Job n → n ≡ behind (pieceCount s)
+  answer-told : (v t p : ℕ) (n : SlipJob) → answerTo s v t p ≡ slip.Job n → n ≡ behind (pieceCountIn s)
   unfolding answerTo pieceFrom
   answer-told v t p n h =
-      let rest = afterPieces s (pieceCount s) (piecesFrom s) in
+      let rest = afterPieces s (pieceCountIn s) (piecesFrom s) in
       let mesh = cond (ltb (length s) (piecesFrom s)) TooShort rest in
       let counted = job-behind (ltb (length s) 12) TooShort (cond (exceeds s v t p) TooMany mesh) n refl h in
       let fits = job-behind (exceeds s v t p) TooMany mesh n refl counted in
-      let all : 0 + pieceCount s ≡ pieceCount s = omega arith in
-      pieces-told (pieceCount s) 0 n (job-behind (ltb (length s) (piecesFrom s)) TooShort rest n refl fits) ∙ ap behind all
+      let all : 0 + pieceCountIn s ≡ pieceCountIn s = omega arith in
+      pieces-told (pieceCountIn s) 0 n (job-behind (ltb (length s) (piecesFrom s)) TooShort rest n refl fits) ∙ ap behind all
 
 -- ---- what stands at the fronts
 front-is : {A : Type 0} (xs l : List A) (n : ℕ) → length xs ≡ n → front n (atFront xs l) ≡ xs
@@ -79,17 +78,17 @@ front-is xs l n e =
     ap (λ (k : ℕ). take k (xs ++ rest)) most ∙ take-at xs rest n e
 
 module _ (s : List ℕ) (b : Rows) where
-  fronts-are : frontJob (behind s (pieceCount s)) (filled (jobIn s) b) ≡ jobIn s
+  fronts-are : frontJob (behind s (pieceCountIn s)) (filled (jobIn s) b) ≡ jobIn s
   unfolding filled jobIn doublesFrom numbersFrom bytesFrom kindsIn facesIn
   fronts-are =
       let j = jobIn s in
       λ i. record {
-        vertices = front-is (j .vertices) (b .vertices) (3 * vertexCount s) (length-listOf (3 * vertexCount s) (λ k. doubleFrom s (12 + 8 * k))) i;
-        triangles = front-is (j .triangles) (b .triangles) (3 * triangleCount s) (length-listOf (3 * triangleCount s) (λ k. numberFrom s (trianglesFrom s + 4 * k))) i;
-        flags = front-is (j .flags) (b .flags) (vertexCount s) (length-listOf (vertexCount s) (λ k. getD s (flagsFrom s + k) 0)) i;
-        kinds = front-is (j .kinds) (b .kinds) (pieceCount s) (length-listOf (pieceCount s) (λ k. getD s (pieceFrom s k) 0)) i;
-        faces = front-is (j .faces) (b .faces) (pieceCount s) (length-listOf (pieceCount s) (λ k. numberFrom s (pieceFrom s k + 1))) i;
-        coords = front-is (j .coords) (b .coords) (6 * pieceCount s) (length-coordsIn s (pieceCount s)) i;
+        vertices = front-is (j .vertices) (b .vertices) (3 * vertexCountIn s) (length-listOf (3 * vertexCountIn s) (λ k. doubleFrom s (12 + 8 * k))) i;
+        triangles = front-is (j .triangles) (b .triangles) (3 * triangleCountIn s) (length-listOf (3 * triangleCountIn s) (λ k. numberFrom s (trianglesFrom s + 4 * k))) i;
+        flags = front-is (j .flags) (b .flags) (vertexCountIn s) (length-listOf (vertexCountIn s) (λ k. getD s (flagsFrom s + k) 0)) i;
+        kinds = front-is (j .kinds) (b .kinds) (pieceCountIn s) (length-listOf (pieceCountIn s) (λ k. getD s (pieceFrom s k) 0)) i;
+        faces = front-is (j .faces) (b .faces) (pieceCountIn s) (length-listOf (pieceCountIn s) (λ k. numberFrom s (pieceFrom s k + 1))) i;
+        coords = front-is (j .coords) (b .coords) (6 * pieceCountIn s) (length-coordsIn s (pieceCountIn s)) i;
         limit = j .limit;
       }
 
@@ -119,7 +118,7 @@ refusal-text s (slip.Job n) e = absurd (true≢false e)
 
 -- the slices that are made for it
 abbrev pub programRows : Rows
-programRows = rows (replicate 192 zero64) (replicate 288 0) (replicate 64 0) (replicate 32 0) (replicate 32 0) (replicate 192 zero64)
+programRows = jobRows (replicate 192 zero64) (replicate 288 0) (replicate 64 0) (replicate 32 0) (replicate 32 0) (replicate 192 zero64)
 
 rows-sized : RowsSized programRows
 rows-sized = record {
@@ -132,23 +131,23 @@ rows-sized = record {
 }
 
 module _ (s : List ℕ) where
-  answered : answer s programRows ≡ answerTo s 64 96 32
-  unfolding answer vertexSlots triangleSlots pieceSlots
+  answered : slipAnswer s programRows ≡ answerTo s 64 96 32
+  unfolding slipAnswer vertexSlots triangleSlots pieceSlots
   answered = let z = rows-sized in λ i. answerTo s (min (z .vertices i / 3) (z .flags i)) (z .triangles i / 3) (min (z .kinds i) (min (z .faces i) (z .coords i / 6)))
 
   module _ (r : Slip) (b′ : Rows) (h : (r, b′) ≡ reading s programRows) where
-    answer-is : r ≡ answer s programRows
+    answer-is : r ≡ slipAnswer s programRows
     unfolding reading
     answer-is = λ i. h i .0
 
-    rows-are : b′ ≡ written s (answer s programRows) programRows
+    rows-are : b′ ≡ written s (slipAnswer s programRows) programRows
     unfolding reading
     rows-are = λ i. h i .1
 
     pub read-printed : (n : SlipJob) → r ≡ slip.Job n → jobText (frontJob n b′) ≡ programText s
     unfolding written slipText
     read-printed n e =
-        let job : answer s programRows ≡ slip.Job n = sym answer-is ∙ e in
+        let job : slipAnswer s programRows ≡ slip.Job n = sym answer-is ∙ e in
         let there : b′ ≡ filled (jobIn s) programRows = rows-are ∙ ap (λ a. written s a programRows) job in
         let told = answer-told s 64 96 32 n (sym answered ∙ job) in
         (λ i. jobText (frontJob (told i) (there i))) ∙ ap jobText (fronts-are s programRows) ∙ sym (ap (slipText s) (sym answered ∙ job))

@@ -1,6 +1,6 @@
 -- What is printed of the answer and the buffers of a job that was computed is the job's print-out. Assumes nothing.
 use Prim.Native.Nat.{ℕ, min}
-use mathlib.Core.Path.{_≡_, refl, ap, subst, _∙_}
+use mathlib.Core.Path.{_≡_, ap, subst, _∙_}
 use mathlib.Core.List.{List}
 use lib.ListN.{length, replicate, length-replicate}
 use lib.Ieee.{Float}
@@ -23,7 +23,7 @@ use Rattle.field_model.specs.Job.{Finished, jobOf}
 use Rattle.field_model.specs.Lent.{slotsIn, computeOver, answerOver, LeavesOver, ComputesOver}
 use Rattle.text_out.specs.Text.{Puts}
 use Rattle.print_out.specs.PrintOut.{liveCount, textOf}
-use Rattle.slip_program.specs.Program.{maxSteps, programCounts, programSlots, aliveCount, distancesOf, replyText, jobText}
+use Rattle.slip_program.specs.Program.{maxSteps, programCounts, programSlots, aliveCount, replyText, jobText}
 use Rattle.slip_program.specs.Fronts.{windowsTold}
 use Rattle.slip_program.proofs.Alive.{counts-alive}
 

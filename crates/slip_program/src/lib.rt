@@ -2,24 +2,19 @@
 use computed::Computed;
 use slip::Slip;
 use slip::SlipJob;
+use slip::least;
 ghost use mathlib.Core.Path.{_≡_};
-ghost use Prim.Native.Nat.{_*_, min};
+ghost use Prim.Native.Nat.{_*_};
 ghost use lib.ListN.{length};
 ghost use Rattle.buffers.specs.Lent.{given, left};
 ghost use Rattle.job_checks.specs.Job.{job};
-ghost use Rattle.slip.specs.Reading.{rows};
+ghost use Rattle.slip.specs.Reading.{jobRows};
 ghost use Rattle.text_out.specs.Text.{Puts};
 ghost use Rattle.print_out.specs.PrintOut.{liveCount, textOf};
 ghost use Rattle.slip_program.specs.Program.{jobText, programText};
 ghost use Rattle.slip_program.specs.Fronts.{windowsTold, frontJob};
 
 const MAX_STEPS: u32 = 100_000;
-
-fn least(n: usize, most: usize) -> usize
-    ensures { λ r. ⌜ r ≡ min n most ⌝ }
-{
-    if n < most { n } else { most }
-}
 
 fn window_count(computed: Computed) -> u32
     ensures { λ r. ⌜ r ≡ windowsTold computed ⌝ }
@@ -121,7 +116,7 @@ fn print_read(
     text: &mut [u8],
 ) -> usize
     ensures { λ r. ⌜ Puts (given text) 0
-        (jobText (frontJob read (rows (given vertices) (given triangles) (given flags) (given kinds) (given faces) (given coords)))) (left text) r ⌝ }
+        (jobText (frontJob read (jobRows (given vertices) (given triangles) (given flags) (given kinds) (given faces) (given coords)))) (left text) r ⌝ }
 {
     let nv = least(3 * (read.vertices as usize), vertices.len());
     let v = &vertices[..nv];

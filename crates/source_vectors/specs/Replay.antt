@@ -63,9 +63,9 @@ holdsFor Eval r =
 unfoldable pub recordAt : Leaf → List ℕ → ℕ → List ℕ
 recordAt f s k = take (size f) (drop (size f * k) s)
 
-unfoldable pub recordsIn : Leaf → List ℕ → ℕ
-recordsIn f s = length s / size f
+unfoldable pub leafRecords : Leaf → List ℕ → ℕ
+leafRecords f s = length s / size f
 
 -- how many of the first n records differ
-abbrev pub differing : Leaf → List ℕ → ℕ → ℕ
-differing f s n = failing (λ k. holdsFor f (recordAt f s k)) n
+abbrev pub leafDifferences : Leaf → List ℕ → ℕ → ℕ
+leafDifferences f s n = failing (λ k. holdsFor f (recordAt f s k)) n

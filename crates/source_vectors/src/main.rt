@@ -9,7 +9,7 @@ use source_records::word_from;
 ghost use mathlib.Core.Path.{_≡_};
 ghost use Prim.Native.Nat.{_+_, _*_, _≤_};
 ghost use lib.ListN.{length};
-ghost use Rattle.source_vectors.specs.Replay.{sameRoots, sameValue, holdsFor, recordsIn, differing};
+ghost use Rattle.source_vectors.specs.Replay.{sameRoots, sameValue, holdsFor, leafRecords, leafDifferences};
 ghost use Rattle.source_vectors.specs.declared.Leaf.the-variants.{Roots, Ties, Edge, Free, Foot, Lowest, Eval};
 ghost use Rattle.source_vectors.specs.Replay.{size as Replay·size};
 
@@ -156,14 +156,14 @@ fn holds(f: Leaf, r: &[u8]) -> bool
 
 // How many whole records s has.
 fn records(f: Leaf, s: &[u8]) -> usize
-    ensures { λ n. ⌜ (n ≡ recordsIn f (now (s .entry))) × (Replay·size f * n ≤ length (now (s .entry))) ⌝ }
+    ensures { λ n. ⌜ (n ≡ leafRecords f (now (s .entry))) × (Replay·size f * n ≤ length (now (s .entry))) ⌝ }
 {
     s.len() / size(f)
 }
 
 // How many of them differ.
 fn differences(f: Leaf, s: &[u8]) -> u64
-    ensures { λ d. ⌜ d ≡ differing f (now (s .entry)) (recordsIn f (now (s .entry))) ⌝ }
+    ensures { λ d. ⌜ d ≡ leafDifferences f (now (s .entry)) (leafRecords f (now (s .entry))) ⌝ }
 {
     let n = records(f, s);
     let z = size(f);

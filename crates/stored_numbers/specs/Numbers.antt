@@ -7,12 +7,12 @@ use lib.ListN.{getD}
 use lib.Ieee.{Float, binary64, ofBits}
 
 -- number k, the least significant byte first; what is past the end is 0
-abbrev pub numberAt : List ℕ → ℕ → ℕ
-numberAt s k = getD s (4 * k) 0 + 256 * getD s (4 * k + 1) 0 + 65_536 * getD s (4 * k + 2) 0 + 16_777_216 * getD s (4 * k + 3) 0
+abbrev pub storedNumber : List ℕ → ℕ → ℕ
+storedNumber s k = getD s (4 * k) 0 + 256 * getD s (4 * k + 1) 0 + 65_536 * getD s (4 * k + 2) 0 + 16_777_216 * getD s (4 * k + 3) 0
 
 -- the double at number k, its low half first
 abbrev pub doubleAt : List ℕ → ℕ → Float
-doubleAt s k = ofBits binary64 (numberAt s k + 4_294_967_296 * numberAt s (k + 1))
+doubleAt s k = ofBits binary64 (storedNumber s k + 4_294_967_296 * storedNumber s (k + 1))
 
 -- whether all elements of a list come to x
 unfoldable pub allAre : {A : Type 0} → (A → ℕ) → ℕ → List A → Bool

@@ -4,7 +4,7 @@ ghost use mathlib.Core.Path.{_≡_};
 ghost use lib.ListN.{length, getD, drop};
 ghost use lib.Ieee.{binary64, toBits};
 ghost use Rattle.nat_laws.specs.Lists.{listOf};
-ghost use Rattle.stored_numbers.specs.Numbers.{numberAt, doubleAt, allAre};
+ghost use Rattle.stored_numbers.specs.Numbers.{storedNumber, doubleAt, allAre};
 
 pub fn u32_of_byte(x: u8) -> u32
     ensures { λ r. ⌜ (r ≡ x) × (r ≤ 255) ⌝ }
@@ -25,7 +25,7 @@ fn octet(s: &[u8], i: usize) -> u32
 // Number k of s, 0 past the end.
 pub fn number(s: &[u8], k: usize) -> u32
     requires { ⌜ k < 4_000_000 ⌝ }
-    ensures { λ r. ⌜ r ≡ numberAt (now (s .entry)) k ⌝ }
+    ensures { λ r. ⌜ r ≡ storedNumber (now (s .entry)) k ⌝ }
 {
     let i = 4 * k;
     octet(s, i) + 256 * octet(s, i + 1) + 65_536 * octet(s, i + 2) + 16_777_216 * octet(s, i + 3)
@@ -48,7 +48,7 @@ pub fn at_most(n: usize, most: usize) -> usize
 // Number k of s, and no more than most.
 pub fn count(s: &[u8], k: usize, most: usize) -> usize
     requires { ⌜ k < 4_000_000 ⌝ }
-    ensures { λ r. ⌜ r ≡ min (numberAt (now (s .entry)) k) most ⌝ }
+    ensures { λ r. ⌜ r ≡ min (storedNumber (now (s .entry)) k) most ⌝ }
 {
     at_most(number(s, k) as usize, most)
 }
@@ -67,7 +67,7 @@ pub fn read_doubles(s: &[u8], k: usize, to: &mut [f64])
 
 pub fn read_numbers(s: &[u8], k: usize, to: &mut [u32])
     requires { ⌜ (k < 1_000_000) × (length (now to) ≤ 200_000) ⌝ }
-    ensures { λ r. ⌜ now (to .exit) ≡ listOf (length (now (to .entry))) (λ i. numberAt (now (s .entry)) (k + i)) ⌝ }
+    ensures { λ r. ⌜ now (to .exit) ≡ listOf (length (now (to .entry))) (λ i. storedNumber (now (s .entry)) (k + i)) ⌝ }
 {
     let mut i = 0;
     while i < to.len() {
@@ -78,7 +78,7 @@ pub fn read_numbers(s: &[u8], k: usize, to: &mut [u32])
 
 pub fn read_bytes(s: &[u8], k: usize, to: &mut [u8])
     requires { ⌜ (k < 1_000_000) × (length (now to) ≤ 200_000) ⌝ }
-    ensures { λ r. ⌜ now (to .exit) ≡ listOf (length (now (to .entry))) (λ i. numberAt (now (s .entry)) (k + i) % 256) ⌝ }
+    ensures { λ r. ⌜ now (to .exit) ≡ listOf (length (now (to .entry))) (λ i. storedNumber (now (s .entry)) (k + i) % 256) ⌝ }
 {
     let mut i = 0;
     while i < to.len() {

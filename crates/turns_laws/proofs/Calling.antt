@@ -21,7 +21,7 @@ use Rattle.advance.specs.Advance.{advanceOf, stepsOf, advanceCandidates}
 use Rattle.advance.specs.Contract.{advancedEnd, StepsTold, AdvancesTo}
 use Rattle.run_steps.proofs.Running.{lack-above}
 use Rattle.advance_c.specs.Turns.{toldCounts, turnsTold, turnsFitIn, Turned}
-use Rattle.turns_laws.specs.InTurns.{Call, AsLong, turnsAsked, stepsTold, lastCounts, lastLeft, Called, Calls}
+use Rattle.turns_laws.specs.InTurns.{Call, AsLong, turnsAsked, stepsOfCalls, lastCounts, lastLeft, Called, CalledAll}
 use Rattle.turns_laws.proofs.Then.{advances-then, advances-not}
 
 -- ---- what a call told
@@ -116,19 +116,19 @@ module _ (limit : Float) (n : ℕ) (v : List Float) (buffer vw round : List ℕ)
       }
 
   module _ (c : Cuts) (cut : length (c .pts) ≡ slots) where
-    pub calls-advance : (counts : Counts) (b : Slices) (ks : List Call) → counts .made ≤ capacityOf (length (b .words)) (length (b .reals)) → Calls limit n v buffer vw round er tw tr slots counts b ks
-        → Advances (turnsAsked ks) counts b c (Went (lastCounts counts ks) (stepsTold ks)) (lastLeft b ks)
-    unfolding turnsAsked stepsTold lastCounts lastLeft Calls
+    pub calls-advance : (counts : Counts) (b : Slices) (ks : List Call) → counts .made ≤ capacityOf (length (b .words)) (length (b .reals)) → CalledAll limit n v buffer vw round er tw tr slots counts b ks
+        → Advances (turnsAsked ks) counts b c (Went (lastCounts counts ks) (stepsOfCalls ks)) (lastLeft b ks)
+    unfolding turnsAsked stepsOfCalls lastCounts lastLeft CalledAll
     calls-advance counts b [] fits C = advances-not limit n v buffer vw round er tw tr counts b c fits
     calls-advance counts b (k ∷ ks) fits C =
         let A = with-cuts (k .most) counts b c (k .cuts) (Went (toldCounts (k .told)) (getD (k .told) 2 0)) (k .left) (C .0 .cut-slots ∙ sym cut) (call-advances counts b k (C .0)) in
         let long = C .0 .long in
         let here = subst (λ (z : ℕ). toldCounts (k .told) .made ≤ z) (λ i. capacityOf (sym (long .words) i) (sym (long .reals) i)) (A .bounded) in
         advances-then limit n v buffer vw round er tw tr (k .most) (turnsAsked ks) counts (toldCounts (k .told)) (getD (k .told) 2 0) b (k .left) c c long refl A
-        (Went (lastCounts (toldCounts (k .told)) ks) (stepsTold ks)) (lastLeft (k .left) ks) (calls-advance (toldCounts (k .told)) (k .left) ks here (C .1))
+        (Went (lastCounts (toldCounts (k .told)) ks) (stepsOfCalls ks)) (lastLeft (k .left) ks) (calls-advance (toldCounts (k .told)) (k .left) ks here (C .1))
 
-    pub calls-long : (counts : Counts) (b : Slices) (ks : List Call) → Calls limit n v buffer vw round er tw tr slots counts b ks → AsLong b (lastLeft b ks)
-    unfolding lastLeft Calls
+    pub calls-long : (counts : Counts) (b : Slices) (ks : List Call) → CalledAll limit n v buffer vw round er tw tr slots counts b ks → AsLong b (lastLeft b ks)
+    unfolding lastLeft CalledAll
     calls-long counts b [] C = record { edges = refl; words = refl; reals = refl; keys = refl; events = refl }
     calls-long counts b (k ∷ ks) C =
         let g = C .0 .long in
@@ -137,13 +137,13 @@ module _ (limit : Float) (n : ℕ) (v : List Float) (buffer vw round : List ℕ)
 
     -- and then one that is refused
     pub calls-stopped : (counts : Counts) (b : Slices) (ks : List Call) (k : Call) (r : ℕ) → counts .made ≤ capacityOf (length (b .words)) (length (b .reals))
-        → Calls limit n v buffer vw round er tw tr slots counts b ks → 0 < r → (r ≡ 20 → ⊥) → Called limit n v buffer vw round er tw tr slots (lastCounts counts ks) (lastLeft b ks) k r
+        → CalledAll limit n v buffer vw round er tw tr slots counts b ks → 0 < r → (r ≡ 20 → ⊥) → Called limit n v buffer vw round er tw tr slots (lastCounts counts ks) (lastLeft b ks) k r
         → StoppedBy r (λ (lack : Lack). Advances (turnsAsked ks + k .most) counts b c (Stopped lack) (k .left))
     calls-stopped counts b ks k r fits C some other D =
         let stop = call-stopped (lastCounts counts ks) (lastLeft b ks) k r some other D in
         record {
           lack = stop .lack;
           number = stop .number;
-          advances = advances-then limit n v buffer vw round er tw tr (turnsAsked ks) (k .most) counts (lastCounts counts ks) (stepsTold ks) b (lastLeft b ks) c (k .cuts) (calls-long counts b ks C) (D .cut-slots ∙ sym cut)
+          advances = advances-then limit n v buffer vw round er tw tr (turnsAsked ks) (k .most) counts (lastCounts counts ks) (stepsOfCalls ks) b (lastLeft b ks) c (k .cuts) (calls-long counts b ks C) (D .cut-slots ∙ sym cut)
               (calls-advance counts b ks fits C) (Stopped (stop .lack)) (k .left) (stop .advances);
         }

@@ -29,8 +29,8 @@ use Rattle.begin.specs.Begin.{WorkSlices, workSlices}
 use Rattle.insertion.specs.declared.InsertCounts.{InsertCounts}
 use Rattle.insert_job.specs.declared.InsertedJob.{InsertedJob}
 use Rattle.insert_job.specs.declared.InsertedJob.the-variants as job
-use Rattle.insert_job.specs.Field.{trimSlices, entrySlices}
-use Rattle.insert_job.specs.Job.{JobWithin, InsertsJob}
+use Rattle.insert_job.specs.Field.{entrySlices}
+use Rattle.insert_job.specs.Job.{JobWithin}
 use Rattle.insert_job.proofs.Begun.{checked}
 use Rattle.advance.specs.declared.Advanced.{Advanced}
 use Rattle.advance.specs.declared.Advanced.the-variants.{Stopped, Went}
@@ -41,7 +41,7 @@ use Rattle.run_steps.specs.Run as run
 use Rattle.run_steps.specs.Run.{WorkResult}
 use Rattle.run_steps.specs.Contract.{noneWaits, workAnswer, RunsTo}
 use Rattle.run_steps.proofs.Running.{none-waits, one-waits, lack-above, run-answer, after-done, after-spent}
-use Rattle.field_work.specs.Contract.{WorksTo, JobWorked}
+use Rattle.field_work.specs.Contract.{WorksTo}
 use Rattle.field_work.proofs.Working.{works-to}
 use Rattle.zero_buffers.specs.ZeroIf.{zeroWords}
 use Rattle.finish.specs.Finish.{FinishesTo}
@@ -52,8 +52,7 @@ use Rattle.compute_spec.specs.Compute.{otherCounts, fieldBuffers, workIn, compu
 use Rattle.compute_spec.proofs.Refusals.{compute-refused, built-is}
 use Rattle.compute_spec.proofs.Contents.{computed}
 use Rattle.field_model.specs.Queue.{inOrder}
-use Rattle.field_model.specs.Field.{Reply, refused}
-use Rattle.field_model.specs.Job.{Finished}
+use Rattle.field_model.specs.Field.{refused}
 use Rattle.field_model.specs.Lent.{computeOver, ComputesOver, finishedOf}
 use Rattle.field_model.proofs.Lawful.{in-order}
 use Rattle.field_model.proofs.Whole.{job-same}
@@ -62,8 +61,8 @@ use Rattle.make_field.proofs.Making.{makes-field}
 use Rattle.compute.specs.Answers.{edgesAnswered, told}
 use Rattle.compute.proofs.Computing.{computes}
 use Rattle.insert_c.specs.Exports.{lentIn, insertTold, InsertedIn}
-use Rattle.advance_c.specs.Turns.{finishFitsIn, FinishAnswer}
-use Rattle.turns_laws.specs.InTurns.{Call, AsLong, turnsAsked, stepsTold, lastCounts, lastLeft, RowsBeside, countsInserted, Inserting, slicesInserted, Turns, NextTurn, endingIn, Finishing, fieldInTurns}
+use Rattle.advance_c.specs.Turns.{finishFitsIn}
+use Rattle.turns_laws.specs.InTurns.{Call, AsLong, turnsAsked, stepsOfCalls, lastCounts, lastLeft, RowsBeside, countsInserted, InsertCalled, slicesInserted, TurnsCalled, NextTurn, endingIn, Finishing, fieldInTurns}
 use Rattle.turns_laws.proofs.Then.{advances-within, advances-refused}
 use Rattle.turns_laws.proofs.Calling.{calls-advance, calls-stopped, calls-long}
 
@@ -131,7 +130,7 @@ module _ (j : Job) (b : FieldBuffers) (rows : RowsBeside b) where
 
   module _ (m₁ : MeshBuffers) (s₁ : WorkSlices) (told₁ : List ℕ) where
     -- ---- the mesh passed
-    module _ (r : ℕ) (I : Inserting j b m₁ s₁ told₁ r) (passed : refusal ≡ 0) where
+    module _ (r : ℕ) (I : InsertCalled j b m₁ s₁ told₁ r) (passed : refusal ≡ 0) where
       abbrev built : MeshBuffers
       built = I .answers .built
 
@@ -180,7 +179,7 @@ module _ (j : Job) (b : FieldBuffers) (rows : RowsBeside b) where
       stopped-by most (job.Went n) is e some = let number : r ≡ 0 = ap (λ (p : ℕ × List ℕ). p .0) e in absurd (omega (arith, number, some))
 
     -- refused by r, whatever the budget is
-    pub insertion-refused : (r : ℕ) → 0 < r → Inserting j b m₁ s₁ told₁ r → (most : ℕ) → computeOver inOrder j b most ≡ refused r
+    pub insertion-refused : (r : ℕ) → 0 < r → InsertCalled j b m₁ s₁ told₁ r → (most : ℕ) → computeOver inOrder j b most ≡ refused r
     insertion-refused r some I most = go refusal refl where
       go : (k : ℕ) → refusal ≡ k → computeOver inOrder j b most ≡ refused r
       go zero h = stopped-by r I h most (In r I h .answer) refl (In r I h .tells) some
@@ -190,7 +189,7 @@ module _ (j : Job) (b : FieldBuffers) (rows : RowsBeside b) where
           heaped most (suc k) (compute-refused j b most k here) ∙ ap refused (sym is)
 
     -- ---- insertion went
-    module _ (I : Inserting j b m₁ s₁ told₁ 0) where
+    module _ (I : InsertCalled j b m₁ s₁ told₁ 0) where
       pub passed : refusal ≡ 0
       passed = go refusal refl where
         go : (k : ℕ) → refusal ≡ k → refusal ≡ 0
@@ -240,14 +239,14 @@ module _ (j : Job) (b : FieldBuffers) (rows : RowsBeside b) where
           (run-answer (j .limit) (vertexCount j) most (j .vertices) (j .triangles) (m .vertex-words) (m .round) (m .edge-reals) (m₁ .triangle-words) (m .triangle-reals) at-first cut (T .counts) a z w is
           (subst (λ (x : MeshBuffers). AdvancedIn x (T .counts .trim) most a z) (In 0 I passed .kept) (subst (λ (c : Counts). AdvancedIn m₁ c most a z) (T .trim) A)))
 
-      module _ (ks : List Call) (C : Turns j b m₁ s₁ told₁ ks) where
+      module _ (ks : List Call) (C : TurnsCalled j b m₁ s₁ told₁ ks) where
         abbrev z : Slices
         z = lastLeft at-first ks
 
         abbrev counts : Counts
         counts = lastCounts (countsInserted told₁) ks
 
-        all-turns : Advanced₁ (turnsAsked ks) (Went counts (stepsTold ks)) z
+        all-turns : Advanced₁ (turnsAsked ks) (Went counts (stepsOfCalls ks)) z
         all-turns =
             calls-advance (j .limit) (vertexCount j) (j .vertices) (j .triangles) (m₁ .vertex-words) (m₁ .round) (m₁ .edge-reals) (m₁ .triangle-words) (m₁ .triangle-reals) (cutCount (b .cuts)) cut cut-length
             (countsInserted told₁) at-first ks fits C
@@ -267,7 +266,7 @@ module _ (j : Job) (b : FieldBuffers) (rows : RowsBeside b) where
         turns-spent some few =
             let waits : noneWaits (z .keys) (z .events) (counts .queued) ≡ false = sym (one-waits (queue (z .keys) (z .events)) (counts .queued) some few) in
             work-refused 0 I passed (turnsAsked ks) 15 z
-            (ran (turnsAsked ks) (Went counts (stepsTold ks)) z (Refused 15) (after-spent (z .keys) (z .events) (T .counts .entries) (Went counts (stepsTold ks)) counts (stepsTold ks) refl waits) all-turns)
+            (ran (turnsAsked ks) (Went counts (stepsOfCalls ks)) z (Refused 15) (after-spent (z .keys) (z .events) (T .counts .entries) (Went counts (stepsOfCalls ks)) counts (stepsOfCalls ks) refl waits) all-turns)
 
         -- ---- no event waits, and the field is finished
         module _ (z′ : Slices) (c′ : Cuts) (E : Finishing j b m₁ s₁ told₁ ks z′ c′) (idle : counts .queued ≡ 0) where
@@ -286,13 +285,13 @@ module _ (j : Job) (b : FieldBuffers) (rows : RowsBeside b) where
               (countsInserted told₁) at-first ks C
 
           abbrev done : FieldWork
-          done = Done (record { trim = counts; entries = T .counts .entries }) (stepsTold ks)
+          done = Done (record { trim = counts; entries = T .counts .entries }) (stepsOfCalls ks)
 
           -- as many turns as there were steps, or more
-          enough : (more : ℕ) → Advanced₁ (stepsTold ks + more) (Went counts (stepsTold ks)) z
+          enough : (more : ℕ) → Advanced₁ (stepsOfCalls ks + more) (Went counts (stepsOfCalls ks)) z
           enough more =
               advances-within (j .limit) (vertexCount j) (j .vertices) (j .triangles) (m₁ .vertex-words) (m₁ .round) (m₁ .edge-reals) (m₁ .triangle-words) (m₁ .triangle-reals)
-              (turnsAsked ks) more (countsInserted told₁) counts (stepsTold ks) at-first z cut none all-turns
+              (turnsAsked ks) more (countsInserted told₁) counts (stepsOfCalls ks) at-first z cut none all-turns
 
           abbrev m : MeshBuffers
           m = built 0 I passed
@@ -306,14 +305,14 @@ module _ (j : Job) (b : FieldBuffers) (rows : RowsBeside b) where
               fieldBuffers (meshBuffers (x .vertex-words) (z′ .edges) (x .edge-reals) (x .round) (m₁ .triangle-words) (x .triangle-reals))
               (workSlices (s₁ .piece-words) (s₁ .piece-reals) (z′ .vertex) (z′ .words) (z′ .reals) (z′ .keys) (z′ .events) (s₁ .entries)) c′ scratch other
 
-          made : (more : ℕ) → MakesField 0 edgeCount (j .vertices) (j .triangles) (j .kinds) (j .faces) (j .coords) (j .limit) m (workIn b) (b .cuts) (stepsTold ks + more) done
+          made : (more : ℕ) → MakesField 0 edgeCount (j .vertices) (j .triangles) (j .kinds) (j .faces) (j .coords) (j .limit) m (workIn b) (b .cuts) (stepsOfCalls ks + more) done
               (meshBuffers (m .vertex-words) (z′ .edges) (m .edge-reals) (m .round) (m₁ .triangle-words) (m .triangle-reals))
               (workSlices (s₁ .piece-words) (s₁ .piece-reals) (z′ .vertex) (z′ .words) (z′ .reals) (z′ .keys) (z′ .events) (s₁ .entries)) c′
           made more =
-              makes-field edgeCount (j .vertices) (j .triangles) (j .kinds) (j .faces) (j .coords) (j .limit) m (workIn b) (b .cuts) (stepsTold ks + more) 0 (omega arith) (cutCount (b .cuts)) refl done
+              makes-field edgeCount (j .vertices) (j .triangles) (j .kinds) (j .faces) (j .coords) (j .limit) m (workIn b) (b .cuts) (stepsOfCalls ks + more) 0 (omega arith) (cutCount (b .cuts)) refl done
               (s₁ .piece-words) (s₁ .piece-reals) z (entrySlices m₁ s₁) (E .cuts) z′ c′
-              (worked 0 I passed (stepsTold ks + more) done z
-              (ran (stepsTold ks + more) (Went counts (stepsTold ks)) z done (after-done (z .keys) (z .events) (T .counts .entries) (Went counts (stepsTold ks)) counts (stepsTold ks) refl none) (enough more)))
+              (worked 0 I passed (stepsOfCalls ks + more) done z
+              (ran (stepsOfCalls ks + more) (Went counts (stepsOfCalls ks)) z done (after-done (z .keys) (z .events) (T .counts .entries) (Went counts (stepsOfCalls ks)) counts (stepsOfCalls ks) refl none) (enough more)))
               (record {
                 words = long .words ∙ I .long .words;
                 reals = long .reals ∙ I .long .reals;
@@ -335,12 +334,12 @@ module _ (j : Job) (b : FieldBuffers) (rows : RowsBeside b) where
               let nv : vertexCount j ≡ slotsOf (length (j .vertices)) coordinatesPerVertex = omega (arith, sound .whole .few-vertices) in
               let nt : triangleCount j ≡ slotsOf (length (j .triangles)) verticesPerTriangle = omega (arith, sound .whole .few-triangles) in
               let np : pieceCount j ≡ slotsOf (length (j .kinds)) 1 = omega (arith, sound .whole .few-pieces) in
-              λ i. Field (record { vertices = nv i; triangles = nt i; pieces = np i; edges = T .edge-count i; windows = counts .made; steps = stepsTold ks })
+              λ i. Field (record { vertices = nv i; triangles = nt i; pieces = np i; edges = T .edge-count i; windows = counts .made; steps = stepsOfCalls ks })
 
           -- with any budget that the steps are within: the same answer, and every slice holds the same
-          pub turns-compute : (more : ℕ) → ComputesOver inOrder j b (stepsTold ks + more) (fieldInTurns j b m₁ s₁ told₁ ks) (endingIn j b m₁ s₁ told₁ z′ c′ (zeroWords (b .scratch)) (zeroWords (b .other-scratch)))
+          pub turns-compute : (more : ℕ) → ComputesOver inOrder j b (stepsOfCalls ks + more) (fieldInTurns j b m₁ s₁ told₁ ks) (endingIn j b m₁ s₁ told₁ z′ c′ (zeroWords (b .scratch)) (zeroWords (b .other-scratch)))
           turns-compute more =
-              computes (j .vertices) (j .triangles) (j .flags) (j .kinds) (j .faces) (j .coords) (j .limit) b (stepsTold ks + more) (lentIn (workIn b)) counts-are (I .answers .answer) m (I .answers .mesh) 0 edgeCount
+              computes (j .vertices) (j .triangles) (j .flags) (j .kinds) (j .faces) (j .coords) (j .limit) b (stepsOfCalls ks + more) (lentIn (workIn b)) counts-are (I .answers .answer) m (I .answers .mesh) 0 edgeCount
               (sym (I .answers .mesh .number ∙ passed)) (sym (ap edgesAnswered (I .answers .mesh .edge-count passed))) done
               (meshBuffers (m .vertex-words) (z′ .edges) (m .edge-reals) (m .round) (m₁ .triangle-words) (m .triangle-reals))
               (workSlices (s₁ .piece-words) (s₁ .piece-reals) (z′ .vertex) (z′ .words) (z′ .reals) (z′ .keys) (z′ .events) (s₁ .entries)) c′ (made more)

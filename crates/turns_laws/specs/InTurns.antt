@@ -45,9 +45,9 @@ unfoldable pub turnsAsked : List Call → ℕ
 turnsAsked [] = 0
 turnsAsked (k ∷ ks) = k .most + turnsAsked ks
 
-unfoldable pub stepsTold : List Call → ℕ
-stepsTold [] = 0
-stepsTold (k ∷ ks) = getD (k .told) 2 0 + stepsTold ks
+unfoldable pub stepsOfCalls : List Call → ℕ
+stepsOfCalls [] = 0
+stepsOfCalls (k ∷ ks) = getD (k .told) 2 0 + stepsOfCalls ks
 
 -- the counts that the last call told, and the slices that it left
 unfoldable pub lastCounts : Counts → List Call → Counts
@@ -69,9 +69,9 @@ module _ (limit : Float) (n : ℕ) (v : List Float) (buffer vertexWords round : 
     pub long : AsLong b (k .left)
 
   -- one behind another, each answered by 0
-  unfoldable pub Calls : Counts → Slices → List Call → Type 0
-  Calls counts b [] = Unit {0}
-  Calls counts b (k ∷ ks) = Called counts b k 0 × Calls (toldCounts (k .told)) (k .left) ks
+  unfoldable pub CalledAll : Counts → Slices → List Call → Type 0
+  CalledAll counts b [] = Unit {0}
+  CalledAll counts b (k ∷ ks) = Called counts b k 0 × CalledAll (toldCounts (k .told)) (k .left) ks
 
 -- with scratch rows of exactly as many slots as there are for windows, to which nothing is written
 pub record RowsBeside (b : FieldBuffers) : Type 0 where
@@ -85,7 +85,7 @@ countsInserted told = record { made = getD told 1 0; queued = getD told 2 0 }
 -- a job in buffers b: m₁, s₁ and told₁ are left by `sirmolaat_insert`; then come the calls
 module _ (j : Job) (b : FieldBuffers) (m₁ : MeshBuffers) (s₁ : WorkSlices) (told₁ : List ℕ) where
   -- `sirmolaat_insert` answered r
-  pub record Inserting (r : ℕ) : Type 0 where
+  pub record InsertCalled (r : ℕ) : Type 0 where
     pub lent : List ℕ
     pub cuts-left : Cuts
     pub answers : InsertAnswers j (b .mesh) (workIn b) (b .cuts) lent r m₁ s₁ cuts-left told₁
@@ -96,8 +96,8 @@ module _ (j : Job) (b : FieldBuffers) (m₁ : MeshBuffers) (s₁ : WorkSlices) (
   abbrev pub slicesInserted : Slices
   slicesInserted = trimSlices m₁ s₁
 
-  abbrev pub Turns : List Call → Type 0
-  Turns ks = Calls (j .limit) (vertexCount j) (j .vertices) (j .triangles) (m₁ .vertex-words) (m₁ .round) (m₁ .edge-reals) (m₁ .triangle-words) (m₁ .triangle-reals) (cutCount (b .cuts))
+  abbrev pub TurnsCalled : List Call → Type 0
+  TurnsCalled ks = CalledAll (j .limit) (vertexCount j) (j .vertices) (j .triangles) (m₁ .vertex-words) (m₁ .round) (m₁ .edge-reals) (m₁ .triangle-words) (m₁ .triangle-reals) (cutCount (b .cuts))
       (countsInserted told₁) slicesInserted ks
 
   -- a call behind them, answered by r
@@ -129,5 +129,5 @@ module _ (j : Job) (b : FieldBuffers) (m₁ : MeshBuffers) (s₁ : WorkSlices) (
     pieces = pieceCount j;
     edges = getD told₁ 0 0;
     windows = lastCounts (countsInserted told₁) ks .made;
-    steps = stepsTold ks;
+    steps = stepsOfCalls ks;
   })

@@ -1,6 +1,5 @@
 use mathlib.Core.Path.{sym}
 use Rattle.field_check.proofs.Tests.{face-inside, face-none, face-outside}
-use borrow.Author.Needs.{needs}
 use Rattle.field_check.proofs.face_outside.Statement.{statement}
 use Rattle.field_check.proofs.face_outside.Tie as tie
 

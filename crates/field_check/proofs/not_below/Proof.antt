@@ -1,6 +1,5 @@
 use mathlib.Core.Bool.{not}
 use mathlib.Core.Path.{sym, ap}
-use borrow.Author.Needs.{needs}
 use Rattle.field_check.proofs.not_below.Statement.{statement}
 use Rattle.field_check.proofs.not_below.Tie as tie
 

@@ -1,7 +1,6 @@
 use mathlib.Core.Bool.{not}
-use mathlib.Core.Path.{ap, _∙_}
+use mathlib.Core.Path.{_∙_}
 use lib.Ieee.{lt}
-use Rattle.field_check.specs.FieldCheck.{startOf}
 use Rattle.field_check.proofs.Tests.{rising-first, rising-next}
 use borrow.Author.Needs.{needs}
 use Rattle.field_check.proofs.not_rising.Statement.{statement}

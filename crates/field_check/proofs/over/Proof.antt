@@ -1,6 +1,5 @@
 use mathlib.Core.Path.{sym}
 use borrow.Author.Tests.{lt-ltb, le-ltb}
-use borrow.Author.Needs.{needs}
 use Rattle.field_check.proofs.over.Statement.{statement}
 use Rattle.field_check.proofs.over.Tie as tie
 

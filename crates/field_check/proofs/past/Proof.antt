@@ -1,6 +1,5 @@
 use mathlib.Core.Path.{sym}
 use borrow.Author.Tests.{le-leb, lt-leb}
-use borrow.Author.Needs.{needs}
 use Rattle.field_check.proofs.past.Statement.{statement}
 use Rattle.field_check.proofs.past.Tie as tie
 

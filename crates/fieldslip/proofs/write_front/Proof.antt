@@ -5,8 +5,8 @@ use borrow.Author.Needs.{needs}
 use Rattle.fieldslip.proofs.write_front.Statement.{statement}
 use Rattle.fieldslip.proofs.write_front.Tie as tie
 
-least-requires : tie.Need-least-requires
-least-requires c κs = search needs
+at-most-requires : tie.Need-at-most-requires
+at-most-requires c κs = search needs
 
 slice-aggregate-write-all : tie.Need-slice-aggregate-write-all
 slice-aggregate-write-all c = sym (length-take-le _ _ (search needs))
@@ -19,4 +19,4 @@ returns c = search needs
 
 pub write-front-spec : {M : Type 1} → statement M
 write-front-spec =
-    tie.close (tie.spec least-requires slice-aggregate-write-all write-all-requires returns)
+    tie.close (tie.spec at-most-requires slice-aggregate-write-all write-all-requires returns)

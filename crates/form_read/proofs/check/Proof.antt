@@ -3,7 +3,6 @@ use Rattle.form_read.proofs.Checks.{refused-counts, too-many, walk-refu
 use Rattle.groups.specs.declared.Form.the-variants.{Plain, Groups}
 use Rattle.slip_moves.specs.Moves.{slipMoved, moving}
 use mathlib.Core.Path.{sym, _∙_}
-use native.Mathlib.Omega.{arith}
 use borrow.Author.Needs.{needs}
 use Rattle.form_read.proofs.check.Statement.{statement}
 use Rattle.form_read.proofs.check.Tie as tie

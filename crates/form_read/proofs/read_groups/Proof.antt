@@ -1,9 +1,8 @@
 -- `form_read::read_groups` meets its contract. Assumes nothing.
 use Rattle.form_read.proofs.Checks.{did-read, did-refuse}
 use Rattle.form_read.specs.FormReading.{isRead, groupsAnswer}
-use Rattle.slip.specs.Reading.{Rows, rows, vertexSlots, triangleSlots, pieceSlots}
+use Rattle.slip.specs.Reading.{Rows, jobRows, vertexSlots, triangleSlots, pieceSlots}
 use mathlib.Core.Path.{_≡_, sym, ap, _∙_}
-use native.Mathlib.Omega.{arith}
 use borrow.Author.Needs.{needs}
 use Rattle.form_read.proofs.read_groups.Statement.{statement}
 use Rattle.form_read.proofs.read_groups.Tie as tie
@@ -34,7 +33,7 @@ write-job-requires c κs =
     let at-first = at-second .before in
     let start = at-first .before .before .before .before .before .before .before .before in
     let s = start .args .s .now in
-    let b : Rows = rows (start .args .vertices .now) (start .args .triangles .now) (start .args .flags .now) (start .args .kinds .now) (start .args .faces .now) (start .args .coords .now) in
+    let b : Rows = jobRows (start .args .vertices .now) (start .args .triangles .now) (start .args .flags .now) (start .args .kinds .now) (start .args .faces .now) (start .args .coords .now) in
     let told : at-check .check .result ≡ groupsAnswer s (vertexSlots b) (triangleSlots b) (pieceSlots b) = rw (at-first .least .ensures, at-third .least3 .ensures, at-second .least2 .ensures) at (at-check .check .ensures) in
     sym (ap isRead told) ∙ (sym (at-is-read .is-read .ensures) ∙ at-if .if1 .taken)
 
@@ -68,7 +67,7 @@ returns c =
     let at-first = at-second .before in
     let start = at-first .before .before .before .before .before .before .before .before in
     let s = start .args .s .now in
-    let b : Rows = rows (start .args .vertices .now) (start .args .triangles .now) (start .args .flags .now) (start .args .kinds .now) (start .args .faces .now) (start .args .coords .now) in
+    let b : Rows = jobRows (start .args .vertices .now) (start .args .triangles .now) (start .args .flags .now) (start .args .kinds .now) (start .args .faces .now) (start .args .coords .now) in
     let told : at-check .check .result ≡ groupsAnswer s (vertexSlots b) (triangleSlots b) (pieceSlots b) = rw (at-first .least .ensures, at-third .least3 .ensures, at-second .least2 .ensures) at (at-check .check .ensures) in
     did-read s b (at-check .check .result) told _ (sym (at-is-read .is-read .ensures) ∙ at-if .if1 .taken) (at-write-job .write-job .ensures)
 
@@ -80,7 +79,7 @@ returns-2 c =
     let at-first = at-second .before in
     let start = at-first .before .before .before .before .before .before .before .before in
     let s = start .args .s .now in
-    let b : Rows = rows (start .args .vertices .now) (start .args .triangles .now) (start .args .flags .now) (start .args .kinds .now) (start .args .faces .now) (start .args .coords .now) in
+    let b : Rows = jobRows (start .args .vertices .now) (start .args .triangles .now) (start .args .flags .now) (start .args .kinds .now) (start .args .faces .now) (start .args .coords .now) in
     let told : c .before .before .check .result ≡ groupsAnswer s (vertexSlots b) (triangleSlots b) (pieceSlots b) = rw (at-first .least .ensures, at-third .least3 .ensures, at-second .least2 .ensures) at (c .before .before .check .ensures) in
     did-refuse s b (c .before .before .check .result) told (sym (c .before .is-read .ensures) ∙ c .if1 .left)
 

@@ -1,8 +1,7 @@
 -- `form_read::write_job` meets its contract. Assumes nothing.
 use Rattle.form_read.proofs.Checks.{mesh-ready, pieces-ready, none-written, job-filled}
-use Rattle.slip.specs.Reading.{rows}
+use Rattle.slip.specs.Reading.{jobRows}
 use mathlib.Core.Path.{sym, _∙_}
-use native.Mathlib.Omega.{arith}
 use borrow.Author.Needs.{needs}
 use Rattle.form_read.proofs.write_job.Statement.{statement}
 use Rattle.form_read.proofs.write_job.Tie as tie
@@ -19,7 +18,7 @@ write-mesh-requires c κs =
     let at-head = at-counts .before .before in
     let start = at-head .before .before .before .before .before .before .before .before in
     let small = at-head .read-head .ensures .1 .small _ _ _ _ (at-counts .v .given .1) in
-    mesh-ready (start .args .s .now) (rows (start .args .vertices .now) (start .args .triangles .now) (start .args .flags .now) (start .args .kinds .now) (start .args .faces .now) (start .args .coords .now)) (start .pre) (sym (at-head .read-head .ensures .0) ∙ at-counts .v .given .1) (small .0) (small .1 .0) (small .1 .1 .0) (small .1 .1 .1)
+    mesh-ready (start .args .s .now) (jobRows (start .args .vertices .now) (start .args .triangles .now) (start .args .flags .now) (start .args .kinds .now) (start .args .faces .now) (start .args .coords .now)) (start .pre) (sym (at-head .read-head .ensures .0) ∙ at-counts .v .given .1) (small .0) (small .1 .0) (small .1 .1 .0) (small .1 .1 .1)
 
 write-pieces-requires : tie.Need-write-pieces-requires
 write-pieces-requires c κs =
@@ -28,7 +27,7 @@ write-pieces-requires c κs =
     let at-head = at-counts .before .before in
     let start = at-head .before .before .before .before .before .before .before .before in
     let small = at-head .read-head .ensures .1 .small _ _ _ _ (at-counts .v .given .1) in
-    rw (at-mesh .write-mesh .ensures .1 .1 .1) (pieces-ready (start .args .s .now) (rows (start .args .vertices .now) (start .args .triangles .now) (start .args .flags .now) (start .args .kinds .now) (start .args .faces .now) (start .args .coords .now)) (start .pre) (sym (at-head .read-head .ensures .0) ∙ at-counts .v .given .1) (small .0) (small .1 .0) (small .1 .1 .0) (small .1 .1 .1))
+    rw (at-mesh .write-mesh .ensures .1 .1 .1) (pieces-ready (start .args .s .now) (jobRows (start .args .vertices .now) (start .args .triangles .now) (start .args .flags .now) (start .args .kinds .now) (start .args .faces .now) (start .args .coords .now)) (start .pre) (sym (at-head .read-head .ensures .0) ∙ at-counts .v .given .1) (small .0) (small .1 .0) (small .1 .1 .0) (small .1 .1 .1))
 
 enum-told : tie.Need-enum-told
 enum-told c = search needs
@@ -60,7 +59,7 @@ returns c =
     let start = at-head .before .before .before .before .before .before .before .before in
     let mesh = at-mesh .write-mesh .ensures in
     let pieces = at-pieces .write-pieces .ensures in
-    job-filled (start .args .s .now) (rows (start .args .vertices .now) (start .args .triangles .now) (start .args .flags .now) (start .args .kinds .now) (start .args .faces .now) (start .args .coords .now)) (sym (at-head .read-head .ensures .0) ∙ at-counts .v .given .1) (mesh .1 .1 .1) (mesh .0) (mesh .1 .0) (mesh .1 .1 .0) (pieces .0) (pieces .1 .0) (pieces .1 .1)
+    job-filled (start .args .s .now) (jobRows (start .args .vertices .now) (start .args .triangles .now) (start .args .flags .now) (start .args .kinds .now) (start .args .faces .now) (start .args .coords .now)) (sym (at-head .read-head .ensures .0) ∙ at-counts .v .given .1) (mesh .1 .1 .1) (mesh .0) (mesh .1 .0) (mesh .1 .1 .0) (pieces .0) (pieces .1 .0) (pieces .1 .1)
 
 returns-2 : tie.Need-returns-2
 returns-2 c =

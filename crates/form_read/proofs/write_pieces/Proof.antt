@@ -1,10 +1,9 @@
 -- `form_read::write_pieces` meets its contract. Assumes nothing.
 use Rattle.form_read.proofs.Walk.{Walk, none-yet, piece-fits, one-more}
-use Rattle.form_read.proofs.Parts.{value-small, next-near, ends-bounds}
+use Rattle.form_read.proofs.Parts.{value-small, next-near}
 use Rattle.form_read.specs.Places.{numberRead, placeBehind, endsFrom}
-use lib.ListN.{getD}
 use Prim.Native.Nat.{_+_, _-_}
-use mathlib.Core.Path.{_≡_, sym, ap, _∙_}
+use mathlib.Core.Path.{_≡_, ap, _∙_}
 use native.Mathlib.Omega.{arith}
 use borrow.Author.Needs.{needs}
 use Rattle.form_read.proofs.write_pieces.Statement.{statement}

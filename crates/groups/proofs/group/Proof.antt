@@ -1,5 +1,5 @@
 -- `groups::group` meets its contract. Assumes nothing.
-use Rattle.groups.specs.Groups.{joined, groupAt}
+use Rattle.groups.specs.Groups.{groupAt}
 use lib.ListN.{length, getD}
 use mathlib.Core.Path.{sym}
 use borrow.Author.Tests.{lt-ltb, le-ltb}

@@ -1,6 +1,5 @@
 -- `groups::read_number` meets its contract. Assumes nothing.
 use Rattle.groups.proofs.Small.{groups-found}
-use native.Mathlib.Omega.{arith}
 use borrow.Author.Needs.{needs}
 use Rattle.groups.proofs.read_number.Statement.{statement}
 use Rattle.groups.proofs.read_number.Tie as tie

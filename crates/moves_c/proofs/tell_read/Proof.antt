@@ -1,7 +1,7 @@
 -- `moves_c::tell_read` meets its contract. Assumes nothing.
 use Rattle.moves_c.specs.Exports.{readTold}
 use lib.ListN.{set}
-use mathlib.Core.Path.{refl, ap, _∙_}
+use mathlib.Core.Path.{ap, _∙_}
 use borrow.Author.Needs.{needs}
 use Rattle.moves_c.proofs.tell_read.Statement.{statement}
 use Rattle.moves_c.proofs.tell_read.Tie as tie

@@ -1,7 +1,6 @@
 -- `print_out::is_minus` meets its contract. Assumes nothing.
 use mathlib.Core.Path.{sym}
 use borrow.Author.Tests.{lt-leb, le-leb}
-use borrow.Author.Needs.{needs}
 use Rattle.print_out.proofs.is_minus.Statement.{statement}
 use Rattle.print_out.proofs.is_minus.Tie as tie
 

@@ -1,6 +1,6 @@
 -- `print_out::put_count` meets its contract. Assumes nothing.
 use Rattle.text_out.proofs.Puts.{puts-then}
-use Rattle.print_out.specs.PrintOut.{counted}
+use Rattle.print_out.specs.PrintOut.{countText}
 use native.Mathlib.Omega.{arith}
 use borrow.Author.Needs.{needs}
 use Rattle.print_out.proofs.put_count.Statement.{statement}
@@ -16,7 +16,7 @@ same-length : tie.Need-same-length
 same-length c = search needs
 
 returns : tie.Need-returns
-unfolding counted
+unfolding countText
 returns c =
     let at-put-decimal = c .before .before in
     let at-put-text = at-put-decimal .before .before .before .before in

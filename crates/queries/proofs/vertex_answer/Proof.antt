@@ -1,4 +1,4 @@
-use mathlib.Core.Path.{sym, ap, _∙_}
+use mathlib.Core.Path.{ap}
 use borrow.Author.Tests.{le-leb, lt-leb}
 use Rattle.queries.specs.Queries.{vertexAnswer}
 use Rattle.queries.specs.declared.VertexDistance.the-variants.{At}

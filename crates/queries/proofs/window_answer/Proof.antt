@@ -3,7 +3,6 @@ use borrow.Author.Tests.{le-leb, lt-leb}
 use Rattle.queries.specs.Queries.{linkedWindow, windowAnswer}
 use native.Mathlib.Omega.{arith}
 use Rattle.queries.proofs.Checked.{taken, left}
-use borrow.Author.Needs.{needs}
 use Rattle.queries.proofs.window_answer.Statement.{statement}
 use Rattle.queries.proofs.window_answer.Tie as tie
 

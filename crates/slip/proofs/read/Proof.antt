@@ -1,6 +1,6 @@
 -- `slip::read` meets its contract. Assumes nothing.
 use Rattle.slip.proofs.Room.{Ready, ready, did-read, did-refuse}
-use Rattle.slip.specs.Reading.{Rows, rows, vertexSlots, triangleSlots, pieceSlots, filled, answer}
+use Rattle.slip.specs.Reading.{Rows, jobRows, vertexSlots, triangleSlots, pieceSlots, filled, slipAnswer}
 use mathlib.Core.Path.{_≡_, sym, _∙_}
 use borrow.Author.Needs.{needs}
 use Rattle.slip.proofs.read.Statement.{statement}
@@ -10,10 +10,10 @@ use Rattle.slip.proofs.read.Tie as tie
 abbrev given-rows : tie.After-check → Rows
 given-rows c =
     let a = c .before .before .before .before .before .before .before .before .before .before .before .args in
-    rows (a .vertices .now) (a .triangles .now) (a .flags .now) (a .kinds .now) (a .faces .now) (a .coords .now)
+    jobRows (a .vertices .now) (a .triangles .now) (a .flags .now) (a .kinds .now) (a .faces .now) (a .coords .now)
 
-answered : (c : tie.After-check) → c .check .result ≡ answer (c .before .before .before .before .before .before .before .before .before .before .before .args .s .now) (given-rows c)
-unfolding answer vertexSlots triangleSlots pieceSlots
+answered : (c : tie.After-check) → c .check .result ≡ slipAnswer (c .before .before .before .before .before .before .before .before .before .before .before .args .s .now) (given-rows c)
+unfolding slipAnswer vertexSlots triangleSlots pieceSlots
 answered c =
     let at-least2 = c .before .before in
     rw (at-least2 .before .least .ensures, c .before .least3 .ensures, at-least2 .least2 .ensures) at (c .check .ensures)
@@ -76,7 +76,7 @@ returns c =
     let mesh = at-write-mesh .write-mesh .ensures in
     let pieces = at-write-pieces .write-pieces .ensures in
     did-read (a .s .now) (given-rows at-check) _ (answered at-check) _ (sym (at-is-job .is-job .ensures) ∙ at-if1 .if1 .taken)
-    (λ i. rows (mesh .0 i) (mesh .1 .0 i) (mesh .1 .1 i) (pieces .0 i) (pieces .1 .0 i) (pieces .1 .1 i))
+    (λ i. jobRows (mesh .0 i) (mesh .1 .0 i) (mesh .1 .1 i) (pieces .0 i) (pieces .1 .0 i) (pieces .1 .1 i))
 
 returns-2 : tie.Need-returns-2
 returns-2 c =

@@ -3,7 +3,7 @@ use native.Mathlib.Nat.{add-zero}
 use native.Mathlib.Omega.{arith}
 use lib.ListN.{getD, length-set}
 use Rattle.buffers.specs.Slots.{fill}
-use Rattle.slip.specs.Format.{coordsAt}
+use Rattle.slip.specs.Format.{pieceCoords}
 use Rattle.slip.proofs.Pieces.{size-bounds}
 use borrow.Author.Needs.{needs}
 use Rattle.slip.proofs.write_coords.Statement.{statement}
@@ -115,7 +115,7 @@ same-length : tie.Need-same-length
 same-length c = simp length-set
 
 returns : tie.Need-returns
-unfolding fill coordsAt
+unfolding fill pieceCoords
 returns c =
     let at-second2 = c .before in
     let at-second = at-second2 .before in

@@ -1,7 +1,7 @@
 -- `slip::write_pieces` meets its contract. Assumes nothing.
 use Rattle.slip.proofs.Walk.{Walk, none-yet, piece-fits, one-more}
 use Rattle.slip.proofs.Pieces.{size-bounds}
-use Rattle.slip.specs.Format.{pieceCount, jobIn}
+use Rattle.slip.specs.Format.{pieceCountIn, jobIn}
 use lib.ListN.{getD}
 use mathlib.Core.Path.{_≡_}
 use native.Mathlib.Omega.{arith}
@@ -104,7 +104,7 @@ returns c =
     let at-loop = c .before in
     let at-count = at-loop .before .before in
     let a = at-count .before .before .before .before .before .args in
-    let e : at-loop .loop .k ≡ pieceCount (a .s .now) = omega (arith, at-count .count .ensures .0, c .loop-test .left, at-loop .loop .inv .most) in
+    let e : at-loop .loop .k ≡ pieceCountIn (a .s .now) = omega (arith, at-count .count .ensures .0, c .loop-test .left, at-loop .loop .inv .most) in
     (rw e at (at-loop .loop .inv .kinds-are), (rw e at (at-loop .loop .inv .faces-are), rw e at (at-loop .loop .inv .coords-are)))
 
 pub write-pieces-spec : {M : Type 1} → statement M

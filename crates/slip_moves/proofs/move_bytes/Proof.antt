@@ -2,7 +2,6 @@
 use Rattle.slip_moves.proofs.Parts.{moves-put, moves-stop}
 use Rattle.slip_moves.proofs.Ways.{bytes-short, bytes-there}
 use Rattle.slip_moves.specs.declared.Step.the-variants.{Went}
-use lib.ListN.{length, length-take, take, drop}
 use Prim.Native.Nat.{_+_, _-_}
 use mathlib.Core.Path.{_≡_, refl, ap}
 use native.Mathlib.Omega.{arith}

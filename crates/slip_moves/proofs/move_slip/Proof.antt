@@ -1,7 +1,6 @@
 -- `slip_moves::move_slip` meets its contract. Assumes nothing.
 use Rattle.slip_moves.specs.Moves.{slipMoved, moving}
 use Rattle.slip_moves.proofs.Whole.{refused, no-room, done}
-use native.Mathlib.Omega.{arith}
 use borrow.Author.Needs.{needs}
 use Rattle.slip_moves.proofs.move_slip.Statement.{statement}
 use Rattle.slip_moves.proofs.move_slip.Tie as tie

@@ -3,7 +3,6 @@ use Rattle.slip_moves.specs.Moves.{then, bodyMoved, ended}
 use Rattle.slip_moves.proofs.Parts.{far-puts, far-last, moves-is, moves-stop}
 use Rattle.slip_moves.proofs.Whole.{refused-head, counted-head}
 use mathlib.Core.Path.{refl, sym, _∙_}
-use native.Mathlib.Omega.{arith}
 use borrow.Author.Needs.{needs}
 use Rattle.slip_moves.proofs.move_whole.Statement.{statement}
 use Rattle.slip_moves.proofs.move_whole.Tie as tie

@@ -1,5 +1,5 @@
 -- `slip_moves::put_head` meets its contract. Assumes nothing.
-use Rattle.slip_moves.specs.Moves.{headOf}
+use Rattle.slip_moves.specs.Moves.{headBytes}
 use native.Mathlib.Omega.{arith}
 use Rattle.text_out.proofs.Puts.{puts-then}
 use borrow.Author.Needs.{needs}
@@ -22,7 +22,7 @@ same-length : tie.Need-same-length
 same-length c = search needs
 
 returns : tie.Need-returns
-unfolding headOf
+unfolding headBytes
 returns c = (
   puts-then (puts-then (puts-then (c .before .before .before .before .before .before .before .before .before .before .before .before .before .before .put-first-byte .ensures .0) (c .before .before .before .before .before .before .before .before .before .before .put-number .ensures .0)) (c .before .before .before .before .before .before .put-number2 .ensures .0)) (c .before .before .put-number3 .ensures .0),
   omega (arith, c .before .before .before .before .before .before .before .before .before .before .before .before .before .before .put-first-byte .ensures .1, c .before .before .before .before .before .before .before .before .before .before .put-number .ensures .1, c .before .before .before .before .before .before .put-number2 .ensures .1, c .before .before .put-number3 .ensures .1),

@@ -1,5 +1,5 @@
 -- `slip_moves::read_counts` meets its contract. Assumes nothing.
-use Rattle.slip_moves.proofs.Heads.{refused-small, counts-small, wider, count-short, count-over, count-is}
+use Rattle.slip_moves.proofs.Heads.{refused-small, wider, count-short, count-over, count-is}
 use mathlib.Core.Path.{_∙_}
 use native.Mathlib.Omega.{arith}
 use Rattle.slip_moves.specs.Moves.{countsAt}

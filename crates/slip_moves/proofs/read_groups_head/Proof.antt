@@ -1,6 +1,6 @@
 -- `slip_moves::read_groups_head` meets its contract. Assumes nothing.
 use Rattle.slip_moves.specs.Moves.{headAt}
-use Rattle.slip_moves.proofs.Heads.{refused-small, counts-small, wider, count-short, count-over, count-is}
+use Rattle.slip_moves.proofs.Heads.{refused-small}
 use lib.ListN.{length, getD}
 use borrow.Author.Tests.{lt-ltb, le-ltb, eq-eqb, ne-eqb}
 use native.Mathlib.Omega.{arith}

@@ -1,6 +1,5 @@
 -- `slip_moves::read_head` meets its contract. Assumes nothing.
 use Rattle.slip_moves.specs.Moves.{headAt}
-use native.Mathlib.Omega.{arith}
 use borrow.Author.Needs.{needs}
 use Rattle.slip_moves.proofs.read_head.Statement.{statement}
 use Rattle.slip_moves.proofs.read_head.Tie as tie

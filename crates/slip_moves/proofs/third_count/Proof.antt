@@ -1,7 +1,5 @@
 -- `slip_moves::third_count` meets its contract. Assumes nothing.
-use Rattle.slip_moves.proofs.Heads.{refused-small, counts-small, wider, count-short, count-over, count-is}
-use mathlib.Core.Path.{_∙_}
-use native.Mathlib.Omega.{arith}
+use Rattle.slip_moves.proofs.Heads.{refused-small, counts-small, count-short, count-over, count-is}
 use borrow.Author.Needs.{needs}
 use Rattle.slip_moves.proofs.third_count.Statement.{statement}
 use Rattle.slip_moves.proofs.third_count.Tie as tie

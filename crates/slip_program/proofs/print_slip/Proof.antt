@@ -1,7 +1,6 @@
 -- `slip_program::print_slip` meets its contract. Assumes nothing.
 use mathlib.Core.Path.{ap, _∙_}
-use Prim.Native.Nat.{ℕ}
-use Rattle.slip.specs.Reading.{rows}
+use Rattle.slip.specs.Reading.{jobRows}
 use Rattle.print_out.specs.PrintOut.{refusedLine, textOf}
 use Rattle.slip_program.proofs.Texts.{puts-same}
 use Rattle.slip_program.proofs.Read.{not-job, read-printed, refused-printed}
@@ -55,7 +54,7 @@ returns c =
     let read = at-read .read in
     let a = at-read .before .before .before .before .before .before .before .before .before .args in
     puts-same
-    (ap refusedLine (numbered .slip-number .ensures) ∙ refused-printed (a .s .now) (read .result) (rows (read .last .1 .0) (read .last .1 .1 .0) (read .last .1 .1 .1 .0) (read .last .1 .1 .1 .1 .0) (read .last .1 .1 .1 .1 .1 .0) (read .last .1 .1 .1 .1 .1 .1 .0)) (read .ensures) (not-job (read .result) (matched .match .keys2)))
+    (ap refusedLine (numbered .slip-number .ensures) ∙ refused-printed (a .s .now) (read .result) (jobRows (read .last .1 .0) (read .last .1 .1 .0) (read .last .1 .1 .1 .0) (read .last .1 .1 .1 .1 .0) (read .last .1 .1 .1 .1 .1 .0) (read .last .1 .1 .1 .1 .1 .1 .0)) (read .ensures) (not-job (read .result) (matched .match .keys2)))
     (printed .print-out .ensures)
 
 slice-aggregate-print-read : tie.Need-slice-aggregate-print-read
@@ -89,7 +88,7 @@ returns-2 c =
     let at-read = known .before .before .before .before .before .before .before .before in
     let read = at-read .read in
     let a = at-read .before .before .before .before .before .before .before .before .before .args in
-    puts-same (read-printed (a .s .now) (read .result) (rows (read .last .1 .0) (read .last .1 .1 .0) (read .last .1 .1 .1 .0) (read .last .1 .1 .1 .1 .0) (read .last .1 .1 .1 .1 .1 .0) (read .last .1 .1 .1 .1 .1 .1 .0)) (read .ensures) (known .read2 .given .0 .0) (known .read2 .given .1)) (printed .print-read .ensures)
+    puts-same (read-printed (a .s .now) (read .result) (jobRows (read .last .1 .0) (read .last .1 .1 .0) (read .last .1 .1 .1 .0) (read .last .1 .1 .1 .1 .0) (read .last .1 .1 .1 .1 .1 .0) (read .last .1 .1 .1 .1 .1 .1 .0)) (read .ensures) (known .read2 .given .0 .0) (known .read2 .given .1)) (printed .print-read .ensures)
 
 pub print-slip-spec : {M : Type 1} → statement M
 print-slip-spec =

@@ -7,7 +7,7 @@ use native.Mathlib.Omega.{arith}
 use lib.ListN.{length, length-take, length-drop}
 use borrow.Author.Needs.{needs}
 use borrow.Author.Tests.{not-true, not-false}
-use Rattle.source_vectors.specs.Replay.{holdsFor, recordAt, recordsIn, differing}
+use Rattle.source_vectors.specs.Replay.{holdsFor, recordAt, leafRecords, leafDifferences}
 use Rattle.vectors.specs.Records.{failing}
 use Rattle.vectors.proofs.Laws.{same-count, one-more}
 use Rattle.nat_laws.proofs.Ring.{run-within}
@@ -16,7 +16,7 @@ use Rattle.source_vectors.proofs.differences.Statement.{statement}
 use Rattle.source_vectors.proofs.differences.Tie as tie
 
 abbrev Inv-loop : tie.InvT-loop
-Inv-loop f s n z count₀ k₀ count k = (k ≤ n) × (count ≤ k) × (count ≡ differing f s k)
+Inv-loop f s n z count₀ k₀ count k = (k ≤ n) × (count ≤ k) × (count ≡ leafDifferences f s k)
 
 abbrev μ-loop : tie.MeasureT-loop
 μ-loop f s n z count₀ k₀ count k = n - k
@@ -79,7 +79,7 @@ loop-again c =
 returns : tie.Need-returns Inv-loop μ-loop
 returns c =
     let r = c .before .before .before in
-    let e : c .before .loop .k ≡ recordsIn (r .before .before .args .f) (r .before .before .args .s .now) = omega (arith, r .records .ensures .0) in
+    let e : c .before .loop .k ≡ leafRecords (r .before .before .args .f) (r .before .before .args .s .now) = omega (arith, r .records .ensures .0) in
     rw e at (c .before .loop .inv .2)
 
 pub differences-spec : {M : Type 1} → statement M

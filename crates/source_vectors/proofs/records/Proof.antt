@@ -4,7 +4,7 @@ use Prim.Native.Nat.{ℕ, _/_}
 use native.Mathlib.Nat.{mul-div-le}
 use native.Mathlib.Omega.{arith}
 use lib.ListN.{length}
-use Rattle.source_vectors.specs.Replay.{size, recordsIn}
+use Rattle.source_vectors.specs.Replay.{size, leafRecords}
 use borrow.Author.Needs.{needs}
 use Rattle.source_vectors.proofs.Laws.{size-pos}
 use Rattle.source_vectors.proofs.records.Statement.{statement}
@@ -17,7 +17,7 @@ div-result : tie.Need-div-result
 div-result c = omega (arith, c .size .ensures, size-pos (c .before .before .args .f))
 
 returns : tie.Need-returns
-unfolding recordsIn
+unfolding leafRecords
 returns c =
     let e = ap (λ (z : ℕ). length (c .before .before .args .s .now) / z) (c .size .ensures) in
     (e, rw e (mul-div-le (length (c .before .before .args .s .now)) (size (c .before .before .args .f))))

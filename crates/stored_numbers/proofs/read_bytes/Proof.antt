@@ -3,14 +3,14 @@ use Prim.Native.Nat.{ℕ, _+_, _%_, _≤_, _-_}
 use lib.ListN.{length, length-set}
 use mathlib.Core.Path.{_≡_, refl, ap, _∙_}
 use native.Mathlib.Omega.{arith}
-use Rattle.stored_numbers.specs.Numbers.{numberAt}
+use Rattle.stored_numbers.specs.Numbers.{storedNumber}
 use Rattle.stored_numbers.proofs.Rows.{Written, written-next, written-all}
 use borrow.Author.Needs.{needs}
 use Rattle.stored_numbers.proofs.read_bytes.Statement.{statement}
 use Rattle.stored_numbers.proofs.read_bytes.Tie as tie
 
 abbrev Inv-loop : tie.InvT-loop
-Inv-loop s k to₀ i₀ to i = (length to ≡ length to₀) × ((i ≤ length to₀) × Written 0 (λ j. numberAt s (k + j) % 256) i to)
+Inv-loop s k to₀ i₀ to i = (length to ≡ length to₀) × ((i ≤ length to₀) × Written 0 (λ j. storedNumber s (k + j) % 256) i to)
 
 abbrev μ-loop : tie.MeasureT-loop
 μ-loop s k to₀ i₀ to i = length to - i
@@ -48,7 +48,7 @@ loop-again c =
       length-set (loop .to) (loop .i) (number .result % 256) ∙ loop .inv .0,
       (
         omega (arith, loop-test .taken, loop .inv .0),
-        written-next 0 (λ j. numberAt (a .s .now) (a .k + j) % 256) (loop .i) (loop .to) (number .result % 256) (loop-test .taken)
+        written-next 0 (λ j. storedNumber (a .s .now) (a .k + j) % 256) (loop .i) (loop .to) (number .result % 256) (loop-test .taken)
             (ap (λ (n : ℕ). n % 256) (number .ensures)) (loop .inv .1 .1),
       ),
     )
@@ -57,7 +57,7 @@ same-length : tie.Need-same-length Inv-loop μ-loop
 same-length c = search needs
 
 returns : tie.Need-returns Inv-loop μ-loop
-returns c = let a = c .before .before .before .before .args in written-all 0 (λ j. numberAt (a .s .now) (a .k + j) % 256) (a .to .now) (c .before .loop .to) (c .before .loop .i) (c .before .loop .inv .0) (c .loop-test .left) (c .before .loop .inv .1 .1)
+returns c = let a = c .before .before .before .before .args in written-all 0 (λ j. storedNumber (a .s .now) (a .k + j) % 256) (a .to .now) (c .before .loop .to) (c .before .loop .i) (c .before .loop .inv .0) (c .loop-test .left) (c .before .loop .inv .1 .1)
 
 pub read-bytes-spec : {M : Type 1} → statement M
 read-bytes-spec =

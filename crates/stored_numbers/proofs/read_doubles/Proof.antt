@@ -1,7 +1,7 @@
 -- `stored_numbers::read_doubles` meets its contract. Assumes nothing.
 use Prim.Native.Nat.{_+_, _*_, _≤_, _-_}
 use lib.ListN.{length, length-set}
-use mathlib.Core.Path.{_≡_, refl, ap, _∙_}
+use mathlib.Core.Path.{_≡_, refl, _∙_}
 use native.Mathlib.Omega.{arith}
 use lib.Ieee.{nan}
 use Rattle.stored_numbers.specs.Numbers.{doubleAt}

@@ -1,8 +1,8 @@
--- `field_c::told_field` meets its contract. Assumes nothing.
-use Rattle.field_c.proofs.Asking.{told-is}
+-- `queries::told_field` meets its contract. Assumes nothing.
+use Rattle.queries.proofs.Told.{told-is}
 use borrow.Author.Needs.{needs}
-use Rattle.field_c.proofs.told_field.Statement.{statement}
-use Rattle.field_c.proofs.told_field.Tie as tie
+use Rattle.queries.proofs.told_field.Statement.{statement}
+use Rattle.queries.proofs.told_field.Tie as tie
 
 read-u32-requires : tie.Need-read-u32-requires
 read-u32-requires c κs = search needs

@@ -1,8 +1,8 @@
--- `field_c::told_answer` meets its contract. Assumes nothing.
-use Rattle.field_c.proofs.Asking.{answer-field, answer-refused}
+-- `queries::told_answer` meets its contract. Assumes nothing.
+use Rattle.queries.proofs.Told.{answer-field, answer-refused}
 use borrow.Author.Needs.{needs}
-use Rattle.field_c.proofs.told_answer.Statement.{statement}
-use Rattle.field_c.proofs.told_answer.Tie as tie
+use Rattle.queries.proofs.told_answer.Statement.{statement}
+use Rattle.queries.proofs.told_answer.Tie as tie
 
 told-field-requires : tie.Need-told-field-requires
 told-field-requires c κs = search needs
