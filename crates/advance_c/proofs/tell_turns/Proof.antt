@@ -28,7 +28,11 @@ returns : tie.Need-returns
 returns c = told-stopped _ _ (c .before .before .advanced .given .1) (c .lack-number .ensures)
 
 same-length : tie.Need-same-length
-same-length c = search needs
+same-length c =
+    let at-write-u323 = c .before .before in
+    let at-write-u322 = at-write-u323 .before .before .before .before in
+    let at-write-u32 = at-write-u322 .before .before .before .before in
+    at-write-u323 .write-u323 .kept .0 ∙ at-write-u322 .write-u322 .kept .0 ∙ at-write-u32 .write-u32 .kept .0
 
 returns-2 : tie.Need-returns-2
 returns-2 c =

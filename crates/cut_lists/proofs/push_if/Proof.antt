@@ -10,7 +10,7 @@ push-requires : tie.Need-push-requires
 push-requires c κs = search needs
 
 same-length : tie.Need-same-length
-same-length c = search needs
+same-length c = c .before .before .push .kept .0
 
 returns : tie.Need-returns
 returns c = rw (c .before .before .before .before .if1 .taken) (c .before .before .push .ensures)

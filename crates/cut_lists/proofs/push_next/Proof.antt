@@ -1,4 +1,5 @@
 -- `cut_lists::push_next` meets its contract. Assumes nothing.
+use mathlib.Core.Path.{_∙_}
 use borrow.Author.Needs.{needs}
 use lib.ListN.{length}
 use Rattle.better.specs.Buffers.{pairs}
@@ -16,7 +17,7 @@ push-requires : tie.Need-push-requires
 push-requires c κs = search needs
 
 same-length : tie.Need-same-length
-same-length c = search needs
+same-length c = c .before .before .push .kept .0
 
 returns : tie.Need-returns
 returns c =
@@ -38,7 +39,7 @@ enum-told : tie.Need-enum-told
 enum-told c = search needs
 
 same-length-2 : tie.Need-same-length-2
-same-length-2 c = search needs
+same-length-2 c = c .before .before .before .before .push-if .kept .1 .0
 
 returns-2 : tie.Need-returns-2
 returns-2 c =
@@ -66,7 +67,10 @@ enum-told-2 : tie.Need-enum-told-2
 enum-told-2 c = search needs
 
 same-length-3 : tie.Need-same-length-3
-same-length-3 c = search needs
+same-length-3 c =
+    let at-push-cuts = c .before .before .before .before in
+    let at-push-if = at-push-cuts .before .before .before .before .before .before .before in
+    at-push-cuts .push-cuts .kept .1 .1 .1 .1 .0 ∙ at-push-if .push-if .kept .1 .0
 
 returns-3 : tie.Need-returns-3
 returns-3 c =
@@ -90,7 +94,11 @@ push-if-requires-2 c κs =
     d .0
 
 same-length-4 : tie.Need-same-length-4
-same-length-4 c = search needs
+same-length-4 c =
+    let at-push-if2 = c .before .before in
+    let at-push-cuts = at-push-if2 .before .before .before .before .before .before .before in
+    let at-push-if = at-push-cuts .before .before .before .before .before .before .before in
+    at-push-if2 .push-if2 .kept .1 .0 ∙ at-push-cuts .push-cuts .kept .1 .1 .1 .1 .0 ∙ at-push-if .push-if .kept .1 .0
 
 returns-4 : tie.Need-returns-4
 returns-4 c =

@@ -1,4 +1,5 @@
 -- `edge_table::add_edge` meets its contract: the six stores make a row. Assumes nothing.
+use mathlib.Core.Path.{_∙_}
 use native.Mathlib.Omega.{arith}
 use Rattle.edge_table.proofs.Turns.{stored}
 use borrow.Author.Needs.{needs}
@@ -36,10 +37,17 @@ write-u32-requires-7 : tie.Need-write-u32-requires-7
 write-u32-requires-7 c κs = search needs
 
 same-length : tie.Need-same-length
-same-length c = search needs
+same-length c = c .before .before .write-u327 .kept .0
 
 same-length-2 : tie.Need-same-length-2
-same-length-2 c = search needs
+same-length-2 c =
+    let at-write-u326 = c .before .before .before .before .before .before in
+    let at-write-u325 = at-write-u326 .before .before .before .before in
+    let at-write-u324 = at-write-u325 .before .before .before .before in
+    let at-write-u323 = at-write-u324 .before .before .before .before in
+    let at-write-u322 = at-write-u323 .before .before .before .before in
+    let at-write-u32 = at-write-u322 .before .before .before .before in
+    at-write-u326 .write-u326 .kept .0 ∙ at-write-u325 .write-u325 .kept .0 ∙ at-write-u324 .write-u324 .kept .0 ∙ at-write-u323 .write-u323 .kept .0 ∙ at-write-u322 .write-u322 .kept .0 ∙ at-write-u32 .write-u32 .kept .0
 
 returns : tie.Need-returns
 returns c =

@@ -47,13 +47,23 @@ zero-u32-requires-6 : tie.Need-zero-u32-requires-6
 zero-u32-requires-6 c κs = search needs
 
 same-length : tie.Need-same-length
-same-length c = search needs
+same-length c =
+    let at-enter-sides = c .before .before .before .before .before .before .before .before .before .before .before .before .before in
+    let at-zero-u32 = at-enter-sides .before .before .before .before .before .before .before .before .before .before .before .before .before .before in
+    at-enter-sides .enter-sides .kept .1 .0 ∙ at-zero-u32 .zero-u32 .kept .0
 
 same-length-2 : tie.Need-same-length-2
-same-length-2 c = search needs
+same-length-2 c =
+    let at-clear-links = c .before .before in
+    let at-enter-sides = at-clear-links .before .before .before .before .before .before .before .before .before .before .before in
+    let at-zero-u322 = at-enter-sides .before .before .before .before .before .before .before .before .before .before in
+    at-clear-links .clear-links .kept .0 ∙ at-enter-sides .enter-sides .kept .1 .1 .0 ∙ at-zero-u322 .zero-u322 .kept .0
 
 same-length-3 : tie.Need-same-length-3
-same-length-3 c = search needs
+same-length-3 c =
+    let at-enter-sides = c .before .before .before .before .before .before .before .before .before .before .before .before .before in
+    let at-zero-u323 = at-enter-sides .before .before .before .before .before .before in
+    at-enter-sides .enter-sides .kept .1 .1 .1 .0 ∙ at-zero-u323 .zero-u323 .kept .0
 
 returns : tie.Need-returns
 returns c =
@@ -71,13 +81,25 @@ returns c =
     (t .1) _ (t .0) (c .before .before .clear-links .ensures)
 
 same-length-4 : tie.Need-same-length-4
-same-length-4 c = search needs
+same-length-4 c =
+    let at-zero-u324 = c .before .before .before .before .before .before .before .before .before .before in
+    let at-enter-sides = at-zero-u324 .before .before .before .before .before .before .before .before .before .before in
+    let at-zero-u32 = at-enter-sides .before .before .before .before .before .before .before .before .before .before .before .before .before .before in
+    at-zero-u324 .zero-u324 .kept .0 ∙ at-enter-sides .enter-sides .kept .1 .0 ∙ at-zero-u32 .zero-u32 .kept .0
 
 same-length-5 : tie.Need-same-length-5
-same-length-5 c = search needs
+same-length-5 c =
+    let at-zero-u325 = c .before .before .before .before .before .before in
+    let at-enter-sides = at-zero-u325 .before .before .before .before .before .before .before .before .before .before .before .before .before .before in
+    let at-zero-u322 = at-enter-sides .before .before .before .before .before .before .before .before .before .before in
+    at-zero-u325 .zero-u325 .kept .0 ∙ at-enter-sides .enter-sides .kept .1 .1 .0 ∙ at-zero-u322 .zero-u322 .kept .0
 
 same-length-6 : tie.Need-same-length-6
-same-length-6 c = search needs
+same-length-6 c =
+    let at-zero-u326 = c .before .before in
+    let at-enter-sides = at-zero-u326 .before .before .before .before .before .before .before .before .before .before .before .before .before .before .before .before .before .before in
+    let at-zero-u323 = at-enter-sides .before .before .before .before .before .before in
+    at-zero-u326 .zero-u326 .kept .0 ∙ at-enter-sides .enter-sides .kept .1 .1 .1 .0 ∙ at-zero-u323 .zero-u323 .kept .0
 
 returns-2 : tie.Need-returns-2
 returns-2 c =

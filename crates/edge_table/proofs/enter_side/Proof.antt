@@ -82,13 +82,13 @@ add-t33 c =
     record { fits = omega (arith, few (a .triangles .now) (length (a .triangles .now)) (a .h) (a .heads .now) (a .edge-words .now) (a .triangle-words .now) (r .mesh) (r .long) (r .side) refl (r .words), r .counted) }
 
 same-length : tie.Need-same-length
-same-length c = search needs
+same-length c = c .before .before .before .before .before .before .before .before .add-edge .kept .0
 
 same-length-2 : tie.Need-same-length-2
-same-length-2 c = search needs
+same-length-2 c = c .before .before .before .before .before .before .before .before .add-edge .kept .1 .0
 
 same-length-3 : tie.Need-same-length-3
-same-length-3 c = search needs
+same-length-3 c = c .before .before .write-u32 .kept .0
 
 returns : tie.Need-returns
 returns c =
@@ -154,10 +154,10 @@ same-length-6 : tie.Need-same-length-6
 same-length-6 c = search needs
 
 same-length-7 : tie.Need-same-length-7
-same-length-7 c = search needs
+same-length-7 c = c .before .before .before .before .before .before .write-u322 .kept .0
 
 same-length-8 : tie.Need-same-length-8
-same-length-8 c = search needs
+same-length-8 c = c .before .before .write-u323 .kept .0
 
 returns-3 : tie.Need-returns-3
 returns-3 c =

@@ -17,7 +17,7 @@ unfolding markedVertex
 returns c = rw (c .enum-told .given .1)
 
 same-length : tie.Need-same-length
-same-length c = search needs
+same-length c = c .before .before .set-emitted .kept .0
 
 returns-2 : tie.Need-returns-2
 unfolding markedVertex

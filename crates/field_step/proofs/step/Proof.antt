@@ -50,13 +50,13 @@ answer-requires : tie.Need-answer-requires
 answer-requires c κs = search needs
 
 same-length : tie.Need-same-length
-same-length c = search needs
+same-length c = c .before .before .before .before .before .before .before .before .pop .kept .0
 
 same-length-2 : tie.Need-same-length-2
-same-length-2 c = search needs
+same-length-2 c = c .before .before .before .before .before .before .before .before .pop .kept .1 .0
 
 same-length-3 : tie.Need-same-length-3
-same-length-3 c = search needs
+same-length-3 c = c .before .before .before .before .before .before .before .before .pop .kept .1 .1 .0
 
 returns : tie.Need-returns
 returns c =
@@ -68,16 +68,22 @@ returns c =
     (start .pre .0) (q .last .0) (q .last .1 .0) (q .last .1 .1 .0) (q .result) (q .ensures .0) (q .ensures .1 .0) (q .ensures .1 .1) (c .enum-told .given .1)
 
 same-length-4 : tie.Need-same-length-4
-same-length-4 c = search needs
+same-length-4 c =
+    let at-pop = c .before .before .before .before .before .before .before .before .before .before .before .before .before .before .before in
+    at-pop .pop .kept .0
 
 same-length-5 : tie.Need-same-length-5
 same-length-5 c = search needs
 
 same-length-6 : tie.Need-same-length-6
-same-length-6 c = search needs
+same-length-6 c =
+    let at-pop = c .before .before .before .before .before .before .before .before .before .before .before .before .before .before .before in
+    at-pop .pop .kept .1 .0
 
 same-length-7 : tie.Need-same-length-7
-same-length-7 c = search needs
+same-length-7 c =
+    let at-pop = c .before .before .before .before .before .before .before .before .before .before .before .before .before .before .before in
+    at-pop .pop .kept .1 .1 .0
 
 same-length-8 : tie.Need-same-length-8
 same-length-8 c = search needs
@@ -94,7 +100,9 @@ returns-2 c =
     (start .pre .0) (q .last .0) (q .last .1 .0) (q .last .1 .1 .0) (q .result) (q .ensures .0) (q .ensures .1 .0) (q .ensures .1 .1) (x .0 .0) (x .0 .1 .0) (x .0 .1 .1 .0) (x .1) (turn .result) (turn .ensures) (c .enum-told2 .given .1)
 
 same-length-9 : tie.Need-same-length-9
-same-length-9 c = search needs
+same-length-9 c =
+    let at-spread = c .before .before .before .before .before .before .before .before .before .before .before .before .before .before .before .before .before .before .before .before .before in
+    at-spread .spread .kept .1 .1 .0
 
 same-length-10 : tie.Need-same-length-10
 same-length-10 c =
@@ -102,7 +110,9 @@ same-length-10 c =
     passed .spread .kept .1 .1 .1 .0 ∙ passed .before .before .before .before .before .before .before .before .before .before .before .before .before .before .before .before .before .before .before .before .before .before .before .before .before .before .before .before .before .before .before .pop .kept .0
 
 same-length-11 : tie.Need-same-length-11
-same-length-11 c = search needs
+same-length-11 c =
+    let at-spread = c .before .before .before .before .before .before .before .before .before .before .before .before .before .before .before .before .before .before .before .before .before in
+    at-spread .spread .kept .1 .1 .1 .1 .0
 
 same-length-12 : tie.Need-same-length-12
 same-length-12 c =
@@ -115,19 +125,30 @@ same-length-13 c =
     passed .spread .kept .1 .1 .1 .1 .1 .1 .0 ∙ passed .before .before .before .before .before .before .before .before .before .before .before .before .before .before .before .before .before .before .before .before .before .before .before .before .before .before .before .before .before .before .before .pop .kept .1 .1 .0
 
 same-length-14 : tie.Need-same-length-14
-same-length-14 c = search needs
+same-length-14 c =
+    let at-spread = c .before .before .before .before .before .before .before .before .before .before .before .before .before .before .before .before .before .before .before .before .before in
+    let at-mark = at-spread .before .before .before .before .before .before .before .before .before .before .before .before .before in
+    at-spread .spread .kept .1 .1 .1 .1 .1 .1 .1 .0 ∙ at-mark .mark .kept .0
 
 same-length-15 : tie.Need-same-length-15
-same-length-15 c = search needs
+same-length-15 c =
+    let at-spread = c .before .before .before .before .before .before .before .before .before .before .before .before .before .before .before .before .before .before .before .before .before in
+    at-spread .spread .kept .1 .1 .1 .1 .1 .1 .1 .1 .1 .1 .1 .1 .1 .0
 
 same-length-16 : tie.Need-same-length-16
-same-length-16 c = search needs
+same-length-16 c =
+    let at-spread = c .before .before .before .before .before .before .before .before .before .before .before .before .before .before .before .before .before .before .before .before .before in
+    at-spread .spread .kept .1 .1 .1 .1 .1 .1 .1 .1 .1 .1 .1 .1 .1 .1 .0
 
 same-length-17 : tie.Need-same-length-17
-same-length-17 c = search needs
+same-length-17 c =
+    let at-spread = c .before .before .before .before .before .before .before .before .before .before .before .before .before .before .before .before .before .before .before .before .before in
+    at-spread .spread .kept .1 .1 .1 .1 .1 .1 .1 .1 .1 .1 .1 .1 .1 .1 .1 .0
 
 same-length-18 : tie.Need-same-length-18
-same-length-18 c = search needs
+same-length-18 c =
+    let at-spread = c .before .before .before .before .before .before .before .before .before .before .before .before .before .before .before .before .before .before .before .before .before in
+    at-spread .spread .kept .1 .1 .1 .1 .1 .1 .1 .1 .1 .1 .1 .1 .1 .1 .1 .1 .0
 
 returns-3 : tie.Need-returns-3
 returns-3 c =

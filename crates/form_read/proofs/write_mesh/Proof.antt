@@ -41,13 +41,15 @@ add-result c =
     omega (arith, mesh-there (a .s .now) (a .v) (a .t) (a .i) (c .before .before .before .before .before .before .before .before .before .before .before .before .before .before .before .before .pre .stands) .1, c .before .before .before .before .before .before .write-numbers .ensures .1)
 
 same-length : tie.Need-same-length
-same-length c = search needs
+same-length c =
+    let at-read-doubles = c .before .before .before .before .before .before .before .before .before .before in
+    at-read-doubles .read-doubles .kept .1 .1 .1 .0
 
 same-length-2 : tie.Need-same-length-2
-same-length-2 c = search needs
+same-length-2 c = c .before .before .before .before .before .before .write-numbers .kept .1 .1 .1 .0
 
 same-length-3 : tie.Need-same-length-3
-same-length-3 c = search needs
+same-length-3 c = c .before .before .read-bytes .kept .1 .1 .1 .0
 
 returns : tie.Need-returns
 unfolding flagsPlace firstPiece

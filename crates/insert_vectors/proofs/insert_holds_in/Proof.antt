@@ -63,10 +63,14 @@ insert-holds-requires : tie.Need-insert-holds-requires
 insert-holds-requires c κs = c .before .before .before .before .before .before .before .before .before .before .before .before .before .before .before .before .before .before .before .before .before .before .before .before .before .before .pre
 
 same-length : tie.Need-same-length
-same-length c = search needs
+same-length c =
+    let at-insert-holds = c .before .before .before .before .before .before .before .before .before .before in
+    at-insert-holds .insert-holds .kept .1 .1 .1 .1 .1 .1 .1 .1 .1 .1 .1 .1 .1 .0
 
 same-length-2 : tie.Need-same-length-2
-same-length-2 c = search needs
+same-length-2 c =
+    let at-insert-holds = c .before .before .before .before .before .before .before .before .before .before in
+    at-insert-holds .insert-holds .kept .1 .1 .1 .1 .1 .1 .1 .1 .1 .1 .1 .1 .1 .1 .0
 
 returns : tie.Need-returns
 returns c = search needs

@@ -15,10 +15,10 @@ enum-known-entered : tie.Need-enum-known-entered
 enum-known-entered c = search needs
 
 same-length : tie.Need-same-length
-same-length c = search needs
+same-length c = c .before .before .before .before .before .before .enter .kept .0
 
 same-length-2 : tie.Need-same-length-2
-same-length-2 c = search needs
+same-length-2 c = c .before .before .before .before .before .before .enter .kept .1 .0
 
 returns : tie.Need-returns
 returns c =
@@ -27,10 +27,10 @@ returns c =
     enters-full (a .counts) (a .face) (a .x) (entryBuffers (a .triangle-words .now) (a .entry-words .now)) (entryBuffers (r .last .0) (r .last .1 .0)) (r .result) (r .ensures .0) (c .enum-told .given .1)
 
 same-length-3 : tie.Need-same-length-3
-same-length-3 c = search needs
+same-length-3 c = c .before .before .before .before .before .before .before .before .enter .kept .0
 
 same-length-4 : tie.Need-same-length-4
-same-length-4 c = search needs
+same-length-4 c = c .before .before .before .before .before .before .before .before .enter .kept .1 .0
 
 returns-2 : tie.Need-returns-2
 returns-2 c =

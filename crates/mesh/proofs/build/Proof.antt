@@ -36,22 +36,34 @@ enum-told : tie.Need-enum-told
 enum-told c = search needs
 
 same-length : tie.Need-same-length
-same-length c = search needs
+same-length c =
+    let at-topology = c .before .before .before .before .before .before .before .before .before .before .before .before .before .before .before in
+    at-topology .topology .kept .1 .1 .1 .0
 
 same-length-2 : tie.Need-same-length-2
-same-length-2 c = search needs
+same-length-2 c =
+    let at-topology = c .before .before .before .before .before .before .before .before .before .before .before .before .before .before .before in
+    at-topology .topology .kept .1 .1 .1 .1 .0
 
 same-length-3 : tie.Need-same-length-3
-same-length-3 c = search needs
+same-length-3 c =
+    let at-topology = c .before .before .before .before .before .before .before .before .before .before .before .before .before .before .before in
+    at-topology .topology .kept .1 .1 .1 .1 .1 .0
 
 same-length-4 : tie.Need-same-length-4
-same-length-4 c = search needs
+same-length-4 c =
+    let at-topology = c .before .before .before .before .before .before .before .before .before .before .before .before .before .before .before in
+    at-topology .topology .kept .1 .1 .1 .1 .1 .1 .0
 
 same-length-5 : tie.Need-same-length-5
-same-length-5 c = search needs
+same-length-5 c =
+    let at-topology = c .before .before .before .before .before .before .before .before .before .before .before .before .before .before .before in
+    at-topology .topology .kept .1 .1 .1 .1 .1 .1 .1 .0
 
 same-length-6 : tie.Need-same-length-6
-same-length-6 c = search needs
+same-length-6 c =
+    let at-topology = c .before .before .before .before .before .before .before .before .before .before .before .before .before .before .before in
+    at-topology .topology .kept .1 .1 .1 .1 .1 .1 .1 .1 .0
 
 returns-2 : tie.Need-returns-2
 returns-2 c =
@@ -69,22 +81,34 @@ returns-2 c =
     _ _ (at-topology .topology .ensures) _ (at-edges .edges .given .1)
 
 same-length-7 : tie.Need-same-length-7
-same-length-7 c = search needs
+same-length-7 c =
+    let at-topology = c .before .before .before .before .before .before .before .before .before .before .before .before .before .before in
+    at-topology .topology .kept .1 .1 .1 .0
 
 same-length-8 : tie.Need-same-length-8
-same-length-8 c = search needs
+same-length-8 c =
+    let at-topology = c .before .before .before .before .before .before .before .before .before .before .before .before .before .before in
+    at-topology .topology .kept .1 .1 .1 .1 .0
 
 same-length-9 : tie.Need-same-length-9
-same-length-9 c = search needs
+same-length-9 c =
+    let at-topology = c .before .before .before .before .before .before .before .before .before .before .before .before .before .before in
+    at-topology .topology .kept .1 .1 .1 .1 .1 .0
 
 same-length-10 : tie.Need-same-length-10
-same-length-10 c = search needs
+same-length-10 c =
+    let at-topology = c .before .before .before .before .before .before .before .before .before .before .before .before .before .before in
+    at-topology .topology .kept .1 .1 .1 .1 .1 .1 .0
 
 same-length-11 : tie.Need-same-length-11
-same-length-11 c = search needs
+same-length-11 c =
+    let at-topology = c .before .before .before .before .before .before .before .before .before .before .before .before .before .before in
+    at-topology .topology .kept .1 .1 .1 .1 .1 .1 .1 .0
 
 same-length-12 : tie.Need-same-length-12
-same-length-12 c = search needs
+same-length-12 c =
+    let at-topology = c .before .before .before .before .before .before .before .before .before .before .before .before .before .before in
+    at-topology .topology .kept .1 .1 .1 .1 .1 .1 .1 .1 .0
 
 returns-3 : tie.Need-returns-3
 returns-3 c =

@@ -31,16 +31,22 @@ normals-requires c κs =
     (omega (arith, start .pre .0 .mesh .whole, start .pre .0 .mesh .few-triangles), (omega (arith, start .pre .0 .mesh .whole), start .pre .0 .triangle-reals-fit))
 
 same-length : tie.Need-same-length
-same-length c = search needs
+same-length c =
+    let at-build = c .before .before .before .before .before .before .before .before .before .before .before .before .before in
+    let at-store-flags = at-build .before .before .before .before .before in
+    let at-zero-u32 = at-store-flags .before .before .before .before in
+    at-build .build .kept .1 .0 ∙ at-store-flags .store-flags .kept .1 .0 ∙ at-zero-u32 .zero-u32 .kept .0
 
 same-length-2 : tie.Need-same-length-2
-same-length-2 c = search needs
+same-length-2 c = c .before .before .before .before .before .before .before .lengths .kept .1 .1 .1 .0
 
 same-length-3 : tie.Need-same-length-3
-same-length-3 c = search needs
+same-length-3 c =
+    let at-build = c .before .before .before .before .before .before .before .before .before .before .before .before .before in
+    at-build .build .kept .1 .1 .1 .0
 
 same-length-4 : tie.Need-same-length-4
-same-length-4 c = search needs
+same-length-4 c = c .before .before .normals .kept .1 .1 .1 .1 .0
 
 returns : tie.Need-returns
 returns c =

@@ -24,14 +24,14 @@ refusal-number-requires : tie.Need-refusal-number-requires
 refusal-number-requires c κs = search needs
 
 same-length : tie.Need-same-length
-same-length c = search needs
+same-length c = c .before .before .set-first .kept .0
 
 returns : tie.Need-returns
 unfolding toldLength
 returns c = rw (c .before .before .before .before .before .moved .given .1) (refl, c .before .before .set-first .ensures)
 
 same-length-2 : tie.Need-same-length-2
-same-length-2 c = search needs
+same-length-2 c = c .before .before .set-first2 .kept .0
 
 returns-2 : tie.Need-returns-2
 unfolding toldLength

@@ -39,10 +39,14 @@ unfolding readTold
 returns-2 c = rw (c .enum-told .given .1)
 
 same-length : tie.Need-same-length
-same-length c = search needs
+same-length c =
+    let at-write-u323 = c .before .before .before .before .before .before in
+    let at-write-u322 = at-write-u323 .before .before .before .before in
+    let at-write-u32 = at-write-u322 .before .before .before .before in
+    at-write-u323 .write-u323 .kept .0 ∙ at-write-u322 .write-u322 .kept .0 ∙ at-write-u32 .write-u32 .kept .0
 
 same-length-2 : tie.Need-same-length-2
-same-length-2 c = search needs
+same-length-2 c = c .before .before .write-f64 .kept .0
 
 returns-3 : tie.Need-returns-3
 unfolding readTold

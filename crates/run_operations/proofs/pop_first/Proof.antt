@@ -14,13 +14,13 @@ enum-known-taken : tie.Need-enum-known-taken
 enum-known-taken c = search needs
 
 same-length : tie.Need-same-length
-same-length c = search needs
+same-length c = c .before .before .before .before .before .before .before .before .pop .kept .0
 
 same-length-2 : tie.Need-same-length-2
-same-length-2 c = search needs
+same-length-2 c = c .before .before .before .before .before .before .before .before .pop .kept .1 .0
 
 same-length-3 : tie.Need-same-length-3
-same-length-3 c = search needs
+same-length-3 c = c .before .before .before .before .before .before .before .before .pop .kept .1 .1 .0
 
 returns : tie.Need-returns
 returns c =
@@ -34,13 +34,19 @@ returns c =
     }
 
 same-length-4 : tie.Need-same-length-4
-same-length-4 c = search needs
+same-length-4 c =
+    let at-pop = c .before .before .before .before .before .before .before .before .before in
+    at-pop .pop .kept .0
 
 same-length-5 : tie.Need-same-length-5
-same-length-5 c = search needs
+same-length-5 c =
+    let at-pop = c .before .before .before .before .before .before .before .before .before in
+    at-pop .pop .kept .1 .0
 
 same-length-6 : tie.Need-same-length-6
-same-length-6 c = search needs
+same-length-6 c =
+    let at-pop = c .before .before .before .before .before .before .before .before .before in
+    at-pop .pop .kept .1 .1 .0
 
 returns-2 : tie.Need-returns-2
 returns-2 c =

@@ -20,13 +20,13 @@ enum-known-touched : tie.Need-enum-known-touched
 enum-known-touched c = search needs
 
 same-length : tie.Need-same-length
-same-length c = search needs
+same-length c = c .before .before .before .before .before .before .before .before .touch .kept .1 .1 .0
 
 same-length-2 : tie.Need-same-length-2
-same-length-2 c = search needs
+same-length-2 c = c .before .before .before .before .before .before .before .before .touch .kept .1 .1 .1 .0
 
 same-length-3 : tie.Need-same-length-3
-same-length-3 c = search needs
+same-length-3 c = c .before .before .before .before .before .before .before .before .touch .kept .0
 
 returns-2 : tie.Need-returns-2
 returns-2 c =
@@ -40,13 +40,19 @@ returns-2 c =
     (rw (c .enum-told .given .1) at (at-touch .touch .ensures))
 
 same-length-4 : tie.Need-same-length-4
-same-length-4 c = search needs
+same-length-4 c =
+    let at-touch = c .before .before .before .before .before .before .before .before .before in
+    at-touch .touch .kept .1 .1 .0
 
 same-length-5 : tie.Need-same-length-5
-same-length-5 c = search needs
+same-length-5 c =
+    let at-touch = c .before .before .before .before .before .before .before .before .before in
+    at-touch .touch .kept .1 .1 .1 .0
 
 same-length-6 : tie.Need-same-length-6
-same-length-6 c = search needs
+same-length-6 c =
+    let at-touch = c .before .before .before .before .before .before .before .before .before in
+    at-touch .touch .kept .0
 
 returns-3 : tie.Need-returns-3
 returns-3 c =

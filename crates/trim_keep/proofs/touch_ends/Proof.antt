@@ -1,4 +1,5 @@
 -- `trim_keep::touch_ends` meets its contract. Assumes nothing.
+use mathlib.Core.Path.{_∙_}
 use Rattle.heap.specs.Queue.{queue}
 use Rattle.actions.specs.Actions.{queueing}
 use Rattle.trim_keep.proofs.Touching.{touching-full, touching-on}
@@ -16,13 +17,13 @@ enum-told : tie.Need-enum-told
 enum-told c = search needs
 
 same-length : tie.Need-same-length
-same-length c = search needs
+same-length c = c .before .before .before .before .before .before .before .before .touch-reached .kept .0
 
 same-length-2 : tie.Need-same-length-2
-same-length-2 c = search needs
+same-length-2 c = c .before .before .before .before .before .before .before .before .touch-reached .kept .1 .1 .0
 
 same-length-3 : tie.Need-same-length-3
-same-length-3 c = search needs
+same-length-3 c = c .before .before .before .before .before .before .before .before .touch-reached .kept .1 .1 .1 .0
 
 returns : tie.Need-returns
 returns c = λ cuts windows made k j.
@@ -36,13 +37,22 @@ touch-reached-requires-2 : tie.Need-touch-reached-requires-2
 touch-reached-requires-2 c κs = search needs
 
 same-length-4 : tie.Need-same-length-4
-same-length-4 c = search needs
+same-length-4 c =
+    let at-touch-reached2 = c .before .before .before .before .before .before in
+    let at-touch-reached = at-touch-reached2 .before .before .before .before .before .before .before .before .before .before .before .before .before .before in
+    at-touch-reached2 .touch-reached2 .kept .0 ∙ at-touch-reached .touch-reached .kept .0
 
 same-length-5 : tie.Need-same-length-5
-same-length-5 c = search needs
+same-length-5 c =
+    let at-touch-reached2 = c .before .before .before .before .before .before in
+    let at-touch-reached = at-touch-reached2 .before .before .before .before .before .before .before .before .before .before .before .before .before .before in
+    at-touch-reached2 .touch-reached2 .kept .1 .1 .0 ∙ at-touch-reached .touch-reached .kept .1 .1 .0
 
 same-length-6 : tie.Need-same-length-6
-same-length-6 c = search needs
+same-length-6 c =
+    let at-touch-reached2 = c .before .before .before .before .before .before in
+    let at-touch-reached = at-touch-reached2 .before .before .before .before .before .before .before .before .before .before .before .before .before .before in
+    at-touch-reached2 .touch-reached2 .kept .1 .1 .1 .0 ∙ at-touch-reached .touch-reached .kept .1 .1 .1 .0
 
 returns-2 : tie.Need-returns-2
 returns-2 c = λ cuts windows made k j.

@@ -41,19 +41,25 @@ enum-told : tie.Need-enum-told
 enum-told c = search needs
 
 same-length-3 : tie.Need-same-length-3
-same-length-3 c = search needs
+same-length-3 c =
+    let at-make-window = c .before .before .before .before .before .before .before .before .before .before .before .before .before .before .before .before .before in
+    at-make-window .make-window .kept .0
 
 same-length-4 : tie.Need-same-length-4
-same-length-4 c = search needs
+same-length-4 c =
+    let at-make-window = c .before .before .before .before .before .before .before .before .before .before .before .before .before .before .before .before .before in
+    at-make-window .make-window .kept .1 .0
 
 same-length-5 : tie.Need-same-length-5
-same-length-5 c = search needs
+same-length-5 c =
+    let at-make-window = c .before .before .before .before .before .before .before .before .before .before .before .before .before .before .before .before .before in
+    at-make-window .make-window .kept .1 .1 .0
 
 same-length-6 : tie.Need-same-length-6
-same-length-6 c = search needs
+same-length-6 c = c .before .before .before .before .before .before .push .kept .0
 
 same-length-7 : tie.Need-same-length-7
-same-length-7 c = search needs
+same-length-7 c = c .before .before .before .before .before .before .push .kept .1 .0
 
 returns-2 : tie.Need-returns-2
 returns-2 c =
@@ -83,19 +89,25 @@ add-t44 : tie.Need-add-t44
 add-t44 c = search needs
 
 same-length-8 : tie.Need-same-length-8
-same-length-8 c = search needs
+same-length-8 c =
+    let at-make-window = c .before .before .before .before .before .before .before .before .before .before .before .before .before .before .before .before .before .before in
+    at-make-window .make-window .kept .0
 
 same-length-9 : tie.Need-same-length-9
-same-length-9 c = search needs
+same-length-9 c =
+    let at-make-window = c .before .before .before .before .before .before .before .before .before .before .before .before .before .before .before .before .before .before in
+    at-make-window .make-window .kept .1 .0
 
 same-length-10 : tie.Need-same-length-10
-same-length-10 c = search needs
+same-length-10 c =
+    let at-make-window = c .before .before .before .before .before .before .before .before .before .before .before .before .before .before .before .before .before .before in
+    at-make-window .make-window .kept .1 .1 .0
 
 same-length-11 : tie.Need-same-length-11
-same-length-11 c = search needs
+same-length-11 c = c .before .before .before .before .before .before .before .push .kept .0
 
 same-length-12 : tie.Need-same-length-12
-same-length-12 c = search needs
+same-length-12 c = c .before .before .before .before .before .before .before .push .kept .1 .0
 
 returns-3 : tie.Need-returns-3
 returns-3 c =
@@ -127,13 +139,13 @@ add-t46 : tie.Need-add-t46
 add-t46 c = search needs
 
 same-length-13 : tie.Need-same-length-13
-same-length-13 c = search needs
+same-length-13 c = c .before .before .before .before .before .before .before .make-window .kept .0
 
 same-length-14 : tie.Need-same-length-14
-same-length-14 c = search needs
+same-length-14 c = c .before .before .before .before .before .before .before .make-window .kept .1 .0
 
 same-length-15 : tie.Need-same-length-15
-same-length-15 c = search needs
+same-length-15 c = c .before .before .before .before .before .before .before .make-window .kept .1 .1 .0
 
 returns-4 : tie.Need-returns-4
 returns-4 c =

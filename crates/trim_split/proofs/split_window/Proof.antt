@@ -1,6 +1,6 @@
 -- `trim_split::split_window` meets its contract. Assumes nothing.
 use Prim.Native.Nat.{ℕ, _+_, pred}
-use mathlib.Core.Path.{ap}
+use mathlib.Core.Path.{ap, _∙_}
 use native.Mathlib.Omega.{arith}
 use native.Mathlib.Numerals.{add-one}
 use lib.ListN.{length, drop, getD}
@@ -23,10 +23,10 @@ kill-window-requires c κs =
     (omega (arith, start .pre .0 .fits), (start .pre .0 .edge, (start .pre .0 .linked, start .pre .1 .0)))
 
 same-length : tie.Need-same-length
-same-length c = search needs
+same-length c = c .before .before .before .before .kill-window .kept .0
 
 same-length-2 : tie.Need-same-length-2
-same-length-2 c = search needs
+same-length-2 c = c .before .before .before .before .kill-window .kept .1 .0
 
 returns : tie.Need-returns
 returns c =
@@ -84,16 +84,25 @@ same-length-3 : tie.Need-same-length-3
 same-length-3 c = search needs
 
 same-length-4 : tie.Need-same-length-4
-same-length-4 c = search needs
+same-length-4 c =
+    let at-make-parts = c .before .before .before .before .before .before .before .before .before .before in
+    at-make-parts .make-parts .kept .0
 
 same-length-5 : tie.Need-same-length-5
-same-length-5 c = search needs
+same-length-5 c =
+    let at-make-parts = c .before .before .before .before .before .before .before .before .before .before in
+    at-make-parts .make-parts .kept .1 .0
 
 same-length-6 : tie.Need-same-length-6
-same-length-6 c = search needs
+same-length-6 c =
+    let at-make-parts = c .before .before .before .before .before .before .before .before .before .before in
+    let at-trim-window = at-make-parts .before .before .before .before .before .before .before .before .before in
+    at-make-parts .make-parts .kept .1 .1 .0 ∙ at-trim-window .trim-window .kept .1 .0
 
 same-length-7 : tie.Need-same-length-7
-same-length-7 c = search needs
+same-length-7 c =
+    let at-make-parts = c .before .before .before .before .before .before .before .before .before .before in
+    at-make-parts .make-parts .kept .1 .1 .1 .0
 
 returns-2 : tie.Need-returns-2
 returns-2 c =
@@ -123,7 +132,9 @@ returns-2 c =
     )
 
 same-length-8 : tie.Need-same-length-8
-same-length-8 c = search needs
+same-length-8 c =
+    let at-make-parts = c .before .before .before .before .before .before .before .before .before .before in
+    at-make-parts .make-parts .kept .1 .1 .1 .1 .0
 
 pub split-window-spec : {M : Type 1} → statement M
 split-window-spec =

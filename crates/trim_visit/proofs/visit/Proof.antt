@@ -52,16 +52,24 @@ enum-told : tie.Need-enum-told
 enum-told c = search needs
 
 same-length : tie.Need-same-length
-same-length c = search needs
+same-length c =
+    let at-cut = c .before .before .before .before .before .before .before .before .before .before in
+    at-cut .cut .kept .1 .1 .1 .1 .1 .1 .1 .0
 
 same-length-2 : tie.Need-same-length-2
-same-length-2 c = search needs
+same-length-2 c =
+    let at-cut = c .before .before .before .before .before .before .before .before .before .before in
+    at-cut .cut .kept .1 .1 .1 .1 .1 .1 .1 .1 .0
 
 same-length-3 : tie.Need-same-length-3
-same-length-3 c = search needs
+same-length-3 c =
+    let at-cut = c .before .before .before .before .before .before .before .before .before .before in
+    at-cut .cut .kept .1 .1 .1 .1 .1 .1 .1 .1 .1 .0
 
 same-length-4 : tie.Need-same-length-4
-same-length-4 c = search needs
+same-length-4 c =
+    let at-cut = c .before .before .before .before .before .before .before .before .before .before in
+    at-cut .cut .kept .1 .1 .1 .1 .1 .1 .1 .1 .1 .1 .1 .0
 
 returns-2 : tie.Need-returns-2
 returns-2 c =
@@ -85,16 +93,24 @@ add-t44 c =
     omega (arith, start .pre .1 .0, start .pre .0 .fits)
 
 same-length-5 : tie.Need-same-length-5
-same-length-5 c = search needs
+same-length-5 c =
+    let at-cut = c .before .before .before .before .before .before .before .before .before .before .before .before .before in
+    at-cut .cut .kept .1 .1 .1 .1 .1 .1 .1 .0
 
 same-length-6 : tie.Need-same-length-6
-same-length-6 c = search needs
+same-length-6 c =
+    let at-cut = c .before .before .before .before .before .before .before .before .before .before .before .before .before in
+    at-cut .cut .kept .1 .1 .1 .1 .1 .1 .1 .1 .0
 
 same-length-7 : tie.Need-same-length-7
-same-length-7 c = search needs
+same-length-7 c =
+    let at-cut = c .before .before .before .before .before .before .before .before .before .before .before .before .before in
+    at-cut .cut .kept .1 .1 .1 .1 .1 .1 .1 .1 .1 .0
 
 same-length-8 : tie.Need-same-length-8
-same-length-8 c = search needs
+same-length-8 c =
+    let at-cut = c .before .before .before .before .before .before .before .before .before .before .before .before .before in
+    at-cut .cut .kept .1 .1 .1 .1 .1 .1 .1 .1 .1 .1 .1 .0
 
 returns-3 : tie.Need-returns-3
 returns-3 c =
@@ -155,31 +171,49 @@ enum-known-left-2 : tie.Need-enum-known-left-2
 enum-known-left-2 c = search needs
 
 same-length-9 : tie.Need-same-length-9
-same-length-9 c = search needs
+same-length-9 c =
+    let at-split-window = c .before .before .before .before .before .before .before .before .before .before .before .before .before in
+    at-split-window .split-window .kept .0
 
 same-length-10 : tie.Need-same-length-10
-same-length-10 c = search needs
+same-length-10 c =
+    let at-split-window = c .before .before .before .before .before .before .before .before .before .before .before .before .before in
+    at-split-window .split-window .kept .1 .0
 
 same-length-11 : tie.Need-same-length-11
-same-length-11 c = search needs
+same-length-11 c =
+    let at-split-window = c .before .before .before .before .before .before .before .before .before .before .before .before .before in
+    at-split-window .split-window .kept .1 .1 .0
 
 same-length-12 : tie.Need-same-length-12
-same-length-12 c = search needs
+same-length-12 c =
+    let at-split-window = c .before .before .before .before .before .before .before .before .before .before .before .before .before in
+    at-split-window .split-window .kept .1 .1 .1 .0
 
 same-length-13 : tie.Need-same-length-13
-same-length-13 c = search needs
+same-length-13 c =
+    let at-split-window = c .before .before .before .before .before .before .before .before .before .before .before .before .before in
+    at-split-window .split-window .kept .1 .1 .1 .1 .0
 
 same-length-14 : tie.Need-same-length-14
-same-length-14 c = search needs
+same-length-14 c =
+    let at-cut = c .before .before .before .before .before .before .before .before .before .before .before .before .before .before .before .before .before .before .before .before .before .before .before .before .before .before .before .before .before .before .before .before in
+    at-cut .cut .kept .1 .1 .1 .1 .1 .1 .1 .0
 
 same-length-15 : tie.Need-same-length-15
-same-length-15 c = search needs
+same-length-15 c =
+    let at-cut = c .before .before .before .before .before .before .before .before .before .before .before .before .before .before .before .before .before .before .before .before .before .before .before .before .before .before .before .before .before .before .before .before in
+    at-cut .cut .kept .1 .1 .1 .1 .1 .1 .1 .1 .0
 
 same-length-16 : tie.Need-same-length-16
-same-length-16 c = search needs
+same-length-16 c =
+    let at-cut = c .before .before .before .before .before .before .before .before .before .before .before .before .before .before .before .before .before .before .before .before .before .before .before .before .before .before .before .before .before .before .before .before in
+    at-cut .cut .kept .1 .1 .1 .1 .1 .1 .1 .1 .1 .0
 
 same-length-17 : tie.Need-same-length-17
-same-length-17 c = search needs
+same-length-17 c =
+    let at-cut = c .before .before .before .before .before .before .before .before .before .before .before .before .before .before .before .before .before .before .before .before .before .before .before .before .before .before .before .before .before .before .before .before in
+    at-cut .cut .kept .1 .1 .1 .1 .1 .1 .1 .1 .1 .1 .1 .0
 
 returns-4 : tie.Need-returns-4
 returns-4 c =
@@ -207,31 +241,49 @@ returns-4 c =
     )
 
 same-length-18 : tie.Need-same-length-18
-same-length-18 c = search needs
+same-length-18 c =
+    let at-split-window = c .before .before .before .before .before .before .before .before .before .before .before .before .before in
+    at-split-window .split-window .kept .0
 
 same-length-19 : tie.Need-same-length-19
-same-length-19 c = search needs
+same-length-19 c =
+    let at-split-window = c .before .before .before .before .before .before .before .before .before .before .before .before .before in
+    at-split-window .split-window .kept .1 .0
 
 same-length-20 : tie.Need-same-length-20
-same-length-20 c = search needs
+same-length-20 c =
+    let at-split-window = c .before .before .before .before .before .before .before .before .before .before .before .before .before in
+    at-split-window .split-window .kept .1 .1 .0
 
 same-length-21 : tie.Need-same-length-21
-same-length-21 c = search needs
+same-length-21 c =
+    let at-split-window = c .before .before .before .before .before .before .before .before .before .before .before .before .before in
+    at-split-window .split-window .kept .1 .1 .1 .0
 
 same-length-22 : tie.Need-same-length-22
-same-length-22 c = search needs
+same-length-22 c =
+    let at-split-window = c .before .before .before .before .before .before .before .before .before .before .before .before .before in
+    at-split-window .split-window .kept .1 .1 .1 .1 .0
 
 same-length-23 : tie.Need-same-length-23
-same-length-23 c = search needs
+same-length-23 c =
+    let at-cut = c .before .before .before .before .before .before .before .before .before .before .before .before .before .before .before .before .before .before .before .before .before .before .before .before .before .before .before .before .before .before .before .before in
+    at-cut .cut .kept .1 .1 .1 .1 .1 .1 .1 .0
 
 same-length-24 : tie.Need-same-length-24
-same-length-24 c = search needs
+same-length-24 c =
+    let at-cut = c .before .before .before .before .before .before .before .before .before .before .before .before .before .before .before .before .before .before .before .before .before .before .before .before .before .before .before .before .before .before .before .before in
+    at-cut .cut .kept .1 .1 .1 .1 .1 .1 .1 .1 .0
 
 same-length-25 : tie.Need-same-length-25
-same-length-25 c = search needs
+same-length-25 c =
+    let at-cut = c .before .before .before .before .before .before .before .before .before .before .before .before .before .before .before .before .before .before .before .before .before .before .before .before .before .before .before .before .before .before .before .before in
+    at-cut .cut .kept .1 .1 .1 .1 .1 .1 .1 .1 .1 .0
 
 same-length-26 : tie.Need-same-length-26
-same-length-26 c = search needs
+same-length-26 c =
+    let at-cut = c .before .before .before .before .before .before .before .before .before .before .before .before .before .before .before .before .before .before .before .before .before .before .before .before .before .before .before .before .before .before .before .before in
+    at-cut .cut .kept .1 .1 .1 .1 .1 .1 .1 .1 .1 .1 .1 .0
 
 returns-5 : tie.Need-returns-5
 returns-5 c =
