@@ -28,7 +28,7 @@ use Rattle.trim_split.proofs.Edges.{holds-equal}
 use Rattle.trim_split.proofs.Running.{ran-none, does-then, does-as}
 use Rattle.trim_visit.specs.declared.Visited.{Visited}
 use Rattle.trim_visit.specs.declared.Visited.the-variants.{Stopped, Went}
-use Rattle.trim_visit.specs.Visiting.{from, Kept, Keeps, Visits1, run, walked, VisitsAll}
+use Rattle.trim_visit.specs.Visiting.{from, Kept, Keeps, Visits1, runOnward, walked, VisitsAll}
 use Rattle.trim_visit.proofs.Walks.{turn-survivors, turn-keep, turn-made, turn-actions}
 
 -- the first link of a list, by its first window
@@ -46,11 +46,11 @@ no-last i h = omega arith
 
 module _ (cuts windows : ℕ) (limit : Float) (flags : List ℕ) (e : ℕ) (t : Float) (w : Window) (keep : List Interval) (p : Snapshot) where
   abbrev Goal : List Window → Visited → End → List Float → Type 0
-  Goal zs r end keep′ = Does cuts windows limit flags e (visitings e t w (run t w zs) (from keep (p .made))) (run t w zs) (walked t w keep (p .made) zs .survivors) p end × Keeps cuts r keep′ (walked t w keep (p .made) zs)
+  Goal zs r end keep′ = Does cuts windows limit flags e (visitings e t w (runOnward t w zs) (from keep (p .made))) (runOnward t w zs) (walked t w keep (p .made) zs .survivors) p end × Keeps cuts r keep′ (walked t w keep (p .made) zs)
 
   -- nothing is left to visit
   module _ (c : Counts) (k : ℕ) (keep′ : List Float) (isKeep : pairs k keep′ ≡ keep) (few : k ≤ cuts) (isMade : c .made ≡ p .made) (fits : p .made ≤ windows) (linked : p .last ≤ p .made) where
-    done : (zs : List Window) → run t w zs ≡ [] → Goal zs (Went c (p .last) k) (at p) keep′
+    done : (zs : List Window) → runOnward t w zs ≡ [] → Goal zs (Went c (p .last) k) (at p) keep′
     done zs h =
         subst (λ (l : List Window). Does cuts windows limit flags e (visitings e t w l (from keep (p .made))) l (visits betterOf t w l (from keep (p .made)) .survivors) p (at p) × Kept cuts (c .made) k keep′ (visits betterOf t w l (from keep (p .made)))) (sym h) nothing
       where
@@ -92,20 +92,20 @@ module _ (cuts windows : ℕ) (limit : Float) (flags : List ℕ) (e : ℕ) (t : 
           subst (λ (y : Window). Goal (y ∷ zs) r′ end keep′) s
           (each wins live xs zs n l (subst (λ (y : Window). HoldsWindows (p .made) wins (p .links) (p .reals) (put e (xs ++ (y ∷ zs)) live)) (sym s) h))
 
-    first-of : (zs : List Window) → run t w (u ∷ zs) ≡ u ∷ run t w zs
+    first-of : (zs : List Window) → runOnward t w (u ∷ zs) ≡ u ∷ runOnward t w zs
     first-of zs = take-yes (startsBefore (w .b1 ⊕ t)) u zs b
 
     -- it is stopped there
     pub all-stop : (n : Lack) (keep′ : List Float) → Visits1 cuts windows limit flags e t w keep u p (stopped (lackNumber n)) → VisitsAll cuts windows limit flags e t w (λ zs. length zs ≤ left) keep p (Stopped n) (stopped (lackNumber n)) keep′
     all-stop n keep′ d = all-there (Stopped n) (stopped (lackNumber n)) keep′
-        (λ wins live xs zs q l h. (ap (λ (ys : List Window). play cuts windows limit flags (visitings e t w ys (from keep (p .made))) (stockOf p)) (first-of zs) ∙ ap (λ (ys : List Action). play cuts windows limit flags ys (stockOf p)) (turn-actions e t w u (run t w zs) keep (p .made)) ∙ play-stop-append cuts windows limit flags (visiting e t w u (from keep (p .made))) (visitings e t w (run t w zs) (from (turned .keep) (turned .made))) (stockOf p) (lackNumber n) d, tt))
+        (λ wins live xs zs q l h. (ap (λ (ys : List Window). play cuts windows limit flags (visitings e t w ys (from keep (p .made))) (stockOf p)) (first-of zs) ∙ ap (λ (ys : List Action). play cuts windows limit flags ys (stockOf p)) (turn-actions e t w u (runOnward t w zs) keep (p .made)) ∙ play-stop-append cuts windows limit flags (visiting e t w u (from keep (p .made))) (visitings e t w (runOnward t w zs) (from (turned .keep) (turned .made))) (stockOf p) (lackNumber n) d, tt))
 
     -- it goes on from there
     module _ (p1 : Snapshot) (ran : Performed cuts windows limit flags e (visiting e t w u (from keep (p .made))) (u ∷ []) (turned .survivors) p p1) (isMade : p1 .made ≡ turned .made) (keep1 : List Interval) (isKeep : keep1 ≡ turned .keep)
         (left1 : ℕ) (less : left ≡ suc left1) (r′ : Visited) (end : End) (keep′ : List Float) (rest : VisitsAll cuts windows limit flags e t w (λ zs. length zs ≤ left1) keep1 p1 r′ end keep′) where
-      restart : (zs : List Window) → Does cuts windows limit flags e (visitings e t w (run t w zs) (from keep1 (p1 .made))) (run t w zs) (walked t w keep1 (p1 .made) zs .survivors) p1 end × Keeps cuts r′ keep′ (walked t w keep1 (p1 .made) zs)
-          → Does cuts windows limit flags e (visitings e t w (run t w zs) (from (turned .keep) (turned .made))) (run t w zs) (walked t w (turned .keep) (turned .made) zs .survivors) p1 end × Keeps cuts r′ keep′ (walked t w (turned .keep) (turned .made) zs)
-      restart zs = subst (λ (s : Walk). Does cuts windows limit flags e (visitings e t w (run t w zs) (from keep1 (p1 .made))) (run t w zs) (walked t w keep1 (p1 .made) zs .survivors) p1 end × Keeps cuts r′ keep′ (walked t w keep1 (p1 .made) zs) → Does cuts windows limit flags e (visitings e t w (run t w zs) s) (run t w zs) (visits betterOf t w (run t w zs) s .survivors) p1 end × Keeps cuts r′ keep′ (visits betterOf t w (run t w zs) s)) same (λ d. d)
+      restart : (zs : List Window) → Does cuts windows limit flags e (visitings e t w (runOnward t w zs) (from keep1 (p1 .made))) (runOnward t w zs) (walked t w keep1 (p1 .made) zs .survivors) p1 end × Keeps cuts r′ keep′ (walked t w keep1 (p1 .made) zs)
+          → Does cuts windows limit flags e (visitings e t w (runOnward t w zs) (from (turned .keep) (turned .made))) (runOnward t w zs) (walked t w (turned .keep) (turned .made) zs .survivors) p1 end × Keeps cuts r′ keep′ (walked t w (turned .keep) (turned .made) zs)
+      restart zs = subst (λ (s : Walk). Does cuts windows limit flags e (visitings e t w (runOnward t w zs) (from keep1 (p1 .made))) (runOnward t w zs) (walked t w keep1 (p1 .made) zs .survivors) p1 end × Keeps cuts r′ keep′ (walked t w keep1 (p1 .made) zs) → Does cuts windows limit flags e (visitings e t w (runOnward t w zs) s) (runOnward t w zs) (visits betterOf t w (runOnward t w zs) s .survivors) p1 end × Keeps cuts r′ keep′ (visits betterOf t w (runOnward t w zs) s)) same (λ d. d)
         where
           same : from keep1 (p1 .made) ≡ from (turned .keep) (turned .made)
           same = rw (isKeep, isMade)
@@ -117,9 +117,9 @@ module _ (cuts windows : ℕ) (limit : Float) (flags : List ℕ) (e : ℕ) (t : 
           on (Stopped n) d = tt
           on (Went c last k) d = record { count = d .count ∙ sym (turn-made e t w u us keep (p .made)); keep = d .keep ∙ sym (turn-keep e t w u us keep (p .made)); few = d .few }
 
-      joined : (zs : List Window) → Does cuts windows limit flags e (visitings e t w (run t w zs) (from (turned .keep) (turned .made))) (run t w zs) (walked t w (turned .keep) (turned .made) zs .survivors) p1 end × Keeps cuts r′ keep′ (walked t w (turned .keep) (turned .made) zs) → Goal (u ∷ zs) r′ end keep′
+      joined : (zs : List Window) → Does cuts windows limit flags e (visitings e t w (runOnward t w zs) (from (turned .keep) (turned .made))) (runOnward t w zs) (walked t w (turned .keep) (turned .made) zs .survivors) p1 end × Keeps cuts r′ keep′ (walked t w (turned .keep) (turned .made) zs) → Goal (u ∷ zs) r′ end keep′
       joined zs d =
-          let us = run t w zs in
+          let us = runOnward t w zs in
           subst (λ (l : List Window). Does cuts windows limit flags e (visitings e t w l (from keep (p .made))) l (visits betterOf t w l (from keep (p .made)) .survivors) p end × Keeps cuts r′ keep′ (visits betterOf t w l (from keep (p .made)))) (sym (first-of zs)) (
             does-as cuts windows limit flags e p end (sym (turn-actions e t w u us keep (p .made))) refl (sym (turn-survivors e t w u us keep (p .made)))
                 (does-then cuts windows limit flags e (visiting e t w u (from keep (p .made))) (visitings e t w us (from (turned .keep) (turned .made))) (u ∷ []) us (turned .survivors) (walked t w (turned .keep) (turned .made) zs .survivors) p p1 ran end (d .0)),

@@ -44,11 +44,11 @@ Keeps cuts (Stopped n) keep′ s = Unit {0}
 Keeps cuts (Went c last k) keep′ s = Kept cuts (c .made) k keep′ s
 
 -- the windows of a list that start before the new one's end, and the walk along them
-abbrev pub run : Float → Window → List Window → List Window
-run tiny w zs = takeWhile (startsBefore (w .b1 ⊕ tiny)) zs
+abbrev pub runOnward : Float → Window → List Window → List Window
+runOnward tiny w zs = takeWhile (startsBefore (w .b1 ⊕ tiny)) zs
 
 abbrev pub walked : Float → Window → List Interval → ℕ → List Window → Walk
-walked tiny w keep made zs = visits betterOf tiny w (run tiny w zs) (from keep made)
+walked tiny w keep made zs = visits betterOf tiny w (runOnward tiny w zs) (from keep made)
 
 -- the counts of the cut buffer and the window buffer, the limit, the flags of the vertices, the edge, tiny and the new window
 module _ (cuts windows : ℕ) (limit : Float) (flags : List ℕ) (e : ℕ) (tiny : Float) (w : Window) where
@@ -59,4 +59,4 @@ module _ (cuts windows : ℕ) (limit : Float) (flags : List ℕ) (e : ℕ) (tiny
   -- all turns, from the link of p on, behind which few windows stand
   abbrev pub VisitsAll : (List Window → Type 0) → List Interval → Snapshot → Visited → End → List Float → Type 0
   VisitsAll Few keep p r end keep′ = (wins : List WindowRecord) (live : ℕ → List Window) (xs zs : List Window) → Few zs → p .last ≡ lastLink xs → HoldsWindows (p .made) wins (p .links) (p .reals) (put e (xs ++ zs) live)
-      → Does cuts windows limit flags e (visitings e tiny w (run tiny w zs) (from keep (p .made))) (run tiny w zs) (walked tiny w keep (p .made) zs .survivors) p end × Keeps cuts r keep′ (walked tiny w keep (p .made) zs)
+      → Does cuts windows limit flags e (visitings e tiny w (runOnward tiny w zs) (from keep (p .made))) (runOnward tiny w zs) (walked tiny w keep (p .made) zs .survivors) p end × Keeps cuts r keep′ (walked tiny w keep (p .made) zs)
