@@ -28,11 +28,11 @@ unfolding div ofBits
 infinite = refl
 
 -- ---- a vertex
-pub corner-is : (v : List Float) (triangles : List ℕ) (vertex : List Float) (f : ℕ) (p : Vec3) (i : ℕ) (d : Float) (k : VertexId) (o : Vec3) (far through r : Float)
+pub face-vertex-is : (v : List Float) (triangles : List ℕ) (vertex : List Float) (f : ℕ) (p : Vec3) (i : ℕ) (d : Float) (k : VertexId) (o : Vec3) (far through r : Float)
     → k ≡ record { 0 = getD triangles (verticesPerTriangle * f + i) 0 } → o ≡ vertexAt v (k .0) → far ≡ distanceOf vertex (k .0) → through ≡ throughVertex p o far → r ≡ minOf d through
     → r ≡ throughFaceVertex v triangles vertex f p i d
 unfolding throughFaceVertex
-corner-is v triangles vertex f p i d k o far through r hk ho hf ht hr =
+face-vertex-is v triangles vertex f p i d k o far through r hk ho hf ht hr =
     hr ∙ ap (minOf d) (ht ∙ (λ j. throughVertex p (ho j) (hf j)) ∙ ap (λ (y : VertexId). throughVertex p (vertexAt v (y .0)) (distanceOf vertex (y .0))) hk)
 
 -- ---- a window

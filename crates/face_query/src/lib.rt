@@ -31,7 +31,7 @@ ghost use Rattle.face_query.specs.Lows.{leastLow, sideLow, WalksOn};
 ghost use Rattle.face_query.specs.FaceDistance.{throughWindows, recordsOn, firstEnd, secondEnd, toPart, toEntries, throughFaceVertex, throughVertices, throughSide, throughSides, toPieces, faceDistanceIn};
 
 // The lesser of d and of the way through vertex i of a face.
-fn through_corner(
+fn through_face_vertex(
     vertices: &[f64],
     triangles: &[u32],
     vertex: &[f64],
@@ -51,9 +51,9 @@ fn through_corner(
 fn through_vertices(vertices: &[f64], triangles: &[u32], vertex: &[f64], f: FaceId, p: Vec3) -> f64
     ensures { λ r. ⌜ r ≡ throughVertices (given vertices) (given triangles) (given vertex) (f .0) p ⌝ }
 {
-    let a = through_corner(vertices, triangles, vertex, f, p, 0, 1.0 / 0.0);
-    let b = through_corner(vertices, triangles, vertex, f, p, 1, a);
-    through_corner(vertices, triangles, vertex, f, p, 2, b)
+    let a = through_face_vertex(vertices, triangles, vertex, f, p, 0, 1.0 / 0.0);
+    let b = through_face_vertex(vertices, triangles, vertex, f, p, 1, a);
+    through_face_vertex(vertices, triangles, vertex, f, p, 2, b)
 }
 
 // The link behind `before` on the chain of an edge; behind 0 comes the head.
@@ -414,7 +414,7 @@ pub fn distance_in_face(
     ensures { λ r. ⌜ r ≡ faceDistanceIn (given vertices) (given triangles) (given coords) (given «edge_words») (given «edge_reals») (given «triangle_words») (given «triangle_reals»)
         (given vertex) (given words) (given reals) (given «entry_words») made (f .0) p ⌝ }
 {
-    let corners = through_vertices(vertices, triangles, vertex, f, p);
+    let through = through_vertices(vertices, triangles, vertex, f, p);
     let sides = through_sides(
         vertices,
         edge_words,
@@ -426,7 +426,7 @@ pub fn distance_in_face(
         made,
         f,
         p,
-        corners,
+        through,
     );
     to_pieces(coords, triangle_words, entry_words, f, p, sides)
 }

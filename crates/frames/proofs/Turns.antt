@@ -68,9 +68,9 @@ module _ (v : List Float) (triangles triangleWords : List ℕ) (edgeReals : List
       ∙ ap (λ (k : ℕ). withNormals v triangles triangleWords edgeReals n (replicate k zero64)) same))
 
 -- side h's row as it is scaled
-pub unit-row : (r : List Float) (h : ℕ) (p u : Vec3) (height : Float) → p ≡ normalAt r h → height ≡ normOf p → u ≡ scaleOf p (one ⊘ height) → row3 u ≡ unitRow r h
+pub unit-row : (r : List Float) (h : ℕ) (p u : Vec3) (altitude : Float) → p ≡ normalAt r h → altitude ≡ normOf p → u ≡ scaleOf p (one ⊘ altitude) → row3 u ≡ unitRow r h
 unfolding unitOf
-unit-row r h p u height read long unit = rw (← read, ← long, ← unit) refl
+unit-row r h p u altitude read long unit = rw (← read, ← long, ← unit) refl
 
 -- when the slots below n are scaled the others are not
 pub unit-past : (r₀ r : List Float) (n h : ℕ) → n ≤ h → r ≡ withRows realsPerNormal (unitRow r₀) n r₀ → unitRow r h ≡ unitRow r₀ h

@@ -15,7 +15,7 @@ use Rattle.job_checks.specs.Refusals.{minLength, minAltitude}
 use Rattle.topology.specs.Checked.{ValidTriangles, VerticesInRange, RegularTriangles}
 use Rattle.topology.specs.Edges.{noEdge, sideVertex, edges, triEdge, local}
 use Rattle.topology.specs.Frames.{origin, end, len, xhat, yhat, coordsX, coordsY}
-use Rattle.topology.proofs.Checked.{edge-ends, corner-there, inside}
+use Rattle.topology.proofs.Checked.{edge-ends, side-vertex-there, inside}
 use Rattle.topology.proofs.Edges.{tri-edge-there}
 use Rattle.topology.proofs.Frames.{edge-long, altitude-tall}
 use Rattle.topology.proofs.Sides.{local-below}
@@ -61,7 +61,7 @@ module _ (v : List Float) (triangles : List ℕ) (s : ValidTriangles triangles (
         let e = triEdge triangles h in
         let m : e < length (edges triangles) = tri-edge-there triangles h l in
         let t = vertexAt v (sideVertex triangles h 2) in
-        normal-of (origin v triangles e) (end v triangles e) (origin-point e m) (end-point e m) (long e m) t (vertex-point (sideVertex triangles h 2) (corner-there triangles (length v / 3) s h 2 l))
+        normal-of (origin v triangles e) (end v triangles e) (origin-point e m) (end-point e m) (long e m) t (vertex-point (sideVertex triangles h 2) (side-vertex-there triangles (length v / 3) s h 2 l))
         (holds (le minAltitude (altitudeOf (origin v triangles e) (end v triangles e) t)) (altitude-tall v triangles (length v / 3) s r h l))
 
     pub yhat-finite : FiniteVec (yhat v triangles h)

@@ -24,16 +24,16 @@ three-ways (suc (suc zero)) l = inr (inr refl)
 three-ways (suc (suc (suc k))) l = absurd (not-suc-le-zero (le-of-suc-le-suc (le-of-suc-le-suc (le-of-suc-le-suc l))))
 
 module _ (triangles : List ℕ) (h : ℕ) where
-  pub corner-at : (k i : ℕ) → 3 * (h / 3) + (h % 3 + k) % 3 ≡ i → sideVertex triangles h k ≡ getD triangles i 0
+  pub side-vertex-at : (k i : ℕ) → 3 * (h / 3) + (h % 3 + k) % 3 ≡ i → sideVertex triangles h k ≡ getD triangles i 0
   unfolding sideVertex
-  corner-at k i q = ap (λ (x : ℕ). getD triangles x 0) q
+  side-vertex-at k i q = ap (λ (x : ℕ). getD triangles x 0) q
 
   -- a side of a triangle with three different vertices joins two of them
-  corners-differ : Distinct (getD triangles (3 * (h / 3)) 0) (getD triangles (3 * (h / 3) + 1) 0) (getD triangles (3 * (h / 3) + 2) 0) → sideVertex triangles h 0 ≡ sideVertex triangles h 1 → ⊥
-  corners-differ d q =
-      ⊎-elim (λ z. d .first-second (sym (corner-at 0 (3 * (h / 3)) (omega arith)) ∙ (q ∙ corner-at 1 (3 * (h / 3) + 1) (omega arith))))
-      (⊎-elim (λ z. d .second-third (sym (corner-at 0 (3 * (h / 3) + 1) (omega arith)) ∙ (q ∙ corner-at 1 (3 * (h / 3) + 2) (omega arith))))
-      (λ z. d .third-first (sym (corner-at 0 (3 * (h / 3) + 2) (omega arith)) ∙ (q ∙ corner-at 1 (3 * (h / 3)) (omega arith)))))
+  side-vertices-differ : Distinct (getD triangles (3 * (h / 3)) 0) (getD triangles (3 * (h / 3) + 1) 0) (getD triangles (3 * (h / 3) + 2) 0) → sideVertex triangles h 0 ≡ sideVertex triangles h 1 → ⊥
+  side-vertices-differ d q =
+      ⊎-elim (λ z. d .first-second (sym (side-vertex-at 0 (3 * (h / 3)) (omega arith)) ∙ (q ∙ side-vertex-at 1 (3 * (h / 3) + 1) (omega arith))))
+      (⊎-elim (λ z. d .second-third (sym (side-vertex-at 0 (3 * (h / 3) + 1) (omega arith)) ∙ (q ∙ side-vertex-at 1 (3 * (h / 3) + 2) (omega arith))))
+      (λ z. d .third-first (sym (side-vertex-at 0 (3 * (h / 3) + 2) (omega arith)) ∙ (q ∙ side-vertex-at 1 (3 * (h / 3)) (omega arith)))))
       (three-ways (h % 3) (omega arith))
 
 module _ (triangles : List ℕ) (n : ℕ) (s : ValidTriangles triangles n) where
@@ -45,14 +45,14 @@ module _ (triangles : List ℕ) (n : ℕ) (s : ValidTriangles triangles n) where
   pub side-inside : (h : ℕ) → h < length triangles → h / 3 < length triangles / 3
   side-inside h l = omega (arith, s .whole)
 
-  pub corner-there : (h k : ℕ) → h < length triangles → sideVertex triangles h k < n
-  corner-there h k l = rw (corner-at triangles h k (3 * (h / 3) + (h % 3 + k) % 3) refl) (s .there (3 * (h / 3) + (h % 3 + k) % 3) (omega (arith, s .whole)))
+  pub side-vertex-there : (h k : ℕ) → h < length triangles → sideVertex triangles h k < n
+  side-vertex-there h k l = rw (side-vertex-at triangles h k (3 * (h / 3) + (h % 3 + k) % 3) refl) (s .there (3 * (h / 3) + (h % 3 + k) % 3) (omega (arith, s .whole)))
 
   side-rises : (h : ℕ) → h < length triangles → (sideEdge triangles h .low < sideEdge triangles h .high) × (sideEdge triangles h .high < n)
   unfolding sideEdge
   side-rises h l = (
-    ends-rise (sideVertex triangles h 0) (sideVertex triangles h 1) (corners-differ triangles h (s .distinct (h / 3) (side-inside h l))),
-    ends-below (sideVertex triangles h 0) (sideVertex triangles h 1) n (corner-there h 0 l) (corner-there h 1 l),
+    ends-rise (sideVertex triangles h 0) (sideVertex triangles h 1) (side-vertices-differ triangles h (s .distinct (h / 3) (side-inside h l))),
+    ends-below (sideVertex triangles h 0) (sideVertex triangles h 1) n (side-vertex-there h 0 l) (side-vertex-there h 1 l),
   )
 
   -- an edge joins two vertices that are there, the lower one first

@@ -16,7 +16,7 @@ use Rattle.topology.specs.Checked.{ValidTriangles, RegularTriangles}
 use Rattle.topology.specs.Edges.{EndPair, noEdge, between, sideVertex, sideEdge, edges, triEdge}
 use Rattle.topology.specs.Frames.{origin, end, len}
 use Rattle.topology.proofs.Edges.{FromSide, edge-is-side, tri-edge-is}
-use Rattle.topology.proofs.Checked.{three-ways, corner-at, side-inside}
+use Rattle.topology.proofs.Checked.{three-ways, side-vertex-at, side-inside}
 
 -- what a side that is not degenerate has
 module _ (o b third : Vec3) (e : degenerate o b third ≡ false) where
@@ -28,13 +28,13 @@ module _ (o b third : Vec3) (e : degenerate o b third ≡ false) where
   unfolding degenerate
   tall = and-eq-true-iff (le minLength (lenOf o b)) (le minAltitude (altitudeOf o b third)) .0 (not-false _ e) .1
 
--- a triangle's three sides, as corners of side h
+-- a triangle's three sides, as vertices of side h
 regular-side : (v : List Float) (triangles : List ℕ) (h : ℕ) → degenerateIn v (getD triangles (3 * (h / 3)) 0) (getD triangles (3 * (h / 3) + 1) 0) (getD triangles (3 * (h / 3) + 2) 0) ≡ false → degenerateEdge v (sideVertex triangles h 0) (sideVertex triangles h 1) (sideVertex triangles h 2) ≡ false
 unfolding degenerateIn
 regular-side v triangles h e =
-    ⊎-elim (λ z. rw (corner-at triangles h 0 (3 * (h / 3)) (omega arith), corner-at triangles h 1 (3 * (h / 3) + 1) (omega arith), corner-at triangles h 2 (3 * (h / 3) + 2) (omega arith)) (head-none _ _ e))
-    (⊎-elim (λ z. rw (corner-at triangles h 0 (3 * (h / 3) + 1) (omega arith), corner-at triangles h 1 (3 * (h / 3) + 2) (omega arith), corner-at triangles h 2 (3 * (h / 3)) (omega arith)) (head-none _ _ (tail-none _ _ e)))
-    (λ z. rw (corner-at triangles h 0 (3 * (h / 3) + 2) (omega arith), corner-at triangles h 1 (3 * (h / 3)) (omega arith), corner-at triangles h 2 (3 * (h / 3) + 1) (omega arith)) (head-none _ _ (tail-none _ _ (tail-none _ _ e)))))
+    ⊎-elim (λ z. rw (side-vertex-at triangles h 0 (3 * (h / 3)) (omega arith), side-vertex-at triangles h 1 (3 * (h / 3) + 1) (omega arith), side-vertex-at triangles h 2 (3 * (h / 3) + 2) (omega arith)) (head-none _ _ e))
+    (⊎-elim (λ z. rw (side-vertex-at triangles h 0 (3 * (h / 3) + 1) (omega arith), side-vertex-at triangles h 1 (3 * (h / 3) + 2) (omega arith), side-vertex-at triangles h 2 (3 * (h / 3)) (omega arith)) (head-none _ _ (tail-none _ _ e)))
+    (λ z. rw (side-vertex-at triangles h 0 (3 * (h / 3) + 2) (omega arith), side-vertex-at triangles h 1 (3 * (h / 3)) (omega arith), side-vertex-at triangles h 2 (3 * (h / 3) + 1) (omega arith)) (head-none _ _ (tail-none _ _ (tail-none _ _ e)))))
     (three-ways (h % 3) (omega arith))
 
 -- the frame of a side's edge starts at its lower-numbered vertex

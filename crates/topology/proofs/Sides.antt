@@ -1,7 +1,7 @@
 -- Laws of a mesh of valid triangles, for those who walk from face to face and round a vertex. Assumes nothing.
 --     edges of a face     face-has-side (a face of an edge has it as a side, the one that `local` names), local-of-side, edge-is (its two vertices), face-there
 --     third vertex        third-is (the vertex opposite to the side), third-there (it is in range), third-off (it is not on the edge)
---     shared vertex       two-sides-share (two sides have one vertex in common, and the face is listed round it), corner-listed
+--     shared vertex       two-sides-share (two sides have one vertex in common, and the face is listed round it), side-vertex-listed
 --     edge between two    between-of-side, between-either-way, next-edge (from an end of an edge to the third vertex of a face of it)
 use Prim.Native.Nat.{ℕ, _+_, _*_, _/_, _%_, _<_, _≤_}
 use mathlib.Core.Path.{_≡_, refl, sym, ap, subst, _∙_}
@@ -20,7 +20,7 @@ use Rattle.topology.proofs.Chosen.{Listed}
 use Rattle.topology.proofs.Edges.{edges-numbered, tri-edge-is, tri-edge-there}
 use Rattle.topology.proofs.Faces.{OfSide, listed-face, side-listed}
 use Rattle.topology.proofs.Triangles.{turn, ends, off, on-first, on-second, sides-differ, local-0, local-1, local-2, third-0, third-1, third-2, side-0, side-1}
-use Rattle.topology.proofs.Checked.{three-ways, corner-at, corner-there, inside, side-inside}
+use Rattle.topology.proofs.Checked.{three-ways, side-vertex-at, side-vertex-there, inside, side-inside}
 use Rattle.topology.proofs.VertexFaces.{vertex-complete}
 
 -- ---- vertices on an edge
@@ -84,7 +84,7 @@ steps-on x y l m =
     (λ p. ⊎-elim (λ q. inr (inl (omega arith))) (⊎-elim (λ q. inr (inr (omega arith))) (λ q. inl (omega arith))) (three-ways x l)))
     (three-ways y m)
 
--- where corner k of side x of triangle f stands
+-- where vertex k of side x of triangle f stands
 index-of : (f x k : ℕ) → x < 3 → 3 * ((3 * f + x) / 3) + ((3 * f + x) % 3 + k) % 3 ≡ 3 * f + (x + k) % 3
 index-of f x k l =
     let d : (3 * f + x) / 3 ≡ f = omega arith in
@@ -95,28 +95,28 @@ same-index : (f x y j k : ℕ) → x < 3 → y < 3 → (x + j) % 3 ≡ (y + k) %
 same-index f x y j k l m q = index-of f x j l ∙ ((λ i. 3 * f + q i) ∙ sym (index-of f y k m))
 
 module _ (triangles : List ℕ) (h : ℕ) where
-  -- the three corners as they stand from where the side starts
-  pub corners-distinct : Distinct (getD triangles (3 * (h / 3)) 0) (getD triangles (3 * (h / 3) + 1) 0) (getD triangles (3 * (h / 3) + 2) 0) → Distinct (sideVertex triangles h 0) (sideVertex triangles h 1) (sideVertex triangles h 2)
-  corners-distinct d =
-      ⊎-elim (λ z. rw (corner-at triangles h 0 (3 * (h / 3)) (omega arith), corner-at triangles h 1 (3 * (h / 3) + 1) (omega arith), corner-at triangles h 2 (3 * (h / 3) + 2) (omega arith)) d)
-      (⊎-elim (λ z. rw (corner-at triangles h 0 (3 * (h / 3) + 1) (omega arith), corner-at triangles h 1 (3 * (h / 3) + 2) (omega arith), corner-at triangles h 2 (3 * (h / 3)) (omega arith)) (turn d))
-      (λ z. rw (corner-at triangles h 0 (3 * (h / 3) + 2) (omega arith), corner-at triangles h 1 (3 * (h / 3)) (omega arith), corner-at triangles h 2 (3 * (h / 3) + 1) (omega arith)) (turn (turn d))))
+  -- the three vertices as they stand from where the side starts
+  pub side-vertices-distinct : Distinct (getD triangles (3 * (h / 3)) 0) (getD triangles (3 * (h / 3) + 1) 0) (getD triangles (3 * (h / 3) + 2) 0) → Distinct (sideVertex triangles h 0) (sideVertex triangles h 1) (sideVertex triangles h 2)
+  side-vertices-distinct d =
+      ⊎-elim (λ z. rw (side-vertex-at triangles h 0 (3 * (h / 3)) (omega arith), side-vertex-at triangles h 1 (3 * (h / 3) + 1) (omega arith), side-vertex-at triangles h 2 (3 * (h / 3) + 2) (omega arith)) d)
+      (⊎-elim (λ z. rw (side-vertex-at triangles h 0 (3 * (h / 3) + 1) (omega arith), side-vertex-at triangles h 1 (3 * (h / 3) + 2) (omega arith), side-vertex-at triangles h 2 (3 * (h / 3)) (omega arith)) (turn d))
+      (λ z. rw (side-vertex-at triangles h 0 (3 * (h / 3) + 2) (omega arith), side-vertex-at triangles h 1 (3 * (h / 3)) (omega arith), side-vertex-at triangles h 2 (3 * (h / 3) + 1) (omega arith)) (turn (turn d))))
       (three-ways (h % 3) (omega arith))
 
   side-is : sideEdge triangles h ≡ between (sideVertex triangles h 0) (sideVertex triangles h 1)
   unfolding sideEdge
   side-is = refl
 
-  same-corner : (g j k : ℕ) → 3 * (g / 3) + (g % 3 + j) % 3 ≡ 3 * (h / 3) + (h % 3 + k) % 3 → sideVertex triangles g j ≡ sideVertex triangles h k
+  same-side-vertex : (g j k : ℕ) → 3 * (g / 3) + (g % 3 + j) % 3 ≡ 3 * (h / 3) + (h % 3 + k) % 3 → sideVertex triangles g j ≡ sideVertex triangles h k
   unfolding sideVertex
-  same-corner g j k q = ap (λ (x : ℕ). getD triangles x 0) q
+  same-side-vertex g j k q = ap (λ (x : ℕ). getD triangles x 0) q
 
   -- the next side or the one before
   next-or-before : (g : ℕ) → g / 3 ≡ h / 3 → (h ≡ g → ⊥) → ((sideVertex triangles g 0 ≡ sideVertex triangles h 1) × (sideVertex triangles g 1 ≡ sideVertex triangles h 2)) ⊎ ((sideVertex triangles g 0 ≡ sideVertex triangles h 2) × (sideVertex triangles g 1 ≡ sideVertex triangles h 0))
   next-or-before g p ne =
       ⊎-elim (λ z. absurd (ne (omega arith)))
-      (⊎-elim (λ z. inl (same-corner g 0 1 (omega arith), same-corner g 1 2 (omega arith)))
-      (λ z. inr (same-corner g 0 2 (omega arith), same-corner g 1 0 (omega arith))))
+      (⊎-elim (λ z. inl (same-side-vertex g 0 1 (omega arith), same-side-vertex g 1 2 (omega arith)))
+      (λ z. inr (same-side-vertex g 0 2 (omega arith), same-side-vertex g 1 0 (omega arith))))
       (steps-on (g % 3) (h % 3) (omega arith) (omega arith))
 
 small : (a b : Bool) → cond a 0 (cond b 1 2) < 3
@@ -150,7 +150,7 @@ pub record Beyond (triangles : List ℕ) (f e v c x : ℕ) : Type 0 where
 module _ (triangles : List ℕ) (n : ℕ) (s : ValidTriangles triangles n) where
   module _ (h : ℕ) (l : h < length triangles) where
     distinct-at : Distinct (sideVertex triangles h 0) (sideVertex triangles h 1) (sideVertex triangles h 2)
-    distinct-at = corners-distinct triangles h (s .distinct (h / 3) (side-inside triangles n s h l))
+    distinct-at = side-vertices-distinct triangles h (s .distinct (h / 3) (side-inside triangles n s h l))
 
     edge-at : getD (edges triangles) (triEdge triangles h) noEdge ≡ between (sideVertex triangles h 0) (sideVertex triangles h 1)
     edge-at = tri-edge-is triangles h l ∙ side-is triangles h
@@ -180,9 +180,9 @@ module _ (triangles : List ℕ) (n : ℕ) (s : ValidTriangles triangles n) where
     third-of-side k m =
         let i : 3 * f + 2 < length triangles = inside triangles n s f l in
         let d = s .distinct f l in
-        ⊎-elim (λ q. let z : 3 * f + k ≡ 3 * f = omega arith in rw z (third-0 triangles f i d ∙ sym (corner-at triangles (3 * f) 2 (3 * f + 2) (omega arith))))
-        (⊎-elim (λ q. rw q (third-1 triangles f i d ∙ sym (corner-at triangles (3 * f + 1) 2 (3 * f) (omega arith))))
-        (λ q. rw q (third-2 triangles f i d ∙ sym (corner-at triangles (3 * f + 2) 2 (3 * f + 1) (omega arith)))))
+        ⊎-elim (λ q. let z : 3 * f + k ≡ 3 * f = omega arith in rw z (third-0 triangles f i d ∙ sym (side-vertex-at triangles (3 * f) 2 (3 * f + 2) (omega arith))))
+        (⊎-elim (λ q. rw q (third-1 triangles f i d ∙ sym (side-vertex-at triangles (3 * f + 1) 2 (3 * f) (omega arith))))
+        (λ q. rw q (third-2 triangles f i d ∙ sym (side-vertex-at triangles (3 * f + 2) 2 (3 * f + 1) (omega arith)))))
         (three-ways k m)
 
   module _ (e f : ℕ) (l : e < length (edges triangles)) (of : Listed f (edgeFaces triangles e)) where
@@ -211,7 +211,7 @@ module _ (triangles : List ℕ) (n : ℕ) (s : ValidTriangles triangles n) where
     third-is = ap (λ (x : ℕ). third triangles x f) (sym face-has-side) ∙ third-of-side f (face-there e f l of) (local triangles f e) (local-below triangles f e)
 
     pub third-there : third triangles e f < n
-    third-there = subst (λ (k : ℕ). k < n) (sym third-is) (corner-there triangles n s (3 * f + local triangles f e) 2 side-there)
+    third-there = subst (λ (k : ℕ). k < n) (sym third-is) (side-vertex-there triangles n s (3 * f + local triangles f e) 2 side-there)
 
     pub third-off : offEnds (third triangles e f) (getD (edges triangles) e noEdge) ≡ true
     third-off =
@@ -219,9 +219,9 @@ module _ (triangles : List ℕ) (n : ℕ) (s : ValidTriangles triangles n) where
         rw (third-is, edge-is) (off _ _ _ (d .third-first) (λ q. d .second-third (sym q)))
 
   -- ---- a face is listed round its vertices
-  pub corner-listed : (h k : ℕ) → h < length triangles → Listed (h / 3) (vertexFaces triangles (sideVertex triangles h k))
+  pub side-vertex-listed : (h k : ℕ) → h < length triangles → Listed (h / 3) (vertexFaces triangles (sideVertex triangles h k))
   unfolding sideVertex
-  corner-listed h k l =
+  side-vertex-listed h k l =
       let z : (3 * (h / 3) + (h % 3 + k) % 3) / 3 ≡ h / 3 = omega arith in
       subst (λ (x : ℕ). Listed x (vertexFaces triangles (getD triangles (3 * (h / 3) + (h % 3 + k) % 3) 0))) z (vertex-complete triangles (3 * (h / 3) + (h % 3 + k) % 3) (omega (arith, s .whole)))
 
@@ -269,15 +269,15 @@ module _ (triangles : List ℕ) (n : ℕ) (s : ValidTriangles triangles n) where
         shared-of (between A B) (between B C) B (edge-at (3 * f + i) h-in) q
         (shared-is ∙ ((λ t. picked (between A B) (between (w .0 t) (w .1 t))) ∙ picked-second A B C d))
         (on-second A B) (on-first B C) (only-second A B C d)
-        (corner-there triangles n s (3 * f + i) 1 h-in)
-        (subst (λ (x : ℕ). Listed x (vertexFaces triangles B)) z (corner-listed (3 * f + i) 1 h-in)))
+        (side-vertex-there triangles n s (3 * f + i) 1 h-in)
+        (subst (λ (x : ℕ). Listed x (vertexFaces triangles B)) z (side-vertex-listed (3 * f + i) 1 h-in)))
         (λ w.
         let q : getD (edges triangles) o noEdge ≡ between C A = edge-at (3 * f + j) g-in ∙ (λ t. between (w .0 t) (w .1 t)) in
         shared-of (between A B) (between C A) A (edge-at (3 * f + i) h-in) q
         (shared-is ∙ ((λ t. picked (between A B) (between (w .0 t) (w .1 t))) ∙ picked-first A B C d))
         (on-first A B) (on-second C A) (λ k c x. only-second C A B (turn (turn d)) k x c)
-        (corner-there triangles n s (3 * f + i) 0 h-in)
-        (subst (λ (x : ℕ). Listed x (vertexFaces triangles A)) z (corner-listed (3 * f + i) 0 h-in)))
+        (side-vertex-there triangles n s (3 * f + i) 0 h-in)
+        (subst (λ (x : ℕ). Listed x (vertexFaces triangles A)) z (side-vertex-listed (3 * f + i) 0 h-in)))
         (next-or-before triangles (3 * f + i) (3 * f + j) (omega arith) (λ q. ne (omega arith)))
 
   -- ---- the edge of a face between two of its vertices
@@ -320,9 +320,9 @@ module _ (triangles : List ℕ) (n : ℕ) (s : ValidTriangles triangles n) where
 
     pub between-of-side : (k : ℕ) → k < 3 → edgeBetween triangles f (sideVertex triangles (3 * f + k) 0) (sideVertex triangles (3 * f + k) 1) ≡ triEdge triangles (3 * f + k)
     between-of-side k m =
-        ⊎-elim (λ q. let z : 3 * f + k ≡ 3 * f = omega arith in rw (z, corner-at triangles (3 * f) 0 (3 * f) (omega arith), corner-at triangles (3 * f) 1 (3 * f + 1) (omega arith)) between-0)
-        (⊎-elim (λ q. rw (q, corner-at triangles (3 * f + 1) 0 (3 * f + 1) (omega arith), corner-at triangles (3 * f + 1) 1 (3 * f + 2) (omega arith)) between-1)
-        (λ q. rw (q, corner-at triangles (3 * f + 2) 0 (3 * f + 2) (omega arith), corner-at triangles (3 * f + 2) 1 (3 * f) (omega arith)) between-2))
+        ⊎-elim (λ q. let z : 3 * f + k ≡ 3 * f = omega arith in rw (z, side-vertex-at triangles (3 * f) 0 (3 * f) (omega arith), side-vertex-at triangles (3 * f) 1 (3 * f + 1) (omega arith)) between-0)
+        (⊎-elim (λ q. rw (q, side-vertex-at triangles (3 * f + 1) 0 (3 * f + 1) (omega arith), side-vertex-at triangles (3 * f + 1) 1 (3 * f + 2) (omega arith)) between-1)
+        (λ q. rw (q, side-vertex-at triangles (3 * f + 2) 0 (3 * f + 2) (omega arith), side-vertex-at triangles (3 * f + 2) 1 (3 * f) (omega arith)) between-2))
         (three-ways k m)
 
     pub between-either-way : (a b : ℕ) → edgeBetween triangles f a b ≡ edgeBetween triangles f b a
@@ -361,10 +361,10 @@ module _ (triangles : List ℕ) (n : ℕ) (s : ValidTriangles triangles n) where
         let C = sideVertex triangles (3 * f + k) 2 in
         let up = (k + 1) % 3 in
         let back = (k + 2) % 3 in
-        let u0 : sideVertex triangles (3 * f + up) 0 ≡ B = same-corner triangles (3 * f + k) (3 * f + up) 0 1 (same-index f up k 0 1 (omega arith) m (omega arith)) in
-        let u1 : sideVertex triangles (3 * f + up) 1 ≡ C = same-corner triangles (3 * f + k) (3 * f + up) 1 2 (same-index f up k 1 2 (omega arith) m (omega arith)) in
-        let b0 : sideVertex triangles (3 * f + back) 0 ≡ C = same-corner triangles (3 * f + k) (3 * f + back) 0 2 (same-index f back k 0 2 (omega arith) m (omega arith)) in
-        let b1 : sideVertex triangles (3 * f + back) 1 ≡ A = same-corner triangles (3 * f + k) (3 * f + back) 1 0 (same-index f back k 1 0 (omega arith) m (omega arith)) in
+        let u0 : sideVertex triangles (3 * f + up) 0 ≡ B = same-side-vertex triangles (3 * f + k) (3 * f + up) 0 1 (same-index f up k 0 1 (omega arith) m (omega arith)) in
+        let u1 : sideVertex triangles (3 * f + up) 1 ≡ C = same-side-vertex triangles (3 * f + k) (3 * f + up) 1 2 (same-index f up k 1 2 (omega arith) m (omega arith)) in
+        let b0 : sideVertex triangles (3 * f + back) 0 ≡ C = same-side-vertex triangles (3 * f + k) (3 * f + back) 0 2 (same-index f back k 0 2 (omega arith) m (omega arith)) in
+        let b1 : sideVertex triangles (3 * f + back) 1 ≡ A = same-side-vertex triangles (3 * f + k) (3 * f + back) 1 0 (same-index f back k 1 0 (omega arith) m (omega arith)) in
         ⊎-elim
         (λ q. beyond back C (omega arith) (λ x. omega arith) (sym (third-is e f l of))
         (between-either-way f fl v C ∙ ((λ t. edgeBetween triangles f (sym b0 t) ((q ∙ sym b1) t)) ∙ between-of-side f fl back (omega arith)))

@@ -6,14 +6,14 @@ use borrow.Author.Needs.{needs}
 use Rattle.face_query.proofs.through_vertices.Statement.{statement}
 use Rattle.face_query.proofs.through_vertices.Tie as tie
 
-through-corner-requires : tie.Need-through-corner-requires
-through-corner-requires c κs = search needs
+through-face-vertex-requires : tie.Need-through-face-vertex-requires
+through-face-vertex-requires c κs = search needs
 
-through-corner-requires-2 : tie.Need-through-corner-requires-2
-through-corner-requires-2 c κs = search needs
+through-face-vertex-requires-2 : tie.Need-through-face-vertex-requires-2
+through-face-vertex-requires-2 c κs = search needs
 
-through-corner-requires-3 : tie.Need-through-corner-requires-3
-through-corner-requires-3 c κs = search needs
+through-face-vertex-requires-3 : tie.Need-through-face-vertex-requires-3
+through-face-vertex-requires-3 c κs = search needs
 
 returns : tie.Need-returns
 unfolding throughVertices
@@ -22,9 +22,9 @@ returns c =
     let first = second .before in
     let a = first .before .before .before .before .args in
     let through = throughFaceVertex (a .vertices .now) (a .triangles .now) (a .vertex .now) (a .f .0) (a .p) in
-    c .through-corner3 .ensures ∙ ap (through 2) (second .through-corner2 .ensures ∙ ap (through 1) (first .through-corner .ensures ∙ ap (through 0) infinite))
+    c .through-face-vertex3 .ensures ∙ ap (through 2) (second .through-face-vertex2 .ensures ∙ ap (through 1) (first .through-face-vertex .ensures ∙ ap (through 0) infinite))
 
 pub through-vertices-spec : {M : Type 1} → statement M
 through-vertices-spec =
     tie.close
-    (tie.spec through-corner-requires through-corner-requires-2 through-corner-requires-3 returns)
+    (tie.spec through-face-vertex-requires through-face-vertex-requires-2 through-face-vertex-requires-3 returns)

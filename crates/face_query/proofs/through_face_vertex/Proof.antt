@@ -1,7 +1,7 @@
-use Rattle.face_query.proofs.Steps.{corner-is}
+use Rattle.face_query.proofs.Steps.{face-vertex-is}
 use borrow.Author.Needs.{needs}
-use Rattle.face_query.proofs.through_corner.Statement.{statement}
-use Rattle.face_query.proofs.through_corner.Tie as tie
+use Rattle.face_query.proofs.through_face_vertex.Statement.{statement}
+use Rattle.face_query.proofs.through_face_vertex.Tie as tie
 
 face-vertex-requires : tie.Need-face-vertex-requires
 face-vertex-requires c κs = search needs
@@ -25,11 +25,11 @@ returns c =
     let o = far .before in
     let k = o .before in
     let a = k .before .before .before .before .args in
-    corner-is (a .vertices .now) (a .triangles .now) (a .vertex .now) (a .f .0) (a .p) (a .i) (a .d) (k .face-vertex .result) (o .vertex .result) (far .distance .result) (through .through-vertex .result) (c .min .result)
+    face-vertex-is (a .vertices .now) (a .triangles .now) (a .vertex .now) (a .f .0) (a .p) (a .i) (a .d) (k .face-vertex .result) (o .vertex .result) (far .distance .result) (through .through-vertex .result) (c .min .result)
     (k .face-vertex .ensures) (o .vertex .ensures) (far .distance .ensures) (through .through-vertex .ensures) (c .min .ensures)
 
-pub through-corner-spec : {M : Type 1} → statement M
-through-corner-spec =
+pub through-face-vertex-spec : {M : Type 1} → statement M
+through-face-vertex-spec =
     tie.close
     (tie.spec
     face-vertex-requires
