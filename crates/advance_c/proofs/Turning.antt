@@ -7,21 +7,20 @@ use mathlib.Core.Path.{_≡_, refl, sym, ap, subst, _∙_}
 use borrow.Author.Tests.{leb-true, le-leb, lt-leb, eqb-true, eq-eqb, ne-eqb}
 use lib.Dec.{leb, eqb}
 use lib.Ieee.{Float}
-use lib.ListN.{length, getD, set}
+use lib.ListN.{getD, set}
 use Rattle.layout.specs.Layout.{wordsPerEdge}
 use Rattle.buffers.specs.declared.Lack.{Lack}
 use Rattle.buffers.specs.Lack.{lackNumber}
 use Rattle.buffers.specs.Slots.{slotsOf}
 use Rattle.windows.specs.Windows.{capacityOf}
 use Rattle.cut_lists.specs.Buffers.{Cuts}
-use Rattle.cut_lists.specs.Cut.{Sizes}
 use Rattle.trim.specs.Buffers.{Slices}
 use Rattle.trim_split.specs.declared.Counts.{Counts}
 use Rattle.advance.specs.declared.Advanced.{Advanced}
 use Rattle.advance.specs.declared.Advanced.the-variants.{Stopped, Went}
 use Rattle.advance.specs.Contract.{AdvancesTo}
 use Rattle.finish.specs.Finish.{FinishesTo}
-use Rattle.advance_c.specs.Turns.{toldCounts, turnsTold, turnsFit, turnsFitIn, Turned, TurnsAnswer, finishFits, finishFitsIn, FinishAnswer}
+use Rattle.advance_c.specs.Turns.{toldCounts, turnsTold, turnsFit, turnsFitIn, TurnsAnswer, finishFits, finishFitsIn, FinishAnswer}
 
 not-both : {A : Type 0} (b : Bool) → b ≡ true → b ≡ false → A
 not-both b t f = absurd (let z : _≡_ {A = Bool} true false = sym t ∙ f in (let y : _≡_ {A = ℕ} 0 1 = cc in omega arith))

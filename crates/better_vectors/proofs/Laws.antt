@@ -1,7 +1,6 @@
 -- Laws of the records. Assumes nothing.
-use mathlib.Core.Path.{_≡_}
 use mathlib.Core.List.{List}
-use Prim.Native.Nat.{ℕ, _-_}
+use Prim.Native.Nat.{ℕ}
 use lib.Ieee.{Float}
 use Rattle.source.specs.declared.Src.{Src}
 use Rattle.better.specs.declared.Listed.{Listed}

@@ -15,7 +15,7 @@ use Rattle.float64.specs.Scalar.{minOf, maxOf}
 use Rattle.better.specs.Stretches.{Interval, interval}
 use Rattle.better.specs.Buffers.{pairs, HoldsPairs}
 use Rattle.better.specs.declared.Listed.{Listed}
-use Rattle.better.specs.declared.Listed.the-variants.{Full, Entries}
+use Rattle.better.specs.declared.Listed.the-variants.{Full}
 use Rattle.better.proofs.Pairs.{pairs-length, pairs-push}
 use Rattle.trim_model.specs.Intervals.{width, pushIf, cutsWithin, nextOf, next, pieces}
 use Rattle.cut_lists.proofs.Entries.{entry, pairs-from, pairs-past}

@@ -3,15 +3,14 @@
 use Prim.Native.Nat.{ℕ, zero, suc, _+_, _-_, _/_, _≤_, _<_}
 use mathlib.Core.Bool.{Bool, true, false, cond}
 use mathlib.Core.List.{List, [], _∷_}
-use mathlib.Core.Path.{_≡_, refl, sym, ap, _∙_}
+use mathlib.Core.Path.{_≡_, refl}
 use native.Mathlib.Decide.{decLe}
 use native.Mathlib.Omega.{arith}
 use borrow.Author.Tests.{lt-ltb, le-ltb, eq-eqb, ne-eqb}
 use lib.Dec.{T, not-T}
-use lib.Ieee.{Float, le, lt}
+use lib.Ieee.{Float, le}
 use lib.Ieee.Bits.{is-false}
 use lib.ListN.{length}
-use Rattle.nat_laws.proofs.Tests.{holds}
 use Rattle.float_laws.proofs.Order.{le-trans, lt-le}
 use Rattle.source.specs.declared.Win.{Win}
 use Rattle.edge_query.specs.EdgeDistance.{partitionPoint}

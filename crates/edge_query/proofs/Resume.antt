@@ -19,10 +19,9 @@ use Rattle.layout.specs.Layout.{realsPerWindow, windowB0, windowB1}
 use Rattle.buffers.specs.declared.EdgeId.{EdgeId}
 use Rattle.chains.specs.Chains.{Links, linkIn, linkAt}
 use Rattle.chains.proofs.Turns.{link-le}
-use Rattle.last_pass.specs.Buffers.{chainBehind}
 use Rattle.edge_query.specs.declared.Cursor.{Cursor}
 use Rattle.edge_query.specs.declared.Passed.{Passed}
-use Rattle.edge_query.specs.Forward.{pastOf, forward}
+use Rattle.edge_query.specs.Forward.{pastOf}
 use Rattle.edge_query.specs.Resume.{fromHead, ResumesAt, Resumes, headCursor, cursorFor, cursorPast}
 use Rattle.edge_query.proofs.Forward.{toCome, passes, past-short}
 

@@ -1,5 +1,5 @@
 -- The Rust's `edge_at`: the distance at x on an edge, from the distances of its ends, its length and its list of windows. Definitions only.
-use Prim.Native.Nat.{ℕ, zero, suc}
+use Prim.Native.Nat.{ℕ, suc}
 use mathlib.Core.List.{List, [], _∷_, reverse}
 use lib.Ieee.{Float, lt, le}
 use lib.ListN.{take, drop}

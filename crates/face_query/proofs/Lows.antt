@@ -1,21 +1,19 @@
 -- Where the least `low` of an edge's windows fails the Rust's test, no window of the edge passes it, since a sum rises with its operands and d does not change: the edge is passed over. Assumes nothing.
-use Prim.Native.Nat.{ℕ, zero, suc, _-_, _<_}
-use mathlib.Core.Bool.{Bool, true, false, not, cond}
+use Prim.Native.Nat.{ℕ, _-_, _<_}
+use mathlib.Core.Bool.{Bool, true, false, cond}
 use mathlib.Core.List.{List, [], _∷_}
 use mathlib.Core.Logic.{_≢_}
-use mathlib.Core.Path.{_≡_, refl, sym, ap, _∙_, subst}
-use native.Mathlib.Omega.{arith}
+use mathlib.Core.Path.{_≡_, refl, sym, ap, _∙_}
 use lib.Dec.{T, not-T}
 use lib.Ieee.{Float, nan, inf, fin, binary64, add, lt, le, isNan}
 use lib.Ieee.Bits.{is-false}
 use Rattle.float64.specs.Scalar.{minOf}
 use Rattle.float64.specs.Notation.{_⊕_}
-use Rattle.float_laws.proofs.Order.{Number, le-refl, le-trans, le-number-l, le-number-r, lt-number-l, lt-number-r, lt-not-le, le-lt-trans, past-infinity}
+use Rattle.float_laws.proofs.Order.{Number, le-refl, le-trans, le-number-l, lt-number-l, lt-number-r, lt-not-le, le-lt-trans, past-infinity}
 use Rattle.float_laws.proofs.MinMax.{min-le-l, min-le-r}
 use Rattle.float_monotone.proofs.HypotOrder.{below-infinity}
 use Rattle.float_monotone.proofs.SumOrder.{add-rises-r}
 use Rattle.face_distance.proofs.Floors.{sum-number-r}
-use Rattle.windows.specs.Windows.{windowAt}
 use Rattle.buffers.specs.declared.EdgeId.{EdgeId}
 use Rattle.chains.specs.Chains.{Links, links, linkIn, linkAt}
 use Rattle.mesh_readers.specs.Readers.{sideIn}

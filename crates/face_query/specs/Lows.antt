@@ -1,6 +1,6 @@
 -- The least `low` of the windows on a chain. Definitions only: `far-side` in proofs/Lows.antt says that no window is looked at where it fails the Rust's test.
 use Prim.Native.Nat.{ℕ, _+_, _-_, _*_, _<_}
-use mathlib.Core.Bool.{Bool, false}
+use mathlib.Core.Bool.{false}
 use mathlib.Core.List.{List, [], _∷_}
 use mathlib.Core.Path.{_≡_}
 use lib.Ieee.{Float, nan, inf}

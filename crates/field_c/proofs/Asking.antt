@@ -12,7 +12,6 @@ use Rattle.layout.specs.Layout.{wordsPerEdge}
 use Rattle.buffers.specs.Slots.{slotsOf}
 use Rattle.vec3.specs.declared.Vec3.{Vec3}
 use Rattle.windows.specs.Windows.{capacityOf}
-use Rattle.computed.specs.declared.Computed.{Computed}
 use Rattle.computed.specs.declared.Computed.the-variants.{Field as isField}
 use Rattle.computed.specs.declared.Field.{Field}
 use Rattle.field_check.specs.FieldCheck.{JobSlices, FieldSlices, fieldUnsound}

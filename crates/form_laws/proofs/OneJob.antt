@@ -12,7 +12,6 @@ use Rattle.job_checks.specs.Job as job
 use Rattle.little_endian.specs.Bytes.{numberFrom}
 use Rattle.groups.specs.declared.Form.{Form}
 use Rattle.groups.specs.declared.Form.the-variants.{Plain, Groups}
-use Rattle.groups.specs.declared.Number.{Number}
 use Rattle.groups.specs.declared.Number.the-variants.{Short, Is}
 use Rattle.groups.specs.Groups.{numberAt}
 use Rattle.slip.specs.declared.Slip.{Slip}

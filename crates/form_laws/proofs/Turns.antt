@@ -15,7 +15,6 @@ use Rattle.groups.specs.declared.Form.{Form}
 use Rattle.groups.specs.declared.Number.{Number}
 use Rattle.groups.specs.declared.Number.the-variants.{Short, Over, Is}
 use Rattle.groups.specs.Groups.{numberAt, numberOf}
-use Rattle.slip_moves.specs.declared.Refusal.{Refusal}
 use Rattle.slip_moves.specs.declared.Refusal.the-variants.{TooShort, UnknownKind}
 use Rattle.slip_moves.specs.Moves.{Part, put, stop, also, then, bytesMoved, numberWritten, endsSize, numberMoved, numbersMoved, pieceOfKind, pieceMoved, piecesMoved, meshMoved, restMoved, bodyMoved}
 use Rattle.slip_moves.proofs.Parts.{no-part}

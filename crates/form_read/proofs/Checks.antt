@@ -12,7 +12,6 @@ use Rattle.little_endian.specs.Bytes.{atFront, doublesFrom, bytesFrom}
 use Rattle.slip.specs.Reading.{Rows, vertexSlots, triangleSlots, pieceSlots, filled, jobRows}
 use Rattle.groups.specs.declared.Form.the-variants.{Plain, Groups}
 use Rattle.slip_moves.specs.declared.Refusal.{Refusal}
-use Rattle.slip_moves.specs.declared.Head.{Head}
 use Rattle.slip_moves.specs.declared.Head.the-variants as head
 use Rattle.slip_moves.specs.declared.Moved.{Moved}
 use Rattle.slip_moves.specs.declared.Moved.the-variants as moved

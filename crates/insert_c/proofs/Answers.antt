@@ -7,7 +7,6 @@ use lib.ListN.{length}
 use lib.Ieee.{Float}
 use Rattle.layout.specs.Layout.{wordsPerPiece}
 use Rattle.job_checks.specs.Job.{Job, job, vertexCount}
-use Rattle.topology.specs.Edges.{edges}
 use Rattle.cut_lists.specs.Buffers.{Cuts}
 use Rattle.cut_slots.specs.Slots.{cutCount, cutTo}
 use Rattle.mesh.specs.declared.OtherCounts.{OtherCounts}

@@ -3,7 +3,6 @@ use Prim.Native.Nat.{ℕ, min}
 use mathlib.Core.List.{List}
 use mathlib.Core.Path.{_≡_}
 use lib.ListN.{length, set}
-use lib.Ieee.{Float}
 use Rattle.layout.specs.Layout.{wordsPerPiece, realsPerPiece, realsPerVertex, wordsPerWindow, realsPerWindow}
 use Rattle.buffers.specs.Lack.{lackNumber}
 use Rattle.buffers.specs.Slots.{slotsOf}

@@ -20,7 +20,7 @@ use Rattle.source_windows.specs.declared.CandidateRange.the-variants.{Nothing a
 use Rattle.source_windows.specs.Wedge.{wholeOf, liesOn, pointWindowOf}
 use Rattle.source_windows.specs.Segment.{inFrameOf, segmentWindowOf}
 use Rattle.source_windows.specs.Ends.{EndsOn}
-use Rattle.source_windows.proofs.Ends.{On, whole-on, wedge-on, segment-window-on, point-window-on, ends-of}
+use Rattle.source_windows.proofs.Ends.{whole-on, wedge-on, segment-window-on, point-window-on, ends-of}
 use Rattle.trim_model.specs.Model.{Candidate}
 use Rattle.candidate_laws.proofs.Admitted.{length-point, admitted-inside}
 use Rattle.offers.specs.Offers.{offerList}

@@ -1,5 +1,5 @@
 -- The walk along the front of an edge's list may start behind any window of it that passes, so also behind the one where the last walk ended. Assumes nothing.
-use Prim.Native.Nat.{ℕ, suc, _+_, _*_, _-_, _≤_, _<_}
+use Prim.Native.Nat.{ℕ, _+_, _*_, _-_, _≤_}
 use native.Mathlib.Omega.{arith}
 use native.Mathlib.Decide.{ℕ-discrete}
 use mathlib.Core.Bool.{Bool, true, cond}
@@ -13,7 +13,7 @@ use Rattle.float64.specs.Notation.{_⊖_}
 use Rattle.buffers.proofs.Strides.{other-fields}
 use Rattle.windows.specs.declared.WindowRecord.{WindowRecord}
 use Rattle.windows.specs.Windows.{hasFlag, windowAt}
-use Rattle.chains.specs.Chains.{Links, links, headOf, Path, Out}
+use Rattle.chains.specs.Chains.{Links, links, headOf, Path}
 use Rattle.better.specs.Claim.{All}
 use Rattle.trim_model.specs.Windows.{Window, takeWhile}
 use Rattle.trim_model.specs.Add.{passes}

@@ -16,7 +16,7 @@ use Rattle.nat_laws.proofs.Lists.{all-append, all-left, all-right}
 use Rattle.nat_laws.specs.Lists.{listOf}
 use Rattle.windows.specs.declared.WindowRecord.{WindowRecord}
 use Rattle.windows.specs.Windows.{windowAt, relinked}
-use Rattle.chains.specs.Chains.{Links, headOf, withLink, Path, Out, Belongs, AllBelong, OnEdge}
+use Rattle.chains.specs.Chains.{Links, headOf, withLink, Out, Belongs, AllBelong, OnEdge}
 use Rattle.chains.proofs.Paths.{front-out}
 use Rattle.chains.proofs.OnEdges.{all-set, elsewhere, no-windows}
 use Rattle.better.specs.Claim.{All}

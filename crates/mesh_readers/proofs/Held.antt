@@ -2,8 +2,8 @@
 --     of an edge      edge-held, ends-held, trim-edge-held, faces-held, other-held, shared-held; its length and unit vector are the fields of `HoldsLengths`
 --     of a face       side-held, normal-held, local-held, third-held, between-held, coords-held
 --     of a vertex     range-held, degree-held, round-held
-use Prim.Native.Nat.{ℕ, _+_, _-_, _*_, _/_, _%_, _<_, _≤_}
-use mathlib.Core.Path.{_≡_, refl, sym, ap, _∙_}
+use Prim.Native.Nat.{ℕ, _+_, _*_, _/_, _%_, _<_}
+use mathlib.Core.Path.{_≡_, ap, _∙_}
 use mathlib.Core.Bool.{cond}
 use mathlib.Core.List.{List}
 use native.Mathlib.Omega.{arith}
@@ -13,18 +13,14 @@ use lib.Ieee.{Float, nan}
 use Rattle.layout.specs.Layout.{verticesPerTriangle, wordsPerTriangle, realsPerTriangle, realsPerNormal}
 use Rattle.vec3.specs.declared.Vec3.{Vec3}
 use Rattle.vec3.specs.Vec.{subOf, dotOf}
-use Rattle.topology.specs.Edges.{EndPair, noEdge, offEnds, joins, edges, triEdge, face, other, local, third, sharedVertex, edgeBetween, vertexFaces}
-use Rattle.topology.specs.Frames.{origin, len, xhat, yhat, coordsX, coordsY}
+use Rattle.topology.specs.Edges.{noEdge, offEnds, joins, edges, triEdge, face, other, local, third, sharedVertex, edgeBetween, vertexFaces}
+use Rattle.topology.specs.Frames.{origin, len, yhat, coordsX, coordsY}
 use Rattle.topology.proofs.Edges.{tri-edge-there}
 use Rattle.topology.proofs.Sides.{local-below}
 use Rattle.vertex_faces.specs.Ranges.{startOf, endOf}
-use Rattle.frames.specs.Stored.{normalAt, unitAt, originAt}
+use Rattle.frames.specs.Stored.{originAt}
 use Rattle.frames.specs.Held.{HoldsEdges, HoldsFaces, HoldsSides, HoldsLengths, HoldsNormals}
 use Rattle.frames.proofs.Held.{origin-held}
-use Rattle.mesh_readers.specs.declared.EdgeEnds.{EdgeEnds}
-use Rattle.mesh_readers.specs.declared.FacePair.{FacePair}
-use Rattle.mesh_readers.specs.declared.FrameCoords.{FrameCoords}
-use Rattle.mesh_readers.specs.declared.RoundRange.{RoundRange}
 use Rattle.mesh_readers.specs.Held.{HoldsRound}
 use Rattle.mesh_readers.specs.Readers.{edgeAt, endsAt, trimEdgeAt, facesAt, otherAt, sharedAt, sideIn, normalIn, localAt, thirdAt, edgeBetweenAt, coordsAt, rangeAt, degreeAt, roundAt}
 

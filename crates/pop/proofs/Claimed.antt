@@ -1,19 +1,17 @@
 -- What a pop leaves of the windows that stand in the buffers. Assumes nothing.
-use Prim.Native.Nat.{ℕ, zero, suc, _+_, _*_, _≤_, _<_}
+use Prim.Native.Nat.{ℕ, _+_, _*_, _≤_, _<_}
 use native.Mathlib.Omega.{arith}
 use native.Mathlib.Decide.{ℕ-discrete}
-use mathlib.Core.Bool.{Bool, true, false, cond, _&&_}
-use mathlib.Core.List.{List, [], _∷_, _++_}
+use mathlib.Core.Bool.{Bool, true, false, cond}
+use mathlib.Core.List.{List, [], _∷_}
 use mathlib.Core.Path.{_≡_, refl, sym, ap, subst, _∙_}
 use borrow.Author.Tests.{eq-eqb, ne-eqb, lt-ltb, le-ltb}
 use native.Mathlib.Decide.{decLe}
-use lib.Dec.{T, eqb, ltb}
-use lib.ListN.{length, getD, drop}
+use lib.Dec.{T, eqb}
+use lib.ListN.{length, drop}
 use lib.Seq.{drop-set-lt}
 use lib.Ieee.{Float}
 use Rattle.layout.specs.Layout.{wordsPerWindow, windowFlags, aliveFlag, queuedFlag}
-use Rattle.nat_laws.specs.Lists.{listOf}
-use Rattle.nat_laws.proofs.Lists.{length-listOf}
 use Rattle.windows.specs.declared.WindowRecord.{WindowRecord}
 use Rattle.windows.specs.Windows.{hasFlag, flagsAt, windowAt, flagsWith, reflagged, relinked, unqueuedRecord, adjust, capacityOf}
 use Rattle.windows.proofs.WindowList.{counted}
@@ -22,7 +20,7 @@ use Rattle.better.specs.Claim.{All}
 use Rattle.heap.specs.declared.Item.{Item}
 use Rattle.heap.specs.declared.Item.the-variants.{Window as Item·Window, Vertex}
 use Rattle.trim_model.proofs.Lists.{all-map}
-use Rattle.trim_model.specs.Windows.{Window, unqueued, unqueuedCarried}
+use Rattle.trim_model.specs.Windows.{Window, unqueued}
 use Rattle.live_windows.specs.Live.{nums, Alive, Stands, HoldsWindows, bare, winsOf, unqueuedIn}
 use Rattle.live_windows.proofs.Stored.{adjust-out, adjust-same, adjust-as, wins-at, length-wins}
 use Rattle.live_windows.proofs.Changed.{unqueue-done}

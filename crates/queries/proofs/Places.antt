@@ -10,7 +10,6 @@ use Rattle.windows.specs.declared.WindowRecord.{WindowRecord}
 use Rattle.chains.specs.Chains.{Links, linkIn, linkAt}
 use Rattle.last_pass.specs.Buffers.{chainBehind}
 use Rattle.last_pass.proofs.Chains.{chain-end, chain-next, chain-out}
-use Rattle.queries.specs.declared.WindowAnswer.{WindowAnswer}
 use Rattle.queries.specs.declared.WindowAnswer.the-variants.{PastEnd, Window}
 use Rattle.queries.specs.Queries.{placeLink, linkedWindow}
 

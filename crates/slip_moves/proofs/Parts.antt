@@ -1,7 +1,7 @@
 -- Parts moved one behind the other. Assumes nothing.
 -- `Far l o whole rest m p`: of `whole`, moved to place o of l, what is left to move is `rest`; the list is m by now and the next place p. Each step of a
 -- function takes it on by one part, and a stop or the last part ends it in what the contract asks.
-use Prim.Native.Nat.{ℕ, _+_, _-_}
+use Prim.Native.Nat.{ℕ, _+_}
 use native.Mathlib.Nat.{add-zero}
 use native.Mathlib.Omega.{arith}
 use mathlib.Core.Path.{_≡_, refl, sym, ap, _∙_}

@@ -8,7 +8,6 @@ use lib.Dec.{eqb}
 use lib.Ieee.{Float}
 use lib.ListN.{length, getD}
 use Rattle.nat_laws.specs.Lists.{All}
-use Rattle.nat_laws.proofs.Lists.{all-append}
 use Rattle.vec3.specs.declared.Vec3.{Vec3}
 use Rattle.job_checks.specs.Sound.{ValidTriangles}
 use Rattle.topology.specs.Edges.{noFace}
@@ -24,7 +23,6 @@ use Rattle.point_wedge.specs.Wedge.{boundsIn}
 use Rattle.source_inserts.specs.declared.Insert.{Insert}
 use Rattle.source_inserts.specs.declared.Insert.the-variants.{Offer}
 use Rattle.source_inserts.specs.Inserts.{entryOf, carrierInserts, pointInserts, segmentInserts, endInserts, wholeInserts, partInserts, jobInserts, sourceInserts}
-use Rattle.offers.specs.Each.{eachOf}
 use Rattle.offers.proofs.Each.{each-all}
 use Rattle.source_inserts.proofs.Job.{job-inserts}
 

@@ -1,12 +1,11 @@
 -- The table of a file's points is its mesh, and the answers of reading. Assumes nothing.
-use Prim.Native.Nat.{ℕ, zero, suc, _+_, _-_, _*_, _/_, _%_, _≤_, _<_}
-use native.Mathlib.Nat.{div-lt-iff-lt-mul, mul-comm}
+use Prim.Native.Nat.{ℕ, _-_, _*_, _/_, _%_, _≤_, _<_}
 use native.Mathlib.Omega.{arith}
 use mathlib.Core.Path.{_≡_, refl, sym, ap, _∙_, subst}
-use mathlib.Core.Bool.{Bool, true, false, not, cond, _||_}
+use mathlib.Core.Bool.{Bool, true, false, cond, _||_}
 use mathlib.Core.List.{List}
 use borrow.Author.Tests.{lt-ltb, le-ltb, eq-eqb, ne-eqb}
-use lib.Dec.{eqb, ltb}
+use lib.Dec.{ltb}
 use lib.ListN.{length, getD, take}
 use lib.Ieee.{Float}
 use lib.Seq.{getD-take}
@@ -18,7 +17,7 @@ use Rattle.nat_laws.specs.Lists.{listOf}
 use Rattle.nat_laws.proofs.Lists.{listOf-same}
 use Rattle.stl_format.specs.declared.Stl.{Stl}
 use Rattle.stl_format.specs.declared.Stl.the-variants as stl
-use Rattle.stl_format.specs.Format.{StlMesh, recordCount, fileLength, pointFrom, coordinate, notFinite, samePoint, linkAmong, firstPoints, vertexPoints, vertexOfPoint, meshIn}
+use Rattle.stl_format.specs.Format.{StlMesh, recordCount, fileLength, coordinate, notFinite, samePoint, linkAmong, firstPoints, vertexPoints, vertexOfPoint, meshIn}
 use Rattle.stl_format.specs.Answers.{tooMany, readAnswer, afterReading, meshLists, stlReading}
 use Rattle.stl_table.specs.Keys.{sameAt, keyBucketAt}
 use Rattle.stl_table.specs.Table.{HasPoint, HasPoints, foundAt, Findable, VertexTable, TableBuilt}

@@ -1,17 +1,17 @@
 -- Finite singles compare equal exactly where their bits are the same, minus zero's taken as zero's; so do points. Assumes nothing.
-use Prim.Native.Nat.{ℕ, zero, suc, _+_, _*_, _<_, _≤_}
+use Prim.Native.Nat.{ℕ, _+_, _*_, _<_}
 use native.Mathlib.Nat.{add-zero}
 use native.Mathlib.Omega.{arith}
 use mathlib.Core.Path.{_≡_, refl, sym, ap, _∙_, subst}
 use mathlib.Core.Bool.{Bool, true, false, not, cond, _&&_, true≢false}
 use mathlib.Core.List.{List}
 use mathlib.Core.Logic.{_⊎_, inl, inr, ⊎-elim}
-use borrow.Author.Tests.{eqb-true, eqb-false, eq-eqb}
+use borrow.Author.Tests.{eqb-true, eq-eqb}
 use lib.Dec.{T, eqb}
 use lib.ListN.{getD}
-use lib.Ieee.{Float, binary32, binary64, fits, ofBits, ofFields, odd, toBits, size, span, climb, eq, neg}
-use lib.Ieee.Bits.{is-true, ofBits-fits, toBits-ofBits}
-use lib.Ieee.Fits.{and-l, and-r, neg-fits}
+use lib.Ieee.{binary32, binary64, ofBits, ofFields, odd, toBits, size, span, climb, eq, neg}
+use lib.Ieee.Bits.{ofBits-fits, toBits-ofBits}
+use lib.Ieee.Fits.{neg-fits}
 use lib.Ieee.Scale.{finite}
 use Rattle.float64.specs.Scalar.{zero64, negative}
 use Rattle.float_laws.proofs.Order.{finite-number, eq-refl, eq-sym, eq-trans, eq-same-sign, eq-same}

@@ -2,8 +2,8 @@
 use Prim.Native.Nat.{ℕ, zero, suc, _+_, _*_, _/_, _%_, _≤_, _<_}
 use native.Mathlib.Nat.{zero-add}
 use native.Mathlib.Omega.{arith}
-use mathlib.Core.Path.{_≡_, refl, sym, ap, _∙_, subst}
-use mathlib.Core.Bool.{Bool, true, false, not, cond, _||_, true≢false}
+use mathlib.Core.Path.{_≡_, refl, ap, _∙_}
+use mathlib.Core.Bool.{Bool, true, false, not, _||_, true≢false}
 use mathlib.Core.List.{List, _++_}
 use borrow.Author.Tests.{ltb-false, lt-ltb, le-ltb}
 use lib.Dec.{T, eqb, ltb}
@@ -20,7 +20,7 @@ use Rattle.text_out.specs.Text.{Puts}
 use Rattle.stl_format.specs.declared.Stl.the-variants as stl
 use Rattle.stl_format.specs.Format.{fileLength, singleBytes, vertexBytes, recordBytes, recordsBytes, fileOf}
 use Rattle.stl_format.specs.Answers.{wrongSizes, notSingle, writeAnswer, afterWriting, stlWriting}
-use Rattle.stl.specs.Parts.{Writable, WritableTriangles}
+use Rattle.stl.specs.Parts.{WritableTriangles}
 
 pub length-single : (x : Float) → length (singleBytes x) ≡ 4
 unfolding singleBytes numberBytes

@@ -1,28 +1,27 @@
 -- A file is read exactly where it is readable and there is room, and then its mesh stands at the fronts; so of writing. In a readable file two points have one
 -- vertex exactly where they are the same, and a point compares equal to its vertex. Assumes nothing.
-use Prim.Native.Nat.{ℕ, zero, suc, _+_, _-_, _*_, _/_, _%_, _≤_, _<_}
+use Prim.Native.Nat.{ℕ, _+_, _-_, _*_, _/_, _%_, _<_}
 use native.Mathlib.Omega.{arith}
 use mathlib.Core.Path.{_≡_, refl, sym, ap, _∙_, subst}
 use mathlib.Core.Bool.{Bool, true, false, not, cond, _||_, true≢false}
 use mathlib.Core.List.{List}
-use borrow.Author.Tests.{ltb-false, eqb-true, le-ltb, eq-eqb}
+use borrow.Author.Tests.{ltb-false, eqb-true, le-ltb}
 use lib.Dec.{T, eqb, ltb}
 use lib.ListN.{length, getD}
-use lib.Ieee.{Float, nan, eq}
+use lib.Ieee.{nan, eq}
 use Rattle.job_checks.specs.Any.{anyBelow}
 use Rattle.job_checks.specs.Refusals.{maxVertices, maxTriangles}
 use Rattle.job_checks.proofs.Any.{none-all, none-below}
 use Rattle.little_endian.specs.Bytes.{atFront}
-use Rattle.nat_laws.specs.Lists.{listOf}
 use Rattle.nat_laws.proofs.Lists.{getD-listOf}
 use Rattle.stl_format.specs.declared.Stl.{Stl}
 use Rattle.stl_format.specs.declared.Stl.the-variants as stl
-use Rattle.stl_format.specs.Format.{StlMesh, recordCount, fileLength, coordinate, notFinite, samePoint, linkAmong, firstPoints, vertexPoints, vertexOfPoint, meshIn}
+use Rattle.stl_format.specs.Format.{StlMesh, recordCount, fileLength, coordinate, notFinite, samePoint, vertexPoints, vertexOfPoint, meshIn}
 use Rattle.stl_format.specs.Answers.{tooMany, readAnswer, afterReading, meshLists, stlReading}
 use Rattle.stl.proofs.Agreeing.{first-below}
 use Rattle.stl.proofs.Meshes.{answered, is-mesh}
 use Rattle.stl_laws.specs.Accepted.{Readable, Room, isMesh, meshAnswer}
-use Rattle.stl_laws.proofs.Numbering.{vertex-same, same-vertex, vertex-one, has-vertex}
+use Rattle.stl_laws.proofs.Numbering.{vertex-same, same-vertex, vertex-one}
 use Rattle.stl_laws.proofs.Equal.{equal-at, same-self, same-turned, same-through}
 
 -- ---- what reading accepts

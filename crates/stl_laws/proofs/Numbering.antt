@@ -1,6 +1,6 @@
 -- The numbering of points by a test of sameness that is an equivalence on the first n of them: every point has a vertex, which is the same as it, and two points
 -- have one vertex exactly where they are the same. Assumes nothing.
-use Prim.Native.Nat.{ℕ, zero, suc, _+_, _-_, _<_, _≤_}
+use Prim.Native.Nat.{ℕ, zero, suc, _+_, _-_, _<_}
 use native.Mathlib.Nat.{zero-add}
 use native.Mathlib.Omega.{arith}
 use mathlib.Core.Path.{_≡_, refl, sym, ap, _∙_, subst}

@@ -3,7 +3,7 @@ use Prim.Native.Nat.{ℕ, zero, suc, _+_, _*_, _/_, _%_, _≤_, _<_}
 use native.Mathlib.Omega.{arith}
 use mathlib.Core.Path.{_≡_, refl, sym, ap, _∙_, subst}
 use mathlib.Core.Bool.{Bool, true, false}
-use mathlib.Core.List.{List, [], _∷_, _++_, append-assoc, append-nil}
+use mathlib.Core.List.{List, [], _++_, append-assoc, append-nil}
 use borrow.Author.Tests.{eqb-true, eqb-false}
 use lib.Dec.{T, eqb}
 use lib.ListN.{length, getD, drop, replicate}
@@ -15,8 +15,8 @@ use lib.Seq.{drop-at, drop-append-le, drop-drop}
 use Rattle.little_endian.specs.Bytes.{numberFrom, numberBytes}
 use Rattle.single.specs.Single.{isSingle}
 use Rattle.slip_laws.proofs.Parts.{past, number-here}
-use Rattle.stl.proofs.Written.{length-single, length-vertex, length-record, length-records, length-count, length-file}
-use Rattle.stl_format.specs.Format.{recordCount, fileLength, pointFrom, coordinate, singleBytes, vertexBytes, recordBytes, recordsBytes, fileOf}
+use Rattle.stl.proofs.Written.{length-single, length-vertex, length-records}
+use Rattle.stl_format.specs.Format.{recordCount, pointFrom, coordinate, singleBytes, vertexBytes, recordBytes, recordsBytes, fileOf}
 
 single-fits : (x : Float) → T (isSingle x) → T (fits binary32 x)
 unfolding isSingle

@@ -1,16 +1,16 @@
 -- What is read is written back, and what is written is read back. Assumes nothing.
-use Prim.Native.Nat.{ℕ, zero, suc, _+_, _-_, _*_, _/_, _%_, _≤_, _<_}
+use Prim.Native.Nat.{ℕ, _+_, _*_, _/_, _%_, _≤_, _<_}
 use native.Mathlib.Omega.{arith}
 use mathlib.Core.Path.{_≡_, refl, sym, ap, _∙_, subst}
-use mathlib.Core.Bool.{Bool, true, false, not, cond, _&&_}
+use mathlib.Core.Bool.{Bool, true, false, not}
 use mathlib.Core.List.{List}
 use borrow.Author.Tests.{eqb-true, eq-eqb, le-ltb}
 use lib.Dec.{T, eqb}
 use lib.ListN.{length, getD}
 use lib.Seq.{ext-getD}
-use lib.Ieee.{Float, nan, binary32, binary64, fits, ofBits, toBits, eq}
-use lib.Ieee.Bits.{is-true, ofBits-fits, ofBits-toBits, toBits-ofBits}
-use lib.Ieee.Fits.{and-i, and-l, and-r}
+use lib.Ieee.{Float, nan, binary32, fits, ofBits, toBits, eq}
+use lib.Ieee.Bits.{is-true, ofBits-fits, toBits-ofBits}
+use lib.Ieee.Fits.{and-i, and-l}
 use lib.Ieee.Scale.{finite}
 use Rattle.float_laws.proofs.Order.{finite-number, eq-refl}
 use Rattle.job_checks.specs.Any.{anyBelow}
@@ -18,19 +18,17 @@ use Rattle.job_checks.specs.Refusals.{maxVertices, maxTriangles, missing, missi
 use Rattle.job_checks.proofs.Any.{none-all}
 use Rattle.job_checks.proofs.Tests.{not-missing}
 use Rattle.little_endian.specs.Bytes.{numberFrom, atFront}
-use Rattle.nat_laws.specs.Lists.{listOf}
 use Rattle.nat_laws.proofs.Lists.{length-listOf, getD-listOf}
 use Rattle.single.specs.Single.{isSingle}
 use Rattle.stl_format.specs.declared.Stl.the-variants as stl
-use Rattle.stl_format.specs.Format.{StlMesh, recordCount, fileLength, pointFrom, coordinate, notFinite, samePoint, linkAmong, firstPoints, vertexPoints, vertexOfPoint, meshIn, fileOf}
+use Rattle.stl_format.specs.Format.{StlMesh, recordCount, fileLength, pointFrom, coordinate, notFinite, samePoint, firstPoints, vertexPoints, vertexOfPoint, meshIn, fileOf}
 use Rattle.stl_format.specs.Answers.{meshLists, stlReading, wrongSizes, notSingle, writeAnswer, afterWriting, stlWriting}
 use Rattle.stl_table.specs.Keys.{zeroUnsigned}
 use Rattle.stl.proofs.Same.{Bytes, same-single, number-below}
 use Rattle.stl.proofs.Agreeing.{first-agree, first-below}
 use Rattle.stl.proofs.Written.{length-file}
-use Rattle.stl_laws.specs.Accepted.{Readable, Room, meshAnswer, WritableMesh, EqualVertices, uses, InOrder}
+use Rattle.stl_laws.specs.Accepted.{Readable, Room, meshAnswer, WritableMesh, uses, InOrder}
 use Rattle.stl_laws.proofs.Points.{count-here, bits-here, coordinate-here}
-use Rattle.stl_laws.proofs.Numbering.{vertex-same}
 use Rattle.stl_laws.proofs.Equal.{equal-at, same-of, finite-at, same-self, same-through}
 use Rattle.stl_laws.proofs.Accepting.{read-gives, vertex-of, vertex-low, triangle-at, vertex-at, vertex-equal}
 use Rattle.stl_laws.proofs.Counting.{few-vertices}

@@ -1,5 +1,5 @@
 -- The parts of `add` put together: past the windows before the run, over the run, and from its start once more to seat the new windows. Assumes nothing.
-use Prim.Native.Nat.{ℕ, _+_, _≤_, _<_}
+use Prim.Native.Nat.{ℕ, _≤_, _<_}
 use mathlib.Core.List.{List, [], _∷_, _++_}
 use mathlib.Core.Path.{_≡_, refl, sym, ap, _∙_, subst}
 use native.Mathlib.Omega.{arith}
@@ -28,7 +28,7 @@ use Rattle.trim_model.proofs.Order.{Tidy}
 use Rattle.trim_model.proofs.Turns.{run-is}
 use Rattle.trim_model.specs.Seat.{seatAll}
 use Rattle.trim_state.specs.State as state
-use Rattle.trim_state.specs.State.{State, Result, put, finish}
+use Rattle.trim_state.specs.State.{Result, put, finish}
 use Rattle.trim_state.specs.Trace.{visitings, keeping, adding}
 use Rattle.trim_state.proofs.Turns.{adding-is}
 use Rattle.trim_state.proofs.Seated.{passed, reached, beyond, walked, walk-seated}

@@ -1,7 +1,7 @@
 -- In a tidy list starts and ends rise, so what stands before a window that the new one passes is passed too. Assumes nothing.
 use Prim.Native.Nat.{_<_}
 use mathlib.Core.Bool.{Bool, true, false, not, _&&_}
-use mathlib.Core.List.{List, _∷_, _++_}
+use mathlib.Core.List.{List, _∷_}
 use mathlib.Core.Path.{_≡_, refl, sym, subst}
 use lib.Dec.{T}
 use lib.Ieee.{Float, lt}

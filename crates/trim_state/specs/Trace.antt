@@ -1,6 +1,6 @@
 -- The actions of the Rust's `add` of an admitted window, in its order, told from the windows and the lists alone. Definitions only.
 use Prim.Native.Nat.{ℕ, suc}
-use mathlib.Core.Bool.{Bool, true}
+use mathlib.Core.Bool.{true}
 use mathlib.Core.List.{List, [], _∷_, _++_}
 use lib.ListN.{length}
 use lib.Ieee.{Float, binary64, ofBits, le}

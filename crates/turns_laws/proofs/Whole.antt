@@ -1,14 +1,13 @@
 -- A job in parts is the whole job, by the contracts of the exports: turns-compute, for a field; insertion-refused, turns-refused and turns-spent, for the refusals. Assumes nothing.
-use Prim.Native.Nat.{ℕ, zero, suc, min, _+_, _-_, _≤_, _<_}
+use Prim.Native.Nat.{ℕ, zero, suc, min, _+_, _≤_, _<_}
 use native.Mathlib.Omega.{arith}
 use mathlib.Core.Bool.{Bool, true, false}
-use mathlib.Core.List.{List, []}
+use mathlib.Core.List.{List}
 use mathlib.Core.Path.{_≡_, refl, sym, ap, subst, _∙_}
 use lib.ListN.{length, length-set, getD, set}
 use lib.Seq.{length-take-le, getD-set-same, getD-set-other}
 use lib.Ieee.{Float}
 use Rattle.layout.specs.Layout.{coordinatesPerVertex, verticesPerTriangle, wordsPerPiece, realsPerPiece, realsPerVertex, wordsPerEdge}
-use Rattle.buffers.specs.declared.Lack.{Lack}
 use Rattle.buffers.specs.Lack.{lackNumber}
 use Rattle.buffers.specs.Slots.{slotsOf}
 use Rattle.windows.specs.Windows.{capacityOf}

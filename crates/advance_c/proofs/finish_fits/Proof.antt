@@ -1,6 +1,5 @@
 -- `advance_c::finish_fits` meets its contract. Assumes nothing.
 use native.Mathlib.Omega.{arith}
-use mathlib.Core.Path.{sym, _∙_}
 use Rattle.advance_c.proofs.Turning.{finish-edges-lack, finish-windows-lack, finish-none-lacks}
 use borrow.Author.Needs.{needs}
 use Rattle.advance_c.proofs.finish_fits.Statement.{statement}

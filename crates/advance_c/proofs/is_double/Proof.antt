@@ -1,6 +1,5 @@
 -- `advance_c::is_double` meets its contract. Assumes nothing.
 use native.Mathlib.Omega.{arith}
-use mathlib.Core.Path.{sym, _∙_}
 use Rattle.advance_c.proofs.Turning.{is-double-true, is-double-false}
 use Rattle.advance_c.proofs.is_double.Statement.{statement}
 use Rattle.advance_c.proofs.is_double.Tie as tie

@@ -1,5 +1,4 @@
 -- `advance_c::sirmolaat_advance` meets its contract. Assumes nothing.
-use native.Mathlib.Omega.{arith}
 use mathlib.Core.Path.{sym, _∙_}
 use Rattle.advance_c.proofs.Turning.{turns-need, turns-unfit, turns-turned}
 use borrow.Author.Needs.{needs}

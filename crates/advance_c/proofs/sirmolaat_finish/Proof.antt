@@ -1,5 +1,4 @@
 -- `advance_c::sirmolaat_finish` meets its contract. Assumes nothing.
-use native.Mathlib.Omega.{arith}
 use mathlib.Core.Path.{sym, _∙_}
 use Rattle.advance_c.proofs.Turning.{finish-need, finish-unfit, finish-finished}
 use borrow.Author.Needs.{needs}

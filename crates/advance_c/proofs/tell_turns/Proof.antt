@@ -1,6 +1,5 @@
 -- `advance_c::tell_turns` meets its contract. Assumes nothing.
-use native.Mathlib.Omega.{arith}
-use mathlib.Core.Path.{sym, _∙_}
+use mathlib.Core.Path.{_∙_}
 use Rattle.advance_c.proofs.Turning.{told-stopped, told-went}
 use borrow.Author.Needs.{needs}
 use Rattle.advance_c.proofs.tell_turns.Statement.{statement}

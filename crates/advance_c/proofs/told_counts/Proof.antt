@@ -1,6 +1,4 @@
 -- `advance_c::told_counts` meets its contract. Assumes nothing.
-use native.Mathlib.Omega.{arith}
-use mathlib.Core.Path.{sym, _∙_}
 use Rattle.advance_c.proofs.Turning.{counts-told}
 use borrow.Author.Needs.{needs}
 use Rattle.advance_c.proofs.told_counts.Statement.{statement}

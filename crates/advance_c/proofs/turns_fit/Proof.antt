@@ -1,6 +1,5 @@
 -- `advance_c::turns_fit` meets its contract. Assumes nothing.
 use native.Mathlib.Omega.{arith}
-use mathlib.Core.Path.{sym, _∙_}
 use Rattle.advance_c.proofs.Turning.{windows-lack, out-unlike, keep-unlike, next-told}
 use borrow.Author.Needs.{needs}
 use Rattle.advance_c.proofs.turns_fit.Statement.{statement}

@@ -1,4 +1,3 @@
-use borrow.Author.Needs.{needs}
 use Rattle.face_query.proofs.over.Statement.{statement}
 use Rattle.face_query.proofs.over.Tie as tie
 

@@ -1,5 +1,4 @@
 use mathlib.Core.Path.{ap, _∙_}
-use lib.Ieee.{Float}
 use Rattle.face_query.specs.FaceDistance.{throughFaceVertex, throughVertices}
 use Rattle.face_query.proofs.Steps.{infinite}
 use borrow.Author.Needs.{needs}

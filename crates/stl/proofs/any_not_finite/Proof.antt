@@ -1,10 +1,9 @@
 -- `stl::any_not_finite` meets its contract. Assumes nothing.
 use borrow.Author.Needs.{needs}
-use Prim.Native.Nat.{ℕ, _+_, _-_, _*_, _/_, _%_, _≤_, _<_}
-use mathlib.Core.Path.{_≡_, refl, sym, ap, _∙_}
-use mathlib.Core.Bool.{true, false, not}
+use Prim.Native.Nat.{_-_, _≤_}
+use mathlib.Core.Path.{_≡_, sym, _∙_}
+use mathlib.Core.Bool.{false}
 use native.Mathlib.Omega.{arith}
-use lib.ListN.{length, getD}
 use Rattle.job_checks.specs.Any.{anyBelow}
 use Rattle.job_checks.proofs.Any.{none-yet, none-more, found, none-at-all}
 use Rattle.stl_format.specs.Format.{notFinite}

@@ -1,10 +1,9 @@
 -- `stl::any_not_single` meets its contract. Assumes nothing.
 use borrow.Author.Needs.{needs}
-use Prim.Native.Nat.{ℕ, _+_, _-_, _*_, _/_, _%_, _≤_, _<_}
-use mathlib.Core.Path.{_≡_, refl, sym, ap, _∙_}
-use mathlib.Core.Bool.{true, false, not}
-use native.Mathlib.Omega.{arith}
-use lib.ListN.{length, getD}
+use Prim.Native.Nat.{_-_, _≤_}
+use mathlib.Core.Path.{_≡_, sym, ap, _∙_}
+use mathlib.Core.Bool.{false, not}
+use lib.ListN.{length}
 use Rattle.job_checks.specs.Any.{anyBelow}
 use Rattle.job_checks.proofs.Any.{none-yet, none-more, found, none-at-all}
 use borrow.Author.Tests.{not-true, not-false}

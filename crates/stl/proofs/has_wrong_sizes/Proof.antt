@@ -1,5 +1,4 @@
 -- `stl::has_wrong_sizes` meets its contract. Assumes nothing.
-use borrow.Author.Needs.{needs}
 use borrow.Author.Tests.{eq-eqb, ne-eqb, lt-ltb, le-ltb}
 use Rattle.stl_format.specs.Answers.{wrongSizes}
 use Rattle.stl.proofs.has_wrong_sizes.Statement.{statement}

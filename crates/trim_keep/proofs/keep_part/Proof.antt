@@ -1,5 +1,4 @@
 -- `trim_keep::keep_part` meets its contract. Assumes nothing.
-use mathlib.Core.List.{[]}
 use mathlib.Core.Path.{_∙_}
 use Rattle.buffers.specs.Lack.{lackNumber}
 use Rattle.better.specs.Stretches.{interval}
