@@ -5,7 +5,6 @@ use mathlib.Core.List.{List}
 use mathlib.Core.Path.{_≡_}
 use lib.ListN.{length}
 use lib.Ieee.{Float}
-use Rattle.buffers.specs.Lack.{lackNumber}
 use Rattle.job_checks.specs.Job.{Job, job}
 use Rattle.mesh.specs.declared.OtherCounts.{OtherCounts}
 use Rattle.mesh.specs.declared.Meshed.{Meshed}
@@ -25,12 +24,6 @@ use Rattle.begin.specs.Begin.{WorkSlices}
 use Rattle.insert_job.specs.declared.InsertedJob.{InsertedJob}
 use Rattle.insert_job.specs.declared.InsertedJob.the-variants.{Wedge, Stopped, Went}
 use Rattle.insert_job.specs.Field.{PiecesCounted, FieldInserted}
-
--- each answer's number in document 01; 0 is no refusal
-abbrev pub insertedNumber : InsertedJob → ℕ
-insertedNumber Wedge = 11
-insertedNumber (Stopped lack) = lackNumber lack
-insertedNumber (Went n) = 0
 
 -- that of a job that doesn't meet 11
 abbrev pub jobAnswer : InsertAnswer → InsertedJob

@@ -14,23 +14,13 @@ ghost use Rattle.trim.specs.Buffers.{after};
 ghost use Rattle.mesh.specs.Topology.{meshBuffers};
 ghost use Rattle.insertion.specs.Snapshots.{entriesAfter};
 ghost use Rattle.begin.specs.Begin.{workBefore};
-ghost use Rattle.insert_job.specs.Job.{insertedNumber, jobAnswer, InsertsJob};
+ghost use Rattle.insert_job.specs.Job.{jobAnswer, InsertsJob};
 
 // Refusal 11, what there is no slot for, or the counts after the last piece.
 pub enum InsertedJob {
     Wedge,
     Stopped(Lack),
     Went(InsertCounts),
-}
-
-pub fn inserted_number(inserted: InsertedJob) -> u32
-    ensures { λ r. ⌜ r ≡ insertedNumber inserted ⌝ }
-{
-    match inserted {
-        InsertedJob::Wedge => 11,
-        InsertedJob::Stopped(lack) => buffers::lack_number(lack),
-        InsertedJob::Went(_) => 0,
-    }
 }
 
 fn of_answer(answer: InsertAnswer) -> InsertedJob

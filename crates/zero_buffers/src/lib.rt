@@ -90,19 +90,3 @@ pub fn zero_cuts_if(
     zero_reals_if(stop, keep);
     zero_reals_if(stop, next);
 }
-
-// The face entries and the two scratch rows.
-pub fn zero_entries_if(
-    stop: bool,
-    entry_words: &mut [u32],
-    scratch: &mut [u32],
-    other_scratch: &mut [u32],
-)
-    ensures { λ r. ⌜ left «entry_words» ≡ wordsIf stop (given «entry_words») ⌝ }
-    ensures { λ r. ⌜ left scratch ≡ wordsIf stop (given scratch) ⌝ }
-    ensures { λ r. ⌜ left «other_scratch» ≡ wordsIf stop (given «other_scratch») ⌝ }
-{
-    zero_words_if(stop, entry_words);
-    zero_words_if(stop, scratch);
-    zero_words_if(stop, other_scratch);
-}
