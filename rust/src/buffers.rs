@@ -1,4 +1,4 @@
-//! The memory of a job, document 01's rooms: twenty slices, how long they must be, and how they grow. crates/layout of the repository says where each number stands.
+//! The memory of a job, document 01's rooms: eighteen slices, how long they must be, and how they grow. crates/layout of the repository says where each number stands.
 use crate::culprit;
 use crate::input::Input;
 use crate::refusal::{About, Refusal};
@@ -16,8 +16,8 @@ pub struct Slots {
     pub entries: u32,
 }
 
-/// Bytes of a slot: what its slices have, and for a window the two scratch rows too.
-const WINDOW_BYTES: u64 = 4 * 4 + 6 * 8 + 2 * 4;
+/// Bytes of a slot: what its slices have.
+const WINDOW_BYTES: u64 = 4 * 4 + 6 * 8;
 const EVENT_BYTES: u64 = 8 + 2 * 4;
 const CUT_BYTES: u64 = 7 * 8;
 const ENTRY_BYTES: u64 = 3 * 4;
@@ -25,22 +25,46 @@ const VERTEX_BYTES: u64 = 3 * 4 + 2 * 8;
 const TRIANGLE_BYTES: u64 = 3 * (6 * 4 + 4 * 8 + 4) + 6 * 4 + 9 * 8;
 const PIECE_BYTES: u64 = 3 * 4 + 3 * 8;
 
-/// A buffer that was outgrown becomes so many times as large.
+/// A buffer that was outgrown within a turn becomes so many times as large, and the job begins again.
 const GROWTH: u32 = 3;
 
 impl Slots {
-    /// What a job is lent at first: the fewer pieces, the farther the waves of each go, and the more windows they make.
+    /// What a job is lent at first: the fewer pieces, the farther the waves of each go, and the more windows they make. Insertion queues all that it makes, some windows a piece.
     pub(crate) fn first(triangles: usize, pieces: usize) -> Slots {
         let number = |n: usize| u32::try_from(n).unwrap_or(u32::MAX);
         let density = pieces as f64 / triangles.max(1) as f64;
-        let each = (6. / density.sqrt()).clamp(20., 48.);
-        let windows = (each * triangles as f64) as u32;
+        let each = (3. / density.sqrt()).clamp(10., 20.);
+        let spread = (each * triangles as f64) as u32;
+        let inserted = number(pieces).saturating_mul(4).saturating_add(256);
         Slots {
-            windows: windows.saturating_add(256),
-            events: (windows / 3).saturating_add(256),
+            windows: spread.saturating_add(inserted),
+            events: (spread / 4).saturating_add(inserted),
             cuts: 256,
             entries: number(pieces).saturating_mul(8).saturating_add(64),
         }
+    }
+
+    /// Half as many slots again of a buffer of which less than a quarter is free.
+    pub(crate) fn ahead_of(self, windows: u32, events: u32) -> Slots {
+        let more = |slots: u32, taken: u32| {
+            let free = slots.saturating_sub(taken);
+            if free < slots / 4 + 16 {
+                return slots.saturating_add(slots / 2).saturating_add(64);
+            }
+            slots
+        };
+        Slots {
+            windows: more(self.windows, windows),
+            events: more(self.events, events),
+            ..self
+        }
+    }
+
+    /// How many steps are likely to outgrow nothing: a step makes some one window, and queues as many events.
+    pub(crate) fn steps_ahead(&self, windows: u32, events: u32) -> u32 {
+        let free = self.windows.saturating_sub(windows);
+        let waiting = self.events.saturating_sub(events);
+        (free.min(waiting) / 4).max(16)
     }
 
     /// The bytes of all buffers of this job.
@@ -143,19 +167,28 @@ pub(crate) struct Buffers {
     pub out: Vec<f64>,
     pub keep: Vec<f64>,
     pub next: Vec<f64>,
-    pub scratch: Vec<u32>,
-    pub other_scratch: Vec<u32>,
 }
 
 /// The memory is not to be had from the system.
 #[derive(Debug)]
 pub(crate) struct NoMemory;
 
-fn zeros<T: Clone + Default>(stride: usize, slots: usize) -> Result<Vec<T>, NoMemory> {
+/// Zeros behind what a list has, up to so many slots.
+fn lengthen<T: Clone + Default>(
+    list: &mut Vec<T>,
+    stride: usize,
+    slots: usize,
+) -> Result<(), NoMemory> {
     let length = stride.checked_mul(slots).ok_or(NoMemory)?;
+    let more = length.saturating_sub(list.len());
+    list.try_reserve_exact(more).map_err(|_| NoMemory)?;
+    list.resize(list.len() + more, T::default());
+    Ok(())
+}
+
+fn zeros<T: Clone + Default>(stride: usize, slots: usize) -> Result<Vec<T>, NoMemory> {
     let mut made = Vec::new();
-    made.try_reserve_exact(length).map_err(|_| NoMemory)?;
-    made.resize(length, T::default());
+    lengthen(&mut made, stride, slots)?;
     Ok(made)
 }
 
@@ -188,12 +221,19 @@ impl Buffers {
             out: zeros(2, cuts)?,
             keep: zeros(2, cuts)?,
             next: zeros(2, cuts)?,
-            scratch: zeros(1, windows)?,
-            other_scratch: zeros(1, windows)?,
         })
     }
 
-    /// Gives back what no query reads: slots never taken, the queue, the cut lists, the scratch rows and the pieces' table.
+    /// As many slots of windows and of events, behind those that there are. Where the system gives no memory, some have more slots than others, and the fewest count.
+    pub(crate) fn lengthen(&mut self, slots: Slots) -> Result<(), NoMemory> {
+        let [windows, events] = [slots.windows, slots.events].map(|n| n as usize);
+        lengthen(&mut self.words, 4, windows)?;
+        lengthen(&mut self.reals, 6, windows)?;
+        lengthen(&mut self.keys, 1, events)?;
+        lengthen(&mut self.events, 2, events)
+    }
+
+    /// Gives back what no query reads: slots never taken, the queue, the cut lists and the pieces' table.
     pub(crate) fn shrink(&mut self, edges: usize, windows: usize) {
         fn cut<T>(list: &mut Vec<T>, length: usize) {
             list.truncate(length);
@@ -215,12 +255,7 @@ impl Buffers {
         ] {
             cut(list, 0);
         }
-        for list in [
-            &mut self.events,
-            &mut self.scratch,
-            &mut self.other_scratch,
-            &mut self.piece_words,
-        ] {
+        for list in [&mut self.events, &mut self.piece_words] {
             cut(list, 0);
         }
     }
@@ -241,8 +276,6 @@ impl Buffers {
             &self.words,
             &self.events,
             &self.entry_words,
-            &self.scratch,
-            &self.other_scratch,
         ];
         let reals = [
             &self.edge_reals,

@@ -38,13 +38,6 @@ macro_rules! export {
     };
 }
 
-export!(sirmolaat_compute(;
-    vertices: f64, triangles: u32, flags: u8, kinds: u8, faces: u32, coords: f64;
-    limit: f64, max_steps: u32;
-    vertex_words: u32, edge_words: u32, edge_reals: f64, round: u32, triangle_words: u32, triangle_reals: f64,
-    piece_words: u32, piece_reals: f64, vertex: f64, words: u32, reals: f64, keys: f64, events: u32, entry_words: u32,
-    pts: f64, out: f64, keep: f64, next: f64, scratch: u32, other_scratch: u32, told: u32
-) -> u32);
 export!(sirmolaat_faces_at(refusal: u32;
     told: u32, vertices: f64, triangles: u32, kinds: u8, faces: u32, coords: f64,
     edge_words: u32, edge_reals: f64, triangle_words: u32, triangle_reals: f64, vertex: f64, words: u32, reals: f64, entry_words: u32,
@@ -103,47 +96,6 @@ const INTERFACE: u32 = 1;
 fn same_version() -> bool {
     static SAME: OnceLock<bool> = OnceLock::new();
     *SAME.get_or_init(|| sirmolaat_interface() == INTERFACE)
-}
-
-/// The whole job: its counts, or the refusal's number; what the buffers then hold is document 01's.
-pub(crate) fn compute(job: &Input, buffers: &mut Buffers) -> Result<Told, u32> {
-    if !same_version() {
-        return Err(OTHER_VERSION);
-    }
-    let mut told = [0; 6];
-    let b = buffers;
-    let number = sirmolaat_compute(
-        job.vertices,
-        job.triangles,
-        &job.flags,
-        &job.kinds,
-        &job.faces,
-        &job.coords,
-        job.limit,
-        job.max_steps,
-        &mut b.vertex_words,
-        &mut b.edge_words,
-        &mut b.edge_reals,
-        &mut b.round,
-        &mut b.triangle_words,
-        &mut b.triangle_reals,
-        &mut b.piece_words,
-        &mut b.piece_reals,
-        &mut b.vertex,
-        &mut b.words,
-        &mut b.reals,
-        &mut b.keys,
-        &mut b.events,
-        &mut b.entry_words,
-        &mut b.pts,
-        &mut b.out,
-        &mut b.keep,
-        &mut b.next,
-        &mut b.scratch,
-        &mut b.other_scratch,
-        &mut told,
-    );
-    if number == 0 { Ok(told) } else { Err(number) }
 }
 
 /// The mesh and the insertion of a job: edges, windows made, events that wait and face entries; or the refusal's number.

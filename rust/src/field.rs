@@ -3,7 +3,7 @@ use crate::buffers::{Buffers, Slots};
 use crate::ffi::{self, Lent, Told};
 use crate::input::Input;
 use crate::refusal::{About, Refusal};
-use crate::{Piece, Topology, Vec3};
+use crate::{Job, Piece, Topology, Vec3};
 
 /// What a job is allowed.
 #[derive(Clone, Copy, Debug, PartialEq, Eq)]
@@ -116,7 +116,7 @@ pub struct Field<'a> {
 impl<'a> Field<'a> {
     /// The field of these sources within `limit`, over the mesh whose topology is `topo`.
     ///
-    /// Buffers that are outgrown (refusals 12, 13, 14 and 17) are made larger and the job is begun again, up to the memory that the options allow.
+    /// Buffers that are nearly full are lengthened; where one is outgrown all the same (refusals 12, 13, 14 and 17) the job begins again in larger ones, up to the memory that the options allow.
     ///
     /// # Errors
     /// Any refusal of document 01 that the job meets; 75 where the system gives no memory.
@@ -128,18 +128,7 @@ impl<'a> Field<'a> {
         limit: f64,
         options: &Options,
     ) -> Result<Self, Refusal> {
-        let input = Input::new(v, t, &topo.pseudo, sources, limit, options.max_steps);
-        let mut slots = options
-            .slots
-            .unwrap_or(Slots::first(t.len(), sources.len()));
-        loop {
-            let no_memory = |_| Refusal::no_memory(slots.bytes_of(&input));
-            let mut buffers = Buffers::new(&input, slots).map_err(no_memory)?;
-            match ffi::compute(&input, &mut buffers) {
-                Ok(told) => return Ok(Field::held(input, topo, buffers, told)),
-                Err(number) => slots = slots.grown_within(number, &input, options.memory)?,
-            }
-        }
+        Job::begin(v, t, topo, sources, limit, options)?.complete()
     }
 
     pub(crate) fn held(

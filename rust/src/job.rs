@@ -109,23 +109,43 @@ impl<'a> Job<'a> {
         self.progress
     }
 
-    /// At most so many steps, one at least. Where a buffer is outgrown the job begins again in larger ones.
+    /// Longer buffers where few slots are free, and how many steps these are likely to suffice for. Where there is no memory for them the steps are tried all the same.
+    fn lengthen(&mut self) -> u32 {
+        let Progress {
+            windows, waiting, ..
+        } = self.progress;
+        let longer = self.slots.ahead_of(windows, waiting);
+        if longer != self.slots
+            && longer.bytes_of(&self.input) <= self.options.memory
+            && self.buffers.lengthen(longer).is_ok()
+        {
+            self.slots = longer;
+        }
+        self.slots.steps_ahead(windows, waiting)
+    }
+
+    /// At most so many steps, one at least. Buffers are lengthened before they are outgrown; where that fails the job begins again in larger ones.
     ///
     /// # Errors
     /// 12 to 14 and 17 where the memory that is allowed does not suffice, 15 where the steps are spent.
     pub fn advance(mut self, steps: u32) -> Result<Turn<'a>, Refusal> {
         let left = self.options.max_steps - self.progress.steps;
-        let most = steps.max(1).min(left);
-        let counts = [self.progress.windows, self.progress.waiting];
-        match ffi::advance(&self.input, &mut self.buffers, most, counts) {
-            Ok([made, queued, steps]) => {
-                self.progress.steps += steps;
-                self.progress.windows = made;
-                self.progress.waiting = queued;
-            }
-            Err(number) => {
-                self.grow(number)?;
-                self.insert()?;
+        let mut rest = steps.max(1).min(left);
+        while rest > 0 && self.progress.waiting > 0 {
+            let most = self.lengthen().min(rest);
+            let counts = [self.progress.windows, self.progress.waiting];
+            match ffi::advance(&self.input, &mut self.buffers, most, counts) {
+                Ok([made, queued, done]) => {
+                    self.progress.steps += done;
+                    self.progress.windows = made;
+                    self.progress.waiting = queued;
+                    rest -= most;
+                }
+                Err(number) => {
+                    self.grow(number)?;
+                    self.insert()?;
+                    rest = 0;
+                }
             }
         }
         if self.progress.waiting == 0 {
@@ -149,6 +169,20 @@ impl<'a> Job<'a> {
         let [vertices, triangles, pieces] = counts.map(|n| n as u32);
         let told = [vertices, triangles, pieces, self.edges, windows, steps];
         Ok(Field::held(self.input, self.topo, self.buffers, told))
+    }
+
+    /// All turns, to the field.
+    ///
+    /// # Errors
+    /// Those of [`Job::advance`].
+    pub(crate) fn complete(self) -> Result<Field<'a>, Refusal> {
+        let mut job = self;
+        loop {
+            match job.advance(u32::MAX)? {
+                Turn::Done(field) => return Ok(field),
+                Turn::On(on) => job = on,
+            }
+        }
     }
 
     /// All turns, of so many steps each. After each `goes_on` is told how far the job is: where it answers false, the job is given up, and there is no field.

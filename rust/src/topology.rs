@@ -44,9 +44,9 @@ impl Topology {
         };
         let mut buffers =
             Buffers::new(&input, none).map_err(|_| Refusal::no_memory(none.bytes_of(&input)))?;
-        let told =
-            ffi::compute(&input, &mut buffers).map_err(|number| culprit::find(number, &input))?;
-        Ok(Topology::held(&buffers, told[3] as usize, pseudo))
+        let [edges, ..] =
+            ffi::insert(&input, &mut buffers).map_err(|number| culprit::find(number, &input))?;
+        Ok(Topology::held(&buffers, edges as usize, pseudo))
     }
 
     /// As the buffers of a job without pieces hold it.

@@ -9,9 +9,12 @@ use mesh_readers::ends;
 use mesh_readers::face_round;
 use mesh_readers::faces_round;
 use mesh_readers::length;
+use mesh_readers::local;
+use mesh_readers::normal;
 use mesh_readers::other;
 use mesh_readers::side;
 use mesh_readers::third;
+use mesh_readers::unit;
 use mesh_readers::vertex;
 use mesh_readers::vertex_degree;
 use offers::Offered;
@@ -49,7 +52,7 @@ pub struct Opposite {
     pub ahead: FaceAhead,
 }
 
-// The face that a window of edge e goes into; c is its third vertex.
+// The face that a window of edge e goes into; c is its third vertex. Its `coords` are read here: every step of the main loop asks for them, and a call with all the slices costs more than they do.
 fn face_ahead(
     vertices: &[f64],
     edge_words: &[u32],
@@ -63,20 +66,14 @@ fn face_ahead(
     ensures { λ r. ⌜ r ≡ aheadAt (given vertices) (given «edge_words») (given «edge_reals») (given «triangle_words») (given «triangle_reals») (e .0) (g .0) (c .0) ⌝ }
 {
     let l = length(edge_reals, e);
-    let p = coords(
-        vertices,
-        edge_words,
-        edge_reals,
-        triangle_words,
-        triangle_reals,
-        e,
-        g,
-        vertex(vertices, c),
-    );
+    let both = ends(edge_words, e);
+    let w = vec3::sub(vertex(vertices, c), vertex(vertices, both.a));
+    let xhat = unit(edge_reals, e);
+    let yhat = normal(triangle_reals, g, local(triangle_words, g, e));
     FaceAhead {
         l,
-        cx: p.x,
-        cy: p.y,
+        cx: vec3::dot(w, xhat),
+        cy: vec3::dot(w, yhat),
     }
 }
 
