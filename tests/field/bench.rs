@@ -1,8 +1,9 @@
-//! Runs workshop jobs by the static library and by the published Rust's `Field::compute`, by turns in one run.
+//! Runs workshop jobs by the static library, in one call and in parts, and by the published Rust's `Field::compute`, by turns in one run.
 //! Usage: bench [SHAPE TRIANGLES LINES LIMIT] | bench alone SHAPE TRIANGLES LINES LIMIT TURNS
 #[path = "../clock.rs"]
 mod clock;
 mod library;
+mod parts;
 
 use clock::{clock, print_load};
 use oracle::exact::Topology;
@@ -116,11 +117,26 @@ fn ours(job: &Job, rooms: &mut Rooms) -> f64 {
     timed(|| library::compute(job, rooms).expect("a field"))
 }
 
+fn in_parts(job: &Job, rooms: &mut Rooms) -> f64 {
+    timed(|| parts::compute(job, rooms).expect("a field"))
+}
+
+/// The windows and the distances of two fields are the same to the bit.
+fn same(a: &Rooms, b: &Rooms) -> bool {
+    let bits = |x: &[f64], y: &[f64]| {
+        x.iter()
+            .map(|v| v.to_bits())
+            .eq(y.iter().map(|v| v.to_bits()))
+    };
+    a.words == b.words && bits(&a.reals, &b.reals) && bits(&a.vertex, &b.vertex)
+}
+
 struct Measured {
     triangles: usize,
     windows: usize,
     theirs: f64,
     ours: f64,
+    parts: f64,
 }
 
 fn measure(name: &str, lines: usize, job: Job) -> Measured {
@@ -140,9 +156,9 @@ fn measure(name: &str, lines: usize, job: Job) -> Measured {
     };
     let flags = &mesh.topo.pseudo;
     let ready = Ready::new(&mesh.v, &mesh.t, flags, &mesh.pieces, job.limit).expect("sound");
-    let mut rooms = lent(&slots);
+    let [mut rooms, mut others] = [0; 2].map(|_| lent(&slots));
     let mut empty = lent(&Slots::just(&bare, &mesh.empty::<Patched>()));
-    let [mut theirs, mut topology, mut all, mut alone] = [f64::INFINITY; 4];
+    let [mut theirs, mut topology, mut all, mut parts, mut alone] = [f64::INFINITY; 5];
     let start = Instant::now();
     for turn in 0..TURNS {
         if turn >= 3 && start.elapsed().as_secs_f64() > SECONDS {
@@ -153,19 +169,23 @@ fn measure(name: &str, lines: usize, job: Job) -> Measured {
             Topology::new(&mesh.v, &mesh.t, flags).expect("sound")
         }));
         all = all.min(ours(&job, &mut rooms));
+        parts = parts.min(in_parts(&job, &mut others));
         alone = alone.min(ours(&bare, &mut empty));
     }
+    assert!(same(&rooms, &others), "the parts come to another field");
     let bytes = most_bytes(|| ready.compute().expect("a field"));
     let triangles = mesh.t.len();
     println!(
-        "| {name} | {triangles} | {lines} | {} | {windows} | {steps} | {:.2} | {:.2} | {:.2} | {:.2} | {:.2} | {:.2} | {} | {:.0} | {:.0} |",
+        "| {name} | {triangles} | {lines} | {} | {windows} | {steps} | {:.2} | {:.2} | {:.2} | {:.2} | {:.2} | {:.2} | {:.2} | {:.2} | {} | {:.0} | {:.0} |",
         mesh.pieces.len(),
         1e3 * theirs,
         1e3 * all,
         all / theirs,
+        1e3 * parts,
+        parts / theirs,
         1e3 * topology,
         1e3 * alone,
-        all / (theirs + topology),
+        parts / (theirs + topology),
         hypots(&mesh),
         bytes as f64 / windows as f64,
         rooms.bytes() as f64 / windows as f64,
@@ -175,14 +195,17 @@ fn measure(name: &str, lines: usize, job: Job) -> Measured {
         windows,
         theirs,
         ours: all,
+        parts,
     }
 }
 
 fn print_head() {
     println!(
-        "| mesh | triangles | lines | pieces | windows made | steps | Field::compute, ms | compute, ms | ratio | Topology::new, ms | mesh alone, ms | all / all | the Rust's hypots | its bytes a window | bytes lent a window |"
+        "| mesh | triangles | lines | pieces | windows made | steps | Field::compute, ms | compute, ms | ratio | in parts, ms | ratio | Topology::new, ms | mesh alone, ms | in parts / both | the Rust's hypots | its bytes a window | bytes lent a window |"
     );
-    println!("|---|---:|---:|---:|---:|---:|---:|---:|---:|---:|---:|---:|---:|---:|---:|");
+    println!(
+        "|---|---:|---:|---:|---:|---:|---:|---:|---:|---:|---:|---:|---:|---:|---:|---:|---:|"
+    );
 }
 
 /// Every shape, size and number of lines; then growth, from the smallest mesh with the largest one's limit on.
@@ -196,8 +219,8 @@ fn all() {
         })
         .collect();
     println!("\nGrowth as a power of the number of triangles, up to the largest mesh:\n");
-    println!("| mesh | lines | from | windows made | Field::compute | compute |");
-    println!("|---|---:|---:|---:|---:|---:|");
+    println!("| mesh | lines | from | windows made | Field::compute | compute | in parts |");
+    println!("|---|---:|---:|---:|---:|---:|---:|");
     for (&(shape, triangles, lines, limit), last) in mix.iter().zip(&made) {
         if triangles < 60_000 {
             continue;
@@ -207,12 +230,13 @@ fn all() {
         let power =
             |a: f64, b: f64| (b / a).ln() / (last.triangles as f64 / first.triangles as f64).ln();
         println!(
-            "| {} | {lines} | {} | {:.3} | {:.3} | {:.3} |",
+            "| {} | {lines} | {} | {:.3} | {:.3} | {:.3} | {:.3} |",
             format!("{shape:?}").to_lowercase(),
             first.triangles,
             power(first.windows as f64, last.windows as f64),
             power(first.theirs, last.theirs),
-            power(first.ours, last.ours)
+            power(first.ours, last.ours),
+            power(first.parts, last.parts)
         );
     }
 }

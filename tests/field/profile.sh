@@ -5,5 +5,5 @@ set -eu
 here=$(dirname "$0")
 made=$(mktemp)
 trap 'rm -f "$made"' EXIT
-UNDER="valgrind -q --tool=callgrind --toggle-collect=sirmolaat_compute --callgrind-out-file=$made" "$here/../against_rust.sh" field field_c bench alone "$@" 1 >&2
+UNDER="valgrind -q --tool=callgrind --toggle-collect=sirmolaat_compute --callgrind-out-file=$made" "$here/../against_rust.sh" field 'field_c insert_c advance_c' bench alone "$@" 1 >&2
 python3 "$here/profile.py" "$made"
