@@ -272,3 +272,38 @@ fn a_job_in_turns() {
     assert!(restarts > 1);
     assert_eq!(field.vertex, whole.vertex);
 }
+
+/// Buffers with no slot more than insertion takes are lengthened between turns: the job never begins again, and its field is that of buffers which suffice from the start.
+#[test]
+fn buffers_are_lengthened_between_turns() {
+    let (v, t) = grid(16, |x, y| 0.5 * (0.7 * x).cos() * (0.9 * y).sin());
+    let topo = topology(&v, &t);
+    let pieces = [
+        Piece::Point(40, v[t[40][1] as usize]),
+        Piece::Point(301, v[t[301][0] as usize]),
+    ];
+    let begin =
+        |options: &Options| Job::begin(&v, &t, &topo, &pieces, 1e7, options).expect("a sound job");
+    let inserted = begin(&Options::default()).progress();
+    let whole = Field::compute(&v, &t, &topo, &pieces, 1e7, &Options::default()).expect("a field");
+    let few = Slots {
+        windows: inserted.windows,
+        events: inserted.waiting,
+        ..whole.slots()
+    };
+    let mut told = inserted;
+    let field = begin(&Options::default().slots(few)).run(50, |progress| {
+        told = progress;
+        true
+    });
+    let field = field.expect("no refusal").expect("not given up");
+    assert_eq!(told.restarts, 0);
+    assert!(field.windows() > 8 * inserted.windows);
+    assert_eq!(
+        (field.steps(), field.windows(), &field.vertex),
+        (whole.steps(), whole.windows(), &whole.vertex)
+    );
+    for i in 0..whole.windows() {
+        assert_eq!(field.window(i), whole.window(i));
+    }
+}
