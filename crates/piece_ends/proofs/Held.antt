@@ -18,7 +18,7 @@ use Rattle.topology.proofs.Find.{either}
 use Rattle.edge_table.proofs.Holding.{words-at, words-zero}
 use Rattle.piece_ends.specs.Ends.{passing, endPoint, isEnd, sameBits, hasBits, endsWithBits, firstOfBits}
 use Rattle.piece_ends.specs.Table.{mixed, pointBucket, linkTo, slotWord, bucketAt, inBucket, bucketFrom, headLink, nextEndLink, pieceWords}
-use Rattle.piece_ends.specs.Walk.{endLinkAt, standsAt, follow, findAlong, firstLinkAt, nextLinkAt, leadsAt, isFirstAt, HoldsTable}
+use Rattle.piece_ends.specs.Walk.{endLinkAt, standsAt, follow, findAlong, firstLinkAt, nextLinkAt, leadsAt, followsAt, isFirstAt, HoldsTable}
 use Rattle.piece_ends.proofs.Passing.{both, never, link-none, pass-none, pass-never, pass-same, link-first, first-link}
 use Rattle.piece_ends.proofs.Following.{search-no-steps, follow-left, search-left}
 use Rattle.piece_ends.proofs.Building.{bucket-below, slot-end, past-end, no-link as no-next, some-link}
@@ -230,7 +230,22 @@ module _ (kinds : List ℕ) (coords : List Float) (words : List ℕ) (held : Hol
     unfolding leadsAt firstOfBits
     leads-held = ap (λ (k : ℕ). eqb k (suc e)) (first-held (endPoint coords e)) ∙ decided (isEnd kinds e) (anyBelow met e) refl refl
 
+    -- the end before it has its bits, so it is not the first
+    follows-below : followsAt kinds coords e ≡ true → anyBelow met e ≡ true
+    unfolding followsAt
+    follows-below h =
+        let l = both (ltb 0 e) _ h in
+        let b = both (isEnd kinds (e - 1)) _ (l .1) in
+        go (anyBelow met e) refl (ltb-true 0 e (l .0)) (has-both kinds coords (endPoint coords e) (e - 1) (b .0) (b .1))
+      where
+        go : (b : Bool) → anyBelow met e ≡ b → 0 < e → met (e - 1) ≡ true → b ≡ true
+        go true n l m = refl
+        go false n l m = absurd (never m (none-below met e n (e - 1) (omega arith)))
+
     -- `is_first` is the Rust's `points.insert(..)`
     pub is-first-held : isFirstAt kinds coords words (length kinds) e ≡ firstOfBits kinds coords e
     unfolding isFirstAt firstOfBits
-    is-first-held = ap (λ (b : Bool). isEnd kinds e && b) leads-held ∙ and-twice (isEnd kinds e) (not (anyBelow met e))
+    is-first-held = go (followsAt kinds coords e) refl where
+      go : (b : Bool) → followsAt kinds coords e ≡ b → isFirstAt kinds coords words (length kinds) e ≡ firstOfBits kinds coords e
+      go true h = rw (h, follows-below h) refl
+      go false h = rw h (ap (λ (b : Bool). isEnd kinds e && b) leads-held ∙ and-twice (isEnd kinds e) (not (anyBelow met e)))

@@ -1,9 +1,9 @@
 -- The pieces' buffer read: what is found along its links, whatever words it holds. Definitions only.
-use Prim.Native.Nat.{ℕ, zero, suc, _+_, _*_, _/_, _%_, _<_}
+use Prim.Native.Nat.{ℕ, zero, suc, _+_, _-_, _*_, _/_, _%_, _<_}
 use mathlib.Core.Path.{_≡_}
-use mathlib.Core.Bool.{Bool, cond, _&&_}
+use mathlib.Core.Bool.{Bool, cond, not, _&&_}
 use mathlib.Core.List.{List, [], _∷_}
-use lib.Dec.{eqb}
+use lib.Dec.{eqb, ltb}
 use lib.ListN.{length, getD}
 use lib.Ieee.{Float}
 use Rattle.layout.specs.Layout.{wordsPerPiece, pieceHead, pieceLinks}
@@ -44,9 +44,13 @@ module _ (coords : List Float) (words : List ℕ) (pieces : ℕ) where
   unfoldable pub leadsAt : ℕ → Bool
   leadsAt e = eqb (firstLinkAt (endPoint coords e)) (suc e)
 
+-- the end before end e is there and has its bits
+unfoldable pub followsAt : List ℕ → List Float → ℕ → Bool
+followsAt kinds coords e = ltb 0 e && (isEnd kinds (e - 1) && sameBits (endPoint coords (e - 1)) (endPoint coords e))
+
 -- end e is there, and none before it has its bits
 unfoldable pub isFirstAt : List ℕ → List Float → List ℕ → ℕ → ℕ → Bool
-isFirstAt kinds coords words pieces e = isEnd kinds e && leadsAt coords words pieces e
+isFirstAt kinds coords words pieces e = isEnd kinds e && (not (followsAt kinds coords e) && leadsAt coords words pieces e)
 
 -- Words that hold the table of the pieces.
 pub record HoldsTable (kinds : List ℕ) (coords : List Float) (words : List ℕ) : Type 0 where

@@ -22,7 +22,7 @@ ghost use Rattle.buffers.specs.Slots.{fill};
 ghost use Rattle.frames.specs.Stored.{row3};
 ghost use Rattle.piece_ends.specs.Ends.{endPoint, isEnd, sameBits};
 ghost use Rattle.piece_ends.specs.Table.{mixed, pointBucket, pieceWords, entered};
-ghost use Rattle.piece_ends.specs.Walk.{endLinkAt, standsAt, findAlong, firstLinkAt, nextLinkAt, leadsAt, isFirstAt};
+ghost use Rattle.piece_ends.specs.Walk.{endLinkAt, standsAt, findAlong, firstLinkAt, nextLinkAt, leadsAt, followsAt, isFirstAt};
 ghost use Rattle.piece_ends.specs.Directions.{isLong, directionOf, pieceReals};
 
 fn bits(x: f64) -> u64
@@ -178,11 +178,27 @@ fn leads(coords: &[f64], words: &[u32], pieces: u32, e: u32) -> bool
     false
 }
 
+// Whether the end before end e is there and has its bits, as along a line from segment to segment: then the table need not be asked.
+fn follows(kinds: &[u8], coords: &[f64], e: u32) -> bool
+    ensures { λ r. ⌜ r ≡ followsAt (given kinds) (given coords) e ⌝ }
+{
+    if e == 0 {
+        return false;
+    }
+    if !is_end(kinds, e - 1) {
+        return false;
+    }
+    same_bits(end_point(coords, e - 1), end_point(coords, e))
+}
+
 // Whether end e is there and none before it has its bits. A point's second end is not looked for: what stands in its place may lead through a whole bucket.
 pub fn is_first(kinds: &[u8], coords: &[f64], words: &[u32], pieces: u32, e: u32) -> bool
     ensures { λ r. ⌜ r ≡ isFirstAt (given kinds) (given coords) (given words) pieces e ⌝ }
 {
     if !is_end(kinds, e) {
+        return false;
+    }
+    if follows(kinds, coords, e) {
         return false;
     }
     leads(coords, words, pieces, e)
