@@ -27,7 +27,7 @@ use Rattle.face_entries.specs.declared.Part.the-variants.{EndA, EndB, Whole}
 use Rattle.face_entries.specs.Buffers.{partOfNumber}
 use Rattle.piece_ends.specs.Ends.{endPoint, isEnd, firstOfBits, endsWithBits}
 use Rattle.piece_ends.specs.Table.{linkTo}
-use Rattle.piece_ends.specs.Walk.{HoldsTable, firstLinkAt, isFirstAt, leadsAt}
+use Rattle.piece_ends.specs.Walk.{HoldsTable, firstLinkAt, followsAt, isFirstAt, leadsAt}
 use Rattle.piece_ends.specs.Directions.{pieceReals}
 use Rattle.piece_ends.proofs.Held.{is-first-held, first-held}
 use Rattle.piece_ends.proofs.Passing.{both}
@@ -56,7 +56,7 @@ first-is : (kinds : List ℕ) (coords : List Float) (words : List ℕ) → Holds
 unfolding isFirstAt leadsAt
 first-is kinds coords words table e h =
     let leads : isFirstAt kinds coords words (length kinds) e ≡ true = is-first-held kinds coords words table e ∙ h in
-    add-one e ∙ (sym (eqb-true (firstLinkAt coords words (length kinds) (endPoint coords e)) (suc e) (both _ _ (both (isEnd kinds e) _ leads .1) .1)) ∙ first-held kinds coords words table (endPoint coords e))
+    add-one e ∙ (sym (eqb-true (firstLinkAt coords words (length kinds) (endPoint coords e)) (suc e) (both (not (followsAt kinds coords e)) _ (both (isEnd kinds e) _ leads .1) .1)) ∙ first-held kinds coords words table (endPoint coords e))
 
 module _ (v : List Float) (triangles : List ℕ) (n : ℕ) (edgeWords : List ℕ) (edgeReals : List Float) (triangleWords : List ℕ) (triangleReals : List Float) (vertexWords round kinds faces : List ℕ) (coords : List Float) (words : List ℕ)
     (held : HoldsJob v triangles n edgeWords edgeReals triangleWords triangleReals vertexWords round kinds faces coords words) where
