@@ -44,11 +44,11 @@ impl Slots {
         }
     }
 
-    /// Half as many slots again of a buffer of which less than a quarter is free.
+    /// Half as many slots again of a buffer of which less than a sixteenth is free.
     pub(crate) fn ahead_of(self, windows: u32, events: u32) -> Slots {
         let more = |slots: u32, taken: u32| {
             let free = slots.saturating_sub(taken);
-            if free < slots / 4 + 16 {
+            if free < slots / 16 + 16 {
                 return slots.saturating_add(slots / 2).saturating_add(64);
             }
             slots
