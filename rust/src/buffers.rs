@@ -39,17 +39,17 @@ impl Slots {
         Slots {
             windows: spread.saturating_add(inserted),
             events: (spread / 4).saturating_add(inserted),
-            cuts: 256,
+            cuts: 2_048,
             entries: number(pieces).saturating_mul(8).saturating_add(64),
         }
     }
 
-    /// Half as many slots again of a buffer of which less than a sixteenth is free.
+    /// Half as many slots again of a buffer of which less than a sixteenth is free, or too little for a step that makes many windows.
     pub(crate) fn ahead_of(self, windows: u32, events: u32) -> Slots {
         let more = |slots: u32, taken: u32| {
             let free = slots.saturating_sub(taken);
-            if free < slots / 16 + 16 {
-                return slots.saturating_add(slots / 2).saturating_add(64);
+            if free < slots / 16 + 256 {
+                return slots.saturating_add(slots / 2).saturating_add(512);
             }
             slots
         };
