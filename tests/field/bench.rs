@@ -2,6 +2,7 @@
 //! Usage: bench [SHAPE TRIANGLES LINES LIMIT] | bench alone SHAPE TRIANGLES LINES LIMIT TURNS
 #[path = "../clock.rs"]
 mod clock;
+#[macro_use]
 mod library;
 mod parts;
 
@@ -121,16 +122,6 @@ fn in_parts(job: &Job, rooms: &mut Rooms) -> f64 {
     timed(|| parts::compute(job, rooms).expect("a field"))
 }
 
-/// The windows and the distances of two fields are the same to the bit.
-fn same(a: &Rooms, b: &Rooms) -> bool {
-    let bits = |x: &[f64], y: &[f64]| {
-        x.iter()
-            .map(|v| v.to_bits())
-            .eq(y.iter().map(|v| v.to_bits()))
-    };
-    a.words == b.words && bits(&a.reals, &b.reals) && bits(&a.vertex, &b.vertex)
-}
-
 struct Measured {
     triangles: usize,
     windows: usize,
@@ -172,7 +163,7 @@ fn measure(name: &str, lines: usize, job: Job) -> Measured {
         parts = parts.min(in_parts(&job, &mut others));
         alone = alone.min(ours(&bare, &mut empty));
     }
-    assert!(same(&rooms, &others), "the parts come to another field");
+    assert!(library::same(&rooms, &others), "the parts come to another field");
     let bytes = most_bytes(|| ready.compute().expect("a field"));
     let triangles = mesh.t.len();
     println!(

@@ -6,17 +6,18 @@ use oracle::rooms::{Rooms, Told};
 
 /// A function of the library, and the same for slices: each goes over as its first element and its length.
 macro_rules! export {
-    (fn $name:ident($($read:ident: $r:ty),*; $($number:ident: $n:ty),*; $($write:ident: $w:ty),*)) => {
+    (fn $name:ident($($first:ident: $f:ty),*; $($read:ident: $r:ty),*; $($number:ident: $n:ty),*; $($write:ident: $w:ty),*)) => {
         mod $name {
             unsafe extern "C" {
-                pub fn $name($($read: *const $r, _: usize,)* $($number: $n,)* $($write: *mut $w, _: usize),*) -> u32;
+                pub fn $name($($first: $f,)* $($read: *const $r, _: usize,)* $($number: $n,)* $($write: *mut $w, _: usize),*) -> u32;
             }
         }
 
         #[allow(clippy::too_many_arguments)]
-        fn $name($($read: &[$r],)* $($number: $n,)* $($write: &mut [$w]),*) -> u32 {
+        fn $name($($first: $f,)* $($read: &[$r],)* $($number: $n,)* $($write: &mut [$w]),*) -> u32 {
             unsafe {
                 $name::$name(
+                    $($first,)*
                     $($read.as_ptr(), $read.len(),)*
                     $($number,)*
                     $($write.as_mut_ptr(), $write.len()),*
@@ -26,7 +27,7 @@ macro_rules! export {
     };
 }
 
-export!(fn sirmolaat_compute(
+export!(fn sirmolaat_compute(;
     vertices: f64, triangles: u32, flags: u8, kinds: u8, faces: u32, coords: f64;
     limit: f64, max_steps: u32;
     vertex_words: u32, edge_words: u32, edge_reals: f64, round: u32, triangle_words: u32, triangle_reals: f64,
@@ -34,12 +35,12 @@ export!(fn sirmolaat_compute(
     pts: f64, out: f64, keep: f64, next: f64, scratch: u32, other_scratch: u32, told: u32
 ));
 
-export!(fn sirmolaat_at(
+export!(fn sirmolaat_at(;
     told: u32, vertices: f64, triangles: u32, kinds: u8, faces: u32, coords: f64,
     edge_words: u32, edge_reals: f64, triangle_words: u32, triangle_reals: f64, vertex: f64, words: u32, reals: f64, entry_words: u32;
     f: u32, x: f64, y: f64, z: f64; distance: f64
 ));
-export!(fn sirmolaat_edge_at(
+export!(fn sirmolaat_edge_at(;
     told: u32, vertices: f64, triangles: u32, kinds: u8, faces: u32, coords: f64,
     edge_words: u32, edge_reals: f64, triangle_words: u32, triangle_reals: f64, vertex: f64, words: u32, reals: f64, entry_words: u32;
     e: u32, x: f64; distance: f64
@@ -114,4 +115,14 @@ pub fn compute(job: &Job, rooms: &mut Rooms) -> Result<Told, u32> {
         &mut told,
     );
     if refusal == 0 { Ok(told) } else { Err(refusal) }
+}
+
+/// The windows and the distances of two fields are the same to the bit.
+pub fn same(a: &Rooms, b: &Rooms) -> bool {
+    let bits = |x: &[f64], y: &[f64]| {
+        x.iter()
+            .map(|v| v.to_bits())
+            .eq(y.iter().map(|v| v.to_bits()))
+    };
+    a.words == b.words && bits(&a.reals, &b.reals) && bits(&a.vertex, &b.vertex)
 }

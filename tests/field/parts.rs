@@ -2,22 +2,8 @@
 use oracle::job::Job;
 use oracle::rooms::{Rooms, Told};
 
-macro_rules! export {
-    (fn $name:ident($($first:ident: $f:ty),*; $($read:ident: $r:ty),*; $($number:ident: $n:ty),*; $($write:ident: $w:ty),*)) => {
-        mod $name {
-            unsafe extern "C" {
-                pub fn $name($($first: $f,)* $($read: *const $r, _: usize,)* $($number: $n,)* $($write: *mut $w, _: usize),*) -> u32;
-            }
-        }
-
-        #[allow(clippy::too_many_arguments)]
-        fn $name($($first: $f,)* $($read: &[$r],)* $($number: $n,)* $($write: &mut [$w]),*) -> Result<(), u32> {
-            let refusal = unsafe {
-                $name::$name($($first,)* $($read.as_ptr(), $read.len(),)* $($number,)* $($write.as_mut_ptr(), $write.len()),*)
-            };
-            if refusal == 0 { Ok(()) } else { Err(refusal) }
-        }
-    };
+fn passed(refusal: u32) -> Result<(), u32> {
+    if refusal == 0 { Ok(()) } else { Err(refusal) }
 }
 
 export!(fn sirmolaat_insert(;
@@ -39,7 +25,7 @@ export!(fn sirmolaat_finish(edges: u32, made: u32;
 /// What the job comes to within its budget of steps: its counts, or the refusal's number.
 pub fn compute(job: &Job, rooms: &mut Rooms) -> Result<Told, u32> {
     let mut inserted = [7; 4];
-    sirmolaat_insert(
+    passed(sirmolaat_insert(
         &job.vertices,
         &job.triangles,
         &job.flags,
@@ -66,10 +52,10 @@ pub fn compute(job: &Job, rooms: &mut Rooms) -> Result<Told, u32> {
         &mut rooms.keep,
         &mut rooms.next,
         &mut inserted,
-    )?;
+    ))?;
     let [edges, made, queued, _] = inserted;
     let mut turned = [made, queued, 7];
-    sirmolaat_advance(
+    passed(sirmolaat_advance(
         job.limit,
         job.flags.len() as u32,
         job.max_steps,
@@ -91,12 +77,12 @@ pub fn compute(job: &Job, rooms: &mut Rooms) -> Result<Told, u32> {
         &mut rooms.keep,
         &mut rooms.next,
         &mut turned,
-    )?;
+    ))?;
     let [windows, waiting, steps] = turned;
     if waiting > 0 {
         return Err(15);
     }
-    sirmolaat_finish(
+    passed(sirmolaat_finish(
         edges,
         windows,
         &rooms.edge_reals,
@@ -110,7 +96,7 @@ pub fn compute(job: &Job, rooms: &mut Rooms) -> Result<Told, u32> {
         &mut rooms.out,
         &mut rooms.keep,
         &mut rooms.next,
-    )?;
+    ))?;
     let counts = [
         job.flags.len(),
         job.triangles.len() / 3,

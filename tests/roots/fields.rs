@@ -27,15 +27,6 @@ fn timed<T>(f: impl FnOnce() -> T) -> f64 {
     seconds
 }
 
-fn same(a: &Rooms, b: &Rooms) -> bool {
-    let bits = |x: &[f64], y: &[f64]| {
-        x.iter()
-            .map(|v| v.to_bits())
-            .eq(y.iter().map(|v| v.to_bits()))
-    };
-    a.words == b.words && bits(&a.reals, &b.reals) && bits(&a.vertex, &b.vertex)
-}
-
 /// The least times of the Rust, of the library with the earlier roots, and of the library.
 fn measure(job: Job, turns: usize) -> [f64; 3] {
     let mesh = Mesh::new(&job).expect("a sound job");
@@ -62,7 +53,7 @@ fn measure(job: Job, turns: usize) -> [f64; 3] {
         ];
         least = std::array::from_fn(|k| least[k].min(times[k]));
     }
-    assert!(same(&before, &now), "the fields differ");
+    assert!(library::same(&before, &now), "the fields differ");
     least
 }
 
