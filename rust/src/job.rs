@@ -17,6 +17,8 @@ pub struct Progress {
     pub waiting: u32,
     /// How often it began again, in larger buffers.
     pub restarts: u32,
+    /// How often its buffers were lengthened between turns.
+    pub lengthened: u32,
 }
 
 /// A job between turns: its sources are inserted, and events wait.
@@ -67,6 +69,7 @@ impl<'a> Job<'a> {
                 windows: 0,
                 waiting: 0,
                 restarts: 0,
+                lengthened: 0,
             },
         };
         job.insert()?;
@@ -120,6 +123,7 @@ impl<'a> Job<'a> {
             && self.buffers.lengthen(longer).is_ok()
         {
             self.slots = longer;
+            self.progress.lengthened += 1;
         }
         self.slots.steps_ahead(windows, waiting)
     }

@@ -298,6 +298,7 @@ fn buffers_are_lengthened_between_turns() {
     });
     let field = field.expect("no refusal").expect("not given up");
     assert_eq!(told.restarts, 0);
+    assert!(told.lengthened > 1);
     assert!(field.windows() > 8 * inserted.windows);
     assert_eq!(
         (field.steps(), field.windows(), &field.vertex),

@@ -163,7 +163,10 @@ fn measure(name: &str, lines: usize, job: Job) -> Measured {
         parts = parts.min(in_parts(&job, &mut others));
         alone = alone.min(ours(&bare, &mut empty));
     }
-    assert!(library::same(&rooms, &others), "the parts come to another field");
+    assert!(
+        library::same(&rooms, &others),
+        "the parts come to another field"
+    );
     let bytes = most_bytes(|| ready.compute().expect("a field"));
     let triangles = mesh.t.len();
     println!(
