@@ -1,6 +1,8 @@
 // Buffers that a caller lends: slices of u32 and f64 in slots of a fixed stride. A read past a slice's end gives 0 or a NaN and
 // a write past it changes nothing, so whatever numbers a buffer holds, nothing outside its slices is touched. Which of their slots are
 // counted (`count`) is for the callers to keep to.
+#![tactic(auto)]
+
 ghost use Rattle.std.specs.Prelude.{◌≡◌, ◌+◌, ◌*◌, ◌<◌, min, set, get_or, length, replicate};
 ghost use Rattle.std.specs.Float.{nan};
 ghost use Rattle.buffers.specs.Lack.{lack_number};

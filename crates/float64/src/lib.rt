@@ -1,4 +1,5 @@
 // The functions of f64 that the operators do not give, and the total order of its values.
+#![tactic(auto)]
 
 ghost use Rattle.std.specs.Prelude.{◌≡◌};
 ghost use Rattle.float64.specs.Scalar.{min_of, max_of, abs_of, signum_of, clamp_of, is_finite};

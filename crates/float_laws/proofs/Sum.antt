@@ -196,7 +196,7 @@ sub_self f (fin s m e) h = sum_self f s (m * up e * down e) (down e * down e) �
 sum_zero : (f : Format) (s : Bool) (a c : ℕ) → sum f s a true 0 c ≡ round f s a c
 unfolding sum
 sum_zero f true a c = ap (λ (n : ℕ). round f true n c) (add-zero a)
-sum_zero f false a c = rw (le-ltb a 0 zero-le) (ap (λ (n : ℕ). round f false n c) (nat.sub_zero a))
+sum_zero f false a c = rw (le-ltb a 0 zero-le) (ap (λ (n : ℕ). round f false n c) (nat.sub-zero a))
 
 sub_zero_is : (f : Format) (s : Bool) (m : ℕ) (e : ℤ) → sub f (fin s m e) zero64 ≡ round f s (m * up e) (down e)
 unfolding sub add neg

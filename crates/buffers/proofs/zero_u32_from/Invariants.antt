@@ -1,0 +1,14 @@
+use borrow.Author.Rules.{rules}
+use mathlib.Core.Path.{◌≡◌, refl, sym, ◌∙◌}
+use Prim.Native.Nat.{◌+◌, ◌-◌}
+use lib.ListN.{length, length-set}
+use native.Mathlib.Omega.{arith}
+use Rattle.buffers.specs.Zero.{zero_from}
+use Rattle.buffers.proofs.Zeroing.{zero_more, zero_end}
+use Rattle.buffers.proofs.zero_u32_from.Given as goal
+
+abbrev pub invariant-loop-i : goal.invariant-loop-i
+invariant-loop-i l = (length l.s ≡ length l.initial.s) × ((l.last + 1 ≡ length l.initial.s) × (zero_from 0 l.n l.initial.s ≡ zero_from 0 l.i l.s))
+
+abbrev pub decreases-loop-i : goal.decreases-loop-i
+decreases-loop-i l = length l.s - l.i
