@@ -1,4 +1,5 @@
 // What a job comes to: a refusal, or the field that then stands in its buffers.
+#![tactic(auto)]
 
 // How many vertices, triangles and pieces the job has, how many edges its mesh has, how many windows were made, and how many events were popped.
 #[derive(Drop)]

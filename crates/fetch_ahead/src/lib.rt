@@ -1,5 +1,7 @@
 // Windows are read before they are asked for. A chain is walked link by link, each of which waits for the one before; the chains of eight edges are walked side by side, so that eight windows are on
 // their way from memory at a time. What is answered, a number that is below zero where a start is, depends on all that was read, so that the compiler leaves nothing out; no more is said of it.
+#![tactic(auto)]
+
 use buffers::{read_f64, read_u32};
 use layout::{
     EDGE_HEAD, REALS_PER_WINDOW, WINDOW_B0, WINDOW_LINK, WORDS_PER_EDGE, WORDS_PER_TRIANGLE,

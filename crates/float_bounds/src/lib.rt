@@ -1,1 +1,2 @@
 // Bounds on what is computed with doubles: definitions and laws, in specs/ and proofs/. There is no code here.
+#![tactic(auto)]

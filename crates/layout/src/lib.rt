@@ -1,5 +1,6 @@
 // Where each number of a buffer stands: how many elements a slot has, and at which of them each field is. Contracts and definitions have the
 // same names for them (specs/Layout.antt, which says what each is).
+#![tactic(auto)]
 
 // A job's slices.
 pub const COORDINATES_PER_VERTEX: u32 = 3;

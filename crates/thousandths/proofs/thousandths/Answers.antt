@@ -1,0 +1,22 @@
+-- `thousandths::thousandths` meets its contract. Assumes nothing.
+use mathlib.Core.Path.{sym}
+use Prim.Native.Nat.{◌+◌, ◌-◌, ◌*◌, ◌/◌, ◌%◌, ◌^◌}
+use native.Mathlib.Nat.{div-le_self}
+use native.Mathlib.Omega.{arith}
+use Rattle.thousandths.proofs.Laws.{from_digits, below_half}
+use borrow.Author.Rules.{rules}
+use Rattle.thousandths.proofs.thousandths.Goals as goal
+
+pub returns-then-b-lt4557642822898941952 : goal.returns-then-b-lt4557642822898941952
+returns-then-b-lt4557642822898941952 c = sym (below_half c.args.minus c.args.b c.if-b-lt4557642822898941952.true)
+
+pub overflow_sub-m : goal.overflow_sub-m
+overflow_sub-m c = omega (arith, c.one_if-less.ensures.1)
+
+pub overflow_add-result : goal.overflow_add-result
+overflow_add-result c =
+    let b = c.args.b in omega (arith, div-le_self (1000 * (b % 2 ^ 52 + 2 ^ 52) - c.one_if-less.result) (2 ^ (1074 - b / 2 ^ 52)))
+
+pub returns : goal.returns
+returns c =
+    let a = c.args in rw c.one_if-less.ensures.0 (sym (from_digits a.minus a.b (omega arith) (omega arith)))
