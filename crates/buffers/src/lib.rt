@@ -12,16 +12,16 @@ ghost use Rattle.buffers.specs.Zero.{zero_from};
 
 // Vertices, edges, faces and windows are counted apart: where the number of one is asked for, that of another is a type error.
 // In a buffer all are plain u32, and the field says which it is.
-#[derive(Drop)]
+#[derive(Clone, Copy)]
 pub struct VertexId(pub u32);
 
-#[derive(Drop)]
+#[derive(Clone, Copy)]
 pub struct EdgeId(pub u32);
 
-#[derive(Drop)]
+#[derive(Clone, Copy)]
 pub struct FaceId(pub u32);
 
-#[derive(Drop)]
+#[derive(Clone, Copy)]
 pub struct WindowId(pub u32);
 
 // The number of no face: beyond a boundary edge, or where a window goes on into none.
@@ -32,7 +32,7 @@ pub fn no_face() -> FaceId
 }
 
 // What work stops at for lack of a slot: windows, events of the queue, entries of a list of cuts, entries of pieces in faces.
-#[derive(Drop)]
+#[derive(Clone, Copy)]
 pub enum Lack {
     Windows,
     Events,
