@@ -1,4 +1,6 @@
 // Numbers of 4 bytes and doubles of 8, the least significant byte first, in slices of bytes.
+#![tactic(auto)]
+
 ghost use Rattle.std.specs.Prelude.{◌≡◌, ◌+◌, ◌*◌, ◌≤◌, length, get_or};
 ghost use Rattle.std.specs.Float.{binary64};
 ghost use Rattle.std.specs.Float.Ieee.{of_bits, to_bits};
@@ -13,7 +15,7 @@ fn u32_of_byte(x: u8) -> u32
 
 // Byte i of s, 0 past the end.
 fn octet(s: &[u8], i: usize) -> u32
-    ensures { (result ≡ get_or (given s) i 0) × (result ≤ 255) }
+    ensures { (result ≡ get_or s.now i 0) × (result ≤ 255) }
 {
     if i < s.len() {
         return u32_of_byte(s[i]);
@@ -24,7 +26,7 @@ fn octet(s: &[u8], i: usize) -> u32
 // The number whose bytes stand from i on.
 pub fn number_at(s: &[u8], i: usize) -> u32
     requires { i + 4 ≤ length s.now }
-    ensures { result ≡ number_from (given s) i }
+    ensures { result ≡ number_from s.now i }
 {
     octet(s, i) + 256 * octet(s, i + 1) + 65_536 * octet(s, i + 2) + 16_777_216 * octet(s, i + 3)
 }
@@ -52,7 +54,7 @@ pub fn pattern(x: f64) -> u64
 // The double whose bytes stand from i on.
 pub fn double_at(s: &[u8], i: usize) -> f64
     requires { i + 8 ≤ length s.now }
-    ensures { result ≡ double_from (given s) i }
+    ensures { result ≡ double_from s.now i }
 {
     float((number_at(s, i) as u64) + 4_294_967_296 * (number_at(s, i + 4) as u64))
 }
@@ -60,7 +62,7 @@ pub fn double_at(s: &[u8], i: usize) -> f64
 // The n doubles whose bytes stand from i on, to the front of a slice; so of numbers and of bytes.
 pub fn read_doubles(s: &[u8], i: usize, n: usize, to: &mut [f64])
     requires { (i + 8 * n ≤ length s.now) × (n ≤ length to.old) }
-    ensures { left to ≡ put_in_front (doubles_from (given s) i n) (given to) }
+    ensures { left to ≡ put_in_front (doubles_from s.now i n) (given to) }
 {
     let mut j: usize = 0;
     while j < n {
@@ -71,7 +73,7 @@ pub fn read_doubles(s: &[u8], i: usize, n: usize, to: &mut [f64])
 
 pub fn read_numbers(s: &[u8], i: usize, n: usize, to: &mut [u32])
     requires { (i + 4 * n ≤ length s.now) × (n ≤ length to.old) }
-    ensures { left to ≡ put_in_front (numbers_from (given s) i n) (given to) }
+    ensures { left to ≡ put_in_front (numbers_from s.now i n) (given to) }
 {
     let mut j: usize = 0;
     while j < n {
@@ -82,7 +84,7 @@ pub fn read_numbers(s: &[u8], i: usize, n: usize, to: &mut [u32])
 
 pub fn read_bytes(s: &[u8], i: usize, n: usize, to: &mut [u8])
     requires { (i + n ≤ length s.now) × (n ≤ length to.old) }
-    ensures { left to ≡ put_in_front (bytes_from (given s) i n) (given to) }
+    ensures { left to ≡ put_in_front (bytes_from s.now i n) (given to) }
 {
     let mut j: usize = 0;
     while j < n {

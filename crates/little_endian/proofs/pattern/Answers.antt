@@ -1,0 +1,11 @@
+-- `little_endian::pattern` meets its contract. Assumes nothing.
+use borrow.Author.Rules.{rules}
+use Rattle.root_spec.proofs.Floats.{no_nan}
+use Rattle.little_endian.proofs.Patterns.{nan_pattern}
+use Rattle.little_endian.proofs.pattern.Goals as goal
+
+pub returns-then-x : goal.returns-then-x
+returns-then-x c = nan_pattern _ c.if-x.true
+
+pub float_to_bits-result : goal.float_to_bits-result
+float_to_bits-result c = no_nan _ c.if-x.false

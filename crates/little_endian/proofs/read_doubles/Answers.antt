@@ -1,0 +1,29 @@
+-- `little_endian::read_doubles` meets its contract. Assumes nothing.
+use borrow.Author.Rules.{rules}
+use Prim.Native.Nat.{◌+◌, ◌-◌, ◌*◌, ◌≤◌}
+use native.Mathlib.Omega.{arith}
+use mathlib.Core.Path.{◌≡◌, refl, ◌∙◌}
+use lib.ListN.{length, length-set}
+use Rattle.nat_laws.specs.Lists.{list_of}
+use Rattle.little_endian.specs.Bytes.{double_from, doubles_from, put_in_front}
+use Rattle.little_endian.proofs.Front.{front_none, front_next}
+use Rattle.little_endian.proofs.read_doubles.Goals as goal
+
+pub loop-j-init : goal.loop-j-init
+unfolding list_of
+loop-j-init c = (refl, (omega arith, front_none _))
+
+pub loop-j-preserved : goal.loop-j-preserved
+loop-j-preserved c =
+    let at-loop-test = c in
+    let loop = at-loop-test.loop-j in
+    let a = at-loop-test.args in (
+      length-set loop.to loop.j _ ∙ loop.invariant.0,
+      (omega (arith, at-loop-test.loop-j-test.true), front_next (λ k. double_from a.s.now (a.i + 8 * k)) a.to.now loop.to loop.j _ c.double_at.ensures (omega arith) loop.invariant.1.1),
+    )
+
+pub returns : goal.returns
+unfolding doubles_from
+returns c =
+    let e : c.loop-j.j ≡ c.args.n = omega arith in
+    rw e at c.loop-j.invariant.1.1
