@@ -5,10 +5,8 @@ set -eu
 cd "$(dirname "$0")/.."
 # the crates whose exports rust/src/ffi.rs declares; an object has nothing else that the others could see
 crates='field_c query_c insert_c advance_c stl_c moves_c'
-# what is not proved yet is proved first, by one rt alone
-rt check $crates
-# one after the other: two rt at work in one folder prove the same crates again
-for crate in $crates; do rt staticlib "$crate"; done
+# shellcheck disable=SC2086
+tests/build.sh library $crates
 cd target/staticlib
 rm -f libsirmolaat.a
 {

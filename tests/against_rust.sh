@@ -11,7 +11,7 @@ out=target/tests
 mkdir -p "$out"
 cargo build --quiet --offline --release --manifest-path oracle/Cargo.toml
 for crate in $crates; do
-    rt staticlib "$crate" >&2
+    tests/build.sh library "$crate"
     linked="$linked -l static=$crate"
 done
 # shellcheck disable=SC2086

@@ -7,7 +7,7 @@ set -eu
 cd "$(dirname "$0")/../.."
 first=${1:-1000} rounds=${2:-170}
 cargo build --quiet --offline --release --manifest-path oracle/Cargo.toml
-rt check better_vectors >&2
+tests/build.sh program better_vectors
 here=$PWD
 made=$(mktemp -d)
 trap 'rm -rf "$made"' EXIT

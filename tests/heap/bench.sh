@@ -5,6 +5,6 @@ set -eu
 cd "$(dirname "$0")/../.."
 out=target/tests
 mkdir -p "$out"
-rt staticlib heap_c
+tests/build.sh library heap_c
 ${RUSTC:-rustc} --edition 2024 -O -A dead_code -L native=target/staticlib -l static=heap_c -o "$out/heap_bench" tests/heap/bench.rs
 "$out/heap_bench"

@@ -6,7 +6,7 @@ set -eu
 cd "$(dirname "$0")/../.."
 first=${1:-1000} rounds=${2:-400}
 cargo build --quiet --offline --release --manifest-path oracle/Cargo.toml
-rt check insert_vectors >&2
+tests/build.sh program insert_vectors
 here=$PWD
 made=$(mktemp -d)
 trap 'rm -rf "$made"' EXIT

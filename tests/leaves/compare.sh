@@ -5,7 +5,7 @@ set -eu
 cd "$(dirname "$0")/../.."
 first=${1:-1000} rounds=${2:-100}
 cargo build --quiet --offline --release --manifest-path oracle/Cargo.toml
-rt check leaf_vectors >&2
+tests/build.sh program leaf_vectors
 here=$PWD
 made=$(mktemp -d)
 trap 'rm -rf "$made"' EXIT

@@ -4,7 +4,7 @@
 # Needs rt and a C compiler on x86-64. Prints Markdown; tests/record.sh puts it into docs/BENCHMARKS.md.
 set -eu
 cd "$(dirname "$0")/../.."
-rt staticlib roots_c >&2
+tests/build.sh library roots_c
 out=target/tests
 mkdir -p "$out"
 flags='-O2 -std=gnu11 -Wall -Wextra -Werror -ffp-contract=off'
@@ -13,7 +13,7 @@ if [ $# -gt 0 ]; then
     rm -rf "$out/earlier"
     mkdir "$out/earlier"
     git archive "$1" | tar -x -C "$out/earlier"
-    (cd "$out/earlier" && rt staticlib roots_c >&2)
+    "$out/earlier/tests/build.sh" library roots_c
     objcopy --redefine-sym sirmolaat_sqrt=earlier_sqrt --redefine-sym sirmolaat_hypot=earlier_hypot \
         "$out/earlier/target/staticlib/libroots_c.a" "$out/libearlier.a"
     other="-DEARLIER $out/libearlier.a"

@@ -4,7 +4,7 @@
 # Needs rt, a C compiler and MPFR (Debian: gcc, libmpfr-dev) on x86-64. The exit status is 1 where a case differs.
 set -eu
 cd "$(dirname "$0")/../.."
-rt staticlib roots_c >&2
+tests/build.sh library roots_c
 out=target/tests
 mkdir -p "$out"
 ${CC:-cc} -O2 -std=gnu11 -Wall -Wextra -Werror -ffp-contract=off -o "$out/compare" tests/roots/compare.c target/staticlib/libroots_c.a -lmpfr -lgmp -lm

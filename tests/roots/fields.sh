@@ -1,7 +1,7 @@
 #!/bin/sh
 # Times whole jobs with these roots and with those of an earlier revision, by turns in one run, from the repository's root: tests/roots/fields.sh REVISION [SHAPE LINES TURNS]
 # Both libraries are of this revision but for the crates of the roots. ARCHIVES names a folder that has both (now.a, earlier.a); without it they are proved and made by rt,
-# the one with the earlier roots in a copy of its own, which takes as long as rt check.
+# the one with the earlier roots in a copy of its own, which takes as long as a first check of all below field_c.
 # Needs git, objcopy, cargo and rustc on x86-64. Prints Markdown; tests/record.sh puts it into docs/BENCHMARKS.md.
 set -eu
 cd "$(dirname "$0")/../.."
@@ -22,9 +22,9 @@ if [ -z "$archives" ]; then
         line=$(git show "$revision:crates.txt" | grep "^$crate:")
         sed -i "s/^$crate:.*/$line/" "$copy/crates.txt"
     done
-    (cd "$copy" && rt check field_c >&2 && rt staticlib field_c >&2)
-    rt staticlib field_c >&2
-    cp "$copy/target/staticlib/libfield_c.a" "$archives/earlier.a"
+    (cd "$copy/crates/field_c" && rt lib >&2)
+    tests/build.sh library field_c
+    cp "$copy/crates/field_c/out/libfield_c.a" "$archives/earlier.a"
     cp target/staticlib/libfield_c.a "$archives/now.a"
 fi
 nm -g --defined-only "$archives/earlier.a" | sed -n 's/.* T sirmolaat_\(.*\)/sirmolaat_\1 earlier_\1/p' >"$out/names"

@@ -5,5 +5,5 @@
 set -eu
 cd "$(dirname "$0")/../.."
 cargo build --quiet --offline --release --manifest-path oracle/Cargo.toml
-rt check fieldslip >&2
+tests/build.sh program fieldslip
 oracle/target/release/oracle vectors "${3:-slips}" "${1:-1}" "${2:-20000}" | python3 tests/slip/compare.py target/bin/fieldslip

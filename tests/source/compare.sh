@@ -9,7 +9,7 @@ shift $(($# < 2 ? $# : 2))
 every='roots ties edge free foot lowest eval'
 named=${*:-$every}
 cargo build --quiet --offline --release --manifest-path oracle/Cargo.toml
-rt check source_vectors >&2
+tests/build.sh program source_vectors
 here=$PWD
 made=$(mktemp -d)
 trap 'rm -rf "$made"' EXIT

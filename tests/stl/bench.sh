@@ -5,6 +5,6 @@ set -eu
 cd "$(dirname "$0")/../.."
 out=target/tests
 mkdir -p "$out"
-rt staticlib stl_c >&2
+tests/build.sh library stl_c
 ${RUSTC:-rustc} --edition 2024 -O -A dead_code -L native=target/staticlib -l static=stl_c -o "$out/stl_bench" tests/stl/bench.rs
 "$out/stl_bench" "$@"

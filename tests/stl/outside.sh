@@ -8,7 +8,7 @@ cd "$(dirname "$0")/../.."
 admesh=${ADMESH:-admesh} assimp=${ASSIMP:-assimp} python=${MESHIO_PYTHON:-/usr/bin/python3}
 out=target/tests
 mkdir -p "$out"
-rt staticlib stl_c >&2
+tests/build.sh library stl_c
 ${RUSTC:-rustc} --edition 2024 -O -A dead_code -L native=target/staticlib -l static=stl_c -o "$out/stl_outside" tests/stl/outside.rs
 made=$(mktemp -d)
 trap 'rm -rf "$made"' EXIT

@@ -1,0 +1,26 @@
+#!/bin/sh
+# Proves and builds by rt, from anywhere:
+#     tests/build.sh library CRATE..   static libraries, target/staticlib/libCRATE.a
+#     tests/build.sh program CRATE..   programs, target/bin/CRATE
+set -eu
+cd "$(dirname "$0")/.."
+kind=$1
+shift
+mkdir -p target/staticlib target/bin
+for crate in "$@"; do
+    case $kind in
+        library)
+            (cd "crates/$crate" && rt lib >&2)
+            cp "crates/$crate/out/lib$crate.a" target/staticlib/
+            ;;
+        program)
+            # `rt run` builds a program and runs it: what it answers with no input is of no matter here
+            (cd "crates/$crate" && rt check >&2 && { rt run </dev/null >/dev/null 2>&1 || true; })
+            cp "crates/$crate/out/$crate" target/bin/
+            ;;
+        *)
+            echo 'tests/build.sh library|program CRATE..' >&2
+            exit 2
+            ;;
+    esac
+done
