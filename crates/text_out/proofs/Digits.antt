@@ -7,7 +7,7 @@ use mathlib.Core.List.{[], ◌∷◌, ◌++◌}
 use mathlib.Core.Path.{◌≡◌, ap}
 use borrow.Author.Tests.{lt-ltb, le-ltb}
 use Rattle.io.specs.Digits.{last_digits, IsDigitCount, hex_digit_ascii}
-use Rattle.text_out.specs.Text.{digits_of, decimal}
+use Rattle.text_out.specs.Text.{digits_of}
 
 pos10 : (j : ℕ) → 0 < 10 ^ j
 pos10 zero = omega arith
