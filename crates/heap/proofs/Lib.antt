@@ -4,4 +4,4 @@ pub mod HeapOrder
 pub mod Turns
 pub mod SameAnswers
 pub mod AnyQueue
-pub mod Answers
+pub mod PushAnswers
