@@ -21,6 +21,10 @@ WORDS = {"module", "where", "record", "data", "pub", "abbrev", "unfoldable", "un
 CHOSEN = {
     "allAre": "each_is",
     "atFront": "put_in_front",
+    "edgeNumber": "edge_answer_number",
+    "faceNumber": "face_answer_number",
+    "vertexNumber": "vertex_answer_number",
+    "windowNumber": "window_answer_number",
     "entriesFrom": "entries_from_link",
     "fitsIn": "field_fits_in",
     "goesBack": "goes_back_along",
@@ -37,6 +41,7 @@ CHOSEN = {
     "sameOf": "same_comparison",
     "secondAt": "second_double_at",
     "toldOf": "told_run",
+    "tooMany": "counts_too_many",
     "tooShort": "is_too_short",
     "unitRow": "unit_row_of",
     "windowReals": "window_reals_of",
@@ -71,7 +76,9 @@ def files():
 
 
 def is_function_file(p):
-    return os.path.basename(p) in ("Proof.antt",) or (os.path.basename(p) in ("Answers.antt", "Invariants.antt") and not os.path.dirname(p).endswith("proofs"))
+    """Whether a file answers the goals of a function, and declares no names of the repository's."""
+    base, folder = os.path.basename(p), os.path.dirname(p)
+    return base == "Proof.antt" or (base in ("Answers.antt", "Invariants.antt") and "/proofs/" in p)
 
 
 def declared(text):
@@ -167,11 +174,10 @@ def choose(names, texts):
 
     for n in camel:
         s = snake(n)
-        bad = clash(n, s)
-        if s in taken or bad or s in own:
+        if n in CHOSEN:
             s = CHOSEN[n]
-            if s in taken or s in own or clash(n, s) or any(s in tokens(t) for t in texts.values()):
-                raise SystemExit(f"no name for {n}")
+        if s in taken or s in own or clash(n, s) or n in CHOSEN and any(s in tokens(t) for t in texts.values()):
+            raise SystemExit(f"no name for {n}")
         taken[s] = n
         new[n] = s
     for n in rest:

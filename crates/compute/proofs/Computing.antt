@@ -41,7 +41,7 @@ use Rattle.field_model.specs.Lent.{ComputesOver}
 use Rattle.field_model.proofs.Lawful.{in_order}
 use Rattle.field_model.proofs.Leaving.{computes_over}
 use Rattle.make_field.specs.Contract.{WorkFits, MadeOrRefused, MakesField}
-use Rattle.compute.specs.Answers.{edgesAnswered, zeroes, clears, told}
+use Rattle.compute.specs.Answers.{edges_answered, zeroes, clears, told}
 
 -- ---- the buffers b₁ that the work left, zeroed as its answer says
 abbrev pub zeroed_by : FieldWork → FieldBuffers → FieldBuffers
@@ -103,7 +103,7 @@ mesh_stays (suc k) m t l = refl
 
 -- ---- the mesh answered with a number, over slices whose slots were counted
 module _ (v : List Float) (triangles flags kinds faces : List ℕ) (coords : List Float) (limit : Float) (b : FieldBuffers) (most : ℕ) (o : OtherCounts) (counts : o ≡ other_counts b)
-    (a : Meshed) (m : MeshBuffers) (built : Answered (job v triangles flags kinds faces coords limit) o a b.mesh m) (number count : ℕ) (number_is : number ≡ meshed_number a) (count_is : count ≡ edgesAnswered a) where
+    (a : Meshed) (m : MeshBuffers) (built : Answered (job v triangles flags kinds faces coords limit) o a b.mesh m) (number count : ℕ) (number_is : number ≡ meshed_number a) (count_is : count ≡ edges_answered a) where
   abbrev j : Job
   j = job v triangles flags kinds faces coords limit
 
@@ -118,7 +118,7 @@ module _ (v : List Float) (triangles flags kinds faces : List ℕ) (coords : Lis
     passed = sym refusal ∙ none
 
     counted : count ≡ length (edges triangles)
-    counted = count_is ∙ ap edgesAnswered (answered.edge_count_held passed)
+    counted = count_is ∙ ap edges_answered (answered.edge_count_held passed)
 
   -- what `make_field` asks
   pub work_fits : WorkFits number count v kinds b.piece_words m.edge_words_held

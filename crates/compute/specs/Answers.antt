@@ -12,8 +12,8 @@ use Rattle.computed.specs.declared.Computed.{Computed}
 use Rattle.computed.specs.declared.Computed.TheVariants as computed
 
 -- the slots of slices of these lengths
-abbrev pub otherCountsOf : ℕ → ℕ → ℕ → ℕ → ℕ → ℕ → ℕ → OtherCounts
-otherCountsOf pw pr vertex words reals scratch other = record {
+abbrev pub other_counts_of : ℕ → ℕ → ℕ → ℕ → ℕ → ℕ → ℕ → OtherCounts
+other_counts_of pw pr vertex words reals scratch other = record {
   vertex_reals = slots_of vertex reals_per_vertex;
   pieces = min (slots_of pw words_per_piece) (slots_of pr reals_per_piece);
   windows = capacity_of words reals;
@@ -21,10 +21,10 @@ otherCountsOf pw pr vertex words reals scratch other = record {
   other_scratch = slots_of other 1;
 }
 
-abbrev pub edgesAnswered : Meshed → ℕ
-edgesAnswered (meshed.Edges n) = n
-edgesAnswered (meshed.Refused c) = 0
-edgesAnswered meshed.ThirdFace = 0
+abbrev pub edges_answered : Meshed → ℕ
+edges_answered (meshed.Edges n) = n
+edges_answered (meshed.Refused c) = 0
+edges_answered meshed.ThirdFace = 0
 
 -- whether every buffer is zeroed: by the refusals from 10 on
 abbrev pub zeroes : FieldWork → Bool

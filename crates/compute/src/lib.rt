@@ -5,7 +5,7 @@ ghost use Rattle.job_checks.specs.Job.{job};
 ghost use Rattle.compute_spec.specs.Compute.{buffers_before, buffers_after};
 ghost use Rattle.field_model.specs.Queue.{queue_in_order};
 ghost use Rattle.field_model.specs.Lent.{ComputesOver};
-ghost use Rattle.compute.specs.Answers.{otherCountsOf, edgesAnswered, zeroes, clears, told};
+ghost use Rattle.compute.specs.Answers.{other_counts_of, edges_answered, zeroes, clears, told};
 
 use buffers::slots;
 use computed::{Computed, Field};
@@ -27,7 +27,7 @@ fn other_counts(
     scratch: usize,
     other_scratch: usize,
 ) -> OtherCounts
-    ensures { result ≡ otherCountsOf piece_words piece_reals vertex words reals scratch other_scratch }
+    ensures { result ≡ other_counts_of piece_words piece_reals vertex words reals scratch other_scratch }
 {
     OtherCounts {
         vertex_reals: slots(vertex, REALS_PER_VERTEX),
@@ -39,7 +39,7 @@ fn other_counts(
 }
 
 fn edge_count(meshed: Meshed) -> u32
-    ensures { result ≡ edgesAnswered meshed }
+    ensures { result ≡ edges_answered meshed }
 {
     match meshed {
         Meshed::Edges(edges) => edges,

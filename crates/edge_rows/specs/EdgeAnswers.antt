@@ -4,7 +4,7 @@ use Rattle.std.specs.Float.{nan}
 use Rattle.computed.specs.declared.Field.{Field}
 use Rattle.field_check.specs.FieldCheck.{FieldSlices}
 use Rattle.queries.specs.declared.EdgeDistance.{EdgeDistance}
-use Rattle.queries.specs.Answers.{edgeNumber, edgeValue}
+use Rattle.queries.specs.Answers.{edge_answer_number, edge_value}
 use Rattle.queries.specs.Queries.{edge_answer}
 
 abbrev pub edge_asked : Field → FieldSlices → List ℕ → List Float → ℕ → EdgeDistance
@@ -12,7 +12,7 @@ edge_asked n b edges places i = edge_answer n b (get_or edges i 0) (get_or place
 
 module _ (n : Field) (b : FieldSlices) (edges : List ℕ) (places : List Float) where
   abbrev pub edge_numbers : ℕ → ℕ
-  edge_numbers i = edgeNumber (edge_asked n b edges places i)
+  edge_numbers i = edge_answer_number (edge_asked n b edges places i)
 
   abbrev pub edge_values : ℕ → Float
-  edge_values i = edgeValue (edge_asked n b edges places i)
+  edge_values i = edge_value (edge_asked n b edges places i)

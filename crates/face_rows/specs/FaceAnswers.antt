@@ -4,7 +4,7 @@ use Rattle.job_checks.specs.Edge.{vertex_at}
 use Rattle.computed.specs.declared.Field.{Field}
 use Rattle.field_check.specs.FieldCheck.{JobSlices, FieldSlices}
 use Rattle.queries.specs.declared.FaceDistance.{FaceDistance}
-use Rattle.queries.specs.Answers.{faceNumber, faceValue}
+use Rattle.queries.specs.Answers.{face_answer_number, face_value}
 use Rattle.queries.specs.Queries.{face_answer}
 
 -- three coordinates for each point
@@ -13,7 +13,7 @@ face_asked n b j asked points i = face_answer n b j (get_or asked i 0) (vertex_a
 
 module _ (n : Field) (b : FieldSlices) (j : JobSlices) (asked : List ℕ) (points : List Float) where
   abbrev pub face_numbers : ℕ → ℕ
-  face_numbers i = faceNumber (face_asked n b j asked points i)
+  face_numbers i = face_answer_number (face_asked n b j asked points i)
 
   abbrev pub face_values : ℕ → Float
-  face_values i = faceValue (face_asked n b j asked points i)
+  face_values i = face_value (face_asked n b j asked points i)

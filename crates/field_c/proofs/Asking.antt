@@ -17,7 +17,7 @@ use Rattle.computed.specs.declared.Field.{Field}
 use Rattle.field_check.specs.FieldCheck.{JobSlices, FieldSlices, field_unsound}
 use Rattle.queries.specs.declared.FaceDistance.{FaceDistance}
 use Rattle.queries.specs.declared.EdgeDistance.{EdgeDistance}
-use Rattle.queries.specs.Answers.{faceNumber, edgeNumber, faceValue, edgeValue}
+use Rattle.queries.specs.Answers.{face_answer_number, edge_answer_number, face_value, edge_value}
 use Rattle.queries.specs.Queries.{face_answer, edge_answer, face_query, edge_query}
 use Rattle.queries.proofs.Checked.{enough, taken, left}
 use Rattle.field_c.specs.Asked.{fits, field_fits_in, asked_face, asked_edge}
@@ -58,18 +58,18 @@ module _ (n : Field) (a w r : ℕ) where
 -- the question is answered, or the slices have too few slots
 module _ (j : JobSlices) (b : FieldSlices) (d : List Float) {m n : Field} (told : m ≡ n) {t : Bool} (test : t ≡ field_fits_in m b) where
   module _ (f : ℕ) (p : Vec3) where
-    pub face_told : {x : FaceDistance} {k : ℕ} {v : Float} {d' : List Float} → t ≡ true → x ≡ face_answer m b j f p → v ≡ faceValue x → d' ≡ set d 0 v → k ≡ faceNumber x → (k, d') ≡ asked_face n j b f p d
+    pub face_told : {x : FaceDistance} {k : ℕ} {v : Float} {d' : List Float} → t ≡ true → x ≡ face_answer m b j f p → v ≡ face_value x → d' ≡ set d 0 v → k ≡ face_answer_number x → (k, d') ≡ asked_face n j b f p d
     unfolding asked_face
-    face_told h e v s k = (λ i. ((k ∙ ap faceNumber e) i, (s ∙ ap (λ (z : Float). set d 0 z) (v ∙ ap faceValue e)) i)) ∙ taken _ _ _ (sym test ∙ h) ∙ ap (λ (z : Field). asked_face z j b f p d) told
+    face_told h e v s k = (λ i. ((k ∙ ap face_answer_number e) i, (s ∙ ap (λ (z : Float). set d 0 z) (v ∙ ap face_value e)) i)) ∙ taken _ _ _ (sym test ∙ h) ∙ ap (λ (z : Field). asked_face z j b f p d) told
 
     pub face_unfit : t ≡ false → (20, d) ≡ asked_face n j b f p d
     unfolding asked_face
     face_unfit h = left _ _ _ _ (sym test ∙ h) refl ∙ ap (λ (z : Field). asked_face z j b f p d) told
 
   module _ (e : ℕ) (x : Float) where
-    pub edge_told : {y : EdgeDistance} {k : ℕ} {v : Float} {d' : List Float} → t ≡ true → y ≡ edge_answer m b e x → v ≡ edgeValue y → d' ≡ set d 0 v → k ≡ edgeNumber y → (k, d') ≡ asked_edge n j b e x d
+    pub edge_told : {y : EdgeDistance} {k : ℕ} {v : Float} {d' : List Float} → t ≡ true → y ≡ edge_answer m b e x → v ≡ edge_value y → d' ≡ set d 0 v → k ≡ edge_answer_number y → (k, d') ≡ asked_edge n j b e x d
     unfolding asked_edge
-    edge_told h q v s k = (λ i. ((k ∙ ap edgeNumber q) i, (s ∙ ap (λ (z : Float). set d 0 z) (v ∙ ap edgeValue q)) i)) ∙ taken _ _ _ (sym test ∙ h) ∙ ap (λ (z : Field). asked_edge z j b e x d) told
+    edge_told h q v s k = (λ i. ((k ∙ ap edge_answer_number q) i, (s ∙ ap (λ (z : Float). set d 0 z) (v ∙ ap edge_value q)) i)) ∙ taken _ _ _ (sym test ∙ h) ∙ ap (λ (z : Field). asked_edge z j b e x d) told
 
     pub edge_unfit : t ≡ false → (20, d) ≡ asked_edge n j b e x d
     unfolding asked_edge
@@ -80,14 +80,14 @@ module _ (n : Field) (j : JobSlices) (b : FieldSlices) (d : List Float) (sound :
   fitting : field_fits_in n b ≡ true
   fitting = let e = enough n j b sound in sym (none_lacks n _ _ _ refl refl e.0 e.1)
 
-  pub face_is_query : (f : ℕ) (p : Vec3) → asked_face n j b f p d ≡ (faceNumber (face_query j b (isField n) f p), set d 0 (faceValue (face_query j b (isField n) f p)))
+  pub face_is_query : (f : ℕ) (p : Vec3) → asked_face n j b f p d ≡ (face_answer_number (face_query j b (isField n) f p), set d 0 (face_value (face_query j b (isField n) f p)))
   unfolding asked_face face_query
   face_is_query f p =
       let q : face_answer n b j f p ≡ face_query j b (isField n) f p = left _ _ _ _ sound refl in
-      sym (taken _ _ _ fitting) ∙ (λ i. (faceNumber (q i), set d 0 (faceValue (q i))))
+      sym (taken _ _ _ fitting) ∙ (λ i. (face_answer_number (q i), set d 0 (face_value (q i))))
 
-  pub edge_is_query : (e : ℕ) (x : Float) → asked_edge n j b e x d ≡ (edgeNumber (edge_query j b (isField n) e x), set d 0 (edgeValue (edge_query j b (isField n) e x)))
+  pub edge_is_query : (e : ℕ) (x : Float) → asked_edge n j b e x d ≡ (edge_answer_number (edge_query j b (isField n) e x), set d 0 (edge_value (edge_query j b (isField n) e x)))
   unfolding asked_edge edge_query
   edge_is_query e x =
       let q : edge_answer n b e x ≡ edge_query j b (isField n) e x = left _ _ _ _ sound refl in
-      sym (taken _ _ _ fitting) ∙ (λ i. (edgeNumber (q i), set d 0 (edgeValue (q i))))
+      sym (taken _ _ _ fitting) ∙ (λ i. (edge_answer_number (q i), set d 0 (edge_value (q i))))

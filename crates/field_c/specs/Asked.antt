@@ -8,7 +8,7 @@ use Rattle.vec3.specs.declared.Vec3.{Vec3}
 use Rattle.windows.specs.Windows.{capacity_of}
 use Rattle.computed.specs.declared.Field.{Field}
 use Rattle.field_check.specs.FieldCheck.{JobSlices, FieldSlices}
-use Rattle.queries.specs.Answers.{faceNumber, edgeNumber, faceValue, edgeValue}
+use Rattle.queries.specs.Answers.{face_answer_number, edge_answer_number, face_value, edge_value}
 use Rattle.queries.specs.Queries.{face_answer, edge_answer}
 
 -- slices of so many numbers have a slot for each edge and each window of the field
@@ -22,8 +22,8 @@ field_fits_in n b = fits n (length b.edge_words_held) (length b.words) (length b
 module _ (n : Field) (j : JobSlices) (b : FieldSlices) where
   unfoldable pub asked_face : ℕ → Vec3 → List Float → ℕ × List Float
   unfolding fits
-  asked_face f p d = if field_fits_in n b then (faceNumber (face_answer n b j f p), set d 0 (faceValue (face_answer n b j f p))) else (20, d)
+  asked_face f p d = if field_fits_in n b then (face_answer_number (face_answer n b j f p), set d 0 (face_value (face_answer n b j f p))) else (20, d)
 
   unfoldable pub asked_edge : ℕ → Float → List Float → ℕ × List Float
   unfolding fits
-  asked_edge e x d = if field_fits_in n b then (edgeNumber (edge_answer n b e x), set d 0 (edgeValue (edge_answer n b e x))) else (20, d)
+  asked_edge e x d = if field_fits_in n b then (edge_answer_number (edge_answer n b e x), set d 0 (edge_value (edge_answer n b e x))) else (20, d)

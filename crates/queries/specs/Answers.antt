@@ -10,42 +10,42 @@ use Rattle.queries.specs.declared.VertexDistance.TheVariants as vertex
 use Rattle.queries.specs.declared.WindowAnswer.{WindowAnswer}
 use Rattle.queries.specs.declared.WindowAnswer.TheVariants as window
 
-abbrev pub faceNumber : FaceDistance → ℕ
-faceNumber face.NoField = 20
-faceNumber face.MissingFace = 21
-faceNumber face.PointOutOfRange = 22
-faceNumber (face.At d) = 0
+abbrev pub face_answer_number : FaceDistance → ℕ
+face_answer_number face.NoField = 20
+face_answer_number face.MissingFace = 21
+face_answer_number face.PointOutOfRange = 22
+face_answer_number (face.At d) = 0
 
-abbrev pub edgeNumber : EdgeDistance → ℕ
-edgeNumber edge.NoField = 20
-edgeNumber edge.MissingEdge = 23
-edgeNumber edge.PlaceOutside = 24
-edgeNumber (edge.At d) = 0
+abbrev pub edge_answer_number : EdgeDistance → ℕ
+edge_answer_number edge.NoField = 20
+edge_answer_number edge.MissingEdge = 23
+edge_answer_number edge.PlaceOutside = 24
+edge_answer_number (edge.At d) = 0
 
-abbrev pub vertexNumber : VertexDistance → ℕ
-vertexNumber vertex.NoField = 20
-vertexNumber vertex.MissingVertex = 25
-vertexNumber (vertex.At d) = 0
+abbrev pub vertex_answer_number : VertexDistance → ℕ
+vertex_answer_number vertex.NoField = 20
+vertex_answer_number vertex.MissingVertex = 25
+vertex_answer_number (vertex.At d) = 0
 
-abbrev pub windowNumber : WindowAnswer → ℕ
-windowNumber window.NoField = 20
-windowNumber window.MissingEdge = 23
-windowNumber window.PastEnd = 26
-windowNumber (window.Window w) = 0
+abbrev pub window_answer_number : WindowAnswer → ℕ
+window_answer_number window.NoField = 20
+window_answer_number window.MissingEdge = 23
+window_answer_number window.PastEnd = 26
+window_answer_number (window.Window w) = 0
 
-abbrev pub faceValue : FaceDistance → Float
-faceValue face.NoField = nan
-faceValue face.MissingFace = nan
-faceValue face.PointOutOfRange = nan
-faceValue (face.At d) = d
+abbrev pub face_value : FaceDistance → Float
+face_value face.NoField = nan
+face_value face.MissingFace = nan
+face_value face.PointOutOfRange = nan
+face_value (face.At d) = d
 
-abbrev pub edgeValue : EdgeDistance → Float
-edgeValue edge.NoField = nan
-edgeValue edge.MissingEdge = nan
-edgeValue edge.PlaceOutside = nan
-edgeValue (edge.At d) = d
+abbrev pub edge_value : EdgeDistance → Float
+edge_value edge.NoField = nan
+edge_value edge.MissingEdge = nan
+edge_value edge.PlaceOutside = nan
+edge_value (edge.At d) = d
 
-abbrev pub vertexValue : VertexDistance → Float
-vertexValue vertex.NoField = nan
-vertexValue vertex.MissingVertex = nan
-vertexValue (vertex.At d) = d
+abbrev pub vertex_value : VertexDistance → Float
+vertex_value vertex.NoField = nan
+vertex_value vertex.MissingVertex = nan
+vertex_value (vertex.At d) = d

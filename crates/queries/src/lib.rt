@@ -12,7 +12,7 @@ ghost use Rattle.job_checks.specs.Refusals.{out_of_range};
 ghost use Rattle.last_pass.specs.Buffers.{chain_behind};
 ghost use Rattle.edge_query.specs.Resume.{Resumes};
 ghost use Rattle.field_check.specs.FieldCheck.{job_slices, field_slices};
-ghost use Rattle.queries.specs.Answers.{faceNumber, edgeNumber, vertexNumber, windowNumber, faceValue, edgeValue, vertexValue};
+ghost use Rattle.queries.specs.Answers.{face_answer_number, edge_answer_number, vertex_answer_number, window_answer_number, face_value, edge_value, vertex_value};
 ghost use Rattle.queries.specs.Queries.{point_outside, place_outside, place_link, linked_window, face_answer, edge_answer, vertex_answer, window_answer, face_query, edge_query, vertex_query, window_query};
 ghost use Rattle.queries.specs.Told.{told_field, told_answer};
 
@@ -22,7 +22,7 @@ use edge_query::Cursor;
 use vec3::Vec3;
 use windows::WindowRecord;
 
-// The answers: `faceNumber`, `edgeNumber`, `vertexNumber` and `windowNumber` of specs/ give each case its number.
+// The answers: `face_answer_number`, `edge_answer_number`, `vertex_answer_number` and `window_answer_number` of specs/ give each case its number.
 #[derive(Drop)]
 pub enum FaceDistance {
     NoField,
@@ -70,7 +70,7 @@ pub enum WindowAnswer {
 
 // An answer's number in document 01, 0 where it is no refusal.
 pub fn face_number(answer: FaceDistance) -> u32
-    ensures { result ≡ faceNumber answer }
+    ensures { result ≡ face_answer_number answer }
 {
     match answer {
         FaceDistance::NoField => 20,
@@ -81,7 +81,7 @@ pub fn face_number(answer: FaceDistance) -> u32
 }
 
 pub fn edge_number(answer: EdgeDistance) -> u32
-    ensures { result ≡ edgeNumber answer }
+    ensures { result ≡ edge_answer_number answer }
 {
     match answer {
         EdgeDistance::NoField => 20,
@@ -92,7 +92,7 @@ pub fn edge_number(answer: EdgeDistance) -> u32
 }
 
 pub fn vertex_number(answer: VertexDistance) -> u32
-    ensures { result ≡ vertexNumber answer }
+    ensures { result ≡ vertex_answer_number answer }
 {
     match answer {
         VertexDistance::NoField => 20,
@@ -102,7 +102,7 @@ pub fn vertex_number(answer: VertexDistance) -> u32
 }
 
 pub fn window_number(answer: WindowAnswer) -> u32
-    ensures { result ≡ windowNumber answer }
+    ensures { result ≡ window_answer_number answer }
 {
     match answer {
         WindowAnswer::NoField => 20,
@@ -120,7 +120,7 @@ fn no_distance() -> f64
 
 // Its distance, a NaN of a refusal.
 pub fn face_value(answer: FaceDistance) -> f64
-    ensures { result ≡ faceValue answer }
+    ensures { result ≡ face_value answer }
 {
     match answer {
         FaceDistance::NoField => no_distance(),
@@ -131,7 +131,7 @@ pub fn face_value(answer: FaceDistance) -> f64
 }
 
 pub fn edge_value(answer: EdgeDistance) -> f64
-    ensures { result ≡ edgeValue answer }
+    ensures { result ≡ edge_value answer }
 {
     match answer {
         EdgeDistance::NoField => no_distance(),
@@ -142,7 +142,7 @@ pub fn edge_value(answer: EdgeDistance) -> f64
 }
 
 pub fn vertex_value(answer: VertexDistance) -> f64
-    ensures { result ≡ vertexValue answer }
+    ensures { result ≡ vertex_value answer }
 {
     match answer {
         VertexDistance::NoField => no_distance(),

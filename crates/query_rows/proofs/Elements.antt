@@ -15,7 +15,7 @@ use Rattle.job_checks.specs.Edge.{vertex_at}
 use Rattle.computed.specs.declared.Computed.{Computed}
 use Rattle.computed.specs.declared.Computed.TheVariants.{Refused, Field as isField}
 use Rattle.field_check.specs.FieldCheck.{JobSlices, FieldSlices, field_unsound}
-use Rattle.queries.specs.Answers.{faceNumber, edgeNumber, vertexNumber, faceValue, edgeValue, vertexValue}
+use Rattle.queries.specs.Answers.{face_answer_number, edge_answer_number, vertex_answer_number, face_value, edge_value, vertex_value}
 use Rattle.queries.specs.Queries.{face_query, edge_query, vertex_query}
 use Rattle.queries.proofs.Checked.{left_none, right_none}
 use Rattle.query_rows.specs.declared.RowAnswer.{RowAnswer}
@@ -59,8 +59,8 @@ behind_test h s x y e = sym (ap (λ (t : Bool). h (cond t x y)) e)
 -- ---- the three rows
 module _ (j : JobSlices) (b : FieldSlices) (numbers : List ℕ) (distances : List Float) where
   pub face_element : (c : Computed) (asked : List ℕ) (points : List Float) → (face_row j b numbers distances c asked points).answer ≡ Answered → (k : ℕ) → k < elements asked
-      → (get_or (face_row j b numbers distances c asked points).numbers k 0 ≡ faceNumber (face_query j b c (get_or asked k 0) (vertex_at points k)))
-      × (get_or (face_row j b numbers distances c asked points).distances k nan ≡ faceValue (face_query j b c (get_or asked k 0) (vertex_at points k)))
+      → (get_or (face_row j b numbers distances c asked points).numbers k 0 ≡ face_answer_number (face_query j b c (get_or asked k 0) (vertex_at points k)))
+      × (get_or (face_row j b numbers distances c asked points).distances k nan ≡ face_value (face_query j b c (get_or asked k 0) (vertex_at points k)))
   unfolding face_row face_query
   face_element (Refused n) asked points a k m = absurd (omega (arith, ap row_number a))
   face_element (isField n) asked points a k m =
@@ -69,11 +69,11 @@ module _ (j : JobSlices) (b : FieldSlices) (numbers : List ℕ) (distances : Lis
       let t = short_for (elements asked) (slots_of (length points) coordinates_per_vertex) (elements numbers) (elements distances) in
       let w = written numbers distances (elements asked) g h (field_unsound n j b) t (slots_of (length points) coordinates_per_vertex) refl a k m in
       let s = sound numbers distances (elements asked) g h (field_unsound n j b) t a in
-      (w.0 ∙ behind_test faceNumber (field_unsound n j b) _ _ s, w.1 ∙ behind_test faceValue (field_unsound n j b) _ _ s)
+      (w.0 ∙ behind_test face_answer_number (field_unsound n j b) _ _ s, w.1 ∙ behind_test face_value (field_unsound n j b) _ _ s)
 
   pub edge_element : (c : Computed) (edges : List ℕ) (places : List Float) → (edge_row j b numbers distances c edges places).answer ≡ Answered → (k : ℕ) → k < elements edges
-      → (get_or (edge_row j b numbers distances c edges places).numbers k 0 ≡ edgeNumber (edge_query j b c (get_or edges k 0) (get_or places k nan)))
-      × (get_or (edge_row j b numbers distances c edges places).distances k nan ≡ edgeValue (edge_query j b c (get_or edges k 0) (get_or places k nan)))
+      → (get_or (edge_row j b numbers distances c edges places).numbers k 0 ≡ edge_answer_number (edge_query j b c (get_or edges k 0) (get_or places k nan)))
+      × (get_or (edge_row j b numbers distances c edges places).distances k nan ≡ edge_value (edge_query j b c (get_or edges k 0) (get_or places k nan)))
   unfolding edge_row edge_query
   edge_element (Refused n) edges places a k m = absurd (omega (arith, ap row_number a))
   edge_element (isField n) edges places a k m =
@@ -82,11 +82,11 @@ module _ (j : JobSlices) (b : FieldSlices) (numbers : List ℕ) (distances : Lis
       let t = short_for (elements edges) (elements places) (elements numbers) (elements distances) in
       let w = written numbers distances (elements edges) g h (field_unsound n j b) t (elements places) refl a k m in
       let s = sound numbers distances (elements edges) g h (field_unsound n j b) t a in
-      (w.0 ∙ behind_test edgeNumber (field_unsound n j b) _ _ s, w.1 ∙ behind_test edgeValue (field_unsound n j b) _ _ s)
+      (w.0 ∙ behind_test edge_answer_number (field_unsound n j b) _ _ s, w.1 ∙ behind_test edge_value (field_unsound n j b) _ _ s)
 
   pub vertex_element : (c : Computed) (asked : List ℕ) → (vertex_row j b numbers distances c asked).answer ≡ Answered → (k : ℕ) → k < elements asked
-      → (get_or (vertex_row j b numbers distances c asked).numbers k 0 ≡ vertexNumber (vertex_query j b c (get_or asked k 0)))
-      × (get_or (vertex_row j b numbers distances c asked).distances k nan ≡ vertexValue (vertex_query j b c (get_or asked k 0)))
+      → (get_or (vertex_row j b numbers distances c asked).numbers k 0 ≡ vertex_answer_number (vertex_query j b c (get_or asked k 0)))
+      × (get_or (vertex_row j b numbers distances c asked).distances k nan ≡ vertex_value (vertex_query j b c (get_or asked k 0)))
   unfolding vertex_row vertex_query
   vertex_element (Refused n) asked a k m = absurd (omega (arith, ap row_number a))
   vertex_element (isField n) asked a k m =
@@ -95,4 +95,4 @@ module _ (j : JobSlices) (b : FieldSlices) (numbers : List ℕ) (distances : Lis
       let t = short_for (elements asked) (elements asked) (elements numbers) (elements distances) in
       let w = written numbers distances (elements asked) g h (field_unsound n j b) t (elements asked) refl a k m in
       let s = sound numbers distances (elements asked) g h (field_unsound n j b) t a in
-      (w.0 ∙ behind_test vertexNumber (field_unsound n j b) _ _ s, w.1 ∙ behind_test vertexValue (field_unsound n j b) _ _ s)
+      (w.0 ∙ behind_test vertex_answer_number (field_unsound n j b) _ _ s, w.1 ∙ behind_test vertex_value (field_unsound n j b) _ _ s)

@@ -9,7 +9,7 @@ use Rattle.computed.specs.declared.Computed.TheVariants.{Refused, Field as isFie
 use Rattle.computed.specs.declared.Field.{Field}
 use Rattle.field_check.specs.FieldCheck.{JobSlices, FieldSlices, field_unsound}
 use Rattle.queries.specs.declared.VertexDistance.{VertexDistance}
-use Rattle.queries.specs.Answers.{vertexNumber, vertexValue}
+use Rattle.queries.specs.Answers.{vertex_answer_number, vertex_value}
 use Rattle.queries.specs.Queries.{vertex_answer}
 use Rattle.open_rows.specs.Written.{written_row}
 use Rattle.face_rows.specs.FaceAnswers.{face_numbers, face_values}
@@ -65,10 +65,10 @@ vertex_asked n b asked i = vertex_answer n b (get_or asked i 0)
 
 module _ (n : Field) (b : FieldSlices) (asked : List ℕ) where
   abbrev pub vertex_numbers : ℕ → ℕ
-  vertex_numbers i = vertexNumber (vertex_asked n b asked i)
+  vertex_numbers i = vertex_answer_number (vertex_asked n b asked i)
 
   abbrev pub vertex_values : ℕ → Float
-  vertex_values i = vertexValue (vertex_asked n b asked i)
+  vertex_values i = vertex_value (vertex_asked n b asked i)
 
 module _ (j : JobSlices) (b : FieldSlices) (numbers : List ℕ) (distances : List Float) where
   unfoldable pub vertex_row : Computed → List ℕ → RowResult

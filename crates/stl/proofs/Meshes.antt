@@ -18,7 +18,7 @@ use Rattle.nat_laws.proofs.Lists.{list_of_same}
 use Rattle.stl_format.specs.declared.Stl.{Stl}
 use Rattle.stl_format.specs.declared.Stl.TheVariants as stl
 use Rattle.stl_format.specs.Format.{StlMesh, record_count, file_length, coordinate, bytes_not_finite, same_point, link_among, first_points, vertex_points, vertex_of_point, mesh_in}
-use Rattle.stl_format.specs.Answers.{tooMany, readAnswer, afterReading, meshLists, stlReading}
+use Rattle.stl_format.specs.Answers.{counts_too_many, read_answer, after_reading, mesh_lists, stl_reading}
 use Rattle.stl_table.specs.Keys.{same_at, key_bucket_at}
 use Rattle.stl_table.specs.Table.{HasPoint, HasPoints, found_at, Findable, VertexTable, TableBuilt}
 use Rattle.stl_table.proofs.Following.{link_take}
@@ -31,37 +31,37 @@ use Rattle.stl.proofs.Agreeing.{first_agree, vertex_agree}
 pub has_points : (s : List ℕ) (n : ℕ) → length s ≡ file_length n → HasPoints s (3 * n)
 has_points s n e h l = omega arith
 
-pub answered : (s : List ℕ) (m : StlMesh) (a : Stl) → readAnswer s (length m.vertices / 3) (length m.triangles / 3) ≡ a → (a, afterReading s a m) ≡ stlReading s m
-unfolding stlReading
-answered s m a e = ap (λ x. (x, afterReading s x m)) (sym e)
+pub answered : (s : List ℕ) (m : StlMesh) (a : Stl) → read_answer s (length m.vertices / 3) (length m.triangles / 3) ≡ a → (a, after_reading s a m) ≡ stl_reading s m
+unfolding stl_reading
+answered s m a e = ap (λ x. (x, after_reading s x m)) (sym e)
 
 -- ---- 40 to 43, for any number of slots
 module _ (s : List ℕ) (v t : ℕ) where
-  pub is_short : length s < 84 → readAnswer s v t ≡ stl.TooShort
-  unfolding readAnswer
+  pub is_short : length s < 84 → read_answer s v t ≡ stl.TooShort
+  unfolding read_answer
   is_short l = rw (lt-ltb _ _ l)
 
   module _ (l : 84 ≤ length s) where
-    pub is_wrong : (length s ≡ file_length (record_count s) → ⊥) → readAnswer s v t ≡ stl.WrongLength
-    unfolding readAnswer
+    pub is_wrong : (length s ≡ file_length (record_count s) → ⊥) → read_answer s v t ≡ stl.WrongLength
+    unfolding read_answer
     is_wrong e = rw (le-ltb _ _ l, ne_eqb _ _ e)
 
     module _ (e : length s ≡ file_length (record_count s)) where
-      pub is_infinite : any_below (bytes_not_finite s) (3 * record_count s) ≡ true → readAnswer s v t ≡ stl.NotFinite
-      unfolding readAnswer
+      pub is_infinite : any_below (bytes_not_finite s) (3 * record_count s) ≡ true → read_answer s v t ≡ stl.NotFinite
+      unfolding read_answer
       is_infinite f = rw (le-ltb _ _ l, eq-eqb _ _ e, f)
 
       module _ (f : any_below (bytes_not_finite s) (3 * record_count s) ≡ false) where
-        pub is_many : tooMany s ≡ true → readAnswer s v t ≡ stl.TooMany
-        unfolding readAnswer
+        pub is_many : counts_too_many s ≡ true → read_answer s v t ≡ stl.TooMany
+        unfolding read_answer
         is_many k = rw (le-ltb _ _ l, eq-eqb _ _ e, f, k)
 
-        pub is_mesh_lem : tooMany s ≡ false → readAnswer s v t ≡ cond (ltb v (length (vertex_points s)) || ltb t (record_count s)) stl.ShortBuffer (stl.Mesh (record { vertices = length (vertex_points s); triangles = record_count s }))
-        unfolding readAnswer
+        pub is_mesh_lem : counts_too_many s ≡ false → read_answer s v t ≡ cond (ltb v (length (vertex_points s)) || ltb t (record_count s)) stl.ShortBuffer (stl.Mesh (record { vertices = length (vertex_points s); triangles = record_count s }))
+        unfolding read_answer
         is_mesh_lem k = rw (le-ltb _ _ l, eq-eqb _ _ e, f, k)
 
-pub many_records : (s : List ℕ) → 131070 < record_count s → tooMany s ≡ true
-unfolding tooMany
+pub many_records : (s : List ℕ) → 131070 < record_count s → counts_too_many s ≡ true
+unfolding counts_too_many
 many_records s l = rw (lt-ltb max_triangles (record_count s) l)
 
 or_true : (a : Bool) → a || true ≡ true
@@ -93,8 +93,8 @@ module _ (s : List ℕ) (bytes : Bytes s) (n : ℕ) (c : CheckedFile s n) where
   finite_all = subst (λ (k : ℕ). any_below (bytes_not_finite s) (3 * k) ≡ false) c.counted c.finite
 
   module _ (r : ℕ) (heads links firsts : List ℕ) (b : TableBuilt s (3 * n) r heads links firsts) where
-    pub over_many : (v t : ℕ) → 65535 < r → readAnswer s v t ≡ stl.TooMany
-    unfolding tooMany
+    pub over_many : (v t : ℕ) → 65535 < r → read_answer s v t ≡ stl.TooMany
+    unfolding counts_too_many
     over_many v t l =
         let k : 65535 < length (vertex_points s) = subst (λ vs. 65535 < length vs) points_are (b.many l) in
         is_many s v t long_enough long_is finite_all (rw (lt-ltb max_vertices (length (vertex_points s)) k) (or_true (ltb max_triangles (record_count s))))
@@ -109,17 +109,17 @@ module _ (s : List ℕ) (bytes : Bytes s) (n : ℕ) (c : CheckedFile s n) where
       count_is : r ≡ length (vertex_points s)
       count_is = (b.few l).1.1 ∙ ap length points_are
 
-      not_many : tooMany s ≡ false
-      unfolding tooMany
+      not_many : counts_too_many s ≡ false
+      unfolding counts_too_many
       not_many = rw (few_records, le-ltb max_vertices (length (vertex_points s)) (omega (arith, count_is)))
 
-      pub no_vertices : (v t : ℕ) → v < r → readAnswer s v t ≡ stl.ShortBuffer
+      pub no_vertices : (v t : ℕ) → v < r → read_answer s v t ≡ stl.ShortBuffer
       no_vertices v t k = is_mesh_lem s v t long_enough long_is finite_all not_many ∙ rw (lt-ltb v (length (vertex_points s)) (omega (arith, count_is)))
 
-      pub no_triangles : (v t : ℕ) → r ≤ v → t < n → readAnswer s v t ≡ stl.ShortBuffer
+      pub no_triangles : (v t : ℕ) → r ≤ v → t < n → read_answer s v t ≡ stl.ShortBuffer
       no_triangles v t j k = is_mesh_lem s v t long_enough long_is finite_all not_many ∙ rw (le-ltb v (length (vertex_points s)) (omega (arith, count_is)), lt-ltb t (record_count s) (omega (arith, c.counted)))
 
-      mesh_answer_lem : (v t : ℕ) → r ≤ v → n ≤ t → readAnswer s v t ≡ stl.Mesh (record { vertices = r; triangles = n })
+      mesh_answer_lem : (v t : ℕ) → r ≤ v → n ≤ t → read_answer s v t ≡ stl.Mesh (record { vertices = r; triangles = n })
       mesh_answer_lem v t j k =
           is_mesh_lem s v t long_enough long_is finite_all not_many
           ∙ rw (le-ltb v (length (vertex_points s)) (omega (arith, count_is)), le-ltb t (record_count s) (omega (arith, c.counted))) (λ i. stl.Mesh (record { vertices = sym count_is i; triangles = sym c.counted i }))
@@ -154,11 +154,11 @@ module _ (s : List ℕ) (bytes : Bytes s) (n : ℕ) (c : CheckedFile s n) where
       -- both lists are written
       pub read_done : (m : StlMesh) (vs : List Float) (ts : List ℕ) → r ≤ length m.vertices / 3 → n ≤ length m.triangles / 3
           → vs ≡ put_in_front (list_of (3 * r) (λ j. coordinate s (get_or firsts (j / 3) 0) (j % 3))) m.vertices → ts ≡ put_in_front (list_of (3 * n) (λ h. found_at s heads links firsts h - 1)) m.triangles
-          → (stl.Mesh (record { vertices = r; triangles = n }), meshLists vs ts) ≡ stlReading s m
-      unfolding afterReading
+          → (stl.Mesh (record { vertices = r; triangles = n }), mesh_lists vs ts) ≡ stl_reading s m
+      unfolding after_reading
       read_done m vs ts j k ev et =
           ap (λ x. (stl.Mesh (record { vertices = r; triangles = n }), x))
-          (λ i. meshLists ((ev ∙ ap (λ l. put_in_front l m.vertices) vertices_are) i) ((et ∙ ap (λ l. put_in_front l m.triangles) triangles_are) i))
+          (λ i. mesh_lists ((ev ∙ ap (λ l. put_in_front l m.vertices) vertices_are) i) ((et ∙ ap (λ l. put_in_front l m.triangles) triangles_are) i))
           ∙ answered s m (stl.Mesh (record { vertices = r; triangles = n })) (mesh_answer_lem (length m.vertices / 3) (length m.triangles / 3) j k)
 
       pub there : (i : ℕ) → i < r → HasPoint s (get_or firsts i 0)

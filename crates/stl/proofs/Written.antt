@@ -19,7 +19,7 @@ use Rattle.single.specs.Single.{is_single}
 use Rattle.text_out.specs.Text.{Puts}
 use Rattle.stl_format.specs.declared.Stl.TheVariants as stl
 use Rattle.stl_format.specs.Format.{file_length, single_bytes, vertex_bytes, record_bytes, records_bytes, file_of}
-use Rattle.stl_format.specs.Answers.{wrongSizes, notSingle, writeAnswer, afterWriting, stlWriting}
+use Rattle.stl_format.specs.Answers.{wrong_sizes, not_single, write_answer, after_writing, stl_writing}
 use Rattle.stl.specs.Parts.{WritableTriangles}
 
 pub length_single : (x : Float) → length (single_bytes x) ≡ 4
@@ -59,44 +59,44 @@ or_false : (a b : Bool) → a || b ≡ false → (a ≡ false) × (b ≡ false)
 or_false true b h = absurd (true≢false h)
 or_false false b h = (refl, h)
 
-pub few_triangles : (v t : ℕ) → wrongSizes v t ≡ false → t / 3 ≤ 131070
-unfolding wrongSizes
+pub few_triangles : (v t : ℕ) → wrong_sizes v t ≡ false → t / 3 ≤ 131070
+unfolding wrong_sizes
 few_triangles v t h = ltb-false _ _ (or_false (not (eqb (v % 3) 0) || not (eqb (t % 3) 0) || ltb max_vertices (v / 3)) (ltb max_triangles (t / 3)) h).1
 
 not_not : (b : Bool) → not b ≡ false → T b
 not_not true h = tt
 not_not false h = absurd (true≢false h)
 
-pub writable : (v : List Float) (t : List ℕ) → missing_vertex v t ≡ false → any_below (notSingle v) (length v) ≡ false → WritableTriangles v t
-unfolding notSingle
+pub writable : (v : List Float) (t : List ℕ) → missing_vertex v t ≡ false → any_below (not_single v) (length v) ≡ false → WritableTriangles v t
+unfolding not_single
 writable v t m s h l =
     let a : get_or t h 0 < length v / 3 = present (length v / 3) t h (none_below (missing (length v / 3) t) (length t) m h l) in
-    record { there = omega arith; singles = λ i k. not_not (is_single (get_or v i nan)) (none_below (notSingle v) (length v) s i k) }
+    record { there = omega arith; singles = λ i k. not_not (is_single (get_or v i nan)) (none_below (not_single v) (length v) s i k) }
 
 -- ---- the answers
 
 module _ (v : List Float) (t out : List ℕ) where
-  pub wrong : wrongSizes (length v) (length t) ≡ true → (stl.Malformed, out) ≡ stlWriting v t out
-  unfolding stlWriting writeAnswer afterWriting
+  pub wrong : wrong_sizes (length v) (length t) ≡ true → (stl.Malformed, out) ≡ stl_writing v t out
+  unfolding stl_writing write_answer after_writing
   wrong h = rw h
 
-  module _ (h : wrongSizes (length v) (length t) ≡ false) where
-    pub names_none : missing_vertex v t ≡ true → (stl.MissingVertex, out) ≡ stlWriting v t out
-    unfolding stlWriting writeAnswer afterWriting
+  module _ (h : wrong_sizes (length v) (length t) ≡ false) where
+    pub names_none : missing_vertex v t ≡ true → (stl.MissingVertex, out) ≡ stl_writing v t out
+    unfolding stl_writing write_answer after_writing
     names_none m = rw (h, m)
 
     module _ (m : missing_vertex v t ≡ false) where
-      pub no_single : any_below (notSingle v) (length v) ≡ true → (stl.NotSingle, out) ≡ stlWriting v t out
-      unfolding stlWriting writeAnswer afterWriting
+      pub no_single : any_below (not_single v) (length v) ≡ true → (stl.NotSingle, out) ≡ stl_writing v t out
+      unfolding stl_writing write_answer after_writing
       no_single s = rw (h, m, s)
 
-      module _ (s : any_below (notSingle v) (length v) ≡ false) where
-        pub too_short : length out < file_length (length t / 3) → (stl.ShortBuffer, out) ≡ stlWriting v t out
-        unfolding stlWriting writeAnswer afterWriting
+      module _ (s : any_below (not_single v) (length v) ≡ false) where
+        pub too_short : length out < file_length (length t / 3) → (stl.ShortBuffer, out) ≡ stl_writing v t out
+        unfolding stl_writing write_answer after_writing
         too_short l = rw (h, m, s, lt-ltb _ _ l)
 
-        pub written : file_length (length t / 3) ≤ length out → (left : List ℕ) (r : ℕ) → Puts out 0 (file_of v t) left r → (stl.File (file_length (length t / 3)), left) ≡ stlWriting v t out
-        unfolding stlWriting writeAnswer afterWriting put_in_front
+        pub written : file_length (length t / 3) ≤ length out → (left : List ℕ) (r : ℕ) → Puts out 0 (file_of v t) left r → (stl.File (file_length (length t / 3)), left) ≡ stl_writing v t out
+        unfolding stl_writing write_answer after_writing put_in_front
         written l left r p =
             let e : left ≡ put_in_front (file_of v t) out = p.holds ∙ (sets-eq (file_of v t) out 0 (rw (zero-add, length_file v t) l) ∙ rw zero-add) in
             rw (h, m, s, le-ltb _ _ l) (ap (λ o. (stl.File (file_length (length t / 3)), o)) e)

@@ -9,7 +9,7 @@ ghost use Rattle.nat_laws.specs.Lists.{list_of};
 ghost use Rattle.single.specs.Single.{is_single};
 ghost use Rattle.text_out.specs.Text.{Puts};
 ghost use Rattle.stl_format.specs.Format.{coordinate, bytes_not_finite, single_bytes, vertex_bytes, record_bytes, records_bytes, file_of};
-ghost use Rattle.stl_format.specs.Answers.{meshLists, stlReading, wrongSizes, notSingle, stlWriting};
+ghost use Rattle.stl_format.specs.Answers.{mesh_lists, stl_reading, wrong_sizes, not_single, stl_writing};
 ghost use Rattle.stl_table.specs.Table.{HasPoint, HasPoints, found_at, Findable};
 ghost use Rattle.stl.specs.Parts.{Writable, WritableTriangles, CheckedFile};
 
@@ -23,7 +23,7 @@ use text_out::put_text;
 // ---- writing
 
 fn has_wrong_sizes(vertices: usize, triangles: usize) -> bool
-    ensures { result ≡ wrongSizes vertices triangles }
+    ensures { result ≡ wrong_sizes vertices triangles }
 {
     if vertices % 3 != 0 {
         return true;
@@ -61,7 +61,7 @@ fn any_missing(triangles: &[u32], count: usize) -> bool
 }
 
 fn any_not_single(vertices: &[f64]) -> bool
-    ensures { result ≡ any_below (notSingle (given vertices)) (length (given vertices)) }
+    ensures { result ≡ any_below (not_single (given vertices)) (length (given vertices)) }
 {
     let mut i = 0;
     while i < vertices.len() {
@@ -130,7 +130,7 @@ fn put_file(out: &mut [u8], vertices: &[f64], triangles: &[u32]) -> usize
 
 // The file of a mesh to the front of a slice. Refused, it writes nothing.
 pub fn write(vertices: &[f64], triangles: &[u32], out: &mut [u8]) -> Stl
-    ensures { (result, left out) ≡ stlWriting (given vertices) (given triangles) (given out) }
+    ensures { (result, left out) ≡ stl_writing (given vertices) (given triangles) (given out) }
 {
     if has_wrong_sizes(vertices.len(), triangles.len()) {
         return Stl::Malformed;
@@ -225,7 +225,7 @@ fn write_triangles(
 // The mesh of a file of n records that 40 to 42 passed. Its vertices are counted in arrays of its own before anything is written.
 fn read_mesh(s: &[u8], n: u32, vertices: &mut [f64], triangles: &mut [u32]) -> Stl
     requires { CheckedFile s.now n }
-    ensures { (result, meshLists (left vertices) (left triangles)) ≡ stlReading (given s) (meshLists (given vertices) (given triangles)) }
+    ensures { (result, mesh_lists (left vertices) (left triangles)) ≡ stl_reading (given s) (mesh_lists (given vertices) (given triangles)) }
 {
     let mut heads = [0u32; 131072];
     let mut links = [0u32; 65536];
@@ -250,7 +250,7 @@ fn read_mesh(s: &[u8], n: u32, vertices: &mut [f64], triangles: &mut [u32]) -> S
 
 // Reads a file: its mesh to the fronts of the two slices, where there is room for it. Refused, it writes nothing.
 pub fn read(s: &[u8], vertices: &mut [f64], triangles: &mut [u32]) -> Stl
-    ensures { (result, meshLists (left vertices) (left triangles)) ≡ stlReading (given s) (meshLists (given vertices) (given triangles)) }
+    ensures { (result, mesh_lists (left vertices) (left triangles)) ≡ stl_reading (given s) (mesh_lists (given vertices) (given triangles)) }
 {
     if s.len() < 84 {
         return Stl::TooShort;

@@ -1,7 +1,7 @@
 // Binary STL for programs in C and Rust, in slices that they lend.
 ghost use Rattle.std.specs.Prelude.{◌≡◌};
 ghost use Rattle.buffers.specs.Lent.{given, left};
-ghost use Rattle.stl_format.specs.Answers.{meshLists};
+ghost use Rattle.stl_format.specs.Answers.{mesh_lists};
 ghost use Rattle.stl_c.specs.Exports.{packed_stl, packed_reading, packed_writing};
 
 use stl_format::Stl;
@@ -26,7 +26,7 @@ fn packed(answer: Stl) -> u64
 // Reads a file: a refusal in the upper 32 bits, or else the number of vertices. It has as many triangles as the file says.
 #[unsafe(no_mangle)]
 pub extern "C" fn sirmolaat_stl_read(s: &[u8], vertices: &mut [f64], triangles: &mut [u32]) -> u64
-    ensures { (result, meshLists (left vertices) (left triangles)) ≡ packed_reading (given s) (meshLists (given vertices) (given triangles)) }
+    ensures { (result, mesh_lists (left vertices) (left triangles)) ≡ packed_reading (given s) (mesh_lists (given vertices) (given triangles)) }
 {
     packed(stl::read(s, vertices, triangles))
 }

@@ -3,7 +3,7 @@ ghost use Rattle.std.specs.Prelude.{◌≡◌, ◌+◌, ◌*◌, ◌≤◌, ◌<
 ghost use Rattle.buffers.specs.Lent.{given};
 ghost use Rattle.little_endian.specs.Bytes.{number_from};
 ghost use Rattle.stl_format.specs.Format.{point_from, coordinate};
-ghost use Rattle.stl_format.specs.Answers.{stlNumber};
+ghost use Rattle.stl_format.specs.Answers.{stl_number};
 
 use single::single_value;
 
@@ -31,7 +31,7 @@ pub enum Stl {
 
 // The number of a refusal, 0 of what was read or written.
 pub fn stl_number(answer: Stl) -> u32
-    ensures { result ≡ stlNumber answer }
+    ensures { result ≡ stl_number answer }
 {
     match answer {
         Stl::Mesh(_) => 0,

@@ -17,7 +17,7 @@ use Rattle.nat_laws.proofs.Lists.{get_d_list_of}
 use Rattle.stl_format.specs.declared.Stl.{Stl}
 use Rattle.stl_format.specs.declared.Stl.TheVariants as stl
 use Rattle.stl_format.specs.Format.{StlMesh, record_count, file_length, coordinate, bytes_not_finite, same_point, vertex_points, vertex_of_point, mesh_in}
-use Rattle.stl_format.specs.Answers.{tooMany, readAnswer, afterReading, meshLists, stlReading}
+use Rattle.stl_format.specs.Answers.{counts_too_many, read_answer, after_reading, mesh_lists, stl_reading}
 use Rattle.stl.proofs.Agreeing.{first_below}
 use Rattle.stl.proofs.Meshes.{answered, is_mesh_lem}
 use Rattle.stl_laws.specs.Accepted.{Readable, Room, is_mesh, mesh_answer}
@@ -40,8 +40,8 @@ not_false true h = refl
 not_false false h = absurd (true≢false h)
 
 module _ (s : List ℕ) (b : StlMesh) where
-  pub read_needs : is_mesh (stlReading s b).0 ≡ true → Readable s × Room s b
-  unfolding stlReading readAnswer tooMany
+  pub read_needs : is_mesh (stl_reading s b).0 ≡ true → Readable s × Room s b
+  unfolding stl_reading read_answer counts_too_many
   read_needs h =
       let e5 = cond (ltb (length b.vertices / 3) (length (vertex_points s)) || ltb (length b.triangles / 3) (record_count s)) stl.ShortBuffer (mesh_answer s) in
       let e4 = cond (ltb max_triangles (record_count s) || ltb max_vertices (length (vertex_points s))) stl.TooMany e5 in
@@ -63,11 +63,11 @@ module _ (s : List ℕ) (b : StlMesh) where
         record { vertices = ltb-false _ _ room.0; triangles = ltb-false _ _ room.1 },
       )
 
-  pub read_gives : Readable s → Room s b → stlReading s b ≡ (mesh_answer s, meshLists (put_in_front (mesh_in s).vertices b.vertices) (put_in_front (mesh_in s).triangles b.triangles))
-  unfolding afterReading tooMany
+  pub read_gives : Readable s → Room s b → stl_reading s b ≡ (mesh_answer s, mesh_lists (put_in_front (mesh_in s).vertices b.vertices) (put_in_front (mesh_in s).triangles b.triangles))
+  unfolding after_reading counts_too_many
   read_gives r m =
-      let few : tooMany s ≡ false = rw (le-ltb max_triangles (record_count s) r.few_triangles, le-ltb max_vertices (length (vertex_points s)) r.few_vertices) in
-      let e : readAnswer s (length b.vertices / 3) (length b.triangles / 3) ≡ mesh_answer s =
+      let few : counts_too_many s ≡ false = rw (le-ltb max_triangles (record_count s) r.few_triangles, le-ltb max_vertices (length (vertex_points s)) r.few_vertices) in
+      let e : read_answer s (length b.vertices / 3) (length b.triangles / 3) ≡ mesh_answer s =
       is_mesh_lem s (length b.vertices / 3) (length b.triangles / 3) (omega (arith, r.long)) r.long (none_all (bytes_not_finite s) (3 * record_count s) r.finite) few
       ∙ rw (le-ltb (length b.vertices / 3) (length (vertex_points s)) m.vertices, le-ltb (length b.triangles / 3) (record_count s) m.triangles) in
       sym (answered s b (mesh_answer s) e)

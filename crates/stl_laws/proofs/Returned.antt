@@ -22,7 +22,7 @@ use Rattle.nat_laws.proofs.Lists.{length_list_of, get_d_list_of}
 use Rattle.single.specs.Single.{is_single}
 use Rattle.stl_format.specs.declared.Stl.TheVariants as stl
 use Rattle.stl_format.specs.Format.{StlMesh, record_count, file_length, point_from, coordinate, bytes_not_finite, same_point, first_points, vertex_points, vertex_of_point, mesh_in, file_of}
-use Rattle.stl_format.specs.Answers.{meshLists, stlReading, wrongSizes, notSingle, writeAnswer, afterWriting, stlWriting}
+use Rattle.stl_format.specs.Answers.{mesh_lists, stl_reading, wrong_sizes, not_single, write_answer, after_writing, stl_writing}
 use Rattle.stl_table.specs.Keys.{zero_unsigned}
 use Rattle.stl.proofs.Same.{Bytes, same_single, number_below}
 use Rattle.stl.proofs.Agreeing.{first_agree, first_below}
@@ -36,20 +36,20 @@ use Rattle.stl_laws.proofs.Counting.{few_vertices}
 -- ---- a writable mesh
 
 module _ (v : List Float) (t out : List ℕ) (w : WritableMesh v t) where
-  sizes : wrongSizes (length v) (length t) ≡ false
-  unfolding wrongSizes
+  sizes : wrong_sizes (length v) (length t) ≡ false
+  unfolding wrong_sizes
   sizes = rw (eq-eqb _ _ w.whole_vertices, eq-eqb _ _ w.whole_triangles, le-ltb max_vertices (length v / 3) w.few_vertices, le-ltb max_triangles (length t / 3) w.few_triangles)
 
   names : missing_vertex v t ≡ false
   names = none_all (missing (length v / 3) t) (length t) (λ h l. not_missing (length v / 3) t h (w.there h l))
 
-  all_singles : any_below (notSingle v) (length v) ≡ false
-  unfolding notSingle
-  all_singles = none_all (notSingle v) (length v) (λ i l. ap not (is_true (is_single (get_or v i nan)) (w.singles i l)))
+  all_singles : any_below (not_single v) (length v) ≡ false
+  unfolding not_single
+  all_singles = none_all (not_single v) (length v) (λ i l. ap not (is_true (is_single (get_or v i nan)) (w.singles i l)))
 
   -- it is written wherever there is room for its file
-  pub write_gives : file_length (length t / 3) ≤ length out → stlWriting v t out ≡ (stl.File (file_length (length t / 3)), put_in_front (file_of v t) out)
-  unfolding stlWriting writeAnswer afterWriting
+  pub write_gives : file_length (length t / 3) ≤ length out → stl_writing v t out ≡ (stl.File (file_length (length t / 3)), put_in_front (file_of v t) out)
+  unfolding stl_writing write_answer after_writing
   write_gives l = rw (sizes, names, all_singles, le-ltb (length out) (file_length (length t / 3)) l)
 
 -- finite coordinates that compare equal have the same bits, those of zeros aside
@@ -123,7 +123,7 @@ module _ (s : List ℕ) (bytes : Bytes s) (r : Readable s) where
       ap zero_unsigned b ∙ equal_bits s bytes p h c (vertex_finite (vertex_of_point s h) c a.0 k) (finite_at s h (r.finite h l) c k) (equal_at s p h a.1 c k)
 
   -- so it is written back where there are as many bytes
-  pub read_written : (out : List ℕ) → length s ≤ length out → stlWriting vs ts out ≡ (stl.File (length s), put_in_front (file_of vs ts) out)
+  pub read_written : (out : List ℕ) → length s ≤ length out → stl_writing vs ts out ≡ (stl.File (length s), put_in_front (file_of vs ts) out)
   read_written out l =
       let e : file_length (length ts / 3) ≡ length s = ap file_length triangles_are ∙ sym r.long in
       write_gives vs ts out mesh_writable (subst (λ (k : ℕ). k ≤ length out) (sym e) l) ∙ ap (λ (k : ℕ). (stl.File k, put_in_front (file_of vs ts) out)) e
@@ -184,7 +184,7 @@ module _ (v : List Float) (t : List ℕ) (w : WritableMesh v t) where
   }
 
   pub written_read : (b : StlMesh) → length v / 3 ≤ length b.vertices / 3 → length t / 3 ≤ length b.triangles / 3
-      → stlReading file b ≡ (mesh_answer file, meshLists (put_in_front (mesh_in file).vertices b.vertices) (put_in_front (mesh_in file).triangles b.triangles))
+      → stl_reading file b ≡ (mesh_answer file, mesh_lists (put_in_front (mesh_in file).vertices b.vertices) (put_in_front (mesh_in file).triangles b.triangles))
   written_read b lv lt = read_gives file b file_readable (room_kept b lv lt)
 
   -- its mesh has the same coordinates, triangle by triangle

@@ -57,7 +57,7 @@ use Rattle.field_model.proofs.Lawful.{in_order}
 use Rattle.field_model.proofs.Whole.{job_same}
 use Rattle.make_field.specs.Contract.{MakesField}
 use Rattle.make_field.proofs.Making.{makes_field}
-use Rattle.compute.specs.Answers.{edgesAnswered, told}
+use Rattle.compute.specs.Answers.{edges_answered, told}
 use Rattle.compute.proofs.Computing.{computes}
 use Rattle.insert_c.specs.Exports.{lent_in, insert_told, InsertedIn}
 use Rattle.advance_c.specs.Turns.{finish_fits_in}
@@ -339,7 +339,7 @@ module _ (j : Job) (b : FieldBuffers) (rows : RowsBeside b) where
           pub turns_compute : (more : ℕ) → ComputesOver queue_in_order j b (steps_of_calls ks + more) (field_in_turns j b m₁ s₁ told₁ ks) (ending_in j b m₁ s₁ told₁ z' c' (zero_words b.scratch) (zero_words b.other_scratch))
           turns_compute more =
               computes j.vertices j.triangles j.flags j.kinds j.faces j.coords j.limit b (steps_of_calls ks + more) (lent_in (work_slices_in b)) counts_are I.answers.answer m I.answers.mesh 0 edge_count
-              (sym (I.answers.mesh.number ∙ passed)) (sym (ap edgesAnswered (I.answers.mesh.edge_count_held passed))) done
+              (sym (I.answers.mesh.number ∙ passed)) (sym (ap edges_answered (I.answers.mesh.edge_count_held passed))) done
               (mesh_buffers m.vertex_words_held z'.edges m.edge_reals_held m.round m₁.triangle_words_held m.triangle_reals)
               (work_slices s₁.piece_words s₁.piece_reals z'.vertex z'.words z'.reals z'.keys z'.events s₁.entries) c' (made more)
               (subst (FieldLengths b) (same_mesh b.scratch b.other_scratch) E.long)

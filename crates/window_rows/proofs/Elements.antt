@@ -20,7 +20,7 @@ use Rattle.computed.specs.declared.Field.{Field}
 use Rattle.field_check.specs.FieldCheck.{JobSlices, FieldSlices, field_unsound}
 use Rattle.queries.specs.declared.WindowAnswer.{WindowAnswer}
 use Rattle.queries.specs.declared.WindowAnswer.TheVariants as window
-use Rattle.queries.specs.Answers.{windowNumber}
+use Rattle.queries.specs.Answers.{window_answer_number}
 use Rattle.queries.specs.Queries.{window_query}
 use Rattle.query_rows.specs.declared.RowAnswer.TheVariants.{NoField, ShortRow, Answered}
 use Rattle.query_rows.specs.Rows.{row_number, elements, short_for}
@@ -93,7 +93,7 @@ module _ (j : JobSlices) (b : FieldSlices) (numbers ids w : List ℕ) (f : List 
   -- of question k: its number, its window's number, and the window in slot k
   pub window_element : (c : Computed) (edges places : List ℕ) → let r = window_row j b numbers ids w f c edges places in r.answer ≡ Answered → (k : ℕ) → k < elements edges
       → let a = window_query j b c (get_or edges k 0) (get_or places k 0) in
-      (get_or r.numbers k 0 ≡ windowNumber a) × ((get_or r.ids k 0 ≡ window_id a) × (window_at r.words r.reals k ≡ shown a (window_at w f k)))
+      (get_or r.numbers k 0 ≡ window_answer_number a) × ((get_or r.ids k 0 ≡ window_id a) × (window_at r.words r.reals k ≡ shown a (window_at w f k)))
   unfolding window_row window_query
   window_element (Refused m) edges places a k h = absurd (omega (arith, ap row_number a))
   window_element (isField n) edges places a k h =
@@ -111,7 +111,7 @@ module _ (j : JobSlices) (b : FieldSlices) (numbers ids w : List ℕ) (f : List 
       let i = row_at (window_ids n b edges places) ids q k 0 h (omega (arith, l.1)) in
       let v = stored_at n b edges places w f q k h (ltb-false (capacity_of (length w) (length f)) q p.1.1) in
       let z = whole numbers ids w f M I W R s t u a in (
-        ap (λ (r : WindowResult). get_or r.numbers k 0) z ∙ m ∙ behind_test windowNumber s _ _ p.0,
+        ap (λ (r : WindowResult). get_or r.numbers k 0) z ∙ m ∙ behind_test window_answer_number s _ _ p.0,
         (
           ap (λ (r : WindowResult). get_or r.ids k 0) z ∙ i ∙ behind_test window_id s _ _ p.0,
           ap (λ (r : WindowResult). window_at r.words r.reals k) z ∙ v ∙ behind_test (λ (a : WindowAnswer). shown a (window_at w f k)) s _ _ p.0,

@@ -10,7 +10,7 @@ use Rattle.computed.specs.declared.Field.{Field}
 use Rattle.field_check.specs.FieldCheck.{JobSlices, FieldSlices, field_unsound}
 use Rattle.queries.specs.declared.WindowAnswer.{WindowAnswer}
 use Rattle.queries.specs.declared.WindowAnswer.TheVariants as window
-use Rattle.queries.specs.Answers.{windowNumber}
+use Rattle.queries.specs.Answers.{window_answer_number}
 use Rattle.queries.specs.Queries.{window_answer}
 use Rattle.query_rows.specs.declared.RowAnswer.{RowAnswer}
 use Rattle.query_rows.specs.declared.RowAnswer.TheVariants.{NoField, ShortRow, Answered}
@@ -58,7 +58,7 @@ window_asked n b edges places i = window_answer n b (get_or edges i 0) (get_or p
 
 module _ (n : Field) (b : FieldSlices) (edges places : List ℕ) where
   abbrev pub window_numbers : ℕ → ℕ
-  window_numbers i = windowNumber (window_asked n b edges places i)
+  window_numbers i = window_answer_number (window_asked n b edges places i)
 
   abbrev pub window_ids : ℕ → ℕ
   window_ids i = window_id (window_asked n b edges places i)

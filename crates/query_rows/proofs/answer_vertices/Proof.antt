@@ -3,7 +3,7 @@ use native.Mathlib.Omega.{arith}
 use mathlib.Core.Path.{◌≡◌, ap, ◌∙◌}
 use lib.ListN.{length, get_or}
 use Rattle.field_check.specs.FieldCheck.{field_slices}
-use Rattle.queries.specs.Answers.{vertexNumber, vertexValue}
+use Rattle.queries.specs.Answers.{vertex_answer_number, vertex_value}
 use Rattle.queries.specs.Queries.{vertex_answer}
 use Rattle.query_rows.specs.Rows.{vertex_numbers, vertex_values}
 use Rattle.open_rows.specs.Written.{written_row}
@@ -74,8 +74,8 @@ loop-again c =
     let told = answer.vertex-answer.ensures ∙ (λ j. vertex_answer a.n (field_slices a.edge_words_held.now a.edge_reals_held.now a.triangle_words_held.now a.triangle_reals.now a.vertex.now a.words.now a.reals.now a.entry_words_held.now) ((read.read_u32.ensures ∙ ap (λ (k : ℕ). get_or a.asked.now k 0) (one_slot l.i)) j)) in (
       omega (arith, read.before.loop-test.true),
       (
-        row_next _ _ l.i l.numbers _ number.vertex_number.result l.invariant.1.0 put.write-u32.ensures (number.vertex_number.ensures ∙ ap vertexNumber told),
-        row_next _ _ l.i l.distances _ value.vertex-value.result l.invariant.1.1 wrote.write-f64.ensures (value.vertex-value.ensures ∙ ap vertexValue told),
+        row_next _ _ l.i l.numbers _ number.vertex_number.result l.invariant.1.0 put.write-u32.ensures (number.vertex_number.ensures ∙ ap vertex_answer_number told),
+        row_next _ _ l.i l.distances _ value.vertex-value.result l.invariant.1.1 wrote.write-f64.ensures (value.vertex-value.ensures ∙ ap vertex_value told),
       ),
     )
 

@@ -7,12 +7,12 @@ use lib.ListN.{length}
 use Rattle.job_checks.specs.Any.{any_below}
 use Rattle.job_checks.proofs.Any.{none_yet, none_more, found, none_at_all}
 use borrow.Author.Tests.{not-true, not-false}
-use Rattle.stl_format.specs.Answers.{notSingle}
+use Rattle.stl_format.specs.Answers.{not_single}
 use Rattle.stl.proofs.any_not_single.Statement.{statement}
 use Rattle.stl.proofs.any_not_single.Tie as tie
 
 abbrev invariant-loop : tie.invariant-loop
-invariant-loop vertices i₀ i = (i ≤ length vertices) × (any_below (notSingle vertices) i ≡ false)
+invariant-loop vertices i₀ i = (i ≤ length vertices) × (any_below (not_single vertices) i ≡ false)
 
 abbrev decreases-loop : tie.decreases-loop
 decreases-loop vertices i₀ i = length vertices - i
@@ -30,7 +30,7 @@ is-single-requires : tie.Need-is-single-requires invariant-loop decreases-loop
 is-single-requires c κs = search rules
 
 returns : tie.Need-returns invariant-loop decreases-loop
-unfolding notSingle
+unfolding not_single
 returns c = sym (found _ _ _ c.before.before.before.loop-test.true (ap not (sym c.before.is-single.ensures ∙ not-true _ c.if1.true)))
 
 add-i : tie.Need-overflow-add-i invariant-loop decreases-loop
@@ -40,7 +40,7 @@ loop-less : tie.Need-loop-smaller invariant-loop decreases-loop
 loop-less c = search rules
 
 loop-again : tie.Need-loop-preserved invariant-loop decreases-loop
-unfolding notSingle
+unfolding not_single
 loop-again c = (search rules, none_more _ _ c.before.before.before.before.loop.invariant.1 (ap not (sym c.before.is-single.ensures ∙ not-false _ c.if1.false)))
 
 returns-2 : tie.Need-returns-2 invariant-loop decreases-loop

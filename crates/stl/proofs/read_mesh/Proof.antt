@@ -3,7 +3,7 @@ use Prim.Native.Nat.{◌/◌}
 use native.Mathlib.Omega.{arith}
 use lib.ListN.{length}
 use Rattle.stl_format.specs.declared.Stl.TheVariants.{TooMany, ShortBuffer}
-use Rattle.stl_format.specs.Answers.{afterReading, meshLists}
+use Rattle.stl_format.specs.Answers.{after_reading, mesh_lists}
 use Rattle.stl.proofs.Same.{Bytes}
 use Rattle.stl.proofs.Meshes.{answered, over_many, no_vertices, no_triangles, firsts_fit, there, findable, read_done}
 use borrow.Author.Rules.{rules}
@@ -30,31 +30,31 @@ build-requires : tie.Need-build-requires
 build-requires c κs = search rules
 
 returns : tie.Need-returns
-unfolding afterReading
+unfolding after_reading
 returns c =
     let build = c.before.before.before.before in
     let a = build.before.before.before.before.before.before.before.args in
     let f = build.before.before.before.before.before.before.before.requires in
-    answered a.s.now (meshLists a.vertices.now a.triangles.now) TooMany (over_many a.s.now (bytes build) a.n f build.build.result _ _ _ build.build.ensures (length a.vertices.now / 3) (length a.triangles.now / 3) c.if1.true)
+    answered a.s.now (mesh_lists a.vertices.now a.triangles.now) TooMany (over_many a.s.now (bytes build) a.n f build.build.result _ _ _ build.build.ensures (length a.vertices.now / 3) (length a.triangles.now / 3) c.if1.true)
 
 cast-if2 : tie.Need-overflow-cast-if2
 cast-if2 c = search rules
 
 returns-2 : tie.Need-returns-2
-unfolding afterReading
+unfolding after_reading
 returns-2 c =
     let build = c.before.before.before.before.before in
     let a = build.before.before.before.before.before.before.before.args in
     let f = build.before.before.before.before.before.before.before.requires in
-    answered a.s.now (meshLists a.vertices.now a.triangles.now) ShortBuffer (no_vertices a.s.now (bytes build) a.n f build.build.result _ _ _ build.build.ensures c.before.if1.false (length a.vertices.now / 3) (length a.triangles.now / 3) c.if2.true)
+    answered a.s.now (mesh_lists a.vertices.now a.triangles.now) ShortBuffer (no_vertices a.s.now (bytes build) a.n f build.build.result _ _ _ build.build.ensures c.before.if1.false (length a.vertices.now / 3) (length a.triangles.now / 3) c.if2.true)
 
 returns-3 : tie.Need-returns-3
-unfolding afterReading
+unfolding after_reading
 returns-3 c =
     let build = c.before.before.before.before.before.before in
     let a = build.before.before.before.before.before.before.before.args in
     let f = build.before.before.before.before.before.before.before.requires in
-    answered a.s.now (meshLists a.vertices.now a.triangles.now) ShortBuffer (no_triangles a.s.now (bytes build) a.n f build.build.result _ _ _ build.build.ensures c.before.before.if1.false (length a.vertices.now / 3) (length a.triangles.now / 3) c.before.if2.false c.if3.true)
+    answered a.s.now (mesh_lists a.vertices.now a.triangles.now) ShortBuffer (no_triangles a.s.now (bytes build) a.n f build.build.result _ _ _ build.build.ensures c.before.before.if1.false (length a.vertices.now / 3) (length a.triangles.now / 3) c.before.if2.false c.if3.true)
 
 slice-aggregate-write-vertices : tie.Need-slice-aggregate-write-vertices
 slice-aggregate-write-vertices c = search rules
@@ -106,7 +106,7 @@ returns-4 c =
     let start = build.before.before.before.before.before.before.before in
     let a = start.args in
     read_done a.s.now (bytes build) a.n start.requires build.build.result _ _ _ build.build.ensures first.if1.false
-    (meshLists a.vertices.now a.triangles.now) _ _ second.if2.false third.if3.false vertices.write-vertices.ensures triangles.write-triangles.ensures
+    (mesh_lists a.vertices.now a.triangles.now) _ _ second.if2.false third.if3.false vertices.write-vertices.ensures triangles.write-triangles.ensures
 
 pub read-mesh-spec : {M : Type 1} → statement M
 read-mesh-spec =

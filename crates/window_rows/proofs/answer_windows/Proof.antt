@@ -4,7 +4,7 @@ use mathlib.Core.Path.{◌≡◌, ap, ◌∙◌}
 use lib.ListN.{length, get_or}
 use Rattle.field_check.specs.FieldCheck.{field_slices}
 use Rattle.queries.specs.declared.WindowAnswer.{WindowAnswer}
-use Rattle.queries.specs.Answers.{windowNumber}
+use Rattle.queries.specs.Answers.{window_answer_number}
 use Rattle.queries.specs.Queries.{window_answer}
 use Rattle.open_rows.specs.Written.{written_row}
 use Rattle.open_rows.proofs.Written.{one_slot, row_start, row_next, row_length, row_count}
@@ -101,7 +101,7 @@ loop-again c =
     let told = answer.window-answer.ensures ∙ (λ j. window_answer a.n (field_slices a.edge_words_held.now a.edge_reals_held.now a.triangle_words_held.now a.triangle_reals.now a.vertex.now a.words.now a.reals.now a.entry_words_held.now) ((read.read_u32.ensures ∙ ap (λ (k : ℕ). get_or a.edges.now k 0) (one_slot l.i)) j) ((place.read-u322.ensures ∙ ap (λ (k : ℕ). get_or a.places.now k 0) (one_slot l.i)) j)) in (
       omega (arith, read.before.loop-test.true),
       (
-        row_next _ _ l.i l.numbers _ number.window_number.result l.invariant.1.0 first.write-u32.ensures (number.window_number.ensures ∙ ap windowNumber told),
+        row_next _ _ l.i l.numbers _ number.window_number.result l.invariant.1.0 first.write-u32.ensures (number.window_number.ensures ∙ ap window_answer_number told),
         (
           row_next _ _ l.i l.ids _ id.window-id.result l.invariant.1.1.0 put.write-u322.ensures (id.window-id.ensures ∙ ap window_id told),
           (
