@@ -1,5 +1,4 @@
 -- `little_endian::double_at` meets its contract. Assumes nothing.
-use borrow.Author.Rules.{rules}
 use Rattle.little_endian.specs.Bytes.{double_from}
 use Rattle.little_endian.proofs.double_at.Goals as goal
 

@@ -1,5 +1,4 @@
 -- `little_endian::float` meets its contract. Assumes nothing.
-use borrow.Author.Rules.{rules}
 use mathlib.Core.Path.{sym, subst, ◌∙◌}
 use mathlib.Core.Bool.{Bool, not}
 use lib.Dec.{T}

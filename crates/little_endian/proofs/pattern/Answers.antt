@@ -1,5 +1,4 @@
 -- `little_endian::pattern` meets its contract. Assumes nothing.
-use borrow.Author.Rules.{rules}
 use Rattle.root_spec.proofs.Floats.{no_nan}
 use Rattle.little_endian.proofs.Patterns.{nan_pattern}
 use Rattle.little_endian.proofs.pattern.Goals as goal

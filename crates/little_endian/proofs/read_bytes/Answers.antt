@@ -1,11 +1,10 @@
 -- `little_endian::read_bytes` meets its contract. Assumes nothing.
-use borrow.Author.Rules.{rules}
-use Prim.Native.Nat.{◌+◌, ◌-◌, ◌≤◌}
+use Prim.Native.Nat.{◌+◌}
 use native.Mathlib.Omega.{arith}
 use mathlib.Core.Path.{◌≡◌, refl, ◌∙◌}
-use lib.ListN.{length, length-set, get_or}
+use lib.ListN.{length-set, get_or}
 use Rattle.nat_laws.specs.Lists.{list_of}
-use Rattle.little_endian.specs.Bytes.{bytes_from, put_in_front}
+use Rattle.little_endian.specs.Bytes.{bytes_from}
 use Rattle.little_endian.proofs.Front.{front_none, front_next}
 use Rattle.little_endian.proofs.read_bytes.Goals as goal
 

@@ -1,11 +1,8 @@
-use borrow.Author.Rules.{rules}
 use Prim.Native.Nat.{◌+◌, ◌-◌, ◌≤◌}
-use native.Mathlib.Omega.{arith}
-use mathlib.Core.Path.{◌≡◌, refl, ◌∙◌}
-use lib.ListN.{length, length-set, get_or}
+use mathlib.Core.Path.{◌≡◌}
+use lib.ListN.{length, get_or}
 use Rattle.nat_laws.specs.Lists.{list_of}
-use Rattle.little_endian.specs.Bytes.{bytes_from, put_in_front}
-use Rattle.little_endian.proofs.Front.{front_none, front_next}
+use Rattle.little_endian.specs.Bytes.{put_in_front}
 use Rattle.little_endian.proofs.read_bytes.Given as goal
 
 abbrev pub invariant-loop-j : goal.invariant-loop-j

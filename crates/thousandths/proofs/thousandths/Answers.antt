@@ -4,7 +4,6 @@ use Prim.Native.Nat.{◌+◌, ◌-◌, ◌*◌, ◌/◌, ◌%◌, ◌^◌}
 use native.Mathlib.Nat.{div-le_self}
 use native.Mathlib.Omega.{arith}
 use Rattle.thousandths.proofs.Laws.{from_digits, below_half}
-use borrow.Author.Rules.{rules}
 use Rattle.thousandths.proofs.thousandths.Goals as goal
 
 pub returns-then-b-lt4557642822898941952 : goal.returns-then-b-lt4557642822898941952
