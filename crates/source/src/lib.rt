@@ -1,5 +1,6 @@
 // The distances that a source gives near an edge, where two of them are equal, and a window's value.
 // The frame is the edge's: x along it from its first vertex, y across it, away from the source's side.
+#![tactic(auto)]
 
 ghost use Rattle.std.specs.Prelude.{◌≡◌};
 ghost use Rattle.float64.specs.Scalar.{min_of};
@@ -8,7 +9,7 @@ ghost use Rattle.source.specs.Quadratic.{roots_of};
 ghost use Rattle.source.specs.Distance.{edge_of, free_of, foot_of, lowest_of, ties_of_points, ties_of_point_line, ties_of, eval_of};
 
 // The real roots of an equation, in the order in which they are found.
-#[derive(Drop)]
+#[derive(Clone, Copy)]
 pub enum RealRoots {
     None,
     One(f64),
@@ -16,7 +17,7 @@ pub enum RealRoots {
 }
 
 // A source, as an edge sees it: a window's distance function.
-#[derive(Drop)]
+#[derive(Clone, Copy)]
 pub enum Src {
     // A point at (x, y <= 0), unfolded, that carries the distance s.
     Point { x: f64, y: f64, s: f64 },
@@ -25,7 +26,7 @@ pub enum Src {
 }
 
 // A window: two ends on its edge, the least distance between them, and its source.
-#[derive(Drop)]
+#[derive(Clone, Copy)]
 pub struct Win {
     pub b0: f64,
     pub b1: f64,
