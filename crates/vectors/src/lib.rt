@@ -4,11 +4,13 @@
 ghost use Rattle.std.specs.Prelude.{◌≡◌, ◌+◌, ◌*◌, ◌≤◌, length};
 ghost use Rattle.std.specs.Float.{binary64};
 ghost use Rattle.std.specs.Float.Ieee.{of_bits, to_bits};
-ghost use Rattle.io.specs.Counts.{IsPrefixLen};
+ghost use Rattle.std.specs.Io.{ReadsAtMost};
 ghost use Rattle.vectors.specs.Records.{word_at, float_at};
 ghost use Rattle.vectors.specs.Records.{agrees as Records·agrees};
 
-use libc::STDOUT_FILENO;
+use std::io::Read;
+use std::rt::Files;
+use std::{fs, io};
 
 fn u64_of_byte(x: u8) -> u64
     ensures { result ≡ x }
@@ -67,49 +69,53 @@ pub fn agrees(x: f64, bits: u64) -> bool
 }
 
 // Prints a space and a number's 16 hexadecimal digits.
-pub fn print_word(n: u64) {
-    io::write_all(STDOUT_FILENO, b" ");
-    io::print_hex(STDOUT_FILENO, n, 16);
+pub fn print_word(rt: &impl Print, n: u64) -> io::Result<()> {
+    print!(rt; " {n:016x}")
 }
 
 // Prints n numbers of s, from number k on.
-pub fn print_words(s: &[u8], k: usize, n: usize)
+pub fn print_words(rt: &impl Print, s: &[u8], k: usize, n: usize) -> io::Result<()>
     requires { 8 * (k + n) ≤ length s.now }
 {
     let mut i: usize = 0;
     while i < n {
-        print_word(word(s, k + i));
+        print_word(rt, word(s, k + i))?;
         i += 1;
     }
+    Ok(())
 }
 
 // How many cases were replayed, and how many of them were answered otherwise than stored.
-#[derive(Drop)]
+#[derive(Clone, Copy)]
 pub struct Tally {
     pub cases: u64,
     pub differences: u64,
 }
 
-// Reads the file of the name, as much as there is room for, and answers how many bytes; of a file that it cannot open it says so and reads none.
-pub fn read_file(name: &[u8], buf: &mut [u8]) -> usize
-    ensures { IsPrefixLen result buf.new }
+// Reads until buf is full or the input ends, and answers how many bytes were put at the start of buf.
+pub fn read_full(reader: &mut impl Read, buf: &mut [u8]) -> io::Result<usize>
+    ensures { ReadsAtMost result buf.new }
 {
-    let fd = os::open_read(name);
-    if fd < 0 {
-        os::fail(name);
-        return 0;
+    let mut done: usize = 0;
+    while done < buf.len() {
+        let n = reader.read(&mut buf[done..])?;
+        if n == 0 {
+            break;
+        }
+        done += n;
     }
-    let got = io::read_full(fd, buf);
-    libc::close(fd);
-    got
+    Ok(done)
+}
+
+// Reads the file of the name, as much as there is room for, and answers how many bytes.
+pub fn read_file(rt: &impl Files, name: &str, buf: &mut [u8]) -> io::Result<usize>
+    ensures { ReadsAtMost result buf.new }
+{
+    let mut file = fs::open(rt, name)?;
+    read_full(&mut file, buf)
 }
 
 // Prints a line that says how many cases a file has and how many of them differ.
-pub fn report(name: &[u8], cases: u64, differences: u64) {
-    io::write_all(STDOUT_FILENO, name);
-    io::write_all(STDOUT_FILENO, b": ");
-    io::print_decimal(STDOUT_FILENO, cases);
-    io::write_all(STDOUT_FILENO, b" cases, ");
-    io::print_decimal(STDOUT_FILENO, differences);
-    io::write_all(STDOUT_FILENO, b" differences\n");
+pub fn report(rt: &impl Print, name: &str, cases: u64, differences: u64) -> io::Result<()> {
+    println!(rt; "{name}: {cases} cases, {differences} differences")
 }
