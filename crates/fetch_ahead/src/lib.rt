@@ -9,7 +9,7 @@ use layout::{
 };
 
 // Eight walks, each the link of the window that it has come to, 0 at its end.
-#[derive(Drop)]
+#[derive(Clone, Copy)]
 struct Walks {
     a: u32,
     b: u32,
