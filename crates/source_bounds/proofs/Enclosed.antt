@@ -3,7 +3,7 @@
 -- `product_near`), and the exact squares are in the order of the computed ones (`at_least`, `at_most`).
 use Prim.Native.Nat.{ℕ, ◌+◌, ◌*◌, ◌^◌, ◌≤◌, ◌<◌}
 use mathlib.Core.Bool.{Bool, true, false}
-use mathlib.Core.Path.{◌≡◌, refl, sym, subst}
+use mathlib.Core.Path.{refl, sym, subst}
 use native.Mathlib.Nat as nat
 use native.Mathlib.Nat.{mul_assoc}
 use lib.Dec.{T, lit≤}

@@ -1,7 +1,7 @@
 -- A double whose square is at most x² + y² is at most their hypotenuse as it is rounded, and one whose square is at least that is at least the hypotenuse. Assumes nothing.
 -- The hypotenuse is the nearest double: were it below such an L, the root would be at most the middle of the two, which is below L.
 use Prim.Native.Nat.{ℕ, ◌+◌, ◌*◌, ◌^◌, ◌≤◌, ◌<◌}
-use mathlib.Core.Bool.{Bool, false}
+use mathlib.Core.Bool.{Bool}
 use mathlib.Core.Path.{◌≡◌, sym, ap, ◌∙◌}
 use native.Mathlib.Decide.{dec_le}
 use native.Mathlib.Nat.{le_trans, le_of_eq, lt_of_lt_of_le, lt_of_le_of_lt, lt_irrefl, lt_of_not-le, mul-pos, mul-le-mul_left, mul-le-mul_right}

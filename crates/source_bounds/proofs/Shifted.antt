@@ -2,13 +2,12 @@
 use mathlib.Core.Bool.{Bool, true, false}
 use mathlib.Core.Path.{◌≡◌}
 use lib.Dec.{T}
-use lib.Ieee.{Float, nan, inf, fin, binary64, add, neg, le, is_nan, of_bits}
+use lib.Ieee.{Float, nan, inf, fin, binary64, add, neg, le, of_bits}
 use lib.Ieee.Scale.{finite}
 use Rattle.root_spec.specs.Root.{hypot_of}
 use Rattle.float64.specs.Notation.{◌⊕◌, ◌⊖◌, ◌⊗◌}
 use Rattle.float_laws.proofs.Order.{finite_number, le_refl, le_number_l, finite_between}
 use Rattle.float_laws.proofs.Sum.{add_mono}
-use Rattle.source.specs.declared.Src.{Src}
 use Rattle.source.specs.declared.Src.TheVariants.{Point, Line}
 use Rattle.source.specs.Distance.{edge_of}
 use Rattle.source_bounds.specs.Bounds.{least_bound, greatest_bound, Bounded, Encloses}

@@ -2,7 +2,7 @@
 -- In units of the smallest double, S to one: D and Y are the two sides, A and B their squares and Z the sum as computed. Where Z times 1 - 2^-41, as computed, is at least the
 -- computed square of L, the exact square of L is at most that of the hypotenuse; and the same of U from above. Each rounding is off by at most 6 parts in some 2 ^ 54, four of
 -- them one after the other by 27 at most, and 27 parts in 2 ^ 54 are less than one in 2 ^ 41.
-use Prim.Native.Nat.{ℕ, suc, ◌+◌, ◌*◌, ◌≤◌, ◌<◌}
+use Prim.Native.Nat.{ℕ, ◌+◌, ◌*◌, ◌≤◌, ◌<◌}
 use mathlib.Core.Path.{◌≡◌, sym, ap, ◌∙◌, subst}
 use native.Mathlib.Nat.{le_refl, le_trans, le_of_eq, mul_assoc, mul_comm, mul-one, mul_right_comm, mul-le-mul_left, le_of_mul-le-mul_right}
 use native.Mathlib.Omega.{arith}

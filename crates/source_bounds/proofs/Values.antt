@@ -1,11 +1,10 @@
 -- Finite doubles as a sign and a number of units of the smallest, and what the tests say of them. Assumes nothing.
-use Prim.Native.Nat.{ℕ, ◌+◌, ◌*◌, ◌^◌, ◌≤◌, ◌<◌}
+use Prim.Native.Nat.{ℕ, ◌*◌, ◌^◌, ◌≤◌, ◌<◌}
 use mathlib.Core.Bool.{Bool, true, false, beq, cond, true≢false}
 use mathlib.Core.Path.{◌≡◌, refl, sym, ap, ◌∙◌, subst}
 use native.Mathlib.Nat.{le_trans, le_of_eq, mul-pos, mul_assoc, mul_right_comm, mul-le-mul_right, le_of_mul-le-mul_right}
 use lib.Dec.{T, eqb}
-use lib.IntN.{ℤ}
-use lib.Ieee.{Float, nan, inf, fin, binary64, low, up, down, unlike, add, mul, neg, lt, le, fits, is_nan, of_bits}
+use lib.Ieee.{Float, nan, inf, fin, binary64, low, up, down, unlike, add, mul, lt, le, fits, is_nan, of_bits}
 use lib.Ieee.Exact.{HasValue}
 use lib.Ieee.Fits.{down_pos}
 use lib.Ieee.Scale.{finite}

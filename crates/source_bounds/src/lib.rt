@@ -1,4 +1,5 @@
 // Bounds of a source's distance at a point of its edge, without a root: a number near the root is guessed, and a test on squares certifies the bounds beside it.
+#![tactic(auto)]
 
 ghost use Rattle.std.specs.Prelude.{◌≡◌, T};
 ghost use Rattle.std.specs.Float.Ieee.{le};
