@@ -1,7 +1,6 @@
 // Where a point of a face lies: inside it, on an edge or on a vertex, and so the faces that enter it as a source (the Rust's `carrier`), counted and read; and the vertex of a
 // face nearest to a point. Nothing is asked of what the buffers hold; where they hold a mesh's topology, the answers are the topology's (proofs/Held.antt).
 ghost use Rattle.std.specs.Prelude.{◌≡◌, [], ◌∷◌, ◌+◌, ◌*◌, length as size, get_or};
-ghost use Rattle.buffers.specs.Lent.{given};
 ghost use Rattle.layout.specs.Layout.{words_per_vertex, vertex_start};
 ghost use Rattle.topology.specs.Edges.{no_face};
 ghost use Rattle.frames.specs.Stored.{face_at};
@@ -38,7 +37,7 @@ fn on_side(
     k: u32,
     p: Vec3,
 ) -> bool
-    ensures { result ≡ on_side_at (given vertices) (given edge_words) (given edge_reals) (given triangle_words) (given triangle_reals) f.0 p k }
+    ensures { result ≡ on_side_at vertices.now edge_words.now edge_reals.now triangle_words.now triangle_reals.now f.0 p k }
 {
     let e = side(triangle_words, f, k);
     let c = coords(
@@ -55,7 +54,7 @@ fn on_side(
 }
 
 fn at_edge(triangle_words: &[u32], f: FaceId, i: u32) -> CarrierSimplex
-    ensures { result ≡ onEdge (record { 0 = side_in (given triangle_words) f.0 i }) }
+    ensures { result ≡ onEdge (record { 0 = side_in triangle_words.now f.0 i }) }
 {
     CarrierSimplex::Edge(side(triangle_words, f, i))
 }
@@ -67,7 +66,7 @@ fn at_vertex(
     i: u32,
     j: u32,
 ) -> CarrierSimplex
-    ensures { result ≡ onVertex (record { 0 = shared_at (given edge_words) (side_in (given triangle_words) f.0 i) (side_in (given triangle_words) f.0 j) }) }
+    ensures { result ≡ onVertex (record { 0 = shared_at edge_words.now (side_in triangle_words.now f.0 i) (side_in triangle_words.now f.0 j) }) }
 {
     CarrierSimplex::Vertex(shared_vertex(
         edge_words,
@@ -85,7 +84,7 @@ fn simplex(
     b: bool,
     c: bool,
 ) -> CarrierSimplex
-    ensures { result ≡ simplex_of (given edge_words) (given triangle_words) f.0 (filtered a b c) }
+    ensures { result ≡ simplex_of edge_words.now triangle_words.now f.0 (filtered a b c) }
 {
     if a {
         if b {
@@ -118,7 +117,7 @@ pub fn carrier(
     f: FaceId,
     p: Vec3,
 ) -> CarrierSimplex
-    ensures { result ≡ carrier_at (given vertices) (given edge_words) (given edge_reals) (given triangle_words) (given triangle_reals) f.0 p }
+    ensures { result ≡ carrier_at vertices.now edge_words.now edge_reals.now triangle_words.now triangle_reals.now f.0 p }
 {
     let a = on_side(
         vertices,
@@ -155,7 +154,7 @@ pub fn carrier(
 
 // How many faces an edge has.
 fn edge_degree(edge_words: &[u32], e: EdgeId) -> u32
-    ensures { result ≡ size (present (face_at (given edge_words) e.0 0 ∷ (face_at (given edge_words) e.0 1 ∷ []))) }
+    ensures { result ≡ size (present (face_at edge_words.now e.0 0 ∷ (face_at edge_words.now e.0 1 ∷ []))) }
 {
     let none = no_face().0;
     let first = read_u32(edge_words, WORDS_PER_EDGE, e.0, EDGE_FIRST_FACE);
@@ -174,7 +173,7 @@ fn edge_degree(edge_words: &[u32], e: EdgeId) -> u32
 
 // How many faces have a point that lies on c.
 pub fn carrier_count(edge_words: &[u32], vertex_words: &[u32], c: CarrierSimplex) -> u32
-    ensures { result ≡ carrier_count_at (given edge_words) (given vertex_words) c }
+    ensures { result ≡ carrier_count_at edge_words.now vertex_words.now c }
 {
     match c {
         CarrierSimplex::Face => 1,
@@ -185,7 +184,7 @@ pub fn carrier_count(edge_words: &[u32], vertex_words: &[u32], c: CarrierSimplex
 
 // The i-th face that an edge has, `no_face` past the last.
 fn edge_face(edge_words: &[u32], e: EdgeId, i: u32) -> FaceId
-    ensures { result ≡ record { 0 = get_or (present (face_at (given edge_words) e.0 0 ∷ (face_at (given edge_words) e.0 1 ∷ []))) i no_face } }
+    ensures { result ≡ record { 0 = get_or (present (face_at edge_words.now e.0 0 ∷ (face_at edge_words.now e.0 1 ∷ []))) i no_face } }
 {
     let none = no_face();
     let first = read_u32(edge_words, WORDS_PER_EDGE, e.0, EDGE_FIRST_FACE);
@@ -207,7 +206,7 @@ fn edge_face(edge_words: &[u32], e: EdgeId, i: u32) -> FaceId
 
 // The i-th face round a vertex: the list of them has one word for each.
 fn vertex_face(vertex_words: &[u32], round: &[u32], k: VertexId, i: u32) -> FaceId
-    ensures { result ≡ record { 0 = round_at (given round) (get_or (given vertex_words) (words_per_vertex * k.0 + vertex_start) 0 + i) } }
+    ensures { result ≡ record { 0 = round_at round.now (get_or vertex_words.now (words_per_vertex * k.0 + vertex_start) 0 + i) } }
 {
     let start = read_u32(vertex_words, WORDS_PER_VERTEX, k.0, VERTEX_START);
     FaceId(read_u32(round, WORDS_PER_ROUND, start, i))
@@ -222,7 +221,7 @@ pub fn carrier_face(
     c: CarrierSimplex,
     i: u32,
 ) -> FaceId
-    ensures { result ≡ record { 0 = carrier_face_at (given edge_words) (given vertex_words) (given round) f.0 c i } }
+    ensures { result ≡ record { 0 = carrier_face_at edge_words.now vertex_words.now round.now f.0 c i } }
 {
     match c {
         CarrierSimplex::Face => f,
@@ -241,8 +240,8 @@ pub fn other_carrier(
     g: FaceId,
 ) -> FaceId
     ensures { result ≡ record {
-      0 = other_carrier g.0 (carrier_face_at (given edge_words) (given vertex_words) (given round) f.0 c 0)
-          (carrier_face_at (given edge_words) (given vertex_words) (given round) f.0 c 1);
+      0 = other_carrier g.0 (carrier_face_at edge_words.now vertex_words.now round.now f.0 c 0)
+          (carrier_face_at edge_words.now vertex_words.now round.now f.0 c 1);
     } }
 {
     let first = carrier_face(edge_words, vertex_words, round, f, c, 0);
@@ -254,7 +253,7 @@ pub fn other_carrier(
 
 // The vertex nearer to p, the first on a tie.
 fn nearer(vertices: &[f64], p: Vec3, a: VertexId, b: VertexId) -> VertexId
-    ensures { result ≡ record { 0 = nearer_of (given vertices) p a.0 b.0 } }
+    ensures { result ≡ record { 0 = nearer_of vertices.now p a.0 b.0 } }
 {
     let first = vec3::norm(vec3::sub(vertex(vertices, a), p));
     let second = vec3::norm(vec3::sub(vertex(vertices, b), p));
@@ -266,7 +265,7 @@ fn nearer(vertices: &[f64], p: Vec3, a: VertexId, b: VertexId) -> VertexId
 
 // The vertex of face f nearest to p, the first on a tie.
 pub fn nearest_vertex(vertices: &[f64], triangles: &[u32], f: FaceId, p: Vec3) -> VertexId
-    ensures { result ≡ record { 0 = nearest_at (given vertices) (given triangles) f.0 p } }
+    ensures { result ≡ record { 0 = nearest_at vertices.now triangles.now f.0 p } }
 {
     let a = face_vertex(triangles, f, 0);
     let b = face_vertex(triangles, f, 1);

@@ -44,7 +44,7 @@ fn bucket_of(low: u32, high: u32, size: u32) -> u32
 // The link to the edge with these ends on the chain from a link on, or 0. Links fall, so the chain ends.
 fn find_in_bucket(edge_words: &[u32], head: u32, low: u32, high: u32) -> u32
     requires { Falling edge_words.now }
-    ensures { result ≡ seek (given edge_words) low high head head }
+    ensures { result ≡ seek edge_words.now low high head head }
 {
     let mut at = head;
     while at != 0 {
@@ -94,7 +94,7 @@ fn enter_side(
     count: u32,
 ) -> Table
     requires { ReadyForSide triangles.now h count heads.old edge_words.old triangle_words.old }
-    ensures { Turned (given triangles) (length (given triangles)) (h + 1) (left heads) (left edge_words) (left triangle_words) result }
+    ensures { Turned triangles.now (length triangles.now) (h + 1) (left heads) (left edge_words) (left triangle_words) result }
 {
     let f = h / 3;
     let k = h % 3;
@@ -128,7 +128,7 @@ fn enter_sides(
     triangle_words: &mut [u32],
 ) -> Table
     requires { Blank triangles.now heads.old edge_words.old triangle_words.old }
-    ensures { Turned (given triangles) (length (given triangles)) (length (given triangles)) (left heads) (left edge_words) (left triangle_words) result }
+    ensures { Turned triangles.now (length triangles.now) (length triangles.now) (left heads) (left edge_words) (left triangle_words) result }
 {
     let sides = triangles.len() as u32;
     let mut count: u32 = 0;
@@ -167,7 +167,7 @@ pub fn build(
 ) -> Table
     requires { Mesh triangles.now 65535
         × TableFits triangles.now (length heads.old) (length edge_words.old) (length triangle_words.old) }
-    ensures { Built (given triangles) result
+    ensures { Built triangles.now result
         (given heads) (given edge_words) (given triangle_words)
         (left heads) (left edge_words) (left triangle_words) }
 {

@@ -58,7 +58,7 @@ pub fn part_of(number: u32) -> Part
 
 // How many entries the buffer counts for.
 pub fn capacity(entry_words: &[u32]) -> u32
-    ensures { result ≡ entry_capacity (length (given entry_words)) }
+    ensures { result ≡ entry_capacity (length entry_words.now) }
 {
     buffers::slots(entry_words.len(), WORDS_PER_ENTRY)
 }
@@ -135,7 +135,7 @@ pub fn enter(
 
 // The link of a face's first entry: its number plus one, or 0 where it has none.
 pub fn first_entry(triangle_words: &[u32], face: FaceId) -> u32
-    ensures { result ≡ first_entry_of (given triangle_words) face.0 }
+    ensures { result ≡ first_entry_of triangle_words.now face.0 }
 {
     read_u32(
         triangle_words,
@@ -146,7 +146,7 @@ pub fn first_entry(triangle_words: &[u32], face: FaceId) -> u32
 }
 
 pub fn entry(entry_words: &[u32], number: u32) -> PiecePart
-    ensures { result ≡ part_at (given entry_words) number }
+    ensures { result ≡ part_at entry_words.now number }
 {
     let piece = read_u32(entry_words, WORDS_PER_ENTRY, number, ENTRY_PIECE);
     let part = part_of(read_u32(entry_words, WORDS_PER_ENTRY, number, ENTRY_PART));
@@ -155,7 +155,7 @@ pub fn entry(entry_words: &[u32], number: u32) -> PiecePart
 
 // The link of the entry behind one, of the same face.
 pub fn next_entry(entry_words: &[u32], number: u32) -> u32
-    ensures { result ≡ next_entry_of (given entry_words) number }
+    ensures { result ≡ next_entry_of entry_words.now number }
 {
     read_u32(entry_words, WORDS_PER_ENTRY, number, ENTRY_LINK)
 }

@@ -2,7 +2,6 @@
 // nothing, and asks nothing of what the buffers hold.
 ghost use Rattle.std.specs.Prelude.{◌≡◌, not, ◌||◌, ℕ, ◌*◌, ltb, leb, length};
 ghost use Rattle.std.specs.Float.Ieee.{lt};
-ghost use Rattle.buffers.specs.Lent.{given};
 ghost use Rattle.windows.specs.Windows.{link_of};
 ghost use Rattle.job_checks.specs.Any.{any_below};
 ghost use Rattle.job_checks.specs.Refusals.{above_one};
@@ -104,8 +103,8 @@ fn too_few_slots(
     reals: &[f64],
     entry_words: &[u32],
 ) -> bool
-    ensures { result ≡ too_few_slots n (field_slices (given edge_words) (given edge_reals) (given triangle_words) (given triangle_reals) (given vertex) (given words) (given reals)
-        (given entry_words)) }
+    ensures { result ≡ too_few_slots n (field_slices edge_words.now edge_reals.now triangle_words.now triangle_reals.now vertex.now words.now reals.now
+        entry_words.now) }
 {
     let edges = buffers::count(
         edge_words.len(),
@@ -136,7 +135,7 @@ fn counts_differ(
     faces: &[u32],
     coords: &[f64],
 ) -> bool
-    ensures { result ≡ counts_differ n (job_slices (given vertices) (given triangles) (given kinds) (given faces) (given coords)) }
+    ensures { result ≡ counts_differ n (job_slices vertices.now triangles.now kinds.now faces.now coords.now) }
 {
     let a = differ(vertices.len(), COORDINATES_PER_VERTEX, n.vertices);
     let b = differ(triangles.len(), VERTICES_PER_TRIANGLE, n.triangles);
@@ -147,7 +146,7 @@ fn counts_differ(
 }
 
 fn any_above_one(kinds: &[u8]) -> bool
-    ensures { result ≡ any_below (above_one (given kinds)) (length (given kinds)) }
+    ensures { result ≡ any_below (above_one kinds.now) (length kinds.now) }
 {
     let mut i = 0;
     while i < kinds.len() {
@@ -167,7 +166,7 @@ fn meets_refusal(
     faces: &[u32],
     coords: &[f64],
 ) -> bool
-    ensures { result ≡ meets_refusal (job_slices (given vertices) (given triangles) (given kinds) (given faces) (given coords)) }
+    ensures { result ≡ meets_refusal (job_slices vertices.now triangles.now kinds.now faces.now coords.now) }
 {
     let mesh = job_checks::check_mesh(vertices, triangles);
     let a = over(0, job_checks::refusal_number(mesh));
@@ -179,7 +178,7 @@ fn meets_refusal(
 }
 
 fn edge_outside(n: Field, edge_words: &[u32], e: u32) -> bool
-    ensures { result ≡ edge_outside n (given edge_words) e }
+    ensures { result ≡ edge_outside n edge_words.now e }
 {
     let a = past(
         n.vertices,
@@ -205,7 +204,7 @@ fn edge_outside(n: Field, edge_words: &[u32], e: u32) -> bool
 }
 
 fn any_edge_outside(n: Field, edges: u32, edge_words: &[u32]) -> bool
-    ensures { result ≡ any_below (edge_outside n (given edge_words)) edges }
+    ensures { result ≡ any_below (edge_outside n edge_words.now) edges }
 {
     let mut e: u32 = 0;
     while e < edges {
@@ -218,7 +217,7 @@ fn any_edge_outside(n: Field, edges: u32, edge_words: &[u32]) -> bool
 }
 
 fn triangle_outside(n: Field, entries: u32, triangle_words: &[u32], f: u32) -> bool
-    ensures { result ≡ triangle_outside n entries (given triangle_words) f }
+    ensures { result ≡ triangle_outside n entries triangle_words.now f }
 {
     let a = past(n.edges, read_u32(triangle_words, WORDS_PER_TRIANGLE, f, 0));
     let b = past(n.edges, read_u32(triangle_words, WORDS_PER_TRIANGLE, f, 1));
@@ -235,7 +234,7 @@ fn triangle_outside(n: Field, entries: u32, triangle_words: &[u32], f: u32) -> b
 }
 
 fn any_triangle_outside(n: Field, triangles: u32, entries: u32, triangle_words: &[u32]) -> bool
-    ensures { result ≡ any_below (triangle_outside n entries (given triangle_words)) triangles }
+    ensures { result ≡ any_below (triangle_outside n entries triangle_words.now) triangles }
 {
     let mut f: u32 = 0;
     while f < triangles {
@@ -248,7 +247,7 @@ fn any_triangle_outside(n: Field, triangles: u32, entries: u32, triangle_words: 
 }
 
 fn window_outside(n: Field, words: &[u32], i: u32) -> bool
-    ensures { result ≡ window_outside n (given words) i }
+    ensures { result ≡ window_outside n words.now i }
 {
     let a = past(n.edges, read_u32(words, WORDS_PER_WINDOW, i, WINDOW_EDGE));
     let b = face_outside(
@@ -260,7 +259,7 @@ fn window_outside(n: Field, words: &[u32], i: u32) -> bool
 }
 
 fn any_window_outside(n: Field, made: u32, words: &[u32]) -> bool
-    ensures { result ≡ any_below (window_outside n (given words)) made }
+    ensures { result ≡ any_below (window_outside n words.now) made }
 {
     let mut i: u32 = 0;
     while i < made {
@@ -273,7 +272,7 @@ fn any_window_outside(n: Field, made: u32, words: &[u32]) -> bool
 }
 
 fn not_rising(reals: &[f64], before: u32, start: f64) -> bool
-    ensures { (i : ℕ) → start ≡ window_start (given reals) i → result ≡ not_rising (given reals) before i }
+    ensures { (i : ℕ) → start ≡ window_start reals.now i → result ≡ not_rising reals.now before i }
 {
     if before == 0 {
         return false;
@@ -285,7 +284,7 @@ fn not_rising(reals: &[f64], before: u32, start: f64) -> bool
 }
 
 fn window_unsound(reals: &[f64], before: u32, i: u32) -> bool
-    ensures { result ≡ window_unsound (given reals) before i }
+    ensures { result ≡ window_unsound reals.now before i }
 {
     let start = read_f64(reals, REALS_PER_WINDOW, i, WINDOW_B0);
     let a = not_below(start, read_f64(reals, REALS_PER_WINDOW, i, WINDOW_B1));
@@ -294,7 +293,7 @@ fn window_unsound(reals: &[f64], before: u32, i: u32) -> bool
 
 // Along the list of an edge, of which `head` is the first link.
 fn walk_windows(words: &[u32], reals: &[f64], head: u32, most: u32) -> ChainWalk
-    ensures { result ≡ walk_of (link_of (given words)) (window_unsound (given reals)) most 0 head }
+    ensures { result ≡ walk_of (link_of words.now) (window_unsound reals.now) most 0 head }
 {
     let mut before = 0;
     let mut at = head;
@@ -323,7 +322,7 @@ fn walk_windows(words: &[u32], reals: &[f64], head: u32, most: u32) -> ChainWalk
 }
 
 fn windows_unsound(edge_words: &[u32], words: &[u32], reals: &[f64], made: u32, edges: u32) -> bool
-    ensures { result ≡ windows_unsound (given edge_words) (given words) (given reals) made edges }
+    ensures { result ≡ windows_unsound edge_words.now words.now reals.now made edges }
 {
     let mut left = made;
     let mut e: u32 = 0;
@@ -341,7 +340,7 @@ fn windows_unsound(edge_words: &[u32], words: &[u32], reals: &[f64], made: u32, 
 
 fn entry_outside(entry_words: &[u32], pieces: u32, entries: u32, i: u32) -> bool
     requires { entries ≡ entry_capacity (length entry_words.now) }
-    ensures { result ≡ entry_outside pieces (given entry_words) i }
+    ensures { result ≡ entry_outside pieces entry_words.now i }
 {
     let a = past(
         pieces,
@@ -357,7 +356,7 @@ fn entry_outside(entry_words: &[u32], pieces: u32, entries: u32, i: u32) -> bool
 
 // Along the entries of a face, of which `first` is the first link.
 fn walk_entries(entry_words: &[u32], pieces: u32, first: u32, most: u32) -> ChainWalk
-    ensures { result ≡ walk_of (next_entry_of (given entry_words)) (λ (before i : ℕ). entry_outside pieces (given entry_words) i) most 0 first }
+    ensures { result ≡ walk_of (next_entry_of entry_words.now) (λ (before i : ℕ). entry_outside pieces entry_words.now i) most 0 first }
 {
     let entries = face_entries::capacity(entry_words);
     let mut at = first;
@@ -385,7 +384,7 @@ fn walk_entries(entry_words: &[u32], pieces: u32, first: u32, most: u32) -> Chai
 }
 
 fn entries_unsound(triangle_words: &[u32], entry_words: &[u32], pieces: u32, triangles: u32) -> bool
-    ensures { result ≡ entries_unsound (given triangle_words) (given entry_words) pieces triangles }
+    ensures { result ≡ entries_unsound triangle_words.now entry_words.now pieces triangles }
 {
     let mut left = face_entries::capacity(entry_words);
     let mut f: u32 = 0;
@@ -409,9 +408,9 @@ fn points_outside(
     words: &[u32],
     entry_words: &[u32],
 ) -> bool
-    ensures { result ≡ (any_below (edge_outside n (given edge_words)) n.edges
-        || (any_below (triangle_outside n (entry_capacity (length (given entry_words))) (given triangle_words)) n.triangles
-        || any_below (window_outside n (given words)) n.windows)) }
+    ensures { result ≡ (any_below (edge_outside n edge_words.now) n.edges
+        || (any_below (triangle_outside n (entry_capacity (length entry_words.now)) triangle_words.now) n.triangles
+        || any_below (window_outside n words.now) n.windows)) }
 {
     if any_edge_outside(n, n.edges, edge_words) {
         return true;
@@ -431,7 +430,7 @@ fn lists_unsound(
     reals: &[f64],
     entry_words: &[u32],
 ) -> bool
-    ensures { result ≡ (windows_unsound (given edge_words) (given words) (given reals) n.windows n.edges || entries_unsound (given triangle_words) (given entry_words) n.pieces
+    ensures { result ≡ (windows_unsound edge_words.now words.now reals.now n.windows n.edges || entries_unsound triangle_words.now entry_words.now n.pieces
         n.triangles) }
 {
     if windows_unsound(edge_words, words, reals, n.windows, n.edges) {
@@ -457,8 +456,8 @@ pub fn is_unsound(
     reals: &[f64],
     entry_words: &[u32],
 ) -> bool
-    ensures { result ≡ field_unsound n (job_slices (given vertices) (given triangles) (given kinds) (given faces) (given coords))
-        (field_slices (given edge_words) (given edge_reals) (given triangle_words) (given triangle_reals) (given vertex) (given words) (given reals) (given entry_words)) }
+    ensures { result ≡ field_unsound n (job_slices vertices.now triangles.now kinds.now faces.now coords.now)
+        (field_slices edge_words.now edge_reals.now triangle_words.now triangle_reals.now vertex.now words.now reals.now entry_words.now) }
 {
     if too_few_slots(
         n,

@@ -19,7 +19,7 @@ use layout::{
 use vec3::Vec3;
 
 fn real(reals: &[f64], i: usize) -> f64
-    ensures { result ≡ get_or (given reals) i nan }
+    ensures { result ≡ get_or reals.now i nan }
 {
     if i < reals.len() { reals[i] } else { 0.0 / 0.0 }
 }
@@ -27,7 +27,7 @@ fn real(reals: &[f64], i: usize) -> f64
 // Three reals from one on; one test where all are inside.
 pub fn vector_from(reals: &[f64], i: usize) -> Vec3
     requires { i + 2 < 18446744073709551616 }
-    ensures { result ≡ vector_from (given reals) i }
+    ensures { result ≡ vector_from reals.now i }
 {
     if i + 2 < reals.len() {
         return Vec3 {
@@ -46,7 +46,7 @@ pub fn vector_from(reals: &[f64], i: usize) -> Vec3
 // Three reals of a slot from a field on.
 fn vector(reals: &[f64], stride: u32, slot: u32, field: u32) -> Vec3
     requires { field + 2 < 4294967296 }
-    ensures { result ≡ vector_at stride (given reals) slot field }
+    ensures { result ≡ vector_at stride reals.now slot field }
 {
     vector_from(
         reals,
@@ -55,7 +55,7 @@ fn vector(reals: &[f64], stride: u32, slot: u32, field: u32) -> Vec3
 }
 
 fn vertex(vertices: &[f64], k: u32) -> Vec3
-    ensures { result ≡ vertex_at (given vertices) k }
+    ensures { result ≡ vertex_at vertices.now k }
 {
     vector(vertices, COORDINATES_PER_VERTEX, k, 0)
 }
@@ -82,20 +82,20 @@ fn store_three(reals: &mut [f64], slot: u32, u: Vec3)
 }
 
 fn origin(vertices: &[f64], edge_words: &[u32], e: u32) -> Vec3
-    ensures { result ≡ origin_at (given vertices) (given edge_words) e }
+    ensures { result ≡ origin_at vertices.now edge_words.now e }
 {
     vertex(vertices, read_u32(edge_words, WORDS_PER_EDGE, e, EDGE_LOW))
 }
 
 fn end(vertices: &[f64], edge_words: &[u32], e: u32) -> Vec3
-    ensures { result ≡ edge_end (given vertices) (given edge_words) e }
+    ensures { result ≡ edge_end vertices.now edge_words.now e }
 {
     vertex(vertices, read_u32(edge_words, WORDS_PER_EDGE, e, EDGE_HIGH))
 }
 
 // From the start of edge e to its end.
 fn edge_vector(vertices: &[f64], edge_words: &[u32], e: u32) -> Vec3
-    ensures { result ≡ sub_of (edge_end (given vertices) (given edge_words) e) (origin_at (given vertices) (given edge_words) e) }
+    ensures { result ≡ sub_of (edge_end vertices.now edge_words.now e) (origin_at vertices.now edge_words.now e) }
 {
     let o = origin(vertices, edge_words, e);
     let b = end(vertices, edge_words, e);
@@ -105,7 +105,7 @@ fn edge_vector(vertices: &[f64], edge_words: &[u32], e: u32) -> Vec3
 // The length and the unit vector of edge e.
 fn store_length(vertices: &[f64], edge_words: &[u32], e: u32, edge_reals: &mut [f64])
     requires { reals_per_edge * e + reals_per_edge ≤ length edge_reals.old }
-    ensures { left edge_reals ≡ fill reals_per_edge (given edge_reals) e 0 (length_row (given vertices) (given edge_words) e) }
+    ensures { left edge_reals ≡ fill reals_per_edge (given edge_reals) e 0 (length_row vertices.now edge_words.now e) }
 {
     let d = edge_vector(vertices, edge_words, e);
     let len = vec3::norm(d);
@@ -115,8 +115,8 @@ fn store_length(vertices: &[f64], edge_words: &[u32], e: u32, edge_reals: &mut [
 // The same of the edges e, e + 1 and e + 2.
 fn store_three_lengths(vertices: &[f64], edge_words: &[u32], e: u32, edge_reals: &mut [f64])
     requires { (reals_per_edge * e + 3 * reals_per_edge ≤ length edge_reals.old) × (e + 2 < 4294967296) }
-    ensures { left edge_reals ≡ fill_three reals_per_edge (given edge_reals) e (length_row (given vertices) (given edge_words) e)
-        (length_row (given vertices) (given edge_words) (e + 1)) (length_row (given vertices) (given edge_words) (e + 2)) }
+    ensures { left edge_reals ≡ fill_three reals_per_edge (given edge_reals) e (length_row vertices.now edge_words.now e)
+        (length_row vertices.now edge_words.now (e + 1)) (length_row vertices.now edge_words.now (e + 2)) }
 {
     let d = edge_vector(vertices, edge_words, e);
     let d1 = edge_vector(vertices, edge_words, e + 1);
@@ -130,7 +130,7 @@ fn store_three_lengths(vertices: &[f64], edge_words: &[u32], e: u32, edge_reals:
 // Of the first `count` edges; the other slots are zeroed.
 pub fn lengths(vertices: &[f64], edge_words: &[u32], count: u32, edge_reals: &mut [f64])
     requires { reals_per_edge * count ≤ length edge_reals.old }
-    ensures { left edge_reals ≡ with_lengths (given vertices) (given edge_words) count (replicate (length (given edge_reals)) zero64) }
+    ensures { left edge_reals ≡ with_lengths vertices.now edge_words.now count (replicate (length (given edge_reals)) zero64) }
 {
     let mut e: u32 = 0;
     while e < count {
@@ -147,7 +147,7 @@ pub fn lengths(vertices: &[f64], edge_words: &[u32], count: u32, edge_reals: &mu
 
 // From the edge e of the vertices a and b to the third vertex, at a right angle. The edge's unit vector is read, not computed again.
 fn perpendicular(vertices: &[f64], edge_reals: &[f64], e: u32, a: u32, b: u32, third: u32) -> Vec3
-    ensures { result ≡ perpendicular_from (vertex_at (given vertices) (lower a b)) (unit_at (given edge_reals) e) (vertex_at (given vertices) third) }
+    ensures { result ≡ perpendicular_from (vertex_at vertices.now (lower a b)) (unit_at edge_reals.now e) (vertex_at vertices.now third) }
 {
     let o = vertex(vertices, lower_of(a, b));
     let xhat = vector(edge_reals, REALS_PER_EDGE, e, EDGE_UNIT);
@@ -166,9 +166,9 @@ fn store_perpendiculars(
 )
     requires { (reals_per_triangle * f + reals_per_triangle ≤ length triangle_reals.old) × (3 * f + 2 < 4294967296) }
     ensures { left triangle_reals ≡ fill_three reals_per_normal (given triangle_reals) (3 * f)
-        (perpendicular_row (given vertices) (given triangles) (given triangle_words) (given edge_reals) (3 * f))
-        (perpendicular_row (given vertices) (given triangles) (given triangle_words) (given edge_reals) (3 * f + 1))
-        (perpendicular_row (given vertices) (given triangles) (given triangle_words) (given edge_reals) (3 * f + 2)) }
+        (perpendicular_row vertices.now triangles.now triangle_words.now edge_reals.now (3 * f))
+        (perpendicular_row vertices.now triangles.now triangle_words.now edge_reals.now (3 * f + 1))
+        (perpendicular_row vertices.now triangles.now triangle_words.now edge_reals.now (3 * f + 2)) }
 {
     let a = read_u32(triangles, VERTICES_PER_TRIANGLE, f, 0);
     let b = read_u32(triangles, VERTICES_PER_TRIANGLE, f, 1);
@@ -194,7 +194,7 @@ fn perpendiculars(
     triangle_reals: &mut [f64],
 )
     requires { (reals_per_triangle * faces ≤ length triangle_reals.old) × (3 * faces < 4294967296) }
-    ensures { left triangle_reals ≡ with_rows reals_per_normal (perpendicular_row (given vertices) (given triangles) (given triangle_words) (given edge_reals)) (3 * faces)
+    ensures { left triangle_reals ≡ with_rows reals_per_normal (perpendicular_row vertices.now triangles.now triangle_words.now edge_reals.now) (3 * faces)
         (given triangle_reals) }
 {
     let mut f: u32 = 0;
@@ -247,7 +247,7 @@ pub fn normals(
     triangle_reals: &mut [f64],
 )
     requires { (length triangles.now < 4294967296) × ((length triangles.now % 3 ≡ 0) × (reals_per_normal * length triangles.now ≤ length triangle_reals.old)) }
-    ensures { left triangle_reals ≡ with_normals (given vertices) (given triangles) (given triangle_words) (given edge_reals) (length (given triangles))
+    ensures { left triangle_reals ≡ with_normals vertices.now triangles.now triangle_words.now edge_reals.now (length triangles.now)
         (replicate (length (given triangle_reals)) zero64) }
 {
     let faces = (triangles.len() / 3) as u32;

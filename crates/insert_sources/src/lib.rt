@@ -44,9 +44,9 @@ fn insert_number(
     limit: f64,
 ) -> InsertAnswer
     requires { (counts.trim.made ≤ capacity_of (length words.old) (length reals.old)) × Sizes (length pts.old) out.old keep.old next.old }
-    ensures { InsertsTo limit (given vertex_words) (given edge_reals)
-        (insert_at (given vertices) (given edge_words) (given edge_reals) (given triangle_words) (given triangle_reals) (given vertex_words) (given round)
-        (given kinds) (given faces) (given coords) (given piece_words) (given piece_reals) pieces s i)
+    ensures { InsertsTo limit vertex_words.now edge_reals.now
+        (insert_at vertices.now (given edge_words) edge_reals.now (given triangle_words) triangle_reals.now vertex_words.now round.now
+        kinds.now faces.now coords.now piece_words.now piece_reals.now pieces s i)
         counts (before edge_words words reals keys events vertex) (entries_before triangle_words entry_words) (cuts_before pts out keep next)
         result (after edge_words words reals keys events vertex) (entries_after triangle_words entry_words) }
 {
@@ -120,9 +120,9 @@ fn insert_source(
     requires { (counts.trim.made ≤ capacity_of (length words.old) (length reals.old)) × (Sizes (length pts.old) out.old keep.old next.old
         × ((pieces ≡ length kinds.now) × (j < 3 * length kinds.now))) }
     ensures { InsertsAll limit
-        (insertion_slices (given vertices) (given vertex_words) (given edge_reals) (given triangle_reals) (given round)
-        (given kinds) (given faces) (given coords) (given piece_words) (given piece_reals))
-        (λ triangles. source_inserts (given vertices) triangles (given kinds) (given faces) (given coords) j)
+        (insertion_slices vertices.now vertex_words.now edge_reals.now triangle_reals.now round.now
+        kinds.now faces.now coords.now piece_words.now piece_reals.now)
+        (λ triangles. source_inserts vertices.now triangles kinds.now faces.now coords.now j)
         counts (before edge_words words reals keys events vertex) (entries_before triangle_words entry_words) (cuts_before pts out keep next)
         result (after edge_words words reals keys events vertex) (entries_after triangle_words entry_words) }
 {
@@ -213,9 +213,9 @@ pub fn insert_all(
     requires { (counts.trim.made ≤ capacity_of (length words.old) (length reals.old)) × (Sizes (length pts.old) out.old keep.old next.old
         × (length kinds.now ≤ 65535)) }
     ensures { InsertsAll limit
-        (insertion_slices (given vertices) (given vertex_words) (given edge_reals) (given triangle_reals) (given round)
-        (given kinds) (given faces) (given coords) (given piece_words) (given piece_reals))
-        (λ triangles. job_inserts (given vertices) triangles (given kinds) (given faces) (given coords))
+        (insertion_slices vertices.now vertex_words.now edge_reals.now triangle_reals.now round.now
+        kinds.now faces.now coords.now piece_words.now piece_reals.now)
+        (λ triangles. job_inserts vertices.now triangles kinds.now faces.now coords.now)
         counts (before edge_words words reals keys events vertex) (entries_before triangle_words entry_words) (cuts_before pts out keep next)
         result (after edge_words words reals keys events vertex) (entries_after triangle_words entry_words) }
 {

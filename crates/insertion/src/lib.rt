@@ -1,6 +1,5 @@
 // One thing that a source does: a part of a piece is entered in a face, or a window is offered to an edge.
 ghost use Rattle.std.specs.Prelude.{◌≤◌, length};
-ghost use Rattle.buffers.specs.Lent.{given};
 ghost use Rattle.cut_lists.specs.Buffers.{cuts_before, cuts_after};
 ghost use Rattle.cut_lists.specs.Cut.{Sizes};
 ghost use Rattle.trim.specs.Buffers.{before, after};
@@ -75,7 +74,7 @@ fn offer(
     limit: f64,
 ) -> InsertAnswer
     requires { (counts.trim.made ≤ capacity_of (length words.old) (length reals.old)) × Sizes (length pts.old) out.old keep.old next.old }
-    ensures { OfferedTo limit (given vertex_words) (given edge_reals) o counts (before edge_words words reals keys events vertex) (cuts_before pts out keep next)
+    ensures { OfferedTo limit vertex_words.now edge_reals.now o counts (before edge_words words reals keys events vertex) (cuts_before pts out keep next)
         result (after edge_words words reals keys events vertex) (cuts_after pts out keep next) }
 {
     let trim = counts.trim;
@@ -127,7 +126,7 @@ pub fn insert(
     limit: f64,
 ) -> InsertAnswer
     requires { (counts.trim.made ≤ capacity_of (length words.old) (length reals.old)) × Sizes (length pts.old) out.old keep.old next.old }
-    ensures { InsertsTo limit (given vertex_words) (given edge_reals) x counts
+    ensures { InsertsTo limit vertex_words.now edge_reals.now x counts
         (before edge_words words reals keys events vertex) (entries_before triangle_words entry_words) (cuts_before pts out keep next)
         result (after edge_words words reals keys events vertex) (entries_after triangle_words entry_words) }
 {

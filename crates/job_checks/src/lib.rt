@@ -1,7 +1,8 @@
 // What is checked of a job before any work: document 01's refusals 1 to 9, each over the whole job before the next.
 // The checks only read, and each is also a function of its own: 1, 2 to 4, 5, 6 and 7, 8, 9. They take any bits, so a vertex or a kind that is not there reads
 // as NaN or 0. The step budget is any u32, so there is nothing to check of it.
-ghost use Rattle.buffers.specs.Lent.{given};
+#![tactic(auto)]
+
 ghost use Rattle.std.specs.Prelude.{◌≡◌, ◌/◌, ◌<◌, length, get_or};
 ghost use Rattle.vec3.specs.declared.Vec3.{Vec3};
 ghost use Rattle.vec3.specs.Vec.{sub_of, norm_of};
@@ -36,7 +37,7 @@ use layout::{COORDINATES_PER_PIECE, COORDINATES_PER_VERTEX};
 use vec3::Vec3;
 
 // The answer: `refusal_number` of specs/ gives each case its number.
-#[derive(Drop)]
+#[derive(Clone, Copy)]
 pub enum Checked {
     Passed,
     Malformed,
@@ -51,7 +52,7 @@ pub enum Checked {
 }
 
 // How many slots each lent buffer of a fixed size has, and how many windows there is a slot for.
-#[derive(Drop)]
+#[derive(Clone, Copy)]
 pub struct BufferCounts {
     pub vertices: u32,
     pub edges: u32,
@@ -64,7 +65,7 @@ pub struct BufferCounts {
 }
 
 fn any_above_one(bytes: &[u8]) -> bool
-    ensures { result ≡ any_below (above_one (given bytes)) (length (given bytes)) }
+    ensures { result ≡ any_below (above_one bytes.now) (length bytes.now) }
 {
     let mut i = 0;
     while i < bytes.len() {
@@ -78,7 +79,7 @@ fn any_above_one(bytes: &[u8]) -> bool
 
 // Whether one of the numbers names none of count things.
 fn any_missing(numbers: &[u32], count: usize) -> bool
-    ensures { result ≡ any_below (missing count (given numbers)) (length (given numbers)) }
+    ensures { result ≡ any_below (missing count numbers.now) (length numbers.now) }
 {
     let mut i = 0;
     while i < numbers.len() {
@@ -98,7 +99,7 @@ fn wide(x: u32) -> usize
 
 // Whether a triangle names a vertex twice.
 fn any_repeated(triangles: &[u32]) -> bool
-    ensures { result ≡ any_below (repeated_in (given triangles)) (length (given triangles) / 3) }
+    ensures { result ≡ any_below (repeated_in triangles.now) (length triangles.now / 3) }
 {
     let mut t = 0;
     while t < triangles.len() / 3 {
@@ -142,7 +143,7 @@ fn out_of_range(x: f64) -> bool
 }
 
 fn any_out_of_range(coords: &[f64]) -> bool
-    ensures { result ≡ any_below (out_of_range_at (given coords)) (length (given coords)) }
+    ensures { result ≡ any_below (out_of_range_at coords.now) (length coords.now) }
 {
     let mut i = 0;
     while i < coords.len() {
@@ -172,7 +173,7 @@ fn degenerate(o: Vec3, d: Vec3, len: f64, third: Vec3) -> bool
 }
 
 fn vertex(v: &[f64], k: u32) -> Vec3
-    ensures { result ≡ vertex_at (given v) k }
+    ensures { result ≡ vertex_at v.now k }
 {
     Vec3 {
         x: read_f64(v, COORDINATES_PER_VERTEX, k, 0),
@@ -201,7 +202,7 @@ pub fn higher_of(a: u32, b: u32) -> u32
 
 // The edge of a and b starts at its lower-numbered vertex.
 fn edge_vector(v: &[f64], a: u32, b: u32) -> Vec3
-    ensures { result ≡ sub_of (vertex_at (given v) (higher a b)) (vertex_at (given v) (lower a b)) }
+    ensures { result ≡ sub_of (vertex_at v.now (higher a b)) (vertex_at v.now (lower a b)) }
 {
     let start = lower_of(a, b);
     let end = higher_of(a, b);
@@ -211,7 +212,7 @@ fn edge_vector(v: &[f64], a: u32, b: u32) -> Vec3
 // `d` is the vector of the edge of a and b, `len` its length.
 fn degenerate_edge(v: &[f64], a: u32, b: u32, third: u32, d: Vec3, len: f64) -> bool
     requires { (d ≡ sub_of (vertex_at v.now (higher a b)) (vertex_at v.now (lower a b))) × (len ≡ norm_of d) }
-    ensures { result ≡ degenerate_edge (given v) a b third }
+    ensures { result ≡ degenerate_edge v.now a b third }
 {
     let o = lower_of(a, b);
     degenerate(vertex(v, o), d, len, vertex(v, third))
@@ -219,7 +220,7 @@ fn degenerate_edge(v: &[f64], a: u32, b: u32, third: u32, d: Vec3, len: f64) -> 
 
 // The three lengths come first, so that their roots are taken side by side.
 fn degenerate_triangle(v: &[f64], a: u32, b: u32, c: u32) -> bool
-    ensures { result ≡ degenerate_in (given v) a b c }
+    ensures { result ≡ degenerate_in v.now a b c }
 {
     let ab = edge_vector(v, a, b);
     let bc = edge_vector(v, b, c);
@@ -239,7 +240,7 @@ fn degenerate_triangle(v: &[f64], a: u32, b: u32, c: u32) -> bool
 
 // Refusal 5: whether a triangle has an edge too short or an altitude too small.
 pub fn any_degenerate(v: &[f64], triangles: &[u32]) -> bool
-    ensures { result ≡ degenerate_triangle (given v) (given triangles) }
+    ensures { result ≡ degenerate_triangle v.now triangles.now }
 {
     let mut t = 0;
     while t < triangles.len() / 3 {
@@ -255,7 +256,7 @@ pub fn any_degenerate(v: &[f64], triangles: &[u32]) -> bool
 }
 
 fn kind_at(kinds: &[u8], i: usize) -> u8
-    ensures { result ≡ get_or (given kinds) i 0 }
+    ensures { result ≡ get_or kinds.now i 0 }
 {
     if i < kinds.len() { kinds[i] } else { 0 }
 }
@@ -263,7 +264,7 @@ fn kind_at(kinds: &[u8], i: usize) -> u8
 // Whether coordinate i is out of range and its piece uses it: a point has only the first three of six.
 fn used_out_of_range(kinds: &[u8], coords: &[f64], i: usize) -> bool
     requires { i < length coords.now }
-    ensures { result ≡ used_out_of_range (given kinds) (given coords) i }
+    ensures { result ≡ used_out_of_range kinds.now coords.now i }
 {
     if out_of_range(coords[i]) {
         if i % 6 < 3 {
@@ -278,7 +279,7 @@ fn used_out_of_range(kinds: &[u8], coords: &[f64], i: usize) -> bool
 }
 
 fn any_piece_out_of_range(kinds: &[u8], coords: &[f64]) -> bool
-    ensures { result ≡ piece_out_of_range (given kinds) (given coords) }
+    ensures { result ≡ piece_out_of_range kinds.now coords.now }
 {
     let mut i = 0;
     while i < coords.len() {
@@ -396,7 +397,7 @@ pub fn is_malformed(
     faces: usize,
     coords: usize,
 ) -> bool
-    ensures { result ≡ malformed vertices triangles (given flags) (given kinds) faces coords }
+    ensures { result ≡ malformed vertices triangles flags.now kinds.now faces coords }
 {
     if wrong_counts(vertices, triangles, flags.len(), kinds.len(), faces, coords) {
         return true;
@@ -412,7 +413,7 @@ pub fn is_malformed(
 
 // The first of the refusals 2 to 4 that holds, if any.
 pub fn check_mesh(vertices: &[f64], triangles: &[u32]) -> Checked
-    ensures { refusal_number result ≡ first_of (mesh_tests (given vertices) (given triangles)) }
+    ensures { refusal_number result ≡ first_of (mesh_tests vertices.now triangles.now) }
 {
     if any_missing(triangles, vertices.len() / 3) {
         return Checked::MissingVertex;
@@ -428,7 +429,7 @@ pub fn check_mesh(vertices: &[f64], triangles: &[u32]) -> Checked
 
 // The first of the refusals 6 and 7 that holds, if any, of a job with so many triangles.
 pub fn check_pieces(triangles: usize, kinds: &[u8], faces: &[u32], coords: &[f64]) -> Checked
-    ensures { refusal_number result ≡ first_of (piece_tests triangles (given kinds) (given faces) (given coords)) }
+    ensures { refusal_number result ≡ first_of (piece_tests triangles kinds.now faces.now coords.now) }
 {
     if any_missing(faces, triangles) {
         return Checked::MissingFace;
@@ -451,7 +452,7 @@ pub fn check(
     buffers: BufferCounts,
 ) -> Checked
     ensures { refusal_number result ≡ refusal_of
-        (job (given vertices) (given triangles) (given flags) (given kinds) (given faces) (given coords) limit)
+        (job vertices.now triangles.now flags.now kinds.now faces.now coords.now limit)
         buffers }
 {
     let v = vertices.len();

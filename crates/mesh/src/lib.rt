@@ -57,7 +57,7 @@ fn complete(
 )
     requires { Fits vertices.now triangles.now (length vertex_words.old) (length edge_words.now)
         (length edge_reals.old) (length round.old) (length triangle_words.now) (length triangle_reals.old) × (edges ≤ length triangles.now) }
-    ensures { Completed (given vertices) (given triangles) (given flags) edges (given edge_words) (given triangle_words)
+    ensures { Completed vertices.now triangles.now flags.now edges edge_words.now triangle_words.now
         (given vertex_words) (given edge_reals) (given round) (given triangle_reals)
         (left vertex_words) (left edge_reals) (left round) (left triangle_reals) }
 {
@@ -89,7 +89,7 @@ pub fn topology(
 ) -> Table
     requires { Fits vertices.now triangles.now (length vertex_words.old) (length edge_words.old)
         (length edge_reals.old) (length round.old) (length triangle_words.old) (length triangle_reals.old) }
-    ensures { MadeTopology (given vertices) (given triangles) (given flags) result
+    ensures { MadeTopology vertices.now triangles.now flags.now result
         (before vertex_words edge_words edge_reals round triangle_words triangle_reals)
         (after vertex_words edge_words edge_reals round triangle_words triangle_reals) }
 {
@@ -175,7 +175,7 @@ pub fn build(
     triangle_reals: &mut [f64],
 ) -> Meshed
     ensures { Answered
-        (job (given vertices) (given triangles) (given flags) (given kinds) (given faces) (given coords) limit)
+        (job vertices.now triangles.now flags.now kinds.now faces.now coords.now limit)
         others result
         (before vertex_words edge_words edge_reals round triangle_words triangle_reals)
         (after vertex_words edge_words edge_reals round triangle_words triangle_reals) }

@@ -6,7 +6,6 @@ ghost use Rattle.job_checks.specs.Edge.{vertex_at};
 ghost use Rattle.topology.specs.Edges.{off_ends, joins};
 ghost use Rattle.frames.specs.Stored.{length_at, unit_at};
 ghost use Rattle.mesh_readers.specs.Readers.{edge_at, ends_at, trim_edge_at, faces_at, other_at, side_in, local_at, third_at, normal_in, coords_at, range_at, degree_at, round_at, shared_at, edge_between_at, face_of, side_to_at};
-ghost use Rattle.buffers.specs.Lent.{given};
 
 use buffers::{EdgeId, FaceId, VertexId, read_f64, read_u32};
 use layout::{
@@ -46,7 +45,7 @@ pub struct RoundRange {
 }
 
 pub fn ends(edge_words: &[u32], e: EdgeId) -> EdgeEnds
-    ensures { result ≡ ends_at (given edge_words) e.0 }
+    ensures { result ≡ ends_at edge_words.now e.0 }
 {
     EdgeEnds {
         a: VertexId(read_u32(edge_words, WORDS_PER_EDGE, e.0, EDGE_LOW)),
@@ -56,7 +55,7 @@ pub fn ends(edge_words: &[u32], e: EdgeId) -> EdgeEnds
 
 // An edge as it goes to trimming: its number, length and ends.
 pub fn edge(edge_words: &[u32], edge_reals: &[f64], e: EdgeId) -> windows::Edge
-    ensures { result ≡ trim_edge_at (given edge_words) (given edge_reals) e.0 }
+    ensures { result ≡ trim_edge_at edge_words.now edge_reals.now e.0 }
 {
     let len = read_f64(edge_reals, REALS_PER_EDGE, e.0, EDGE_LEN);
     let low = read_u32(edge_words, WORDS_PER_EDGE, e.0, EDGE_LOW);
@@ -70,7 +69,7 @@ pub fn edge(edge_words: &[u32], edge_reals: &[f64], e: EdgeId) -> windows::Edge
 }
 
 pub fn faces(edge_words: &[u32], e: EdgeId) -> FacePair
-    ensures { result ≡ faces_at (given edge_words) e.0 }
+    ensures { result ≡ faces_at edge_words.now e.0 }
 {
     FacePair {
         first: FaceId(read_u32(edge_words, WORDS_PER_EDGE, e.0, EDGE_FIRST_FACE)),
@@ -80,7 +79,7 @@ pub fn faces(edge_words: &[u32], e: EdgeId) -> FacePair
 
 // The face of an edge that is not f, `no_face` where there is none.
 pub fn other(edge_words: &[u32], e: EdgeId, f: FaceId) -> FaceId
-    ensures { result ≡ record { 0 = other_at (given edge_words) e.0 f.0 } }
+    ensures { result ≡ record { 0 = other_at edge_words.now e.0 f.0 } }
 {
     let first = read_u32(edge_words, WORDS_PER_EDGE, e.0, EDGE_FIRST_FACE);
     let second = read_u32(edge_words, WORDS_PER_EDGE, e.0, EDGE_SECOND_FACE);
@@ -91,14 +90,14 @@ pub fn other(edge_words: &[u32], e: EdgeId, f: FaceId) -> FaceId
 }
 
 pub fn length(edge_reals: &[f64], e: EdgeId) -> f64
-    ensures { result ≡ length_at (given edge_reals) e.0 }
+    ensures { result ≡ length_at edge_reals.now e.0 }
 {
     read_f64(edge_reals, REALS_PER_EDGE, e.0, EDGE_LEN)
 }
 
 // The unit vector along an edge, from its first vertex to its second.
 pub fn unit(edge_reals: &[f64], e: EdgeId) -> Vec3
-    ensures { result ≡ unit_at (given edge_reals) e.0 }
+    ensures { result ≡ unit_at edge_reals.now e.0 }
 {
     frames::vector_from(
         edge_reals,
@@ -108,14 +107,14 @@ pub fn unit(edge_reals: &[f64], e: EdgeId) -> Vec3
 
 // Side k of face f.
 pub fn side(triangle_words: &[u32], f: FaceId, k: u32) -> EdgeId
-    ensures { result ≡ record { 0 = side_in (given triangle_words) f.0 k } }
+    ensures { result ≡ record { 0 = side_in triangle_words.now f.0 k } }
 {
     EdgeId(read_u32(triangle_words, WORDS_PER_TRIANGLE, f.0, k))
 }
 
 // Which side of face f edge e is.
 pub fn local(triangle_words: &[u32], f: FaceId, e: EdgeId) -> u32
-    ensures { result ≡ local_at (given triangle_words) f.0 e.0 }
+    ensures { result ≡ local_at triangle_words.now f.0 e.0 }
 {
     let first = read_u32(triangle_words, WORDS_PER_TRIANGLE, f.0, 0);
     let second = read_u32(triangle_words, WORDS_PER_TRIANGLE, f.0, 1);
@@ -130,7 +129,7 @@ pub fn local(triangle_words: &[u32], f: FaceId, e: EdgeId) -> u32
 
 // The unit vector into face f at a right angle to its side k.
 pub fn normal(triangle_reals: &[f64], f: FaceId, k: u32) -> Vec3
-    ensures { result ≡ normal_in (given triangle_reals) f.0 k }
+    ensures { result ≡ normal_in triangle_reals.now f.0 k }
 {
     frames::vector_from(
         triangle_reals,
@@ -139,7 +138,7 @@ pub fn normal(triangle_reals: &[f64], f: FaceId, k: u32) -> Vec3
 }
 
 pub fn vertex(vertices: &[f64], k: VertexId) -> Vec3
-    ensures { result ≡ vertex_at (given vertices) k.0 }
+    ensures { result ≡ vertex_at vertices.now k.0 }
 {
     frames::vector_from(vertices, (COORDINATES_PER_VERTEX as usize) * (k.0 as usize))
 }
@@ -158,14 +157,14 @@ fn off_ends(k: u32, low: u32, high: u32) -> bool
 
 // Vertex k of face f.
 pub fn face_vertex(triangles: &[u32], f: FaceId, k: u32) -> VertexId
-    ensures { result ≡ record { 0 = get_or (given triangles) (vertices_per_triangle * f.0 + k) 0 } }
+    ensures { result ≡ record { 0 = get_or triangles.now (vertices_per_triangle * f.0 + k) 0 } }
 {
     VertexId(read_u32(triangles, VERTICES_PER_TRIANGLE, f.0, k))
 }
 
 // The vertex of face f that is not on edge e.
 pub fn third(triangles: &[u32], edge_words: &[u32], e: EdgeId, f: FaceId) -> VertexId
-    ensures { result ≡ record { 0 = third_at (given triangles) (given edge_words) e.0 f.0 } }
+    ensures { result ≡ record { 0 = third_at triangles.now edge_words.now e.0 f.0 } }
 {
     let low = read_u32(edge_words, WORDS_PER_EDGE, e.0, EDGE_LOW);
     let high = read_u32(edge_words, WORDS_PER_EDGE, e.0, EDGE_HIGH);
@@ -191,7 +190,7 @@ pub fn coords(
     f: FaceId,
     p: Vec3,
 ) -> FrameCoords
-    ensures { result ≡ coords_at (given vertices) (given edge_words) (given edge_reals) (given triangle_words) (given triangle_reals) e.0 f.0 p }
+    ensures { result ≡ coords_at vertices.now edge_words.now edge_reals.now triangle_words.now triangle_reals.now e.0 f.0 p }
 {
     let o = vertex(
         vertices,
@@ -207,7 +206,7 @@ pub fn coords(
 }
 
 pub fn faces_round(vertex_words: &[u32], k: VertexId) -> RoundRange
-    ensures { result ≡ range_at (given vertex_words) k.0 }
+    ensures { result ≡ range_at vertex_words.now k.0 }
 {
     RoundRange {
         start: read_u32(vertex_words, WORDS_PER_VERTEX, k.0, VERTEX_START),
@@ -217,7 +216,7 @@ pub fn faces_round(vertex_words: &[u32], k: VertexId) -> RoundRange
 
 // How many faces there are round a vertex.
 pub fn vertex_degree(vertex_words: &[u32], k: VertexId) -> u32
-    ensures { result ≡ degree_at (given vertex_words) k.0 }
+    ensures { result ≡ degree_at vertex_words.now k.0 }
 {
     let start = read_u32(vertex_words, WORDS_PER_VERTEX, k.0, VERTEX_START);
     let end = read_u32(vertex_words, WORDS_PER_VERTEX, k.0, VERTEX_END);
@@ -229,14 +228,14 @@ pub fn vertex_degree(vertex_words: &[u32], k: VertexId) -> u32
 
 // Entry i of the list of the faces round the vertices.
 pub fn face_round(round: &[u32], i: u32) -> FaceId
-    ensures { result ≡ record { 0 = round_at (given round) i } }
+    ensures { result ≡ record { 0 = round_at round.now i } }
 {
     FaceId(read_u32(round, WORDS_PER_ROUND, i, ROUND_FACE))
 }
 
 // The vertex that two edges of one face share: the first end of e if o has it, or else the second.
 pub fn shared_vertex(edge_words: &[u32], e: EdgeId, o: EdgeId) -> VertexId
-    ensures { result ≡ record { 0 = shared_at (given edge_words) e.0 o.0 } }
+    ensures { result ≡ record { 0 = shared_at edge_words.now e.0 o.0 } }
 {
     let a = read_u32(edge_words, WORDS_PER_EDGE, e.0, EDGE_LOW);
     let low = read_u32(edge_words, WORDS_PER_EDGE, o.0, EDGE_LOW);
@@ -249,7 +248,7 @@ pub fn shared_vertex(edge_words: &[u32], e: EdgeId, o: EdgeId) -> VertexId
 
 // Both vertices are ends of an edge.
 fn joined(edge_words: &[u32], e: u32, a: u32, b: u32) -> bool
-    ensures { result ≡ joins a b (edge_at (given edge_words) e) }
+    ensures { result ≡ joins a b (edge_at edge_words.now e) }
 {
     let low = read_u32(edge_words, WORDS_PER_EDGE, e, EDGE_LOW);
     let high = read_u32(edge_words, WORDS_PER_EDGE, e, EDGE_HIGH);
@@ -270,7 +269,7 @@ pub fn edge_between(
     a: VertexId,
     b: VertexId,
 ) -> EdgeId
-    ensures { result ≡ record { 0 = edge_between_at (given edge_words) (given triangle_words) f.0 a.0 b.0 } }
+    ensures { result ≡ record { 0 = edge_between_at edge_words.now triangle_words.now f.0 a.0 b.0 } }
 {
     let first = read_u32(triangle_words, WORDS_PER_TRIANGLE, f.0, 0);
     if joined(edge_words, first, a.0, b.0) {
@@ -284,7 +283,7 @@ pub fn edge_between(
 }
 
 fn has_face(edge_words: &[u32], e: u32, h: u32) -> bool
-    ensures { result ≡ face_of (given edge_words) e h }
+    ensures { result ≡ face_of edge_words.now e h }
 {
     if read_u32(edge_words, WORDS_PER_EDGE, e, EDGE_FIRST_FACE) == h {
         return true;
@@ -297,7 +296,7 @@ fn has_face(edge_words: &[u32], e: u32, h: u32) -> bool
 
 // The first side of face f whose edge has face h too, 3 where none has.
 pub fn side_to(edge_words: &[u32], triangle_words: &[u32], f: FaceId, h: FaceId) -> u32
-    ensures { result ≡ side_to_at (given edge_words) (given triangle_words) f.0 h.0 }
+    ensures { result ≡ side_to_at edge_words.now triangle_words.now f.0 h.0 }
 {
     if has_face(
         edge_words,

@@ -63,13 +63,13 @@ pub fn same_bits(p: Vec3, q: Vec3) -> bool
 }
 
 pub fn end_point(coords: &[f64], e: u32) -> Vec3
-    ensures { result ≡ end_point (given coords) e }
+    ensures { result ≡ end_point coords.now e }
 {
     vector_from(coords, 3 * (e as usize))
 }
 
 pub fn is_end(kinds: &[u8], e: u32) -> bool
-    ensures { result ≡ is_end (given kinds) e }
+    ensures { result ≡ is_end kinds.now e }
 {
     let i = (e / 2) as usize;
     if i < kinds.len() {
@@ -87,7 +87,7 @@ pub fn is_end(kinds: &[u8], e: u32) -> bool
 // End e before the others of its bucket.
 fn enter(kinds: &[u8], coords: &[f64], words: &mut [u32], e: u32)
     requires { (length kinds.now ≤ 65535) × (e < 2 * length kinds.now) }
-    ensures { left words ≡ entered (given kinds) (given coords) e (given words) }
+    ensures { left words ≡ entered kinds.now coords.now e (given words) }
 {
     if !is_end(kinds, e) {
         return;
@@ -101,7 +101,7 @@ fn enter(kinds: &[u8], coords: &[f64], words: &mut [u32], e: u32)
 // The table of all ends. They are entered from the last to the first, so that each bucket has them in the Rust's order.
 pub fn build(kinds: &[u8], coords: &[f64], words: &mut [u32])
     requires { (length kinds.now ≤ 65535) × (words_per_piece * length kinds.now ≤ length words.old) }
-    ensures { left words ≡ piece_words_of (given kinds) (given coords) (length (given words)) }
+    ensures { left words ≡ piece_words_of kinds.now coords.now (length (given words)) }
 {
     zero_u32(words);
     let mut e = 2 * (kinds.len() as u32);
@@ -112,14 +112,14 @@ pub fn build(kinds: &[u8], coords: &[f64], words: &mut [u32])
 }
 
 fn next_link(words: &[u32], e: u32) -> u32
-    ensures { result ≡ end_link_at (given words) e }
+    ensures { result ≡ end_link_at words.now e }
 {
     read_u32(words, WORDS_PER_PIECE, e / 2, PIECE_LINKS + e % 2)
 }
 
 // The link to the first end with p's bits along the links from one on. No chain is longer than there are ends.
 fn seek(coords: &[f64], words: &[u32], pieces: u32, p: Vec3, link: u32) -> u32
-    ensures { result ≡ find_along (end_link_at (given words)) (stands_at (given coords) p) (2 * pieces) link }
+    ensures { result ≡ find_along (end_link_at words.now) (stands_at coords.now p) (2 * pieces) link }
 {
     let mut at = link;
     let mut rest = 2 * (pieces as u64);
@@ -138,7 +138,7 @@ fn seek(coords: &[f64], words: &[u32], pieces: u32, p: Vec3, link: u32) -> u32
 
 // The link to the first end with p's bits, in a table of so many pieces.
 pub fn first_at(coords: &[f64], words: &[u32], pieces: u32, p: Vec3) -> u32
-    ensures { result ≡ first_link_at (given coords) (given words) pieces p }
+    ensures { result ≡ first_link_at coords.now words.now pieces p }
 {
     let head = read_u32(words, WORDS_PER_PIECE, bucket_of(p, pieces), PIECE_HEAD);
     seek(coords, words, pieces, p, head)
@@ -146,7 +146,7 @@ pub fn first_at(coords: &[f64], words: &[u32], pieces: u32, p: Vec3) -> u32
 
 // The link to the next end with the bits of end e.
 pub fn next_at(coords: &[f64], words: &[u32], pieces: u32, e: u32) -> u32
-    ensures { result ≡ next_link_at (given coords) (given words) pieces e }
+    ensures { result ≡ next_link_at coords.now words.now pieces e }
 {
     seek(
         coords,
@@ -159,7 +159,7 @@ pub fn next_at(coords: &[f64], words: &[u32], pieces: u32, e: u32) -> u32
 
 // Whether end e is the first of its bits that the links lead to.
 fn leads(coords: &[f64], words: &[u32], pieces: u32, e: u32) -> bool
-    ensures { result ≡ leads_at (given coords) (given words) pieces e }
+    ensures { result ≡ leads_at coords.now words.now pieces e }
 {
     let link = first_at(coords, words, pieces, end_point(coords, e));
     if link == 0 {
@@ -173,7 +173,7 @@ fn leads(coords: &[f64], words: &[u32], pieces: u32, e: u32) -> bool
 
 // Whether the end before end e is there and has its bits, as along a line from segment to segment: then the table need not be asked.
 fn follows(kinds: &[u8], coords: &[f64], e: u32) -> bool
-    ensures { result ≡ follows_at (given kinds) (given coords) e }
+    ensures { result ≡ follows_at kinds.now coords.now e }
 {
     if e == 0 {
         return false;
@@ -186,7 +186,7 @@ fn follows(kinds: &[u8], coords: &[f64], e: u32) -> bool
 
 // Whether end e is there and none before it has its bits. A point's second end is not looked for: what stands in its place may lead through a whole bucket.
 pub fn is_first(kinds: &[u8], coords: &[f64], words: &[u32], pieces: u32, e: u32) -> bool
-    ensures { result ≡ is_first_at (given kinds) (given coords) (given words) pieces e }
+    ensures { result ≡ is_first_at kinds.now coords.now words.now pieces e }
 {
     if !is_end(kinds, e) {
         return false;
@@ -200,7 +200,7 @@ pub fn is_first(kinds: &[u8], coords: &[f64], words: &[u32], pieces: u32, e: u32
 // Whether piece i is a segment of computed length above zero. The length is a root, which is above zero exactly where its argument is.
 pub fn is_long(kinds: &[u8], coords: &[f64], i: u32) -> bool
     requires { i < 2147483648 }
-    ensures { result ≡ is_long (given kinds) (given coords) i }
+    ensures { result ≡ is_long kinds.now coords.now i }
 {
     if !is_end(kinds, 2 * i + 1) {
         return false;
@@ -217,7 +217,7 @@ pub fn is_long(kinds: &[u8], coords: &[f64], i: u32) -> bool
 // The unit direction of piece i, zeros where it is no segment of computed length above zero.
 fn direction(kinds: &[u8], coords: &[f64], i: u32) -> Vec3
     requires { i < 2147483648 }
-    ensures { result ≡ direction_of (given kinds) (given coords) i }
+    ensures { result ≡ direction_of kinds.now coords.now i }
 {
     if is_end(kinds, 2 * i + 1) {
         let a = end_point(coords, 2 * i);
@@ -237,7 +237,7 @@ fn direction(kinds: &[u8], coords: &[f64], i: u32) -> Vec3
 
 fn store_direction(kinds: &[u8], coords: &[f64], i: u32, reals: &mut [f64])
     requires { i < 2147483648 }
-    ensures { left reals ≡ fill reals_per_piece (given reals) i 0 (row3 (direction_of (given kinds) (given coords) i)) }
+    ensures { left reals ≡ fill reals_per_piece (given reals) i 0 (row3 (direction_of kinds.now coords.now i)) }
 {
     let u = direction(kinds, coords, i);
     write_f64(reals, REALS_PER_PIECE, i, 0, u.x);
@@ -248,7 +248,7 @@ fn store_direction(kinds: &[u8], coords: &[f64], i: u32, reals: &mut [f64])
 // The directions of all pieces; the slots behind them are zeroed.
 pub fn directions(kinds: &[u8], coords: &[f64], reals: &mut [f64])
     requires { length kinds.now ≤ 65535 }
-    ensures { left reals ≡ piece_reals_of (given kinds) (given coords) (length (given reals)) }
+    ensures { left reals ≡ piece_reals_of kinds.now coords.now (length (given reals)) }
 {
     let count = kinds.len() as u32;
     let mut i: u32 = 0;

@@ -1,7 +1,6 @@
 // The part of a side of a carrier that the wedge of a source point leaves: the Rust's `wedge_in` of `source_point`, and its loop over the wedge's directions. Nothing is asked of what
 // the buffers hold; where they hold a mesh's topology and the table of its pieces' ends, the part is the Rust's (proofs/Held.antt).
 ghost use Rattle.std.specs.Prelude.{◌≡◌, map};
-ghost use Rattle.buffers.specs.Lent.{given};
 ghost use Rattle.segments_behind.specs.Behind.{leaving_at};
 ghost use Rattle.source_windows.specs.Wedge.{behind_of, wedge_of};
 ghost use Rattle.point_wedge.specs.Wedge.{laid_of, behind_at, across_at, pair_at, directions_at, bounds_at};
@@ -38,7 +37,7 @@ fn behind_end(
     w: Bounds,
     e: u32,
 ) -> Bounds
-    ensures { result ≡ behind_of o p xhat w (laid_of plane (leaving_at (given reals) e)) }
+    ensures { result ≡ behind_of o p xhat w (laid_of plane (leaving_at reals.now e)) }
 {
     let d = leaving(reals, e);
     let there = laid(plane, d);
@@ -62,7 +61,7 @@ fn narrow_behind(
     w: Bounds,
 ) -> Bounds
     ensures { result ≡ wedge_of o p xhat w (map (laid_of plane)
-        (behind_at (given kinds) (given faces) (given coords) (given words) (given reals) pieces f.0 first)) }
+        (behind_at kinds.now faces.now coords.now words.now reals.now pieces f.0 first)) }
 {
     let mut at = first_behind(kinds, faces, coords, words, pieces, f, first);
     let mut part = w;
@@ -87,7 +86,7 @@ fn across(
     h: FaceId,
     e: EdgeId,
 ) -> Plane
-    ensures { result ≡ across_at (given edge_reals) (given triangle_words) (given triangle_reals) g.0 h.0 e.0 }
+    ensures { result ≡ across_at edge_reals.now triangle_words.now triangle_reals.now g.0 h.0 e.0 }
 {
     let xh = unit(edge_reals, e);
     let i = local(triangle_words, g, e);
@@ -118,8 +117,8 @@ fn narrow_pair(
     w: Bounds,
 ) -> Bounds
     ensures { result ≡ wedge_of o p xhat w
-        (pair_at (given edge_words) (given edge_reals) (given triangle_words) (given triangle_reals)
-        (given kinds) (given faces) (given coords) (given words) (given reals) pieces g.0 h.0 first) }
+        (pair_at edge_words.now edge_reals.now triangle_words.now triangle_reals.now
+        kinds.now faces.now coords.now words.now reals.now pieces g.0 h.0 first) }
 {
     let i = side_to(edge_words, triangle_words, g, h);
     if i == 3 {
@@ -169,8 +168,8 @@ fn narrow_wedge(
     w: Bounds,
 ) -> Bounds
     ensures { result ≡ wedge_of o p xhat w
-        (directions_at (given edge_words) (given edge_reals) (given triangle_words) (given triangle_reals)
-        (given kinds) (given faces) (given coords) (given words) (given reals) pieces g.0 count h.0 first) }
+        (directions_at edge_words.now edge_reals.now triangle_words.now triangle_reals.now
+        kinds.now faces.now coords.now words.now reals.now pieces g.0 count h.0 first) }
 {
     if count == 1 {
         return narrow_behind(
@@ -233,8 +232,8 @@ pub fn bounds(
     h: FaceId,
     first: u32,
 ) -> Bounds
-    ensures { result ≡ bounds_at (given vertices) (given edge_words) (given edge_reals) (given triangle_words) (given triangle_reals)
-        (given kinds) (given faces) (given coords) (given words) (given reals) pieces g.0 k p count h.0 first }
+    ensures { result ≡ bounds_at vertices.now edge_words.now edge_reals.now triangle_words.now triangle_reals.now
+        kinds.now faces.now coords.now words.now reals.now pieces g.0 k p count h.0 first }
 {
     let e = side(triangle_words, g, k);
     let o = vertex(vertices, ends(edge_words, e).a);

@@ -1,7 +1,6 @@
 // The segments that end at a point, found by its coordinate bits through the table of `piece_ends`: those of a face, with the direction in which each leaves the point (the
 // Rust's `behind`), and whether one lies in a face round a vertex, which document 01's refusal 11 asks. A link is the number of an end plus one, and 0 is none.
 ghost use Rattle.std.specs.Prelude.{◌≡◌, ◌*◌, ◌/◌, get_or};
-ghost use Rattle.buffers.specs.Lent.{given};
 ghost use Rattle.piece_ends.specs.Walk.{find_along, next_link_at};
 ghost use Rattle.segments_behind.specs.Behind.{in_face, first_behind_at, next_behind_at, leaving_at};
 ghost use Rattle.segments_behind.specs.Round.{has_vertex, is_round, any_round_at};
@@ -14,13 +13,13 @@ use vec3::Vec3;
 
 // The face of the piece of end e.
 pub fn face_of(faces: &[u32], e: u32) -> FaceId
-    ensures { result ≡ record { 0 = get_or (given faces) (e / 2) 0 } }
+    ensures { result ≡ record { 0 = get_or faces.now (e / 2) 0 } }
 {
     FaceId(read_u32(faces, 1, e / 2, 0))
 }
 
 fn in_face(kinds: &[u8], faces: &[u32], coords: &[f64], g: FaceId, e: u32) -> bool
-    ensures { result ≡ in_face (given kinds) (given faces) (given coords) g.0 e }
+    ensures { result ≡ in_face kinds.now faces.now coords.now g.0 e }
 {
     let f = face_of(faces, e);
     if f.0 != g.0 {
@@ -39,7 +38,7 @@ pub fn first_behind(
     g: FaceId,
     link: u32,
 ) -> u32
-    ensures { result ≡ first_behind_at (given kinds) (given faces) (given coords) (given words) pieces g.0 link }
+    ensures { result ≡ first_behind_at kinds.now faces.now coords.now words.now pieces g.0 link }
 {
     let mut at = link;
     let mut rest = 2 * (pieces as u64);
@@ -66,7 +65,7 @@ pub fn next_behind(
     g: FaceId,
     e: u32,
 ) -> u32
-    ensures { result ≡ next_behind_at (given kinds) (given faces) (given coords) (given words) pieces g.0 e }
+    ensures { result ≡ next_behind_at kinds.now faces.now coords.now words.now pieces g.0 e }
 {
     let link = next_at(coords, words, pieces, e);
     first_behind(kinds, faces, coords, words, pieces, g, link)
@@ -74,7 +73,7 @@ pub fn next_behind(
 
 // The direction in which the segment of end e leaves it, from the directions of all pieces.
 pub fn leaving(reals: &[f64], e: u32) -> Vec3
-    ensures { result ≡ leaving_at (given reals) e }
+    ensures { result ≡ leaving_at reals.now e }
 {
     let d = vector_from(reals, (REALS_PER_PIECE as usize) * ((e / 2) as usize));
     if e % 2 == 0 {
@@ -84,7 +83,7 @@ pub fn leaving(reals: &[f64], e: u32) -> Vec3
 }
 
 fn has_vertex(triangles: &[u32], g: FaceId, k: VertexId) -> bool
-    ensures { result ≡ has_vertex (given triangles) g.0 k.0 }
+    ensures { result ≡ has_vertex triangles.now g.0 k.0 }
 {
     if read_u32(triangles, 3, g.0, 0) == k.0 {
         return true;
@@ -106,7 +105,7 @@ fn is_round(
     k: VertexId,
     e: u32,
 ) -> bool
-    ensures { result ≡ is_round (given kinds) (given faces) (given coords) (given triangles) k.0 e }
+    ensures { result ≡ is_round kinds.now faces.now coords.now triangles.now k.0 e }
 {
     if !is_long(kinds, coords, e / 2) {
         return false;
@@ -125,7 +124,7 @@ fn seek_round(
     k: VertexId,
     link: u32,
 ) -> u32
-    ensures { result ≡ find_along (next_link_at (given coords) (given words) pieces) (is_round (given kinds) (given faces) (given coords) (given triangles) k.0) (2 * pieces) link }
+    ensures { result ≡ find_along (next_link_at coords.now words.now pieces) (is_round kinds.now faces.now coords.now triangles.now k.0) (2 * pieces) link }
 {
     let mut at = link;
     let mut rest = 2 * (pieces as u64);
@@ -153,7 +152,7 @@ pub fn any_round(
     k: VertexId,
     p: Vec3,
 ) -> bool
-    ensures { result ≡ any_round_at (given kinds) (given faces) (given coords) (given triangles) (given words) pieces k.0 p }
+    ensures { result ≡ any_round_at kinds.now faces.now coords.now triangles.now words.now pieces k.0 p }
 {
     let link = first_at(coords, words, pieces, p);
     if seek_round(kinds, faces, coords, triangles, words, pieces, k, link) == 0 {

@@ -1,7 +1,6 @@
 // What the sources of a job do, one after the other, read from the buffers of the mesh and of the pieces: the Rust's loop over `sources` with `source_point` and `source_segment`, as a list of
 // entries and offers of which any one is asked for by its number. Nothing is asked of what the buffers hold; where they hold a job, the list is the Rust's (proofs/Held.antt).
 ghost use Rattle.std.specs.Prelude.{◌≡◌, ◌<◌};
-ghost use Rattle.buffers.specs.Lent.{given};
 ghost use Rattle.source_inserts.specs.Read.{end_source_at, segment_source_at, job_source_at, insert_count_at, point_side_at, point_insert_at, segment_insert_at, normal_of_number, insert_at};
 
 use buffers::FaceId;
@@ -57,8 +56,8 @@ fn end_source(
     part: Part,
 ) -> Source
     requires { e < 4294967295 }
-    ensures { result ≡ end_source_at (given vertices) (given edge_words) (given edge_reals) (given triangle_words) (given triangle_reals)
-        (given kinds) (given faces) (given coords) (given piece_words) pieces e part }
+    ensures { result ≡ end_source_at vertices.now edge_words.now edge_reals.now triangle_words.now triangle_reals.now
+        kinds.now faces.now coords.now piece_words.now pieces e part }
 {
     if !is_first(kinds, coords, piece_words, pieces, e) {
         return Source::Absent;
@@ -89,7 +88,7 @@ fn end_source(
 // Piece i as a segment, where it is one.
 fn segment_source(kinds: &[u8], faces: &[u32], coords: &[f64], i: u32) -> Source
     requires { i < 2147483648 }
-    ensures { result ≡ segment_source_at (given kinds) (given faces) (given coords) i }
+    ensures { result ≡ segment_source_at kinds.now faces.now coords.now i }
 {
     if !is_end(kinds, 2 * i + 1) {
         return Source::Absent;
@@ -119,8 +118,8 @@ pub fn job_source(
     pieces: u32,
     j: u32,
 ) -> Source
-    ensures { result ≡ job_source_at (given vertices) (given edge_words) (given edge_reals) (given triangle_words) (given triangle_reals)
-        (given kinds) (given faces) (given coords) (given piece_words) pieces j }
+    ensures { result ≡ job_source_at vertices.now edge_words.now edge_reals.now triangle_words.now triangle_reals.now
+        kinds.now faces.now coords.now piece_words.now pieces j }
 {
     let i = j / 3;
     let k = j % 3;
@@ -146,7 +145,7 @@ pub fn job_source(
 
 // How many entries and offers a source makes. A count of carriers that no mesh has is cut so that the number fits.
 pub fn insert_count(edge_words: &[u32], vertex_words: &[u32], s: Source) -> u32
-    ensures { result ≡ insert_count_at (given edge_words) (given vertex_words) s }
+    ensures { result ≡ insert_count_at edge_words.now vertex_words.now s }
 {
     match s {
         Source::Absent => 0,
@@ -190,8 +189,8 @@ fn point_side(
     g: FaceId,
     k: u32,
 ) -> Offered
-    ensures { result ≡ point_side_at (given vertices) (given edge_words) (given edge_reals) (given triangle_words) (given triangle_reals) (given vertex_words) (given round)
-        (given kinds) (given faces) (given coords) (given piece_words) (given piece_reals) pieces f.0 p c first g.0 k }
+    ensures { result ≡ point_side_at vertices.now edge_words.now edge_reals.now triangle_words.now triangle_reals.now vertex_words.now round.now
+        kinds.now faces.now coords.now piece_words.now piece_reals.now pieces f.0 p c first g.0 k }
 {
     let count = carrier_count(edge_words, vertex_words, c);
     let h = other_carrier(edge_words, vertex_words, round, f, c, g);
@@ -250,8 +249,8 @@ fn point_insert(
     first: u32,
     i: u32,
 ) -> Insert
-    ensures { result ≡ point_insert_at (given vertices) (given edge_words) (given edge_reals) (given triangle_words) (given triangle_reals) (given vertex_words) (given round)
-        (given kinds) (given faces) (given coords) (given piece_words) (given piece_reals) pieces f.0 p piece part c first i }
+    ensures { result ≡ point_insert_at vertices.now edge_words.now edge_reals.now triangle_words.now triangle_reals.now vertex_words.now round.now
+        kinds.now faces.now coords.now piece_words.now piece_reals.now pieces f.0 p piece part c first i }
 {
     let g = carrier_face(edge_words, vertex_words, round, f, c, i / 4);
     if i % 4 == 0 {
@@ -305,7 +304,7 @@ fn segment_insert(
     piece: u32,
     i: u32,
 ) -> Insert
-    ensures { result ≡ segment_insert_at (given vertices) (given edge_words) (given edge_reals) (given triangle_words) (given triangle_reals) f.0 a b piece i }
+    ensures { result ≡ segment_insert_at vertices.now edge_words.now edge_reals.now triangle_words.now triangle_reals.now f.0 a b piece i }
 {
     if i == 0 {
         let x = PiecePart {
@@ -348,8 +347,8 @@ pub fn insert_at(
     s: Source,
     i: u32,
 ) -> Insert
-    ensures { result ≡ insert_at (given vertices) (given edge_words) (given edge_reals) (given triangle_words) (given triangle_reals) (given vertex_words) (given round)
-        (given kinds) (given faces) (given coords) (given piece_words) (given piece_reals) pieces s i }
+    ensures { result ≡ insert_at vertices.now edge_words.now edge_reals.now triangle_words.now triangle_reals.now vertex_words.now round.now
+        kinds.now faces.now coords.now piece_words.now piece_reals.now pieces s i }
 {
     match s {
         Source::Absent => Insert::Offer(Offered::Nothing),

@@ -1,7 +1,6 @@
 // What a source segment and a source point offer to a side of a face, read from a mesh's buffers. Nothing is asked of what the buffers hold; where they hold a
 // mesh's topology, it is what the Rust adds (proofs/Held.antt).
 ghost use Rattle.std.specs.Prelude.{◌≡◌};
-ghost use Rattle.buffers.specs.Lent.{given};
 ghost use Rattle.source_offers.specs.Offering.{along_at, segment_offer_at, point_offer_at};
 ghost use Rattle.source_offers.specs.Offering.{offered as offeredOf};
 
@@ -46,7 +45,7 @@ fn framed_segment(
     b: Vec3,
     n: Normal,
 ) -> Offered
-    ensures { result ≡ segment_offer_at (given vertices) (given edge_words) (given edge_reals) (given triangle_words) (given triangle_reals) f.0 k a b n }
+    ensures { result ≡ segment_offer_at vertices.now edge_words.now edge_reals.now triangle_words.now triangle_reals.now f.0 k a b n }
 {
     let e = side(triangle_words, f, k);
     let l = length(edge_reals, e);
@@ -78,7 +77,7 @@ fn framed_segment(
 
 // Where p stands along edge e, the x of its `coords`.
 fn along(vertices: &[f64], edge_words: &[u32], edge_reals: &[f64], e: EdgeId, p: Vec3) -> f64
-    ensures { result ≡ along_at (given vertices) (given edge_words) (given edge_reals) e.0 p }
+    ensures { result ≡ along_at vertices.now edge_words.now edge_reals.now e.0 p }
 {
     let o = vertex(vertices, ends(edge_words, e).a);
     vec3::dot(vec3::sub(p, o), unit(edge_reals, e))
@@ -97,7 +96,7 @@ pub fn segment_offer(
     b: Vec3,
     n: Normal,
 ) -> Offered
-    ensures { result ≡ segment_offer_at (given vertices) (given edge_words) (given edge_reals) (given triangle_words) (given triangle_reals) f.0 k a b n }
+    ensures { result ≡ segment_offer_at vertices.now edge_words.now edge_reals.now triangle_words.now triangle_reals.now f.0 k a b n }
 {
     let e = side(triangle_words, f, k);
     let ax = along(vertices, edge_words, edge_reals, e, a);
@@ -131,7 +130,7 @@ fn framed_point(
     p: Vec3,
     w: Bounds,
 ) -> Offered
-    ensures { result ≡ point_offer_at (given vertices) (given edge_words) (given edge_reals) (given triangle_words) (given triangle_reals) f.0 k p w }
+    ensures { result ≡ point_offer_at vertices.now edge_words.now edge_reals.now triangle_words.now triangle_reals.now f.0 k p w }
 {
     let e = side(triangle_words, f, k);
     let l = length(edge_reals, e);
@@ -165,7 +164,7 @@ pub fn point_offer(
     p: Vec3,
     w: Bounds,
 ) -> Offered
-    ensures { result ≡ point_offer_at (given vertices) (given edge_words) (given edge_reals) (given triangle_words) (given triangle_reals) f.0 k p w }
+    ensures { result ≡ point_offer_at vertices.now edge_words.now edge_reals.now triangle_words.now triangle_reals.now f.0 k p w }
 {
     let e = side(triangle_words, f, k);
     if too_narrow(w, length(edge_reals, e)) {

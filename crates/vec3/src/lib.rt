@@ -1,11 +1,12 @@
 // Vectors of three f64, in the Rust's order of operations: each sum and product is rounded by itself, left to right.
+#![tactic(auto)]
 
 ghost use Rattle.std.specs.Prelude.{◌≡◌};
 ghost use Rattle.vec3.specs.Vec.{scale_of, axpy_of, sub_of, dot_of, cross_of, norm_of};
 
 use sqrt_hypot::ThreeRoots;
 
-#[derive(Drop)]
+#[derive(Clone, Copy)]
 pub struct Vec3 {
     pub x: f64,
     pub y: f64,

@@ -1,7 +1,6 @@
 // Document 01's refusal 11, over a whole job: a point to be entered lies on a vertex of more than two faces, and a segment of computed length above zero ends there whose face is
 // round the nearest vertex of the point's face. There the Rust asks `vertex_wedge`, which is not ported.
 ghost use Rattle.std.specs.Prelude.{◌≡◌, ◌≤◌, length};
-ghost use Rattle.buffers.specs.Lent.{given};
 ghost use Rattle.wedge_refusal.specs.Wedge.{over_two_at, wedge_at, any_wedge_at};
 
 use buffers::FaceId;
@@ -21,8 +20,8 @@ fn over_two(
     f: FaceId,
     p: Vec3,
 ) -> bool
-    ensures { result ≡ over_two_at (given vertices) (given edge_words) (given edge_reals)
-        (given triangle_words) (given triangle_reals) (given vertex_words) f.0 p }
+    ensures { result ≡ over_two_at vertices.now edge_words.now edge_reals.now
+        triangle_words.now triangle_reals.now vertex_words.now f.0 p }
 {
     let c = carrier(
         vertices,
@@ -56,9 +55,9 @@ fn wedge_at(
     pieces: u32,
     e: u32,
 ) -> bool
-    ensures { result ≡ wedge_at (given vertices) (given edge_words) (given edge_reals)
-        (given triangle_words) (given triangle_reals) (given vertex_words)
-        (given triangles) (given kinds) (given faces) (given coords) (given words) pieces e }
+    ensures { result ≡ wedge_at vertices.now edge_words.now edge_reals.now
+        triangle_words.now triangle_reals.now vertex_words.now
+        triangles.now kinds.now faces.now coords.now words.now pieces e }
 {
     if !is_first(kinds, coords, words, pieces, e) {
         return false;
@@ -96,9 +95,9 @@ pub fn any_wedge(
     words: &[u32],
 ) -> bool
     requires { length kinds.now ≤ 65535 }
-    ensures { result ≡ any_wedge_at (given vertices) (given edge_words) (given edge_reals)
-        (given triangle_words) (given triangle_reals) (given vertex_words)
-        (given triangles) (given kinds) (given faces) (given coords) (given words) }
+    ensures { result ≡ any_wedge_at vertices.now edge_words.now edge_reals.now
+        triangle_words.now triangle_reals.now vertex_words.now
+        triangles.now kinds.now faces.now coords.now words.now }
 {
     let pieces = kinds.len() as u32;
     let mut e: u32 = 0;

@@ -1,0 +1,9 @@
+-- `job_checks::higher_of` meets its contract. Assumes nothing.
+use borrow.Author.Tests.{lt-ltb, le-ltb}
+use Rattle.job_checks.proofs.higher_of.Goals as goal
+
+pub returns-then-a-b : goal.returns-then-a-b
+returns-then-a-b c = simp (lt-ltb _ _ c.if-a-b.true)
+
+pub returns : goal.returns
+returns c = simp (le-ltb _ _ c.if-a-b.false)
