@@ -1,4 +1,6 @@
 // Stored cases as rows of numbers of 4 bytes, the least significant first; a double is two, the low half first. For the programs that replay such files.
+#![tactic(auto)]
+
 ghost use Rattle.std.specs.Prelude.{◌+◌, ◌*◌, ◌%◌, ◌≤◌, ◌<◌, min, ◌≡◌, length, get_or, drop};
 ghost use Rattle.std.specs.Float.{binary64};
 ghost use Rattle.std.specs.Float.Ieee.{to_bits};

@@ -1,0 +1,35 @@
+-- `stored_numbers::read_doubles` meets its contract. Assumes nothing.
+use Prim.Native.Nat.{◌+◌, ◌*◌}
+use lib.ListN.{length-set}
+use mathlib.Core.Path.{refl, ◌∙◌}
+use native.Mathlib.Omega.{arith}
+use lib.Ieee.{nan}
+use Rattle.stored_numbers.specs.Numbers.{double_at}
+use Rattle.stored_numbers.proofs.Rows.{written_next, written_all}
+use Rattle.stored_numbers.proofs.read_doubles.Goals as goal
+
+pub loop-i-init : goal.loop-i-init
+loop-i-init c = (refl, (omega arith, λ j h. absurd (omega (arith, h))))
+
+pub loop-i-smaller : goal.loop-i-smaller
+loop-i-smaller c = simp length-set (omega arith)
+
+pub loop-i-preserved : goal.loop-i-preserved
+loop-i-preserved c =
+    let at-loop-test = c in
+    let at-loop = at-loop-test in
+    let start = at-loop in
+    let double = c.double in
+    let loop-test = at-loop-test.loop-i-test in
+    let loop = at-loop.loop-i in
+    let a = start.args in (
+      length-set loop.to loop.i double.result ∙ loop.invariant.0,
+      (
+        omega (arith, loop-test.true, loop.invariant.0),
+        written_next nan (λ j. double_at a.s.now (a.k + 2 * j)) loop.i
+            loop.to double.result loop-test.true double.ensures loop.invariant.1.1,
+      ),
+    )
+
+pub returns : goal.returns
+returns c = let a = c.args in written_all nan (λ j. double_at a.s.now (a.k + 2 * j)) a.to.now c.loop-i.to c.loop-i.i c.loop-i.invariant.0 c.loop-i-test.false c.loop-i.invariant.1.1
