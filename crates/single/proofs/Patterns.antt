@@ -4,14 +4,13 @@ use Prim.Native.Nat.{ℕ, zero, suc, ◌+◌, ◌-◌, ◌*◌, ◌/◌, ◌%◌
 use native.Mathlib.Nat.{mul_assoc, mul_comm, mul_left_comm, mul_right_comm, mul-one, mul-zero, zero-mul, lt_of_le_of_lt, zero-sub, zero-div, mul-div_cancel, mul-div-mul_right, mul-pos, mul-le-mul_right, mul-lt-mul_of_pos_right, lt_of_mul-lt-mul_right, div-lt_iff_lt-mul, le-div_iff_mul-le}
 use native.Mathlib.Omega.{arith}
 use mathlib.Core.Path.{◌≡◌, refl, sym, ap, ◌∙◌, subst}
-use mathlib.Core.Bool.{Bool, true, false, not, cond, ◌&&◌}
+use mathlib.Core.Bool.{Bool, true, false, cond, ◌&&◌}
 use lib.Dec.{T, eqb, ltb, leb, ltb→lt, leb→le}
 use lib.IntN.{ℤ, pos, negsuc}
 use lib.Pow.{pow-add, pow_pos, shr-shr, shl-shr, shl_lt}
 use lib.Ieee.{Float, nan, inf, fin, Format, binary32, binary64, prec, low, hid, top, up, down, size, fits, to_bits}
-use lib.Ieee.Digits.{size-lt, size-le, size_reaches}
+use lib.Ieee.Digits.{size-lt, size_reaches}
 use lib.Ieee.Fits.{and_l, and_r, up_pos, down_pos}
-use lib.Ieee.Scale.{finite}
 use Rattle.nat_laws.proofs.Power.{size_at, pow_back}
 use Rattle.single.specs.Single.{is_single}
 
