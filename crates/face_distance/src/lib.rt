@@ -1,4 +1,6 @@
 // The distances that the Rust's `at` and `edge_at` take the least of, on values.
+#![tactic(auto)]
+
 ghost use Rattle.std.specs.Prelude.{◌≡◌};
 ghost use Rattle.std.specs.Float.{binary64};
 ghost use Rattle.root_spec.specs.Root.{hypot_of};
