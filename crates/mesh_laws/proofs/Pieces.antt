@@ -1,9 +1,9 @@
 -- The points of the pieces of a job that passed checks 6 and 7 are in range. Assumes nothing.
 --     start_in_range; end_in_range (of a segment: a point's last three coordinates may be anything)
 use Prim.Native.Nat.{ℕ, ◌+◌, ◌*◌, ◌/◌, ◌%◌, ◌<◌}
-use mathlib.Core.Bool.{Bool, true, false, not, ◌&&◌, ◌||◌, and-true, or-true}
+use mathlib.Core.Bool.{true, not, ◌&&◌, ◌||◌, and-true, or-true}
 use mathlib.Core.List.{List}
-use mathlib.Core.Path.{◌≡◌, refl, sym, ap, ◌∙◌}
+use mathlib.Core.Path.{◌≡◌, refl, sym, ◌∙◌}
 use native.Mathlib.Omega.{arith}
 use borrow.Author.Tests.{lt-ltb, ne_eqb}
 use lib.Dec.{ltb, eqb}

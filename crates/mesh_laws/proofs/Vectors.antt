@@ -1,13 +1,12 @@
 -- Magnitudes through the functions on vectors, as computed. Assumes nothing.
 --     vec_wider, vec_finite; sub_within, scale_within, axpy_within, dot_within; square-within (0 ≤ dot u u ≤ c), norm-within (0 ≤ norm u ≤ c)
-use mathlib.Core.Path.{◌≡◌}
 use lib.Dec.{T}
 use lib.Ieee.{Float, binary64, le, fits}
 use lib.Ieee.Fits.{mul-fits, add-fits}
 use lib.Ieee.Scale.{finite}
 use Rattle.root_spec.specs.Root.{sqrt_of}
 use Rattle.float64.specs.Scalar.{zero64}
-use Rattle.float64.specs.Notation.{◌⊕◌, ◌⊖◌, ◌⊗◌}
+use Rattle.float64.specs.Notation.{◌⊕◌, ◌⊗◌}
 use Rattle.float_laws.proofs.Order.{le_trans}
 use Rattle.float_laws.proofs.Roots.{sqrt_nonneg}
 use Rattle.float_bounds.specs.Within.{Within}

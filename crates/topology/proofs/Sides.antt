@@ -3,7 +3,7 @@
 --     third vertex        third_is (the vertex opposite to the side), third_there (it is in range), third_off (it is not on the edge)
 --     shared vertex       two_sides_share (two sides have one vertex in common, and the face is listed round it), side_vertex_listed
 --     edge between two    between_of_side, between_either_way, next_edge (from an end of an edge to the third vertex of a face of it)
-use Prim.Native.Nat.{ℕ, ◌+◌, ◌*◌, ◌/◌, ◌%◌, ◌<◌, ◌≤◌}
+use Prim.Native.Nat.{ℕ, ◌+◌, ◌*◌, ◌/◌, ◌%◌, ◌<◌}
 use mathlib.Core.Path.{◌≡◌, refl, sym, ap, subst, ◌∙◌}
 use mathlib.Core.Bool.{Bool, true, false, not, cond, true≢false, and-false, and_comm}
 use mathlib.Core.List.{List}
@@ -14,12 +14,12 @@ use lib.Dec.{eqb}
 use lib.ListN.{length, get_or}
 use Rattle.job_checks.specs.Sound.{Distinct}
 use Rattle.topology.specs.Checked.{ValidTriangles}
-use Rattle.topology.specs.Edges.{EndPair, no_edge, no_face, between, same_edge, off_ends, joins, find, side_vertex, side_edge, edges, tri_edge, faces_among, edge_faces, local, third, shared_vertex, edge_between, vertex_faces}
+use Rattle.topology.specs.Edges.{EndPair, no_edge, no_face, between, off_ends, joins, find, side_vertex, side_edge, edges, tri_edge, faces_among, edge_faces, local, third, shared_vertex, edge_between, vertex_faces}
 use Rattle.topology.proofs.Find.{either, same_edge_lem}
 use Rattle.topology.proofs.Chosen.{Listed}
 use Rattle.topology.proofs.Edges.{edges_numbered, tri_edge_is, tri_edge_there}
 use Rattle.topology.proofs.Faces.{OfSide, listed_face, side_listed}
-use Rattle.topology.proofs.Triangles.{turn, ends, off, on_first, on_second, sides_differ, local_0, local_1, local_2, third_0, third_1, third_2, side_0, side_1}
+use Rattle.topology.proofs.Triangles.{turn, ends, off, on_first, on_second, local_0, local_1, local_2, third_0, third_1, third_2, side_0, side_1}
 use Rattle.topology.proofs.Checked.{three_ways, side_vertex_at, side_vertex_there, inside, side_inside}
 use Rattle.topology.proofs.VertexFaces.{vertex_complete}
 
