@@ -1,5 +1,6 @@
 // What is told of distances along an edge by tests on squares, with no root: whether a source's distance is at least or at most a number. Roots are taken where
 // the tests do not tell.
+#![tactic(auto)]
 
 ghost use Rattle.std.specs.Prelude.{◌≡◌, T, ◌||◌};
 ghost use Rattle.std.specs.Float.Ieee.{eq, lt, le};
