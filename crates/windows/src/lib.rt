@@ -1,5 +1,7 @@
 // The window buffer: for each window u32 words (its edge, the face it goes into, its flags, its link) and f64 reals (its ends,
 // its least value, the three numbers of its source). Crate `layout` says where each stands.
+#![tactic(auto)]
+
 ghost use Rattle.std.specs.Prelude.{◌≡◌, cond, ◌+◌, ◌*◌, ◌/◌, ◌%◌, ◌≤◌, ◌<◌, [], ◌∷◌, length};
 ghost use Rattle.layout.specs.Layout.{reals_per_window, window_s0};
 ghost use Rattle.buffers.specs.Slots.{fill};
@@ -15,14 +17,14 @@ use layout::{
 use source::{Src, Win};
 
 // What a window only carries along: the face it goes into, and whether it is queued.
-#[derive(Drop)]
+#[derive(Clone, Copy)]
 pub struct Carried {
     pub into: FaceId,
     pub queued: bool,
 }
 
 // An edge: its number, its length and its two ends.
-#[derive(Drop)]
+#[derive(Clone, Copy)]
 pub struct Edge {
     pub id: EdgeId,
     pub len: f64,
@@ -31,7 +33,7 @@ pub struct Edge {
 }
 
 // A window that is to be added to an edge.
-#[derive(Drop)]
+#[derive(Clone, Copy)]
 pub struct NewWindow {
     pub b0: f64,
     pub b1: f64,
@@ -40,7 +42,7 @@ pub struct NewWindow {
 }
 
 // A window with what the buffer keeps beside it.
-#[derive(Drop)]
+#[derive(Clone, Copy)]
 pub struct WindowRecord {
     pub edge: EdgeId,
     pub carried: Carried,
@@ -52,7 +54,7 @@ pub struct WindowRecord {
 
 // How many windows the buffer counts for.
 pub fn capacity(words: &[u32], reals: &[f64]) -> u32
-    ensures { result ≡ capacity_of (length (given words)) (length (given reals)) }
+    ensures { result ≡ capacity_of (length words.now) (length reals.now) }
 {
     buffers::count(words.len(), WORDS_PER_WINDOW, reals.len(), REALS_PER_WINDOW)
 }
@@ -112,7 +114,7 @@ fn source_of(line: bool, s0: f64, s1: f64, s2: f64) -> Src
 
 fn load_win(reals: &[f64], id: WindowId, line: bool) -> Win
     requires { reals_per_window * id.0 + reals_per_window ≤ length reals.now }
-    ensures { result ≡ win_at line (given reals) id.0 }
+    ensures { result ≡ win_at line reals.now id.0 }
 {
     let i = (REALS_PER_WINDOW as usize) * (id.0 as usize);
     let src = source_of(
@@ -132,7 +134,7 @@ fn load_win(reals: &[f64], id: WindowId, line: bool) -> Win
 // A window is read or written only where the buffer counts for it: each of these functions is lent both slices, since both make the count.
 pub fn load(words: &[u32], reals: &[f64], id: WindowId) -> WindowRecord
     requires { id.0 < capacity_of (length words.now) (length reals.now) }
-    ensures { result ≡ window_at (given words) (given reals) id.0 }
+    ensures { result ≡ window_at words.now reals.now id.0 }
 {
     let i = (WORDS_PER_WINDOW as usize) * (id.0 as usize);
     let flags = words[i + (WINDOW_FLAGS as usize)];

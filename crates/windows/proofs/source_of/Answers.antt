@@ -1,0 +1,7 @@
+use Rattle.windows.proofs.source_of.Goals as goal
+
+pub returns-then-line : goal.returns-then-line
+returns-then-line c = rw c.if-line.true
+
+pub returns : goal.returns
+returns c = rw c.if-line.false
