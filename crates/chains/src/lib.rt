@@ -1,6 +1,8 @@
 // Chains of windows: each edge's windows in order, linked through the window buffer. `count` is at most how many windows that buffer counts
 // for, and each function is lent both of its slices, since both make that number. A link to a window past `count` is none, so whatever numbers
 // the buffers hold, no window past the count is met.
+#![tactic(auto)]
+
 ghost use Rattle.std.specs.Prelude.{◌≡◌, ◌+◌, ◌-◌, ◌≤◌, ◌<◌, length};
 ghost use Rattle.layout.specs.Layout.{words_per_edge};
 ghost use Rattle.buffers.specs.Slots.{slots_of};
@@ -31,7 +33,7 @@ pub fn link_at(
     before: u32,
 ) -> u32
     requires { (e.0 < slots_of (length edges.now) words_per_edge) × (before ≤ count) × (count ≤ capacity_of (length words.now) (length reals.now)) }
-    ensures { result ≡ link_in count (link_at (links (given edges) (given words)) e.0 before) }
+    ensures { result ≡ link_in count (link_at (links edges.now words.now) e.0 before) }
 {
     if before == 0 {
         let head = read_u32(edges, WORDS_PER_EDGE, e.0, EDGE_HEAD);

@@ -1,0 +1,21 @@
+use mathlib.Core.Path.{◌∙◌}
+use Rattle.chains.specs.Chains.{links}
+use Rattle.chains.proofs.Turns.{with_head, with_next_lem}
+use borrow.Author.Rules.{rules}
+use Rattle.chains.proofs.set_link.Goals as goal
+
+pub returns-then-before-eq0 : goal.returns-then-before-eq0
+returns-then-before-eq0 c =
+    let written = c in
+    let tested = written in
+    let a = tested.args in
+    (λ t. links (written.write_u32.ensures t) a.words.now)
+    ∙ with_head (links a.edges.now a.words.now) a.e.0 a.before a.link tested.if-before-eq0.true
+
+pub returns : goal.returns
+returns c =
+    let written = c in
+    let tested = written in
+    let a = tested.args in
+    (λ t. links a.edges.now (written.write_u32-2.ensures t))
+    ∙ with_next_lem (links a.edges.now a.words.now) a.e.0 a.before a.link tested.if-before-eq0.false
