@@ -1,4 +1,6 @@
 // What an addition does beside the list of its edge: lists that grow, windows made, events queued, vertex distances.
+#![tactic(auto)]
+
 ghost use Rattle.std.specs.Prelude.{◌≡◌, ℕ, ◌+◌, ◌*◌, eqb, get_or};
 ghost use Rattle.layout.specs.Layout.{words_per_vertex, vertex_flag};
 ghost use Rattle.heap.specs.Queue.{queue};
@@ -12,7 +14,7 @@ use layout::{REALS_PER_VERTEX, VERTEX_DISTANCE, VERTEX_EMITTED, VERTEX_FLAG, WOR
 
 // Whether vertex v passes distances round itself.
 fn flagged(vertex_words: &[u32], v: VertexId) -> bool
-    ensures { result ≡ eqb (get_or (given vertex_words) (words_per_vertex * v.0 + vertex_flag) 0) 1 }
+    ensures { result ≡ eqb (get_or vertex_words.now (words_per_vertex * v.0 + vertex_flag) 0) 1 }
 {
     if read_u32(vertex_words, WORDS_PER_VERTEX, v.0, VERTEX_FLAG) == 1 {
         return true;
@@ -22,7 +24,7 @@ fn flagged(vertex_words: &[u32], v: VertexId) -> bool
 
 // The distance of vertex v, a NaN where its two numbers are not both there: then no distance is less.
 pub fn distance(vertex: &[f64], v: VertexId) -> f64
-    ensures { result ≡ distance_of (given vertex) v.0 }
+    ensures { result ≡ distance_of vertex.now v.0 }
 {
     let i = (REALS_PER_VERTEX as usize) * (v.0 as usize);
     if i + (VERTEX_EMITTED as usize) < vertex.len() {
@@ -43,7 +45,7 @@ pub fn touch(
     v: VertexId,
     d: f64,
 ) -> Pushed
-    ensures { (cuts windows made : ℕ) → act cuts windows limit (given vertex_words) (Action·touch v.0 d) (stock made n (queue (given keys) (given events)) (given vertex))
+    ensures { (cuts windows made : ℕ) → act cuts windows limit vertex_words.now (Action·touch v.0 d) (stock made n (queue (given keys) (given events)) (given vertex))
         ≡ queueing made (left vertex) (result, queue (left keys) (left events)) }
 {
     if d < distance(vertex, v) {

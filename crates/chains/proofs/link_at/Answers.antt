@@ -1,7 +1,6 @@
 use mathlib.Core.Path.{ap, ◌∙◌}
 use Rattle.chains.specs.Chains.{links, link_in}
 use Rattle.chains.proofs.Turns.{link_head, link_next}
-use borrow.Author.Rules.{rules}
 use Rattle.chains.proofs.link_at.Goals as goal
 
 pub returns-then-before-eq0 : goal.returns-then-before-eq0

@@ -1,7 +1,6 @@
 use mathlib.Core.Path.{◌∙◌}
 use Rattle.chains.specs.Chains.{links}
 use Rattle.chains.proofs.Turns.{with_head, with_next_lem}
-use borrow.Author.Rules.{rules}
 use Rattle.chains.proofs.set_link.Goals as goal
 
 pub returns-then-before-eq0 : goal.returns-then-before-eq0
