@@ -3,7 +3,6 @@
 ghost use Rattle.std.specs.Prelude.{◌≡◌, cond, ◌+◌, ◌*◌, ◌/◌, ◌%◌, ◌≤◌, ◌<◌, length};
 ghost use Rattle.heap.specs.Queue.{queue, pushing, popping};
 ghost use Rattle.heap_vectors.specs.Replay.{event_at, same_event, replay_push, pop_differs, replay_pop, replay_record, replay_records};
-ghost use Rattle.buffers.specs.Lent.{given, left};
 
 use heap::{Event, Popped, Pushed, item_of, kind_of, number_of, pop, push};
 
@@ -25,7 +24,7 @@ fn low(x: u64) -> u32
 // The event of record k of s.
 fn event(s: &[u8], k: usize) -> Event
     requires { 32 * k + 32 ≤ length s.now }
-    ensures { result ≡ event_at (given s) k }
+    ensures { result ≡ event_at s.now k }
 {
     Event {
         key: vectors::float_at(s, 4 * k + 1),
@@ -70,7 +69,7 @@ struct Outcome {
 }
 
 fn replay_push(keys: &mut [f64], events: &mut [u32], n: u32, e: Event, found: bool) -> Outcome
-    ensures { (result.n, (result.differs, queue (left keys) (left events))) ≡ replay_push found n (pushing (queue (given keys) (given events)) n e) }
+    ensures { (result.n, (result.differs, queue keys.new events.new)) ≡ replay_push found n (pushing (queue keys.old events.old) n e) }
 {
     match push(keys, events, n, e) {
         Pushed::Full => Outcome {
@@ -95,7 +94,7 @@ fn pop_differs(found: bool, x: Event, e: Event) -> u64
 }
 
 fn replay_pop(keys: &mut [f64], events: &mut [u32], n: u32, e: Event, found: bool) -> Outcome
-    ensures { (result.n, (result.differs, queue (left keys) (left events))) ≡ replay_pop found e n (popping (queue (given keys) (given events)) n) }
+    ensures { (result.n, (result.differs, queue keys.new events.new)) ≡ replay_pop found e n (popping (queue keys.old events.old) n) }
 {
     match pop(keys, events, n) {
         Popped::Empty => Outcome {
@@ -112,7 +111,7 @@ fn replay_pop(keys: &mut [f64], events: &mut [u32], n: u32, e: Event, found: boo
 // Record k of s.
 fn replay_record(keys: &mut [f64], events: &mut [u32], n: u32, s: &[u8], k: usize) -> Outcome
     requires { 32 * k + 32 ≤ length s.now }
-    ensures { (result.n, (result.differs, queue (left keys) (left events))) ≡ replay_record (given s) k n (queue (given keys) (given events)) }
+    ensures { (result.n, (result.differs, queue keys.new events.new)) ≡ replay_record s.now k n (queue keys.old events.old) }
 {
     let what = vectors::word(s, 4 * k);
     let e = event(s, k);
@@ -125,8 +124,8 @@ fn replay_record(keys: &mut [f64], events: &mut [u32], n: u32, s: &[u8], k: usiz
 // The records of a chunk, from a queue of n events on.
 fn replay_records(keys: &mut [f64], events: &mut [u32], n: u32, s: &[u8]) -> State
     requires { length s.now ≤ 32768 }
-    ensures events_value { (result.n, (result.differences, queue (left keys) (left events))) ≡ replay_records (length (given s) / 32) (given s) 0 n 0 (queue (given keys) (given events)) }
-    ensures cases_value { (result.cases ≡ length (given s) / 32) × (result.differences ≤ result.cases) }
+    ensures events_value { (result.n, (result.differences, queue keys.new events.new)) ≡ replay_records (length s.now / 32) s.now 0 n 0 (queue keys.old events.old) }
+    ensures cases_value { (result.cases ≡ length s.now / 32) × (result.differences ≤ result.cases) }
 {
     let mut n = n;
     let mut differences: u64 = 0;

@@ -1,6 +1,6 @@
 -- Laws of records and of the count of those that differ. Assumes nothing.
 use mathlib.Core.Path.{◌≡◌, ap, subst}
-use Prim.Native.Nat.{ℕ, ◌+◌, ◌*◌, ◌/◌, ◌≤◌, ◌<◌}
+use Prim.Native.Nat.{ℕ, ◌+◌, ◌*◌, ◌/◌, ◌≤◌}
 use native.Mathlib.Nat.{mul_assoc, mul-div-le}
 use native.Mathlib.Omega.{arith}
 use Rattle.root_vectors.specs.Replay.{arity, numbers_per_record}

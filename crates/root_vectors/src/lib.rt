@@ -1,13 +1,18 @@
 // Replays files of stored roots. A record is a function's arguments and its answer, each a bit pattern of 8 bytes.
-ghost use Rattle.std.specs.Prelude.{◌≡◌, ◌+◌, ◌*◌, ◌≤◌, ◌<◌, length};
+#![tactic(auto)]
+
+ghost use Rattle.std.specs.Prelude.{IfOk, ◌≡◌, ◌+◌, ◌*◌, ◌≤◌, ◌<◌, length};
 ghost use Rattle.root_vectors.specs.Replay.{answer_at, holds_at, records_in, differing};
 ghost use Rattle.root_vectors.specs.Replay.{arity as Replay·arity, numbers_per_record};
 
-use libc::STDOUT_FILENO;
+use std::env::Env;
+use std::io::Read;
+use std::rt::Files;
+use std::{env, fs, io};
 use vectors::Tally;
 
 // Which root the records are of.
-#[derive(Drop)]
+#[derive(Clone, Copy)]
 pub enum Function {
     Sqrt,
     Hypot,
@@ -69,55 +74,56 @@ pub fn differences(f: Function, s: &[u8]) -> u64
 }
 
 // Prints record k of s and, after it, the answer that differs.
-fn print_difference(f: Function, s: &[u8], k: usize)
+fn print_difference(rt: &impl Print, f: Function, s: &[u8], k: usize) -> io::Result<()>
     requires { 8 * (numbers_per_record f * k + numbers_per_record f) ≤ length s.now }
 {
     let n = arity(f) + 1;
     let i = n * k;
-    vectors::print_words(s, i, n);
-    io::write_all(STDOUT_FILENO, b" answered");
-    vectors::print_word(vectors::pattern(answer(f, s, i)));
-    io::write_all(STDOUT_FILENO, b"\n");
+    vectors::print_words(rt, s, i, n)?;
+    print!(rt; " answered")?;
+    vectors::print_word(rt, vectors::pattern(answer(f, s, i)))?;
+    println!(rt)
 }
 
 // Prints the first few that differ.
-fn print_differences(f: Function, s: &[u8]) {
+fn print_differences(rt: &impl Print, f: Function, s: &[u8]) -> io::Result<()> {
     let n = records(f, s);
     let mut left: usize = 5;
     let mut k: usize = 0;
     while k < n {
         if left > 0 && !holds(f, s, k) {
-            print_difference(f, s, k);
+            print_difference(rt, f, s, k)?;
             left -= 1;
         }
         k += 1;
     }
+    Ok(())
 }
 
 // A chunk of a file is 49,152 bytes: whole records of each function. An empty one is the end.
-fn replay_chunk(f: Function, fd: i32) -> Tally
-    ensures { (result.cases ≤ 49152) × (result.differences ≤ 49152) }
+fn replay_chunk(rt: &impl Print, f: Function, reader: &mut impl Read) -> io::Result<Tally>
+    ensures { IfOk result (λ t. (t.cases ≤ 49152) × (t.differences ≤ 49152)) }
 {
     let mut buf = [0u8; 49152];
-    let got = io::read_full(fd, &mut buf);
+    let got = vectors::read_full(reader, &mut buf)?;
     let n = records(f, &buf[..got]);
     let d = differences(f, &buf[..got]);
     if d > 0 {
-        print_differences(f, &buf[..got]);
+        print_differences(rt, f, &buf[..got])?;
     }
-    Tally {
+    Ok(Tally {
         cases: n as u64,
         differences: d,
-    }
+    })
 }
 
-// Replays what can be read from fd, up to 2^32 chunks.
-fn replay(f: Function, fd: i32) -> Tally {
+// Replays what can be read, up to 2^32 chunks.
+fn replay(rt: &impl Print, f: Function, reader: &mut impl Read) -> io::Result<Tally> {
     let mut cases: u64 = 0;
     let mut differences: u64 = 0;
     let mut turns: u64 = 0x1_0000_0000;
     while turns > 0 {
-        let t = replay_chunk(f, fd);
+        let t = replay_chunk(rt, f, reader)?;
         if t.cases == 0 {
             break;
         }
@@ -125,29 +131,20 @@ fn replay(f: Function, fd: i32) -> Tally {
         differences += t.differences;
         turns -= 1;
     }
-    Tally { cases, differences }
+    Ok(Tally { cases, differences })
 }
 
-// Replays the file that argument i names, and reports.
-fn replay_argument(f: Function, i: usize) {
-    let mut path = io::buffer();
-    let n = os::arg(i, &mut path);
-    let fd = os::open_read(&path[..n]);
-    if fd < 0 {
-        os::fail(&path[..n]);
-        return;
-    }
-    let t = replay(f, fd);
-    libc::close(fd);
-    vectors::report(&path[..n], t.cases, t.differences);
+// Replays the file of the name, and reports.
+fn replay_argument(rt: &(impl Files + Print), f: Function, name: &str) -> io::Result<()> {
+    let mut file = fs::open(rt, name)?;
+    let t = replay(rt, f, &mut file)?;
+    vectors::report(rt, name, t.cases, t.differences)
 }
 
 // Replays the files that the arguments name.
-pub fn replay_arguments(f: Function) {
-    let n = os::arg_count();
-    let mut i: usize = 1;
-    while i < n {
-        replay_argument(f, i);
-        i += 1;
+pub fn replay_arguments(rt: &(impl Env + Alloc + Files + Print), f: Function) -> io::Result<()> {
+    for name in env::args(rt)?.skip(1) {
+        replay_argument(rt, f, name.as_str())?;
     }
+    Ok(())
 }
