@@ -12,7 +12,7 @@ use field_step::Stepped;
 use trim_split::Counts;
 
 // There is no slot for something; or so many windows and events there are now, after so many steps. Every pop is a step, skipped ones included.
-#[derive(Drop)]
+#[derive(Clone, Copy)]
 pub enum Advanced {
     Stopped(Lack),
     Went(Counts, u32),

@@ -19,7 +19,7 @@ use source_windows::lies_on;
 use vec3::Vec3;
 
 // What a point of a face lies on: the face itself, an edge of it or a vertex of it.
-#[derive(Drop)]
+#[derive(Clone, Copy)]
 pub enum CarrierSimplex {
     Face,
     Edge(EdgeId),

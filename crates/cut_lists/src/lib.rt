@@ -166,7 +166,7 @@ pub fn pieces(better: &[f64], m: usize, b0: f64, b1: f64, tiny: f64, out: &mut [
 
 // One of the lists outgrew its buffer; or so many intervals are kept, the new window is shorter along so many stretches, and the existing one is left in
 // so many pieces.
-#[derive(Drop)]
+#[derive(Clone, Copy)]
 pub enum Met {
     Full,
     Left {

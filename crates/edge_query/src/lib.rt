@@ -15,14 +15,14 @@ use windows::Edge;
 
 // Of the windows that start at x or before it, as far as a walk has come: the least value of those behind the last that ends short of x, a NaN where there is none; and the link
 // of that one, 0 where there is none.
-#[derive(Drop)]
+#[derive(Clone, Copy)]
 pub struct Passed {
     pub least: f64,
     pub short: u32,
 }
 
 // Where a walk along the chain of an edge may begin for any place past `place`: behind the window of a link (0: at the head), with so many links left.
-#[derive(Drop)]
+#[derive(Clone, Copy)]
 pub struct Cursor {
     pub edge: u32,
     pub place: f64,
@@ -31,7 +31,7 @@ pub struct Cursor {
 }
 
 // A distance, and where the walk for the next may begin.
-#[derive(Drop)]
+#[derive(Clone, Copy)]
 pub struct Resumed {
     pub distance: f64,
     pub cursor: Cursor,

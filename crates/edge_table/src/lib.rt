@@ -18,7 +18,7 @@ use layout::{
 };
 
 // How many edges there are, or document 01's refusal 10: an edge lies in more than two triangles.
-#[derive(Drop)]
+#[derive(Clone, Copy)]
 pub enum Table {
     Edges(u32),
     ThirdFace,

@@ -13,7 +13,7 @@ use layout::{
 };
 
 // Which part of a source piece an entry is of: a point or a segment's end a, its end b, or the whole segment.
-#[derive(Drop)]
+#[derive(Clone, Copy)]
 pub enum Part {
     EndA,
     EndB,
@@ -21,14 +21,14 @@ pub enum Part {
 }
 
 // What an entry holds: the number of a source piece, and which part of it.
-#[derive(Drop)]
+#[derive(Clone, Copy)]
 pub struct PiecePart {
     pub piece: u32,
     pub part: Part,
 }
 
 // The answer of `enter`: refusal 17, or how many entries there are now.
-#[derive(Drop)]
+#[derive(Clone, Copy)]
 pub enum Entered {
     Full,
     Count(u32),

@@ -103,7 +103,7 @@ fn through_chain(
 }
 
 // A walk along the chain of an edge for the least `low` of its windows: the link before the next one, what it has come to, and whether there may be more.
-#[derive(Drop)]
+#[derive(Clone, Copy)]
 pub struct LowWalk {
     pub before: u32,
     pub low: f64,
@@ -157,7 +157,7 @@ fn pass_low(
 }
 
 // The least `low` on each side of a face.
-#[derive(Drop)]
+#[derive(Clone, Copy)]
 struct SideLows {
     first: f64,
     second: f64,

@@ -20,7 +20,7 @@ use layout::{
 };
 
 // What a walk along a chain comes to: that it is no field's, or how many more links there may be.
-#[derive(Drop)]
+#[derive(Clone, Copy)]
 pub struct ChainWalk {
     pub unsound: bool,
     pub left: u32,

@@ -17,14 +17,14 @@ use trim::Added;
 use trim_split::Counts;
 
 // What a popped event comes to: nothing, or what passes distances on.
-#[derive(Drop)]
+#[derive(Clone, Copy)]
 pub enum Turn {
     Skip,
     Pass(Spread),
 }
 
 // The queue is empty, and nothing was done; or there is no slot for something; or so many windows and events there are now.
-#[derive(Drop)]
+#[derive(Clone, Copy)]
 pub enum Stepped {
     Idle,
     Stopped(Lack),

@@ -73,7 +73,7 @@ fn answer_holds(s: &[u8], k: usize, computed: Computed) -> bool {
 }
 
 // How long the slices of the mesh, of the pieces and of the distances were.
-#[derive(Drop)]
+#[derive(Clone, Copy)]
 struct MeshLengths {
     vertex_words: usize,
     edge_words: usize,
@@ -104,7 +104,7 @@ fn mesh_lengths(s: &[u8], k: usize) -> MeshLengths
 }
 
 // How long those of the windows, of the queue and of the entries were.
-#[derive(Drop)]
+#[derive(Clone, Copy)]
 struct WindowLengths {
     words: usize,
     reals: usize,
@@ -126,7 +126,7 @@ fn window_lengths(s: &[u8], k: usize) -> WindowLengths
 }
 
 // How long those of the cut lists and the scratch rows were.
-#[derive(Drop)]
+#[derive(Clone, Copy)]
 struct CutLengths {
     pts: usize,
     out: usize,

@@ -15,7 +15,7 @@ use little_endian::{double_at, read_bytes, read_doubles};
 use slip::{Slip, SlipJob, least};
 use slip_moves::{Head, Moved, Refusal, ends_size, move_slip, read_head};
 
-#[derive(Drop)]
+#[derive(Clone, Copy)]
 pub enum Answer {
     Refused(Refusal),
     TooMany,

@@ -8,14 +8,14 @@ use little_endian::number_at;
 use text_out::put_text;
 
 // The forms of a slip: numbers of four bytes, or in groups.
-#[derive(Drop)]
+#[derive(Clone, Copy)]
 pub enum Form {
     Plain,
     Groups,
 }
 
 // What stands at a place: no whole number, one in too many groups or too large, or a number and the place behind it.
-#[derive(Drop)]
+#[derive(Clone, Copy)]
 pub enum Number {
     Short,
     Over,

@@ -7,7 +7,7 @@ ghost use Rattle.heap_vectors.specs.Replay.{event_at, same_event, replay_push, p
 use heap::{Event, Popped, Pushed, item_of, kind_of, number_of, pop, push};
 
 // How many events the queue has, how many operations were replayed and how many differed.
-#[derive(Drop)]
+#[derive(Clone, Copy)]
 struct State {
     n: u32,
     cases: u64,
@@ -62,7 +62,7 @@ fn one_if(b: bool) -> u64
 }
 
 // What an operation leaves, and 1 where it was answered otherwise than stored.
-#[derive(Drop)]
+#[derive(Clone, Copy)]
 struct Outcome {
     n: u32,
     differs: u64,

@@ -15,7 +15,7 @@ use insertion::{InsertAnswer, InsertCounts};
 use trim_split::Counts;
 
 // Refusal 11, what there is no slot for, or the counts after the last piece.
-#[derive(Drop)]
+#[derive(Clone, Copy)]
 pub enum InsertedJob {
     Wedge,
     Stopped(Lack),

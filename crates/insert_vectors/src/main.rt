@@ -20,7 +20,7 @@ use trim_split::Counts;
 use vectors::Tally;
 
 // The walk behind a pop, and how many events are left.
-#[derive(Drop)]
+#[derive(Clone, Copy)]
 struct PoppedWalk {
     walk: SummedWalk,
     left: u32,

@@ -14,14 +14,14 @@ use trim::Added;
 use trim_split::Counts;
 
 // How many windows are made and events queued, and how many entries there are.
-#[derive(Drop)]
+#[derive(Clone, Copy)]
 pub struct InsertCounts {
     pub trim: Counts,
     pub entries: u32,
 }
 
 // What there is no slot for, or the counts afterwards.
-#[derive(Drop)]
+#[derive(Clone, Copy)]
 pub enum InsertAnswer {
     Stopped(Lack),
     Went(InsertCounts),

@@ -11,7 +11,7 @@ use stored_numbers::{count, read_doubles};
 use vec3::Vec3;
 
 // The function that the records are of.
-#[derive(Drop)]
+#[derive(Clone, Copy)]
 enum Leaf {
     Propagate,
     Point,

@@ -15,7 +15,7 @@ use layout::{
 
 // How many slots the slices have that a job needs beside those of the mesh: the distances of vertices, two f64 each, count with the words of vertices. And how
 // many windows there is a slot for.
-#[derive(Drop)]
+#[derive(Clone, Copy)]
 pub struct OtherCounts {
     pub vertex_reals: u32,
     pub pieces: u32,
@@ -25,7 +25,7 @@ pub struct OtherCounts {
 }
 
 // How many edges the mesh has, or what it is refused for: `meshed_number` of specs/ gives each case its number.
-#[derive(Drop)]
+#[derive(Clone, Copy)]
 pub enum Meshed {
     Edges(u32),
     Refused(Checked),

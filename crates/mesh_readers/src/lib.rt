@@ -17,28 +17,28 @@ use layout::{
 use vec3::Vec3;
 
 // The two vertices of an edge, the lower-numbered one first.
-#[derive(Drop)]
+#[derive(Clone, Copy)]
 pub struct EdgeEnds {
     pub a: VertexId,
     pub b: VertexId,
 }
 
 // The two faces of an edge, `no_face` where there is none.
-#[derive(Drop)]
+#[derive(Clone, Copy)]
 pub struct FacePair {
     pub first: FaceId,
     pub second: FaceId,
 }
 
 // A point in the frame of an edge: along it, and across it into a face.
-#[derive(Drop)]
+#[derive(Clone, Copy)]
 pub struct FrameCoords {
     pub x: f64,
     pub y: f64,
 }
 
 // Where the faces round a vertex start and end in the list of them.
-#[derive(Drop)]
+#[derive(Clone, Copy)]
 pub struct RoundRange {
     pub start: u32,
     pub end: u32,

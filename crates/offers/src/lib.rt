@@ -16,7 +16,7 @@ use trim_split::Counts;
 use windows::NewWindow;
 
 // What is offered: nothing, or a window to an edge.
-#[derive(Drop)]
+#[derive(Clone, Copy)]
 pub enum Offered {
     Nothing,
     Window(EdgeId, NewWindow),

@@ -12,7 +12,7 @@ use source_windows::{Bounds, unfolded, whole_edge};
 use vec3::Vec3;
 
 // The plane that directions are laid into: their own face's, or that of a face across an edge along xh; yg goes from the edge into that face, yh into their own.
-#[derive(Drop)]
+#[derive(Clone, Copy)]
 pub enum Plane {
     Own,
     Across { xh: Vec3, yg: Vec3, yh: Vec3 },

@@ -9,7 +9,7 @@ use heap::{Event, Item, Popped};
 use layout::{ALIVE_FLAG, QUEUED_FLAG, WINDOW_FLAGS, WORDS_PER_WINDOW};
 
 // The answer of a pop: the event, how many are left, and whether it names a window that was alive and queued.
-#[derive(Drop)]
+#[derive(Clone, Copy)]
 pub enum Taken {
     Empty,
     First(Event, u32, bool),

@@ -8,14 +8,14 @@ use buffers::VertexId;
 use source::Src;
 use source_windows::{Bounds, CandidateRange};
 
-#[derive(Drop)]
+#[derive(Clone, Copy)]
 pub struct Vec2 {
     pub x: f64,
     pub y: f64,
 }
 
 // The face that a window goes into: the length of the window's edge, and where the opposite vertex is.
-#[derive(Drop)]
+#[derive(Clone, Copy)]
 pub struct FaceAhead {
     pub l: f64,
     pub cx: f64,
@@ -23,7 +23,7 @@ pub struct FaceAhead {
 }
 
 // The vertices of that face: the ends of the window's edge, and the opposite one.
-#[derive(Drop)]
+#[derive(Clone, Copy)]
 pub enum FaceVertex {
     A,
     B,
@@ -31,14 +31,14 @@ pub enum FaceVertex {
 }
 
 // The end of the window's edge that an edge ahead shares with it, in the Rust's order: a, then b.
-#[derive(Drop)]
+#[derive(Clone, Copy)]
 pub enum Side {
     First,
     Second,
 }
 
 // An edge ahead: its first and its second vertex, and its length.
-#[derive(Drop)]
+#[derive(Clone, Copy)]
 pub struct NextEdge {
     pub p: FaceVertex,
     pub q: FaceVertex,
@@ -46,7 +46,7 @@ pub struct NextEdge {
 }
 
 // An edge's frame: its first vertex, the unit vector along it, and the one across it, out of the face.
-#[derive(Drop)]
+#[derive(Clone, Copy)]
 pub struct Frame {
     pub o: Vec2,
     pub xh: Vec2,
@@ -54,7 +54,7 @@ pub struct Frame {
 }
 
 // The ray through the opposite vertex.
-#[derive(Drop)]
+#[derive(Clone, Copy)]
 pub enum Ray {
     Stopped,
     Crosses(f64),

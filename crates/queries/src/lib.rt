@@ -23,7 +23,7 @@ use vec3::Vec3;
 use windows::WindowRecord;
 
 // The answers: `face_answer_number`, `edge_answer_number`, `vertex_answer_number` and `window_answer_number` of specs/ give each case its number.
-#[derive(Drop)]
+#[derive(Clone, Copy)]
 pub enum FaceDistance {
     NoField,
     MissingFace,
@@ -31,7 +31,7 @@ pub enum FaceDistance {
     At(f64),
 }
 
-#[derive(Drop)]
+#[derive(Clone, Copy)]
 pub enum EdgeDistance {
     NoField,
     MissingEdge,
@@ -40,13 +40,13 @@ pub enum EdgeDistance {
 }
 
 // An answer with the cursor that the walk for the next may begin at.
-#[derive(Drop)]
+#[derive(Clone, Copy)]
 pub struct ResumedAnswer {
     pub answer: EdgeDistance,
     pub cursor: Cursor,
 }
 
-#[derive(Drop)]
+#[derive(Clone, Copy)]
 pub enum VertexDistance {
     NoField,
     MissingVertex,
@@ -54,13 +54,13 @@ pub enum VertexDistance {
 }
 
 // A window with its number.
-#[derive(Drop)]
+#[derive(Clone, Copy)]
 pub struct ListedWindow {
     pub id: WindowId,
     pub window: WindowRecord,
 }
 
-#[derive(Drop)]
+#[derive(Clone, Copy)]
 pub enum WindowAnswer {
     NoField,
     MissingEdge,

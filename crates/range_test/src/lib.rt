@@ -16,7 +16,7 @@ use source::Src;
 use source_bounds::Enclosure;
 
 // What the ranges tell of p beside q.
-#[derive(Drop)]
+#[derive(Clone, Copy)]
 pub enum Ranged {
     Unknown,
     NeverShorter,

@@ -22,14 +22,14 @@ use trim_split::Counts;
 use windows::{Edge, NewWindow};
 
 // An operation is refused by its number; or so many windows are made and so many events queued.
-#[derive(Drop)]
+#[derive(Clone, Copy)]
 pub enum Step {
     Stopped(u32),
     Went { made: u32, queued: u32 },
 }
 
 // All operations that both slices have whole slots of went; or the list ends before operation `at`, which is refused by its number.
-#[derive(Drop)]
+#[derive(Clone, Copy)]
 pub enum Ran {
     Done { made: u32, queued: u32 },
     Ended { at: u32, number: u32 },

@@ -15,7 +15,7 @@ use insertion::InsertCounts;
 use layout::WORDS_PER_EVENT;
 
 // The job is refused by this number; or so many windows, events and entries there are after so many steps, and no event waits.
-#[derive(Drop)]
+#[derive(Clone, Copy)]
 pub enum FieldWork {
     Refused(u32),
     Done(InsertCounts, u32),

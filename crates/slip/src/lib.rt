@@ -9,7 +9,7 @@ ghost use Rattle.slip.specs.Reading.{job_rows, reading};
 use little_endian::{double_at, number_at, read_bytes, read_doubles, read_numbers};
 
 // What the slip of a job says beside its lists.
-#[derive(Drop)]
+#[derive(Clone, Copy)]
 pub struct SlipJob {
     pub vertices: u32,
     pub triangles: u32,
@@ -17,7 +17,7 @@ pub struct SlipJob {
     pub limit: f64,
 }
 
-#[derive(Drop)]
+#[derive(Clone, Copy)]
 pub enum Slip {
     TooShort,
     LeftOver,

@@ -8,7 +8,7 @@ ghost use Rattle.slip_moves.specs.Moves.{slip_refusal_number, moved_number, leng
 use groups::{Form, Number, put_number, read_number};
 use text_out::put_text;
 
-#[derive(Drop)]
+#[derive(Clone, Copy)]
 pub enum Refusal {
     TooShort,
     LeftOver,
@@ -31,21 +31,21 @@ pub fn refusal_number(refusal: Refusal) -> u32
 }
 
 // The counts of vertices, triangles and pieces and the place behind them.
-#[derive(Drop)]
+#[derive(Clone, Copy)]
 pub enum Head {
     Counts(usize, usize, usize, usize),
     Refused(Refusal),
 }
 
 // What moving a part answers: the places behind it in the slip and in the output.
-#[derive(Drop)]
+#[derive(Clone, Copy)]
 pub enum Step {
     Went(usize, usize),
     Stopped(Refusal),
 }
 
 // The answer of a move: how long the moved slip is, how long the output would have to be, or the refusal.
-#[derive(Drop)]
+#[derive(Clone, Copy)]
 pub enum Moved {
     Length(usize),
     NoRoom(usize),

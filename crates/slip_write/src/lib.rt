@@ -185,7 +185,7 @@ fn is_oversized(vertices: usize, triangles: usize, flags: usize, kinds: usize) -
     false
 }
 
-#[derive(Drop)]
+#[derive(Clone, Copy)]
 pub enum Written {
     Length(usize),
     TooShort,

@@ -14,14 +14,14 @@ use source_windows::Normal;
 use vec3::Vec3;
 
 // A part of a piece is entered in a face, or a window is offered to an edge.
-#[derive(Drop)]
+#[derive(Clone, Copy)]
 pub enum Insert {
     Entry(FaceId, PiecePart),
     Offer(Offered),
 }
 
 // A source: none; the point p of a face, which is a part of a piece and lies on a carrier, with the link to the first end of its bits; the segment from a to b of a face, which is a piece.
-#[derive(Drop)]
+#[derive(Clone, Copy)]
 pub enum Source {
     Absent,
     Point {

@@ -9,7 +9,7 @@ use source::{RealRoots, Win};
 use source_records::{float_from, read_records, src_from, word_from};
 
 // The function that the records are of.
-#[derive(Drop)]
+#[derive(Clone, Copy)]
 enum Leaf {
     Roots,
     Ties,

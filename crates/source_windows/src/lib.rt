@@ -1,5 +1,7 @@
 // The candidate windows that a source point or a source segment gives an edge of its face, on values: the Rust's `source_point` and `source_segment`
 // without their walks over the mesh. In an edge's frame x goes along the edge from its first vertex; the y of `coords` goes into the face.
+#![tactic(auto)]
+
 ghost use Rattle.std.specs.Prelude.{◌≡◌};
 ghost use Rattle.source_windows.specs.Tolerance.{too_narrow};
 ghost use Rattle.source_windows.specs.Wedge.{lies_on, unfolded_of, whole_of, narrow_of, behind_of, point_source_of, point_window_of};
@@ -10,21 +12,21 @@ use source::Src;
 use vec3::Vec3;
 
 // A range along an edge.
-#[derive(Drop)]
+#[derive(Clone, Copy)]
 pub struct Bounds {
     pub b0: f64,
     pub b1: f64,
 }
 
 // What a source gives an edge: nothing, or the ends and the source of a candidate window.
-#[derive(Drop)]
+#[derive(Clone, Copy)]
 pub enum CandidateRange {
     Nothing,
     Window { b0: f64, b1: f64, src: Src },
 }
 
 // A segment in the window's frame of an edge, y positive away from the face: its first end, its vector, the vector's square and its length.
-#[derive(Drop)]
+#[derive(Clone, Copy)]
 pub struct EdgeSegment {
     pub ax: f64,
     pub ay: f64,
@@ -34,21 +36,21 @@ pub struct EdgeSegment {
     pub sl: f64,
 }
 
-#[derive(Drop)]
+#[derive(Clone, Copy)]
 pub enum InFrame {
     TooShort,
     Long(EdgeSegment),
 }
 
 // A segment's two sides, in the Rust's order: left of its direction, then right.
-#[derive(Drop)]
+#[derive(Clone, Copy)]
 pub enum Normal {
     Left,
     Right,
 }
 
 // Where on an edge the feet lie on a segment.
-#[derive(Drop)]
+#[derive(Clone, Copy)]
 pub enum FootRange {
     Outside,
     Within(Bounds),

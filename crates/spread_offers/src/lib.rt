@@ -18,7 +18,7 @@ use source_offers::offered;
 use source_windows::Bounds;
 
 // What passes distances on: a window of an edge into a face, or a vertex at distance d.
-#[derive(Drop)]
+#[derive(Clone, Copy)]
 pub enum Spread {
     Window {
         edge: EdgeId,
@@ -34,7 +34,7 @@ pub enum Spread {
 }
 
 // The face that a window goes into, and its vertex opposite to the window's edge.
-#[derive(Drop)]
+#[derive(Clone, Copy)]
 pub struct Opposite {
     pub c: VertexId,
     pub ahead: FaceAhead,

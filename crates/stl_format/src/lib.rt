@@ -8,14 +8,14 @@ ghost use Rattle.stl_format.specs.Answers.{stl_number};
 use single::single_value;
 
 // How many vertices and triangles a file's mesh has.
-#[derive(Drop)]
+#[derive(Clone, Copy)]
 pub struct StlCounts {
     pub vertices: u32,
     pub triangles: u32,
 }
 
 // A mesh that was read, the length of a file that was written, or a refusal.
-#[derive(Drop)]
+#[derive(Clone, Copy)]
 pub enum Stl {
     Mesh(StlCounts),
     File(usize),

@@ -11,7 +11,7 @@ use buffers::zero_u32;
 use stl_format::{point_from, word_at};
 
 // The bits of a point's three coordinates, minus zero's as zero's.
-#[derive(Drop)]
+#[derive(Clone, Copy)]
 pub struct PointKey {
     pub x: u32,
     pub y: u32,

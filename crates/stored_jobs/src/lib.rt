@@ -4,7 +4,7 @@ ghost use Rattle.std.specs.Prelude.{◌≤◌, ◌<◌, length};
 use stored_numbers::{count, read_bytes, read_doubles, read_numbers};
 
 // Where the lists of the record at number k stand, but for the vertices, and what comes after them.
-#[derive(Drop)]
+#[derive(Clone, Copy)]
 pub struct ListPlaces {
     pub triangles: usize,
     pub flags: usize,

@@ -4,7 +4,7 @@ use buffers::{read_f64, read_u32};
 use stored_numbers::{Walk, visit, wrong};
 
 // The walk over the stored numbers, and the check sum so far.
-#[derive(Drop)]
+#[derive(Clone, Copy)]
 pub struct SummedWalk {
     pub walk: Walk,
     pub sum: u64,

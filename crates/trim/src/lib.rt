@@ -19,7 +19,7 @@ use trim_visit::Visited;
 use windows::{Edge, NewWindow, WindowRecord};
 
 // What there is no slot for; or how many windows and events there are now.
-#[derive(Drop)]
+#[derive(Clone, Copy)]
 pub enum Added {
     Stopped(Lack),
     Went(Counts),

@@ -14,7 +14,7 @@ use source::Src;
 use windows::{Carried, NewWindow};
 
 // An operation that was read. A window is to be added to an edge.
-#[derive(Drop)]
+#[derive(Clone, Copy)]
 pub enum Op {
     Add(EdgeId, NewWindow),
     Pop,

@@ -17,14 +17,14 @@ use source::Win;
 use windows::WindowRecord;
 
 // How many windows are made, and how many events are queued.
-#[derive(Drop)]
+#[derive(Clone, Copy)]
 pub struct Counts {
     pub made: u32,
     pub queued: u32,
 }
 
 // What there is no slot for; or how many there are now, and the link of the last window that was put on the chain.
-#[derive(Drop)]
+#[derive(Clone, Copy)]
 pub enum Made {
     Stopped(Lack),
     Went(Counts, u32),

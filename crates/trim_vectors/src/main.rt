@@ -86,7 +86,7 @@ fn visit_distances(s: &[u8], w: Walk, vertex: &[f64], n: u32) -> Walk {
 }
 
 // What a pop answers, and how many events are left.
-#[derive(Drop)]
+#[derive(Clone, Copy)]
 struct Left {
     walk: Walk,
     events: u32,
@@ -125,7 +125,7 @@ fn visit_events(s: &[u8], w: Walk, keys: &mut [f64], events: &mut [u32], n: u32)
 }
 
 // Where the lists of the record at number k stand.
-#[derive(Drop)]
+#[derive(Clone, Copy)]
 struct OperationPlaces {
     ends: usize,
     lens: usize,
@@ -342,7 +342,7 @@ fn run_holds(
 }
 
 // How many steps the record at number k has, and how many slots its buffers.
-#[derive(Drop)]
+#[derive(Clone, Copy)]
 struct Sizes {
     steps: u32,
     windows: u32,

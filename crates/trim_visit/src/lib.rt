@@ -17,7 +17,7 @@ use windows::WindowRecord;
 
 // What there is no slot for; or how many windows and events there are now, the link of the last window that survived, and how many intervals the new
 // window keeps.
-#[derive(Drop)]
+#[derive(Clone, Copy)]
 pub enum Visited {
     Stopped(Lack),
     Went(Counts, u32, usize),
