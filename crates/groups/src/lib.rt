@@ -1,6 +1,5 @@
 // A number below 2 ^ 32 as bytes, in both forms of a slip: four bytes, or groups of seven bits.
 ghost use Rattle.std.specs.Prelude.{◌≡◌, [], ◌∷◌, ◌+◌, ◌-◌, ◌≤◌, ◌<◌, length, get_or};
-ghost use Rattle.buffers.specs.Lent.{given, left};
 ghost use Rattle.text_out.specs.Text.{Puts};
 ghost use Rattle.groups.specs.Groups.{groups_of, joined_group, group_at, grouped, number_of, Found};
 
@@ -51,7 +50,7 @@ fn join(low: usize, behind: Number) -> Number
 // The group at byte i, the last that there may be.
 fn last_group(s: &[u8], i: usize) -> Number
     requires { i < 9_000_000_000_000_000_000 }
-    ensures { result ≡ grouped (given s) i 0 }
+    ensures { result ≡ grouped s.now i 0 }
 {
     if s.len() <= i {
         return Number::Short;
@@ -66,7 +65,7 @@ fn last_group(s: &[u8], i: usize) -> Number
 // The group at byte i, in front of a number.
 fn group(s: &[u8], i: usize, behind: Number) -> Number
     requires { i < 9_000_000_000_000_000_000 }
-    ensures { result ≡ group_at (given s) i (joined_group (get_or (given s) i 0 - 128) behind) }
+    ensures { result ≡ group_at s.now i (joined_group (get_or s.now i 0 - 128) behind) }
 {
     if s.len() <= i {
         return Number::Short;
@@ -81,7 +80,7 @@ fn group(s: &[u8], i: usize, behind: Number) -> Number
 // The groups from byte i on, the last first.
 fn read_groups(s: &[u8], i: usize) -> Number
     requires { i < 8_000_000_000_000_000_000 }
-    ensures { result ≡ grouped (given s) i 4 }
+    ensures { result ≡ grouped s.now i 4 }
 {
     let a = last_group(s, i + 4);
     let b = group(s, i + 3, a);
@@ -92,7 +91,7 @@ fn read_groups(s: &[u8], i: usize) -> Number
 
 fn read_plain(s: &[u8], i: usize) -> Number
     requires { i < 8_000_000_000_000_000_000 }
-    ensures { Found Form.Plain (given s) i result }
+    ensures { Found Form.Plain s.now i result }
 {
     if s.len() < i + 4 {
         return Number::Short;
@@ -103,7 +102,7 @@ fn read_plain(s: &[u8], i: usize) -> Number
 // The number at byte i.
 pub fn read_number(form: Form, s: &[u8], i: usize) -> Number
     requires { i < 8_000_000_000_000_000_000 }
-    ensures { Found form (given s) i result }
+    ensures { Found form s.now i result }
 {
     match form {
         Form::Plain => read_plain(s, i),
@@ -113,7 +112,7 @@ pub fn read_number(form: Form, s: &[u8], i: usize) -> Number
 
 fn put_one(out: &mut [u8], i: usize, b: usize) -> usize
     requires { (i < 9_000_000_000_000_000_000) × (b < 256) }
-    ensures { Puts (given out) i (b ∷ []) (left out) result × (result ≡ i + 1) }
+    ensures { Puts out.old i (b ∷ []) out.new result × (result ≡ i + 1) }
 {
     let bytes = [b as u8];
     put_text(out, i, &bytes)
@@ -121,7 +120,7 @@ fn put_one(out: &mut [u8], i: usize, b: usize) -> usize
 
 fn put_groups(out: &mut [u8], i: usize, n: usize) -> usize
     requires { (i < 8_000_000_000_000_000_000) × (n < 4_294_967_296) }
-    ensures { Puts (given out) i (groups_of 4 n) (left out) result × (result ≤ i + 5) }
+    ensures { Puts out.old i (groups_of 4 n) out.new result × (result ≤ i + 5) }
 {
     let mut at = i;
     let mut rest = n;
@@ -135,7 +134,7 @@ fn put_groups(out: &mut [u8], i: usize, n: usize) -> usize
 // The bytes of a number from place i on: answers the place behind them.
 pub fn put_number(form: Form, out: &mut [u8], i: usize, n: usize) -> usize
     requires { (i < 8_000_000_000_000_000_000) × (n < 4_294_967_296) }
-    ensures { Puts (given out) i (number_of form n) (left out) result × (result ≤ i + 5) }
+    ensures { Puts out.old i (number_of form n) out.new result × (result ≤ i + 5) }
 {
     match form {
         Form::Plain => slip_write::put_number(out, i, n as u32),

@@ -1,6 +1,7 @@
 // Reading a slip: the bytes of a job, to the fronts of six slices. All is checked before anything is written.
+#![tactic(auto)]
+
 ghost use Rattle.std.specs.Prelude.{◌≡◌, true, ◌+◌, ◌*◌, ◌≤◌, ◌<◌, min, length, get_or};
-ghost use Rattle.buffers.specs.Lent.{given, left};
 ghost use Rattle.buffers.specs.Slots.{fill};
 ghost use Rattle.little_endian.specs.Bytes.{number_from, put_in_front};
 ghost use Rattle.slip.specs.Format.{slip_number, is_job, vertex_count_in, triangle_count_in, piece_count_in, triangles_from, flags_from, pieces_from, piece_size, second_double_at, piece_coords, job_in, exceeds, after_pieces, answer_to};
@@ -61,7 +62,7 @@ pub fn least(m: usize, n: usize) -> usize
 // The count that stands at byte i.
 fn count(s: &[u8], i: usize) -> usize
     requires { i + 4 ≤ length s.now }
-    ensures { (result ≡ number_from (given s) i) × (result < 4_294_967_296) }
+    ensures { (result ≡ number_from s.now i) × (result < 4_294_967_296) }
 {
     number_at(s, i) as usize
 }
@@ -69,21 +70,21 @@ fn count(s: &[u8], i: usize) -> usize
 // Where the triangles, the flags and the pieces of a slip start, by its counts.
 fn triangles_from(s: &[u8]) -> usize
     requires { 12 ≤ length s.now }
-    ensures { (result ≡ triangles_from (given s)) × (result < 200_000_000_000) }
+    ensures { (result ≡ triangles_from s.now) × (result < 200_000_000_000) }
 {
     12 + 24 * count(s, 0)
 }
 
 fn flags_from(s: &[u8]) -> usize
     requires { 12 ≤ length s.now }
-    ensures { (result ≡ flags_from (given s)) × (result < 300_000_000_000) }
+    ensures { (result ≡ flags_from s.now) × (result < 300_000_000_000) }
 {
     triangles_from(s) + 12 * count(s, 4)
 }
 
 fn pieces_from(s: &[u8]) -> usize
     requires { 12 ≤ length s.now }
-    ensures { result ≡ pieces_from (given s) }
+    ensures { result ≡ pieces_from s.now }
 {
     flags_from(s) + count(s, 0)
 }
@@ -101,7 +102,7 @@ fn piece_size(kind: u8) -> usize
 // Whether a count of the slip is above what there is room for.
 fn has_too_many(s: &[u8], vertices: usize, triangles: usize, pieces: usize) -> bool
     requires { 12 ≤ length s.now }
-    ensures { result ≡ exceeds (given s) vertices triangles pieces }
+    ensures { result ≡ exceeds s.now vertices triangles pieces }
 {
     if vertices < count(s, 0) {
         return true;
@@ -118,7 +119,7 @@ fn has_too_many(s: &[u8], vertices: usize, triangles: usize, pieces: usize) -> b
 // What the last bytes answer, from byte i on: the limit is due.
 fn check_limit(s: &[u8], i: usize) -> Slip
     requires { (12 ≤ length s.now) × (i ≤ length s.now) }
-    ensures { result ≡ after_pieces (given s) 0 i }
+    ensures { result ≡ after_pieces s.now 0 i }
 {
     let rest = s.len() - i;
     if rest < 8 {
@@ -138,7 +139,7 @@ fn check_limit(s: &[u8], i: usize) -> Slip
 // The same where n pieces come before the limit.
 fn check_pieces(s: &[u8], from: usize, n: u32) -> Slip
     requires { (12 ≤ length s.now) × (from ≤ length s.now) }
-    ensures { result ≡ after_pieces (given s) n from }
+    ensures { result ≡ after_pieces s.now n from }
 {
     let mut i = from;
     let mut more = n;
@@ -162,7 +163,7 @@ fn check_pieces(s: &[u8], from: usize, n: u32) -> Slip
 
 // What reading answers where there is room for so many vertices, triangles and pieces.
 fn check(s: &[u8], vertices: usize, triangles: usize, pieces: usize) -> Slip
-    ensures { result ≡ answer_to (given s) vertices triangles pieces }
+    ensures { result ≡ answer_to s.now vertices triangles pieces }
 {
     if s.len() < 12 {
         return Slip::TooShort;
@@ -180,8 +181,8 @@ fn check(s: &[u8], vertices: usize, triangles: usize, pieces: usize) -> Slip
 fn write_mesh(s: &[u8], vertices: &mut [f64], triangles: &mut [u32], flags: &mut [u8])
     requires { (12 ≤ length s.now) × ((pieces_from s.now ≤ length s.now) ×
         ((3 * vertex_count_in s.now ≤ length vertices.old) × ((3 * triangle_count_in s.now ≤ length triangles.old) × (vertex_count_in s.now ≤ length flags.old)))) }
-    ensures { (left vertices ≡ put_in_front (job_in (given s)).vertices (given vertices)) ×
-        ((left triangles ≡ put_in_front (job_in (given s)).triangles (given triangles)) × (left flags ≡ put_in_front (job_in (given s)).flags (given flags))) }
+    ensures { (vertices.new ≡ put_in_front (job_in s.now).vertices vertices.old) ×
+        ((triangles.new ≡ put_in_front (job_in s.now).triangles triangles.old) × (flags.new ≡ put_in_front (job_in s.now).flags flags.old)) }
 {
     let n = count(s, 0);
     let from = triangles_from(s);
@@ -194,7 +195,7 @@ fn write_mesh(s: &[u8], vertices: &mut [f64], triangles: &mut [u32], flags: &mut
 // The double k bytes behind the start of the piece at i, 0 of a point.
 fn second(s: &[u8], i: usize, k: usize) -> f64
     requires { (i < length s.now) × ((k ≤ 45) × (i + piece_size (get_or s.now i 0) ≤ length s.now)) }
-    ensures { result ≡ second_double_at (given s) i k }
+    ensures { result ≡ second_double_at s.now i k }
 {
     if s[i] == 0 {
         return 0.0;
@@ -205,7 +206,7 @@ fn second(s: &[u8], i: usize, k: usize) -> f64
 // The coordinates of the piece at i, to place k.
 fn write_coords(s: &[u8], i: usize, k: usize, coords: &mut [f64])
     requires { (i < length s.now) × ((i + piece_size (get_or s.now i 0) ≤ length s.now) × (6 * k + 6 ≤ length coords.old)) }
-    ensures { left coords ≡ fill 6 (given coords) k 0 (piece_coords (given s) i) }
+    ensures { coords.new ≡ fill 6 coords.old k 0 (piece_coords s.now i) }
 {
     coords[6 * k] = double_at(s, i + 5);
     coords[6 * k + 1] = double_at(s, i + 13);
@@ -218,8 +219,8 @@ fn write_coords(s: &[u8], i: usize, k: usize, coords: &mut [f64])
 fn write_pieces(s: &[u8], kinds: &mut [u8], faces: &mut [u32], coords: &mut [f64])
     requires { (12 ≤ length s.now) × ((is_job (after_pieces s.now (piece_count_in s.now) (pieces_from s.now)) ≡ true) ×
         ((piece_count_in s.now ≤ length kinds.old) × ((piece_count_in s.now ≤ length faces.old) × (6 * piece_count_in s.now ≤ length coords.old)))) }
-    ensures { (left kinds ≡ put_in_front (job_in (given s)).kinds (given kinds)) ×
-        ((left faces ≡ put_in_front (job_in (given s)).faces (given faces)) × (left coords ≡ put_in_front (job_in (given s)).coords (given coords))) }
+    ensures { (kinds.new ≡ put_in_front (job_in s.now).kinds kinds.old) ×
+        ((faces.new ≡ put_in_front (job_in s.now).faces faces.old) × (coords.new ≡ put_in_front (job_in s.now).coords coords.old)) }
 {
     let n = count(s, 8);
     let mut at = pieces_from(s);
@@ -244,8 +245,8 @@ pub fn read(
     faces: &mut [u32],
     coords: &mut [f64],
 ) -> Slip
-    ensures { (result, job_rows (left vertices) (left triangles) (left flags) (left kinds) (left faces) (left coords)) ≡ reading (given s)
-        (job_rows (given vertices) (given triangles) (given flags) (given kinds) (given faces) (given coords)) }
+    ensures { (result, job_rows vertices.new triangles.new flags.new kinds.new faces.new coords.new) ≡ reading s.now
+        (job_rows vertices.old triangles.old flags.old kinds.old faces.old coords.old) }
 {
     let vertex_room = least(vertices.len() / 3, flags.len());
     let piece_room = least(kinds.len(), least(faces.len(), coords.len() / 6));

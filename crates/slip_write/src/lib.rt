@@ -1,7 +1,8 @@
 // Writing the slip of a job: its bytes to the front of a slice, or nothing where they do not fit.
+#![tactic(auto)]
+
 ghost use Rattle.std.specs.Prelude.{◌≡◌, ◌+◌, ◌*◌, ◌≤◌, ◌<◌, length, get_or};
 ghost use Rattle.std.specs.Float.{nan};
-ghost use Rattle.buffers.specs.Lent.{given, left};
 ghost use Rattle.job_checks.specs.Job.{job};
 ghost use Rattle.little_endian.specs.Bytes.{number_bytes, double_bytes};
 ghost use Rattle.text_out.specs.Text.{Puts};
@@ -12,7 +13,7 @@ use text_out::put_text;
 // The bytes of a number, of a double and of rows of them, from place i on.
 pub fn put_number(out: &mut [u8], i: usize, n: u32) -> usize
     requires { i < 9_000_000_000_000_000_000 }
-    ensures { Puts (given out) i (number_bytes n) (left out) result }
+    ensures { Puts out.old i (number_bytes n) out.new result }
 {
     let bytes = [
         (n % 256) as u8,
@@ -25,7 +26,7 @@ pub fn put_number(out: &mut [u8], i: usize, n: u32) -> usize
 
 pub fn put_double(out: &mut [u8], i: usize, x: f64) -> usize
     requires { i < 8_000_000_000_000_000_000 }
-    ensures { Puts (given out) i (double_bytes x) (left out) result }
+    ensures { Puts out.old i (double_bytes x) out.new result }
 {
     let b = little_endian::pattern(x);
     let j = put_number(out, i, (b % 4_294_967_296) as u32);
@@ -34,7 +35,7 @@ pub fn put_double(out: &mut [u8], i: usize, x: f64) -> usize
 
 fn put_doubles(out: &mut [u8], i: usize, xs: &[f64]) -> usize
     requires { i + 8 * length xs.now < 7_000_000_000_000_000_000 }
-    ensures { Puts (given out) i (doubles_bytes (given xs) (length (given xs))) (left out) result × (result ≡ i + 8 * length (given xs)) }
+    ensures { Puts out.old i (doubles_bytes xs.now (length xs.now)) out.new result × (result ≡ i + 8 * length xs.now) }
 {
     let mut at = i;
     let mut k: usize = 0;
@@ -47,7 +48,7 @@ fn put_doubles(out: &mut [u8], i: usize, xs: &[f64]) -> usize
 
 fn put_numbers(out: &mut [u8], i: usize, xs: &[u32]) -> usize
     requires { i + 4 * length xs.now < 7_000_000_000_000_000_000 }
-    ensures { Puts (given out) i (numbers_bytes (given xs) (length (given xs))) (left out) result × (result ≡ i + 4 * length (given xs)) }
+    ensures { Puts out.old i (numbers_bytes xs.now (length xs.now)) out.new result × (result ≡ i + 4 * length xs.now) }
 {
     let mut at = i;
     let mut k: usize = 0;
@@ -60,20 +61,20 @@ fn put_numbers(out: &mut [u8], i: usize, xs: &[u32]) -> usize
 
 // Element k, a NaN past the end; of faces and kinds 0.
 fn real_at(xs: &[f64], k: usize) -> f64
-    ensures { result ≡ get_or (given xs) k nan }
+    ensures { result ≡ get_or xs.now k nan }
 {
     if k < xs.len() { xs[k] } else { 0.0 / 0.0 }
 }
 
 fn word_at(xs: &[u32], k: usize) -> u32
-    ensures { result ≡ get_or (given xs) k 0 }
+    ensures { result ≡ get_or xs.now k 0 }
 {
     if k < xs.len() { xs[k] } else { 0 }
 }
 
 fn put_three(out: &mut [u8], i: usize, coords: &[f64], k: usize) -> usize
     requires { (i < 7_000_000_000_000_000_000) × (k < 18_000_000_000_000_000_000) }
-    ensures { Puts (given out) i (three_bytes (given coords) k) (left out) result × (result ≡ i + 24) }
+    ensures { Puts out.old i (three_bytes coords.now k) out.new result × (result ≡ i + 24) }
 {
     let a = put_double(out, i, real_at(coords, k));
     let b = put_double(out, a, real_at(coords, k + 1));
@@ -89,7 +90,7 @@ fn put_piece(
     k: usize,
 ) -> usize
     requires { (i < 6_000_000_000_000_000_000) × ((k < 2_000_000_000_000_000_000) × (k < length kinds.now)) }
-    ensures { Puts (given out) i (piece_bytes (given kinds) (given faces) (given coords) k) (left out) result × (result ≤ i + 53) }
+    ensures { Puts out.old i (piece_bytes kinds.now faces.now coords.now k) out.new result × (result ≤ i + 53) }
 {
     let kind = [kinds[k]];
     let a = put_text(out, i, &kind);
@@ -104,7 +105,7 @@ fn put_piece(
 // All pieces, as many as there are kinds.
 fn put_pieces(out: &mut [u8], i: usize, kinds: &[u8], faces: &[u32], coords: &[f64]) -> usize
     requires { i + 53 * length kinds.now < 5_000_000_000_000_000_000 }
-    ensures { Puts (given out) i (pieces_bytes (given kinds) (given faces) (given coords) (length (given kinds))) (left out) result × (result ≤ i + 53 * length (given kinds)) }
+    ensures { Puts out.old i (pieces_bytes kinds.now faces.now coords.now (length kinds.now)) out.new result × (result ≤ i + 53 * length kinds.now) }
 {
     let mut at = i;
     let mut k: usize = 0;
@@ -117,7 +118,7 @@ fn put_pieces(out: &mut [u8], i: usize, kinds: &[u8], faces: &[u32], coords: &[f
 
 // The three counts, by their low 32 bits.
 fn put_counts(out: &mut [u8], vertices: usize, triangles: usize, pieces: usize) -> usize
-    ensures { Puts (given out) 0 (counts_bytes vertices triangles pieces) (left out) result × (result ≡ 12) }
+    ensures { Puts out.old 0 (counts_bytes vertices triangles pieces) out.new result × (result ≡ 12) }
 {
     let a = put_number(out, 0, (vertices % 4_294_967_296) as u32);
     let b = put_number(out, a, (triangles % 4_294_967_296) as u32);
@@ -126,7 +127,7 @@ fn put_counts(out: &mut [u8], vertices: usize, triangles: usize, pieces: usize) 
 
 fn put_mesh(out: &mut [u8], i: usize, vertices: &[f64], triangles: &[u32], flags: &[u8]) -> usize
     requires { (i ≤ 12) × ((length vertices.now ≤ 72_057_594_037_927_936) × ((length triangles.now ≤ 72_057_594_037_927_936) × (length flags.now ≤ 72_057_594_037_927_936))) }
-    ensures { Puts (given out) i (mesh_bytes (given vertices) (given triangles) (given flags)) (left out) result × (result ≤ 1_000_000_000_000_000_000) }
+    ensures { Puts out.old i (mesh_bytes vertices.now triangles.now flags.now) out.new result × (result ≤ 1_000_000_000_000_000_000) }
 {
     let a = put_doubles(out, i, vertices);
     let b = put_numbers(out, a, triangles);
@@ -142,7 +143,7 @@ fn put_rest(
     limit: f64,
 ) -> usize
     requires { (i ≤ 1_000_000_000_000_000_000) × (length kinds.now ≤ 72_057_594_037_927_936) }
-    ensures { Puts (given out) i (rest_bytes (given kinds) (given faces) (given coords) limit) (left out) result }
+    ensures { Puts out.old i (rest_bytes kinds.now faces.now coords.now limit) out.new result }
 {
     let a = put_pieces(out, i, kinds, faces, coords);
     put_double(out, a, limit)
@@ -160,7 +161,7 @@ fn put_slip(
 ) -> usize
     requires { (length vertices.now ≤ 72_057_594_037_927_936) ×
         ((length triangles.now ≤ 72_057_594_037_927_936) × ((length flags.now ≤ 72_057_594_037_927_936) × (length kinds.now ≤ 72_057_594_037_927_936))) }
-    ensures { Puts (given out) 0 (slip_of (job (given vertices) (given triangles) (given flags) (given kinds) (given faces) (given coords) limit)) (left out) result }
+    ensures { Puts out.old 0 (slip_of (job vertices.now triangles.now flags.now kinds.now faces.now coords.now limit)) out.new result }
 {
     let a = put_counts(out, vertices.len() / 3, triangles.len() / 3, kinds.len());
     let b = put_mesh(out, a, vertices, triangles, flags);
@@ -202,7 +203,7 @@ pub fn write(
     limit: f64,
     out: &mut [u8],
 ) -> Written
-    ensures { (result, left out) ≡ writing (job (given vertices) (given triangles) (given flags) (given kinds) (given faces) (given coords) limit) (given out) }
+    ensures { (result, out.new) ≡ writing (job vertices.now triangles.now flags.now kinds.now faces.now coords.now limit) out.old }
 {
     if is_oversized(vertices.len(), triangles.len(), flags.len(), kinds.len()) {
         return Written::TooShort;

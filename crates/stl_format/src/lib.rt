@@ -1,6 +1,5 @@
 // What reading and writing binary STL answer, and the coordinates in a file.
 ghost use Rattle.std.specs.Prelude.{◌≡◌, ◌+◌, ◌*◌, ◌≤◌, ◌<◌, length};
-ghost use Rattle.buffers.specs.Lent.{given};
 ghost use Rattle.little_endian.specs.Bytes.{number_from};
 ghost use Rattle.stl_format.specs.Format.{point_from, coordinate};
 ghost use Rattle.stl_format.specs.Answers.{stl_number};
@@ -56,7 +55,7 @@ fn u32_of_byte(x: u8) -> u32
 // The number whose bytes stand from i on, with no test of the bounds.
 pub fn word_at(s: &[u8], i: usize) -> u32
     requires { i + 4 ≤ length s.now }
-    ensures { result ≡ number_from (given s) i }
+    ensures { result ≡ number_from s.now i }
 {
     u32_of_byte(s[i])
         + 256 * u32_of_byte(s[i + 1])
@@ -75,7 +74,7 @@ pub fn point_from(h: usize) -> usize
 // Coordinate k of point h.
 pub fn coordinate_at(s: &[u8], h: usize, k: usize) -> f64
     requires { (k < 3) × (point_from h + 12 ≤ length s.now) }
-    ensures { result ≡ coordinate (given s) h k }
+    ensures { result ≡ coordinate s.now h k }
 {
     single_value(word_at(s, point_from(h) + 4 * k))
 }

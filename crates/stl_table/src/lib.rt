@@ -2,7 +2,6 @@
 // `key_bucket` in specs/ spreads them. Points that are chosen to meet in one bucket make a step for each vertex before: at worst 3 n points of v vertices take
 // 3 n v steps.
 ghost use Rattle.std.specs.Prelude.{◌≡◌, ◌+◌, ◌≤◌, ◌<◌, length, get_or};
-ghost use Rattle.buffers.specs.Lent.{given, left};
 ghost use Rattle.little_endian.specs.Bytes.{number_from};
 ghost use Rattle.stl_table.specs.Keys.{zero_unsigned, key_at, same_key, mixed_key, key_bucket};
 ghost use Rattle.stl_table.specs.Table.{HasPoint, HasPoints, follow_links, Walkable, found_at, Findable, VertexTable, PointEntered, TableBuilt};
@@ -20,7 +19,7 @@ pub struct PointKey {
 
 fn key_word(s: &[u8], i: usize) -> u32
     requires { i + 4 ≤ length s.now }
-    ensures { result ≡ zero_unsigned (number_from (given s) i) }
+    ensures { result ≡ zero_unsigned (number_from s.now i) }
 {
     let b = word_at(s, i);
     if b == 0x8000_0000 {
@@ -31,7 +30,7 @@ fn key_word(s: &[u8], i: usize) -> u32
 
 fn key_at(s: &[u8], h: u32) -> PointKey
     requires { HasPoint s.now h }
-    ensures { result ≡ key_at (given s) h }
+    ensures { result ≡ key_at s.now h }
 {
     let i = point_from(h as usize);
     PointKey {
@@ -72,7 +71,7 @@ fn bucket_of(k: PointKey) -> usize
 // The link to the vertex with key k along the links from one on, or 0.
 fn seek(s: &[u8], links: &[u32], firsts: &[u32], k: PointKey, head: u32) -> u32
     requires { Walkable s.now links.now firsts.now head }
-    ensures { result ≡ follow_links (λ i. same_key (key_at (given s) (get_or (given firsts) i 0)) k) (given links) head head }
+    ensures { result ≡ follow_links (λ i. same_key (key_at s.now (get_or firsts.now i 0)) k) links.now head head }
 {
     let mut at = head;
     while at != 0 {
@@ -88,7 +87,7 @@ fn seek(s: &[u8], links: &[u32], firsts: &[u32], k: PointKey, head: u32) -> u32
 // The link to the vertex of point h.
 pub fn find(s: &[u8], heads: &[u32], links: &[u32], firsts: &[u32], h: u32) -> u32
     requires { Findable s.now heads.now links.now firsts.now h }
-    ensures { result ≡ found_at (given s) (given heads) (given links) (given firsts) h }
+    ensures { result ≡ found_at s.now heads.now links.now firsts.now h }
 {
     let k = key_at(s, h);
     let b = bucket_of(k);
@@ -105,7 +104,7 @@ fn enter(
     count: u32,
 ) -> u32
     requires { HasPoint s.now h × ((count ≤ 65535) × VertexTable s.now count heads.old links.old firsts.old) }
-    ensures { PointEntered (given s) h count (given firsts) result (left heads) (left links) (left firsts) }
+    ensures { PointEntered s.now h count firsts.old result heads.new links.new firsts.new }
 {
     let k = key_at(s, h);
     let b = bucket_of(k);
@@ -123,7 +122,7 @@ fn enter(
 // The first so many points: answers how many vertices they have, and stops at 65,536.
 pub fn build(s: &[u8], points: u32, heads: &mut [u32], links: &mut [u32], firsts: &mut [u32]) -> u32
     requires { HasPoints s.now points × ((131072 ≤ length heads.old) × ((65536 ≤ length links.old) × (65536 ≤ length firsts.old))) }
-    ensures { TableBuilt (given s) points result (left heads) (left links) (left firsts) }
+    ensures { TableBuilt s.now points result heads.new links.new firsts.new }
 {
     zero_u32(heads);
     let mut count: u32 = 0;

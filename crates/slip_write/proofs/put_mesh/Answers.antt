@@ -1,0 +1,17 @@
+-- `slip_write::put_mesh` meets its contract. Assumes nothing.
+use Rattle.slip_write.specs.Write.{mesh_bytes}
+use Rattle.text_out.proofs.Puts.{puts_then}
+use native.Mathlib.Omega.{arith}
+use Rattle.slip_write.proofs.put_mesh.Goals as goal
+
+pub returns : goal.returns
+unfolding mesh_bytes
+returns c =
+    let at-put-text = c in
+    let at-put-numbers = at-put-text in
+    let at-put-doubles = at-put-numbers in
+    let start = at-put-doubles in
+    let v = at-put-doubles.put_doubles-a.ensures in
+    let t = at-put-numbers.put_numbers-b.ensures in
+    let f = at-put-text.put_text.ensures in
+    (puts_then (puts_then v.0 t.0) f, omega (arith, v.1, t.1, f.ends, start.requires.0, start.requires.1.0, start.requires.1.1.0, start.requires.1.1.1))

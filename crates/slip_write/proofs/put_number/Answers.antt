@@ -1,0 +1,9 @@
+-- `slip_write::put_number` meets its contract. Assumes nothing.
+use Rattle.little_endian.specs.Bytes.{number_bytes}
+use Rattle.slip_write.proofs.put_number.Goals as goal
+
+pub returns : goal.returns
+unfolding number_bytes
+returns c =
+    let at-put-text = c in
+    at-put-text.put_text.ensures

@@ -1,0 +1,28 @@
+-- `slip_write::put_pieces` meets its contract. Assumes nothing.
+use Rattle.slip_write.specs.Write.{pieces_bytes}
+use Rattle.text_out.proofs.Puts.{puts_none, puts_then, puts_length}
+use lib.ListN.{length}
+use mathlib.Core.Path.{◌≡◌, refl, ◌∙◌}
+use native.Mathlib.Omega.{arith}
+use native.Mathlib.Numerals.{add-one}
+use Rattle.slip_write.proofs.put_pieces.Goals as goal
+
+pub loop-k-init : goal.loop-k-init
+unfolding pieces_bytes
+loop-k-init c = (omega arith, (omega arith, (refl, puts_none _ _)))
+
+pub loop-k-preserved : goal.loop-k-preserved
+unfolding pieces_bytes
+loop-k-preserved c =
+    let at-put-piece = c in
+    let at-loop = at-put-piece in
+    let put = at-put-piece.put_piece-at.ensures in (
+      omega arith,
+      (omega (arith, put.1, at-loop.loop-k.invariant.1.0), (puts_length put.0 ∙ at-loop.loop-k.invariant.1.1.0, rw add-one (puts_then at-loop.loop-k.invariant.1.1.1 put.0))),
+    )
+
+pub returns : goal.returns
+returns c =
+    let at-loop = c in
+    let a = at-loop.args in
+    let e : at-loop.loop-k.k ≡ length a.kinds.now = omega (arith, c.loop-k-test.false, at-loop.loop-k.invariant.0) in (rw e at at-loop.loop-k.invariant.1.1.1, omega (arith, e, at-loop.loop-k.invariant.1.0))

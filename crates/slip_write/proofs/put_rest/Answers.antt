@@ -1,0 +1,11 @@
+-- `slip_write::put_rest` meets its contract. Assumes nothing.
+use Rattle.slip_write.specs.Write.{rest_bytes}
+use Rattle.text_out.proofs.Puts.{puts_then}
+use Rattle.slip_write.proofs.put_rest.Goals as goal
+
+pub returns : goal.returns
+unfolding rest_bytes
+returns c =
+    let at-put-double = c in
+    let at-put-pieces = at-put-double in
+    puts_then at-put-pieces.put_pieces-a.ensures.0 at-put-double.put_double.ensures
