@@ -64,7 +64,7 @@ module _ (l : Float) (F : T (finite l)) (d : T (fits binary64 l)) (z : T (le zer
   pub wedge_on : (o p xhat : Vec3) (w : Bounds) (ds : List Vec3) → On w → On (wedge_of o p xhat w ds)
   unfolding wedge_of behind_of
   wedge_on o p xhat w [] h = h
-  wedge_on o p xhat w (d ∷ ds) h = wedge_on o p xhat _ ds (narrow_on w _ _ h)
+  wedge_on o p xhat w (d ∷ ds) h = wedge_on o p xhat (behind_of o p xhat w d) ds (narrow_on w _ _ h)
 
   pub point_window_on : (w : Bounds) (x y : Float) → On w → EndsOn l (point_window_of w x y l)
   unfolding point_window_of

@@ -1,0 +1,12 @@
+-- `source_windows::side_window` meets its contract. Assumes nothing.
+use borrow.Author.Rules.{rules}
+use Rattle.source_windows.specs.Segment.{side_window_of}
+use Rattle.source_windows.proofs.side_window.Goals as goal
+
+pub returns-then-ny : goal.returns-then-ny
+unfolding side_window_of
+returns-then-ny c = rw (← c.normal_y-ny.ensures, c.if-ny.true)
+
+pub returns : goal.returns
+unfolding side_window_of
+returns c = rw (← c.normal_y-ny.ensures, c.if-ny.false, c.wave.ensures, c.normal_x.ensures, c.feet.ensures)
