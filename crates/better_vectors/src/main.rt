@@ -8,6 +8,7 @@ ghost use Rattle.better_vectors.specs.Replay.{slot_count_of, stretches_of, other
 use better::Listed;
 use source_records::{float_from, read_records, src_from, word_from};
 use vectors::Tally;
+use std::io;
 
 // The capacity and the count of stretches of the record at byte i: the low and the high 4 bytes of 8.
 fn capacity(s: &[u8], i: usize) -> usize
@@ -121,21 +122,21 @@ fn replay(s: &[u8], pts: &mut [f64], out: &mut [f64], p_low: f64, q_low: f64) ->
     Tally { cases, differences }
 }
 
-fn replay_with(name: &[u8], s: &[u8], p_low: f64, q_low: f64) {
+fn replay_with(rt: &impl Print, name: &str, s: &[u8], p_low: f64, q_low: f64) -> io::Result<()> {
     let mut pts = [0.0f64; 2048];
     let mut out = [0.0f64; 4096];
     let tally = replay(s, &mut pts, &mut out, p_low, q_low);
-    vectors::report(name, tally.cases, tally.differences);
+    vectors::report(rt, name, tally.cases, tally.differences)
 }
 
-fn replay_all(s: &[u8]) {
-    replay_with(b"better", s, 0.0, 0.0);
-    replay_with(b"range above", s, 1.0, 0.0);
-    replay_with(b"range below", s, 0.0, 1.0);
+fn replay_all(rt: &impl Print, s: &[u8]) -> io::Result<()> {
+    replay_with(rt, "better", s, 0.0, 0.0)?;
+    replay_with(rt, "range above", s, 1.0, 0.0)?;
+    replay_with(rt, "range below", s, 0.0, 1.0)
 }
 
-fn main() {
+fn main(rt: HostRuntime) -> io::Result<()> {
     let mut buf = [0u8; 524288];
-    let got = read_records(b"better", &mut buf);
-    replay_all(&buf[..got]);
+    let got = read_records(&rt, "better", &mut buf)?;
+    replay_all(&rt, &buf[..got])
 }

@@ -9,6 +9,8 @@ use stored_jobs::{list_places, load_mesh, load_pieces};
 use stored_numbers::{at_most, count, double, number, record_size};
 use stored_slots::{SummedWalk, compare_or_sum, start_at, visit_f64, visit_u32};
 use vectors::Tally;
+use std::io;
+use std::rt::Files;
 
 // Where max_steps of the record at number k stands, before the lengths of the slices.
 fn lent_at(s: &[u8], k: usize) -> usize
@@ -492,14 +494,14 @@ fn replay(s: &[u8]) -> Tally {
     Tally { cases, differences }
 }
 
-fn replay_file(name: &[u8]) {
+fn replay_file(rt: &(impl Files + Print), name: &str) -> io::Result<()> {
     let mut buf = [0u8; 524288];
-    let got = vectors::read_file(name, &mut buf);
+    let got = vectors::read_file(rt, name, &mut buf)?;
     let tally = replay(&buf[..got]);
-    vectors::report(name, tally.cases, tally.differences);
+    vectors::report(rt, name, tally.cases, tally.differences)
 }
 
-fn main() {
-    replay_file(b"small");
-    replay_file(b"large");
+fn main(rt: HostRuntime) -> io::Result<()> {
+    replay_file(&rt, "small")?;
+    replay_file(&rt, "large")
 }

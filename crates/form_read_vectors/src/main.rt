@@ -9,6 +9,7 @@ use stored_bytes::holds_bytes;
 use stored_numbers::{all_f64, all_u32, at_most, count, double, number, record_size};
 use stored_slots::{start_at, visit_f64, visit_u32};
 use vectors::{Tally, pattern};
+use std::io;
 
 fn form_of(number: u32) -> Form {
     if number == 1 {
@@ -212,9 +213,9 @@ fn replay(s: &[u8]) -> Tally {
     Tally { cases, differences }
 }
 
-fn main() {
+fn main(rt: HostRuntime) -> io::Result<()> {
     let mut buf = [0u8; 262144];
-    let got = vectors::read_file(b"reads", &mut buf);
+    let got = vectors::read_file(&rt, "reads", &mut buf)?;
     let tally = replay(&buf[..got]);
-    vectors::report(b"reads", tally.cases, tally.differences);
+    vectors::report(&rt, "reads", tally.cases, tally.differences)
 }

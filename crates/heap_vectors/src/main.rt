@@ -1,10 +1,13 @@
 // Replays stored runs of the queue: of each file that the arguments name, how many operations it has and how many are answered
 // otherwise. A record is four numbers of 8 bytes: what was done and answered, then an event's key, number and kind.
-ghost use Rattle.std.specs.Prelude.{◌≡◌, cond, ◌+◌, ◌*◌, ◌/◌, ◌%◌, ◌≤◌, ◌<◌, length};
+ghost use Rattle.std.specs.Prelude.{IfOk, ◌≡◌, cond, ◌+◌, ◌*◌, ◌/◌, ◌%◌, ◌≤◌, ◌<◌, length};
 ghost use Rattle.heap.specs.Queue.{queue, pushing, popping};
 ghost use Rattle.heap_vectors.specs.Replay.{event_at, same_event, replay_push, pop_differs, replay_pop, replay_record, replay_records};
 
 use heap::{Event, Popped, Pushed, item_of, kind_of, number_of, pop, push};
+use std::io::Read;
+use std::rt::Files;
+use std::{env, fs, io};
 
 // How many events the queue has, how many operations were replayed and how many differed.
 #[derive(Clone, Copy)]
@@ -144,16 +147,21 @@ fn replay_records(keys: &mut [f64], events: &mut [u32], n: u32, s: &[u8]) -> Sta
 }
 
 // The next 1,024 records of a file, or what is left of it.
-fn replay_chunk(keys: &mut [f64], events: &mut [u32], n: u32, fd: i32) -> State
-    ensures { (result.cases ≤ 1024) × (result.differences ≤ 1024) }
+fn replay_chunk(
+    keys: &mut [f64],
+    events: &mut [u32],
+    n: u32,
+    reader: &mut impl Read,
+) -> io::Result<State>
+    ensures { IfOk result (λ t. (t.cases ≤ 1024) × (t.differences ≤ 1024)) }
 {
     let mut buf = [0u8; 32768];
-    let got = io::read_full(fd, &mut buf);
-    replay_records(keys, events, n, &buf[..got])
+    let got = vectors::read_full(reader, &mut buf)?;
+    Ok(replay_records(keys, events, n, &buf[..got]))
 }
 
 // A whole file, up to 1,024 chunks, from an empty queue of as many slots as the stored runs had.
-fn replay(fd: i32) -> State {
+fn replay(reader: &mut impl Read) -> io::Result<State> {
     let mut keys = [0.0f64; 256];
     let mut events = [0u32; 512];
     let mut n: u32 = 0;
@@ -161,7 +169,7 @@ fn replay(fd: i32) -> State {
     let mut differences: u64 = 0;
     let mut turns: u64 = 1024;
     while turns > 0 {
-        let t = replay_chunk(&mut keys, &mut events, n, fd);
+        let t = replay_chunk(&mut keys, &mut events, n, reader)?;
         if t.cases == 0 {
             break;
         }
@@ -170,32 +178,23 @@ fn replay(fd: i32) -> State {
         differences += t.differences;
         turns -= 1;
     }
-    State {
+    Ok(State {
         n,
         cases,
         differences,
-    }
+    })
 }
 
-// Replays the file that argument i names, and reports.
-fn replay_argument(i: usize) {
-    let mut path = io::buffer();
-    let n = os::arg(i, &mut path);
-    let fd = os::open_read(&path[..n]);
-    if fd < 0 {
-        os::fail(&path[..n]);
-        return;
-    }
-    let t = replay(fd);
-    libc::close(fd);
-    vectors::report(&path[..n], t.cases, t.differences);
+// Replays the file of the name, and reports.
+fn replay_argument(rt: &(impl Files + Print), name: &str) -> io::Result<()> {
+    let mut file = fs::open(rt, name)?;
+    let t = replay(&mut file)?;
+    vectors::report(rt, name, t.cases, t.differences)
 }
 
-fn main() {
-    let n = os::arg_count();
-    let mut i: usize = 1;
-    while i < n {
-        replay_argument(i);
-        i += 1;
+fn main(rt: HostRuntime) -> io::Result<()> {
+    for name in env::args(&rt)?.skip(1) {
+        replay_argument(&rt, name.as_str())?;
     }
+    Ok(())
 }

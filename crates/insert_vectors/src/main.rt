@@ -18,6 +18,8 @@ use stored_slots::{
 };
 use trim_split::Counts;
 use vectors::Tally;
+use std::io;
+use std::rt::Files;
 
 // The walk behind a pop, and how many events are left.
 #[derive(Clone, Copy)]
@@ -523,14 +525,14 @@ fn replay(s: &[u8]) -> Tally {
     Tally { cases, differences }
 }
 
-fn replay_file(name: &[u8]) {
+fn replay_file(rt: &(impl Files + Print), name: &str) -> io::Result<()> {
     let mut buf = [0u8; 524288];
-    let got = vectors::read_file(name, &mut buf);
+    let got = vectors::read_file(rt, name, &mut buf)?;
     let tally = replay(&buf[..got]);
-    vectors::report(name, tally.cases, tally.differences);
+    vectors::report(rt, name, tally.cases, tally.differences)
 }
 
-fn main() {
-    replay_file(b"small");
-    replay_file(b"large");
+fn main(rt: HostRuntime) -> io::Result<()> {
+    replay_file(&rt, "small")?;
+    replay_file(&rt, "large")
 }

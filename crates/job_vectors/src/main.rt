@@ -5,6 +5,8 @@ use job_checks::BufferCounts;
 use stored_jobs::{load_mesh, load_pieces};
 use stored_numbers::{at_most, count, double, number, record_size};
 use vectors::Tally;
+use std::io;
+use std::rt::Files;
 
 // How many slots the job at number k says that each buffer has.
 fn buffers(s: &[u8], k: usize) -> BufferCounts
@@ -82,14 +84,14 @@ fn replay(s: &[u8]) -> Tally {
     Tally { cases, differences }
 }
 
-fn replay_file(name: &[u8]) {
+fn replay_file(rt: &(impl Files + Print), name: &str) -> io::Result<()> {
     let mut buf = [0u8; 524288];
-    let got = vectors::read_file(name, &mut buf);
+    let got = vectors::read_file(rt, name, &mut buf)?;
     let tally = replay(&buf[..got]);
-    vectors::report(name, tally.cases, tally.differences);
+    vectors::report(rt, name, tally.cases, tally.differences)
 }
 
-fn main() {
-    replay_file(b"jobs");
-    replay_file(b"meshes");
+fn main(rt: HostRuntime) -> io::Result<()> {
+    replay_file(&rt, "jobs")?;
+    replay_file(&rt, "meshes")
 }

@@ -9,6 +9,8 @@ use source::{Src, Win};
 use source_windows::{Bounds, CandidateRange, Normal};
 use stored_numbers::{count, read_doubles};
 use vec3::Vec3;
+use std::io;
+use std::rt::Files;
 
 // The function that the records are of.
 #[derive(Clone, Copy)]
@@ -256,22 +258,22 @@ fn differences(f: Leaf, s: &[u8], n: usize) -> u64
 }
 
 // Reports on a file's content: a count, then the records. Numbers past its end read as zeros, so a file that is cut off differs.
-fn report_content(name: &[u8], f: Leaf, s: &[u8]) {
+fn report_content(rt: &impl Print, name: &str, f: Leaf, s: &[u8]) -> io::Result<()> {
     let n = count(s, 0, 10_000);
-    vectors::report(name, n as u64, differences(f, s, n));
+    vectors::report(rt, name, n as u64, differences(f, s, n))
 }
 
 // Replays the file of the name.
-fn replay(name: &[u8], f: Leaf) {
+fn replay(rt: &(impl Files + Print), name: &str, f: Leaf) -> io::Result<()> {
     let mut buf = [0u8; 524288];
-    let got = vectors::read_file(name, &mut buf);
-    report_content(name, f, &buf[..got]);
+    let got = vectors::read_file(rt, name, &mut buf)?;
+    report_content(rt, name, f, &buf[..got])
 }
 
-fn main() {
-    replay(b"propagate", Leaf::Propagate);
-    replay(b"point", Leaf::Point);
-    replay(b"segment", Leaf::Segment);
-    replay(b"emit", Leaf::Emit);
-    replay(b"entry", Leaf::Entry);
+fn main(rt: HostRuntime) -> io::Result<()> {
+    replay(&rt, "propagate", Leaf::Propagate)?;
+    replay(&rt, "point", Leaf::Point)?;
+    replay(&rt, "segment", Leaf::Segment)?;
+    replay(&rt, "emit", Leaf::Emit)?;
+    replay(&rt, "entry", Leaf::Entry)
 }

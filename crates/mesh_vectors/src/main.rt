@@ -12,6 +12,8 @@ use stored_jobs::{list_places, load_mesh, load_pieces};
 use stored_numbers::{all_f64, all_u32, at_most, count, double, number, record_size};
 use stored_slots::{SummedWalk, broken, compare_or_sum, section, start_at, visit_f64, visit_u32};
 use vectors::Tally;
+use std::io;
+use std::rt::Files;
 
 // The faces from one place of their list up to another, their count first.
 fn visit_faces(
@@ -438,15 +440,15 @@ fn replay(s: &[u8]) -> Tally {
     Tally { cases, differences }
 }
 
-fn replay_file(name: &[u8]) {
+fn replay_file(rt: &(impl Files + Print), name: &str) -> io::Result<()> {
     let mut buf = [0u8; 524288];
-    let got = vectors::read_file(name, &mut buf);
+    let got = vectors::read_file(rt, name, &mut buf)?;
     let tally = replay(&buf[..got]);
-    vectors::report(name, tally.cases, tally.differences);
+    vectors::report(rt, name, tally.cases, tally.differences)
 }
 
-fn main() {
-    replay_file(b"jobs");
-    replay_file(b"meshes");
-    replay_file(b"large");
+fn main(rt: HostRuntime) -> io::Result<()> {
+    replay_file(&rt, "jobs")?;
+    replay_file(&rt, "meshes")?;
+    replay_file(&rt, "large")
 }

@@ -7,6 +7,7 @@ use slip_moves::{move_slip, moved_length, moved_number};
 use stored_bytes::holds_bytes;
 use stored_numbers::{at_most, count, number, record_size};
 use vectors::Tally;
+use std::io;
 
 // The forms that a slip is moved from and to, by the stored direction.
 fn moved_from(direction: u32) -> Form {
@@ -86,9 +87,9 @@ fn replay(s: &[u8]) -> Tally {
     Tally { cases, differences }
 }
 
-fn main() {
+fn main(rt: HostRuntime) -> io::Result<()> {
     let mut buf = [0u8; 524288];
-    let got = vectors::read_file(b"moves", &mut buf);
+    let got = vectors::read_file(&rt, "moves", &mut buf)?;
     let tally = replay(&buf[..got]);
-    vectors::report(b"moves", tally.cases, tally.differences);
+    vectors::report(&rt, "moves", tally.cases, tally.differences)
 }

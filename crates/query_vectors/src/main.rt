@@ -10,6 +10,8 @@ use stored_numbers::{
 };
 use stored_slots::{SummedWalk, compare_or_sum, start_at, visit_f64, visit_u32};
 use vectors::Tally;
+use std::io;
+use std::rt::Files;
 
 // Of the record at number k: where list i stands, and how many elements it has, no more than most.
 fn place(s: &[u8], k: usize, i: usize) -> usize
@@ -606,13 +608,13 @@ fn replay(s: &[u8]) -> Tally {
     Tally { cases, differences }
 }
 
-fn replay_file(name: &[u8]) {
+fn replay_file(rt: &(impl Files + Print), name: &str) -> io::Result<()> {
     let mut buf = [0u8; 262144];
-    let got = vectors::read_file(name, &mut buf);
+    let got = vectors::read_file(rt, name, &mut buf)?;
     let tally = replay(&buf[..got]);
-    vectors::report(name, tally.cases, tally.differences);
+    vectors::report(rt, name, tally.cases, tally.differences)
 }
 
-fn main() {
-    replay_file(b"small");
+fn main(rt: HostRuntime) -> io::Result<()> {
+    replay_file(&rt, "small")
 }

@@ -5,6 +5,8 @@ ghost use Rattle.std.specs.Prelude.{◌≤◌, ◌<◌};
 use little_endian::read_bytes;
 use stored_numbers::{at_most, count, number, record_size, u32_of_byte};
 use vectors::Tally;
+use std::io;
+use std::rt::Files;
 
 // The check sum of stored jobs, of bytes.
 fn check_sum(text: &[u8]) -> u32 {
@@ -112,15 +114,15 @@ fn replay(s: &[u8]) -> Tally {
     }
 }
 
-fn replay_file(name: &[u8]) {
+fn replay_file(rt: &(impl Files + Print), name: &str) -> io::Result<()> {
     let mut buf = [0u8; 1048576];
-    let got = vectors::read_file(name, &mut buf);
+    let got = vectors::read_file(rt, name, &mut buf)?;
     let tally = replay(&buf[..got]);
-    vectors::report(name, tally.cases, tally.differences);
+    vectors::report(rt, name, tally.cases, tally.differences)
 }
 
-fn main() {
-    replay_file(b"refused");
-    replay_file(b"damaged");
-    replay_file(b"fresh");
+fn main(rt: HostRuntime) -> io::Result<()> {
+    replay_file(&rt, "refused")?;
+    replay_file(&rt, "damaged")?;
+    replay_file(&rt, "fresh")
 }

@@ -1,24 +1,20 @@
 // Files of packed records of bytes, with 8 bytes for a float, 25 for a source (a kind, 0 for a point, and three floats).
 ghost use Rattle.std.specs.Prelude.{◌≡◌, ◌+◌, ◌≤◌, length};
-ghost use Rattle.io.specs.Counts.{IsPrefixLen};
+ghost use Rattle.std.specs.Io.{ReadsAtMost};
 ghost use Rattle.source_records.specs.Records.{word_from, float_from, src_from};
 
 use source::Src;
+use std::rt::Files;
+use std::{fs, io};
 
 // Reads the records of the file of the name, which stand after a count of 4 bytes, as `vectors::read_file` reads a file.
-pub fn read_records(name: &[u8], buf: &mut [u8]) -> usize
-    ensures { IsPrefixLen result buf.new }
+pub fn read_records(rt: &impl Files, name: &str, buf: &mut [u8]) -> io::Result<usize>
+    ensures { ReadsAtMost result buf.new }
 {
-    let fd = os::open_read(name);
-    if fd < 0 {
-        os::fail(name);
-        return 0;
-    }
+    let mut file = fs::open(rt, name)?;
     let mut head = [0u8; 4];
-    io::read_full(fd, &mut head);
-    let got = io::read_full(fd, buf);
-    libc::close(fd);
-    got
+    vectors::read_full(&mut file, &mut head)?;
+    vectors::read_full(&mut file, buf)
 }
 
 // The number of 8 bytes at byte i.

@@ -7,6 +7,8 @@ ghost use Rattle.source_vectors.specs.Replay.{size as Replay·size};
 
 use source::{RealRoots, Win};
 use source_records::{float_from, read_records, src_from, word_from};
+use std::io;
+use std::rt::Files;
 
 // The function that the records are of.
 #[derive(Clone, Copy)]
@@ -176,20 +178,20 @@ fn differences(f: Leaf, s: &[u8]) -> u64
 }
 
 // Replays the file of the name.
-fn replay(name: &[u8], f: Leaf) {
+fn replay(rt: &(impl Files + Print), name: &str, f: Leaf) -> io::Result<()> {
     // Room for 6,000 of the longest records.
     let mut buf = [0u8; 409600];
-    let got = read_records(name, &mut buf);
+    let got = read_records(rt, name, &mut buf)?;
     let n = records(f, &buf[..got]);
-    vectors::report(name, n as u64, differences(f, &buf[..got]));
+    vectors::report(rt, name, n as u64, differences(f, &buf[..got]))
 }
 
-fn main() {
-    replay(b"roots", Leaf::Roots);
-    replay(b"ties", Leaf::Ties);
-    replay(b"edge", Leaf::Edge);
-    replay(b"free", Leaf::Free);
-    replay(b"foot", Leaf::Foot);
-    replay(b"lowest", Leaf::Lowest);
-    replay(b"eval", Leaf::Eval);
+fn main(rt: HostRuntime) -> io::Result<()> {
+    replay(&rt, "roots", Leaf::Roots)?;
+    replay(&rt, "ties", Leaf::Ties)?;
+    replay(&rt, "edge", Leaf::Edge)?;
+    replay(&rt, "free", Leaf::Free)?;
+    replay(&rt, "foot", Leaf::Foot)?;
+    replay(&rt, "lowest", Leaf::Lowest)?;
+    replay(&rt, "eval", Leaf::Eval)
 }

@@ -9,6 +9,8 @@ use stored_numbers::{
 };
 use stored_slots::{start_at, visit_f64, visit_u32};
 use vectors::Tally;
+use std::io;
+use std::rt::Files;
 
 // Whether the lists at number `at` are those of the slices, which hold 7 behind them.
 fn holds_mesh(s: &[u8], at: usize, vertices: &[f64], triangles: &[u32], v: usize, t: usize) -> bool
@@ -121,14 +123,14 @@ fn replay(s: &[u8], reads: bool) -> Tally {
     Tally { cases, differences }
 }
 
-fn replay_file(name: &[u8], reads: bool) {
+fn replay_file(rt: &(impl Files + Print), name: &str, reads: bool) -> io::Result<()> {
     let mut buf = [0u8; 524288];
-    let got = vectors::read_file(name, &mut buf);
+    let got = vectors::read_file(rt, name, &mut buf)?;
     let tally = replay(&buf[..got], reads);
-    vectors::report(name, tally.cases, tally.differences);
+    vectors::report(rt, name, tally.cases, tally.differences)
 }
 
-fn main() {
-    replay_file(b"read", true);
-    replay_file(b"write", false);
+fn main(rt: HostRuntime) -> io::Result<()> {
+    replay_file(&rt, "read", true)?;
+    replay_file(&rt, "write", false)
 }

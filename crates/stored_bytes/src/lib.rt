@@ -1,4 +1,6 @@
 // Bytes that were written to a lent slice, compared with stored ones.
+#![tactic(auto)]
+
 ghost use Rattle.std.specs.Prelude.{◌≡◌};
 ghost use Rattle.stored_bytes.specs.Bytes.{expected_at, holds_bytes};
 

@@ -1,4 +1,6 @@
 // Stored jobs, as records of numbers of 4 bytes (tests/mesh/make_vectors.py has the format), for the programs that replay them.
+#![tactic(auto)]
+
 ghost use Rattle.std.specs.Prelude.{◌≤◌, ◌<◌, length};
 
 use stored_numbers::{count, read_bytes, read_doubles, read_numbers};

@@ -128,7 +128,7 @@ pub fn record_size(s: &[u8], k: usize) -> usize
 }
 
 // Where in a file the next expected number is, and whether all that was compared agrees.
-#[derive(Drop)]
+#[derive(Clone, Copy)]
 pub struct Walk {
     pub at: usize,
     pub same: bool,

@@ -1,5 +1,7 @@
 // What buffers hold, compared with stored rows number by number (detail 1) or by check sums of whole lists (detail 2). tests/mesh/make_vectors.py says what a check
 // sum is.
+#![tactic(auto)]
+
 use buffers::{read_f64, read_u32};
 use stored_numbers::{Walk, visit, wrong};
 

@@ -15,6 +15,8 @@ use stored_numbers::{
     record_size, u32_of_byte, visit, visit_double, wrong,
 };
 use vectors::Tally;
+use std::io;
+use std::rt::Files;
 
 // The first fields of slot i.
 fn visit_reals(s: &[u8], w: Walk, reals: &[f64], stride: u32, i: u32, fields: u32) -> Walk {
@@ -487,16 +489,16 @@ fn replay(s: &[u8]) -> Tally {
     Tally { cases, differences }
 }
 
-fn replay_file(name: &[u8]) {
+fn replay_file(rt: &(impl Files + Print), name: &str) -> io::Result<()> {
     let mut buf = [0u8; 524288];
-    let got = vectors::read_file(name, &mut buf);
+    let got = vectors::read_file(rt, name, &mut buf)?;
     let tally = replay(&buf[..got]);
-    vectors::report(name, tally.cases, tally.differences);
+    vectors::report(rt, name, tally.cases, tally.differences)
 }
 
-fn main() {
-    replay_file(b"scope");
-    replay_file(b"short");
-    replay_file(b"long");
-    replay_file(b"wild");
+fn main(rt: HostRuntime) -> io::Result<()> {
+    replay_file(&rt, "scope")?;
+    replay_file(&rt, "short")?;
+    replay_file(&rt, "long")?;
+    replay_file(&rt, "wild")
 }

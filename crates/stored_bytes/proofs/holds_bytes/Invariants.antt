@@ -1,0 +1,16 @@
+use Prim.Native.Nat.{◌≤◌, ◌-◌}
+use mathlib.Core.Path.{◌≡◌, sym, ap, ◌∙◌}
+use mathlib.Core.Bool.{false, not}
+use lib.ListN.{length}
+use Rattle.job_checks.specs.Any.{any_below}
+use Rattle.job_checks.proofs.Any.{none_yet, none_more, found, none_at_all}
+use Rattle.stored_bytes.specs.Bytes.{unexpected}
+use Rattle.stored_bytes.proofs.Places.{expected_byte, unexpected_byte}
+use borrow.Author.Rules.{rules}
+use Rattle.stored_bytes.proofs.holds_bytes.Given as goal
+
+abbrev pub invariant-loop-i : goal.invariant-loop-i
+invariant-loop-i l = (l.i ≤ length l.out) × (any_below (unexpected l.s l.from l.out l.n) l.i ≡ false)
+
+abbrev pub decreases-loop-i : goal.decreases-loop-i
+decreases-loop-i l = length l.out - l.i
