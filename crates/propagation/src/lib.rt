@@ -1,5 +1,7 @@
 // What a window passes on to the two edges ahead, on values: the Rust's `propagate` and `emit` without their walks over the mesh. The face ahead lies in
 // the frame of the window's edge: x along the edge from its first vertex a to its second b, y into the face, where the opposite vertex c is.
+#![tactic(auto)]
+
 ghost use Rattle.std.specs.Prelude.{◌≡◌};
 ghost use Rattle.propagation.specs.Plane.{vertex_of, pos_of, rest_of, yh_of, frame_between, frame_of, turn_to, map_to};
 ghost use Rattle.propagation.specs.Propagate.{xc_of, part_of, image_of_point, image_of_line, clipped_of, images_of, side_of, propagate_of, emit_of};
