@@ -18,7 +18,7 @@ use Rattle.trim_model.specs.Claim.{Trimmed, ModelDemand3}
 use Rattle.trim_model.proofs.Ranks.{rank, le_yes, rank_le, lt_yes, rank_lt, max_point, max_rank, min_point, min_rank, width_number}
 use Rattle.trim_model.proofs.Count.{has, has_yes}
 use Rattle.trim_model.proofs.Lists.{all_map, all_map2, any_of}
-use Rattle.trim_model.proofs.Intervals.{Rise, Gaps, count}
+use Rattle.trim_model.proofs.Intervals.{Rise, Gaps}
 use Rattle.trim_model.proofs.Windows.{wcount, counted, Steps, Ordered, steps_all, Wide}
 use Rattle.trim_model.proofs.Run.{Spaced, Stretches}
 use Rattle.trim_model.proofs.Order.{Lone}

@@ -14,7 +14,6 @@ use Rattle.better.specs.Claim.{All}
 use Rattle.trim_model.proofs.Ranks.{by_cases}
 use Rattle.trim_model.proofs.Lists.{all_append, all_left, all_right}
 use Rattle.trim_model.proofs.Windows.{parted, sorted_all}
-use Rattle.trim_model.proofs.Order.{news}
 
 abbrev pub LowRight : Window → Type 0
 LowRight u = u.low ≡ lowest_of u.src u.b0 u.b1

@@ -15,7 +15,7 @@ use Rattle.float64.specs.Scalar.{max_of}
 use Rattle.source.specs.declared.Src.{Src}
 use Rattle.better.specs.Stretches.{Interval, interval}
 use Rattle.trim_model.specs.Intervals.{width, push_if, next, pieces, wide_of}
-use Rattle.trim_model.specs.Windows.{Window, split, all}
+use Rattle.trim_model.specs.Windows.{Window, split}
 use Rattle.trim_model.specs.Add.{Better, Walk, untouched, meet, visit, visits, shared_lo, shared_hi}
 use Rattle.better.specs.Claim.{All, Point}
 use Rattle.trim_model.proofs.Ranks.{rank, max_point, max_rank, min_point, min_rank, Nonneg, wide_pos, wide_no, wide_mono, slim, by_cases}

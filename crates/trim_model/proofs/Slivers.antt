@@ -1,5 +1,5 @@
 -- What an addition drops are slivers: between points, wider than zero, and at most t. Assumes nothing.
-use Prim.Native.Nat.{ℕ, zero}
+use Prim.Native.Nat.{ℕ}
 use mathlib.Core.Bool.{Bool, cond}
 use mathlib.Core.List.{List, [], ◌∷◌}
 use lib.Dec.{T}
