@@ -1,4 +1,6 @@
 // What reading and writing binary STL answer, and the coordinates in a file.
+#![tactic(auto)]
+
 ghost use Rattle.std.specs.Prelude.{◌≡◌, ◌+◌, ◌*◌, ◌≤◌, ◌<◌, length};
 ghost use Rattle.little_endian.specs.Bytes.{number_from};
 ghost use Rattle.stl_format.specs.Format.{point_from, coordinate};

@@ -1,6 +1,8 @@
 // The vertices of an STL file: points with the same coordinates are found through buckets, 131,072 of them, each a chain of vertices, the newest first.
 // `key_bucket` in specs/ spreads them. Points that are chosen to meet in one bucket make a step for each vertex before: at worst 3 n points of v vertices take
 // 3 n v steps.
+#![tactic(auto)]
+
 ghost use Rattle.std.specs.Prelude.{◌≡◌, ◌+◌, ◌≤◌, ◌<◌, length, get_or};
 ghost use Rattle.little_endian.specs.Bytes.{number_from};
 ghost use Rattle.stl_table.specs.Keys.{zero_unsigned, key_at, same_key, mixed_key, key_bucket};

@@ -1,0 +1,24 @@
+-- `stl_table::same_key` meets its contract. Assumes nothing.
+use borrow.Author.Tests.{eq-eqb, ne_eqb}
+use Rattle.stl_table.specs.Keys.{same_key}
+use Rattle.stl_table.proofs.same_key.Goals as goal
+
+pub returns-then-a-b : goal.returns-then-a-b
+unfolding same_key
+returns-then-a-b c = rw (ne_eqb _ _ c.if-a-b.true)
+
+pub returns-then-a-b-2 : goal.returns-then-a-b-2
+unfolding same_key
+returns-then-a-b-2 c = rw (eq-eqb _ _ c.if-a-b.false, ne_eqb _ _ c.if-a-b-2.true)
+
+pub returns-then-a-b-3 : goal.returns-then-a-b-3
+unfolding same_key
+returns-then-a-b-3 c =
+    let second = c in
+    rw (eq-eqb _ _ second.if-a-b.false, eq-eqb _ _ second.if-a-b-2.false, ne_eqb _ _ c.if-a-b-3.true)
+
+pub returns : goal.returns
+unfolding same_key
+returns c =
+    let second = c in
+    rw (eq-eqb _ _ second.if-a-b.false, eq-eqb _ _ second.if-a-b-2.false, eq-eqb _ _ c.if-a-b-3.false)
