@@ -2,7 +2,6 @@
 use native.Mathlib.Omega.{arith}
 use mathlib.Core.Path.{◌∙◌}
 use Rattle.stored_bytes.proofs.Places.{seven_behind, none_stored, stored_byte}
-use borrow.Author.Rules.{rules}
 use Rattle.stored_bytes.proofs.expected.Goals as goal
 
 pub returns-then-i-n : goal.returns-then-i-n

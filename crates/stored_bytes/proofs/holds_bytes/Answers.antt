@@ -1,11 +1,7 @@
 -- `stored_bytes::holds_bytes` meets its contract. The loop's invariant: no other byte was found so far. Assumes nothing.
-use Prim.Native.Nat.{◌≤◌, ◌-◌}
-use mathlib.Core.Path.{◌≡◌, sym, ap, ◌∙◌}
-use mathlib.Core.Bool.{false, not}
-use lib.ListN.{length}
-use Rattle.job_checks.specs.Any.{any_below}
+use mathlib.Core.Path.{sym, ap, ◌∙◌}
+use mathlib.Core.Bool.{not}
 use Rattle.job_checks.proofs.Any.{none_yet, none_more, found, none_at_all}
-use Rattle.stored_bytes.specs.Bytes.{unexpected}
 use Rattle.stored_bytes.proofs.Places.{expected_byte, unexpected_byte}
 use borrow.Author.Rules.{rules}
 use Rattle.stored_bytes.proofs.holds_bytes.Goals as goal

@@ -1,12 +1,9 @@
 use Prim.Native.Nat.{◌≤◌, ◌-◌}
-use mathlib.Core.Path.{◌≡◌, sym, ap, ◌∙◌}
-use mathlib.Core.Bool.{false, not}
+use mathlib.Core.Path.{◌≡◌}
+use mathlib.Core.Bool.{false}
 use lib.ListN.{length}
 use Rattle.job_checks.specs.Any.{any_below}
-use Rattle.job_checks.proofs.Any.{none_yet, none_more, found, none_at_all}
 use Rattle.stored_bytes.specs.Bytes.{unexpected}
-use Rattle.stored_bytes.proofs.Places.{expected_byte, unexpected_byte}
-use borrow.Author.Rules.{rules}
 use Rattle.stored_bytes.proofs.holds_bytes.Given as goal
 
 abbrev pub invariant-loop-i : goal.invariant-loop-i
