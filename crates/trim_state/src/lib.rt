@@ -1,1 +1,2 @@
 // The state of window trimming as values: definitions and laws, no code.
+#![tactic(auto)]
