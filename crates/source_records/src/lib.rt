@@ -1,4 +1,6 @@
 // Files of packed records of bytes, with 8 bytes for a float, 25 for a source (a kind, 0 for a point, and three floats).
+#![tactic(auto)]
+
 ghost use Rattle.std.specs.Prelude.{◌≡◌, ◌+◌, ◌≤◌, length};
 ghost use Rattle.std.specs.Io.{ReadsAtMost};
 ghost use Rattle.source_records.specs.Records.{word_from, float_from, src_from};
