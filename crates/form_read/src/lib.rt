@@ -1,6 +1,5 @@
 // Reading a slip in the form that the reader is told: its job to the fronts of six slices. All is checked before anything is written.
 ghost use Rattle.std.specs.Prelude.{◌≡◌, true, ◌+◌, ◌*◌, ◌≤◌, ◌<◌, length, get_or};
-ghost use Rattle.buffers.specs.Lent.{given, left};
 ghost use Rattle.buffers.specs.Slots.{fill};
 ghost use Rattle.little_endian.specs.Bytes.{doubles_from, bytes_from, put_in_front};
 ghost use Rattle.groups.specs.declared.Form.TheVariants.{Plain, Groups};
@@ -101,7 +100,7 @@ fn is_exceeded(
 
 fn job(s: &[u8], v: usize, t: usize, p: usize) -> Answer
     requires { (8 ≤ length s.now) × ((v < 4_294_967_296) × ((t < 4_294_967_296) × (p < 4_294_967_296))) }
-    ensures { result ≡ passed_answer (given s) v t p }
+    ensures { result ≡ passed_answer s.now v t p }
 {
     let limit = double_at(s, s.len() - 8);
     Answer::Job(SlipJob {
@@ -114,7 +113,7 @@ fn job(s: &[u8], v: usize, t: usize, p: usize) -> Answer
 
 // What reading answers where there is room for so many vertices, triangles and pieces.
 fn check(s: &[u8], vertices: usize, triangles: usize, pieces: usize) -> Answer
-    ensures { result ≡ groups_answer (given s) vertices triangles pieces }
+    ensures { result ≡ groups_answer s.now vertices triangles pieces }
 {
     match read_head(Form::Groups, s) {
         Head::Refused(why) => Answer::Refused(why),
@@ -137,7 +136,7 @@ fn check(s: &[u8], vertices: usize, triangles: usize, pieces: usize) -> Answer
 // n numbers from byte i on, to the front of a slice: answers the place behind them.
 fn write_numbers(s: &[u8], i: usize, n: usize, to: &mut [u32]) -> usize
     requires { (i < 1_000_000_000_000_000_000) × ((n < 100_000_000_000) × (n ≤ length to.old)) }
-    ensures { (left to ≡ put_in_front (numbers_in (given s) i n) (given to)) × (result ≡ number_place (given s) i n) }
+    ensures { (to.new ≡ put_in_front (numbers_in s.now i n) to.old) × (result ≡ number_place s.now i n) }
 {
     let mut at = i;
     let mut k: usize = 0;
@@ -160,9 +159,9 @@ fn write_mesh(
     flags: &mut [u8],
 ) -> usize
     requires { MeshThere s.now i v t (length vertices.old) (length triangles.old) (length flags.old) }
-    ensures { (left vertices ≡ put_in_front (doubles_from (given s) i (3 * v)) (given vertices))
-        × ((left triangles ≡ put_in_front (numbers_in (given s) (i + 24 * v) (3 * t)) (given triangles))
-        × ((left flags ≡ put_in_front (bytes_from (given s) (flags_place (given s) v t i) v) (given flags)) × (result ≡ first_piece (given s) v t i))) }
+    ensures { (vertices.new ≡ put_in_front (doubles_from s.now i (3 * v)) vertices.old)
+        × ((triangles.new ≡ put_in_front (numbers_in s.now (i + 24 * v) (3 * t)) triangles.old)
+        × ((flags.new ≡ put_in_front (bytes_from s.now (flags_place s.now v t i) v) flags.old) × (result ≡ first_piece s.now v t i))) }
 {
     read_doubles(s, i, 3 * v, vertices);
     let from = write_numbers(s, i + 24 * v, 3 * t, triangles);
@@ -173,7 +172,7 @@ fn write_mesh(
 // The double k bytes behind the start of the ends of the piece at byte i, 0 of a point.
 fn second(s: &[u8], i: usize, e: usize, k: usize) -> f64
     requires { PieceThere s.now i e × (k ≤ 40) }
-    ensures { result ≡ second_in (given s) i k }
+    ensures { result ≡ second_in s.now i k }
 {
     if s[i] == 0 {
         return 0.0;
@@ -184,7 +183,7 @@ fn second(s: &[u8], i: usize, e: usize, k: usize) -> f64
 // The coordinates of the piece at byte i, to place k.
 fn write_coords(s: &[u8], i: usize, e: usize, k: usize, coords: &mut [f64])
     requires { PieceThere s.now i e × (6 * k + 6 ≤ length coords.old) }
-    ensures { left coords ≡ fill 6 (given coords) k 0 (ends_in (given s) i) }
+    ensures { coords.new ≡ fill 6 coords.old k 0 (ends_in s.now i) }
 {
     coords[6 * k] = double_at(s, e);
     coords[6 * k + 1] = double_at(s, e + 8);
@@ -203,8 +202,8 @@ fn write_pieces(
     coords: &mut [f64],
 )
     requires { PiecesThere s.now from n (length kinds.old) (length faces.old) (length coords.old) }
-    ensures { (left kinds ≡ put_in_front (kinds_from (given s) from n) (given kinds))
-        × ((left faces ≡ put_in_front (faces_from (given s) from n) (given faces)) × (left coords ≡ put_in_front (coords_from (given s) from n) (given coords))) }
+    ensures { (kinds.new ≡ put_in_front (kinds_from s.now from n) kinds.old)
+        × ((faces.new ≡ put_in_front (faces_from s.now from n) faces.old) × (coords.new ≡ put_in_front (coords_from s.now from n) coords.old)) }
 {
     let mut at = from;
     let mut k: usize = 0;
@@ -231,8 +230,8 @@ fn write_job(
     coords: &mut [f64],
 )
     requires { JobThere s.now (job_rows vertices.old triangles.old flags.old kinds.old faces.old coords.old) }
-    ensures { job_rows (left vertices) (left triangles) (left flags) (left kinds) (left faces) (left coords)
-        ≡ job_written (given s) (form_head_at Groups (given s)) (job_rows (given vertices) (given triangles) (given flags) (given kinds) (given faces) (given coords)) }
+    ensures { job_rows vertices.new triangles.new flags.new kinds.new faces.new coords.new
+        ≡ job_written s.now (form_head_at Groups s.now) (job_rows vertices.old triangles.old flags.old kinds.old faces.old coords.old) }
 {
     if let Head::Counts(v, t, p, i) = read_head(Form::Groups, s) {
         let at = write_mesh(s, i, v, t, vertices, triangles, flags);
@@ -249,8 +248,8 @@ fn read_groups(
     faces: &mut [u32],
     coords: &mut [f64],
 ) -> Answer
-    ensures { (result, job_rows (left vertices) (left triangles) (left flags) (left kinds) (left faces) (left coords))
-        ≡ groups_reading (given s) (job_rows (given vertices) (given triangles) (given flags) (given kinds) (given faces) (given coords)) }
+    ensures { (result, job_rows vertices.new triangles.new flags.new kinds.new faces.new coords.new)
+        ≡ groups_reading s.now (job_rows vertices.old triangles.old flags.old kinds.old faces.old coords.old) }
 {
     let vertex_room = least(vertices.len() / 3, flags.len());
     let piece_room = least(kinds.len(), least(faces.len(), coords.len() / 6));
@@ -272,8 +271,8 @@ pub fn read(
     faces: &mut [u32],
     coords: &mut [f64],
 ) -> Answer
-    ensures { (result, job_rows (left vertices) (left triangles) (left flags) (left kinds) (left faces) (left coords))
-        ≡ form_reading form (given s) (job_rows (given vertices) (given triangles) (given flags) (given kinds) (given faces) (given coords)) }
+    ensures { (result, job_rows vertices.new triangles.new flags.new kinds.new faces.new coords.new)
+        ≡ form_reading form s.now (job_rows vertices.old triangles.old flags.old kinds.old faces.old coords.old) }
 {
     match form {
         Form::Plain => of_slip(slip::read(s, vertices, triangles, flags, kinds, faces, coords)),

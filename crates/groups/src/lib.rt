@@ -1,4 +1,6 @@
 // A number below 2 ^ 32 as bytes, in both forms of a slip: four bytes, or groups of seven bits.
+#![tactic(auto)]
+
 ghost use Rattle.std.specs.Prelude.{◌≡◌, [], ◌∷◌, ◌+◌, ◌-◌, ◌≤◌, ◌<◌, length, get_or};
 ghost use Rattle.text_out.specs.Text.{Puts};
 ghost use Rattle.groups.specs.Groups.{groups_of, joined_group, group_at, grouped, number_of, Found};

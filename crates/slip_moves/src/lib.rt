@@ -1,6 +1,5 @@
 // A slip moved from one form to another: checked and counted first, then written.
 ghost use Rattle.std.specs.Prelude.{◌≡◌, [], ◌∷◌, ℕ, ◌+◌, ◌*◌, ◌≤◌, ◌<◌, length, get_or};
-ghost use Rattle.buffers.specs.Lent.{given, left};
 ghost use Rattle.text_out.specs.Text.{Puts};
 ghost use Rattle.groups.specs.Groups.{number_at};
 ghost use Rattle.slip_moves.specs.Moves.{slip_refusal_number, moved_number, length_moved, with_count, counts_at, form_head_at, first_byte, head_bytes, bytes_moved, ends_size, number_moved, numbers_moved, piece_of_kind, piece_moved, pieces_moved, mesh_moved, rest_moved, body_moved, ended, then, slip_moved, moving, Moves, SmallCounts};
@@ -77,7 +76,7 @@ pub fn moved_length(moved: Moved) -> usize
 
 fn third_count(form: Form, s: &[u8], i: usize, vertices: usize, triangles: usize) -> Head
     requires { (i < 100) × ((vertices < 4_294_967_296) × (triangles < 4_294_967_296)) }
-    ensures { (result ≡ with_count (number_at form (given s) i) (λ pieces l. Head.Counts vertices triangles pieces l)) × SmallCounts result (i + 5) }
+    ensures { (result ≡ with_count (number_at form s.now i) (λ pieces l. Head.Counts vertices triangles pieces l)) × SmallCounts result (i + 5) }
 {
     match read_number(form, s, i) {
         Number::Short => Head::Refused(Refusal::TooShort),
@@ -88,7 +87,7 @@ fn third_count(form: Form, s: &[u8], i: usize, vertices: usize, triangles: usize
 
 fn second_count(form: Form, s: &[u8], i: usize, vertices: usize) -> Head
     requires { (i < 90) × (vertices < 4_294_967_296) }
-    ensures { (result ≡ with_count (number_at form (given s) i) (λ triangles k. with_count (number_at form (given s) k) (λ pieces l. Head.Counts vertices triangles pieces l)))
+    ensures { (result ≡ with_count (number_at form s.now i) (λ triangles k. with_count (number_at form s.now k) (λ pieces l. Head.Counts vertices triangles pieces l)))
         × SmallCounts result (i + 10) }
 {
     match read_number(form, s, i) {
@@ -100,7 +99,7 @@ fn second_count(form: Form, s: &[u8], i: usize, vertices: usize) -> Head
 
 fn read_counts(form: Form, s: &[u8], i: usize) -> Head
     requires { i ≤ 1 }
-    ensures { (result ≡ counts_at form (given s) i) × SmallCounts result 16 }
+    ensures { (result ≡ counts_at form s.now i) × SmallCounts result 16 }
 {
     match read_number(form, s, i) {
         Number::Short => Head::Refused(Refusal::TooShort),
@@ -110,7 +109,7 @@ fn read_counts(form: Form, s: &[u8], i: usize) -> Head
 }
 
 fn read_groups_head(s: &[u8]) -> Head
-    ensures { (result ≡ form_head_at Form.Groups (given s)) × SmallCounts result 16 }
+    ensures { (result ≡ form_head_at Form.Groups s.now) × SmallCounts result 16 }
 {
     if s.len() == 0 {
         return Head::Refused(Refusal::TooShort);
@@ -123,7 +122,7 @@ fn read_groups_head(s: &[u8]) -> Head
 
 // The first byte, where the form has one, and the counts.
 pub fn read_head(form: Form, s: &[u8]) -> Head
-    ensures { (result ≡ form_head_at form (given s)) × SmallCounts result 16 }
+    ensures { (result ≡ form_head_at form s.now) × SmallCounts result 16 }
 {
     match form {
         Form::Plain => read_counts(Form::Plain, s, 0),
@@ -132,7 +131,7 @@ pub fn read_head(form: Form, s: &[u8]) -> Head
 }
 
 fn put_first_byte(form: Form, out: &mut [u8]) -> usize
-    ensures { Puts (given out) 0 (first_byte form) (left out) result × (result ≤ 1) }
+    ensures { Puts out.old 0 (first_byte form) out.new result × (result ≤ 1) }
 {
     match form {
         Form::Plain => 0,
@@ -142,7 +141,7 @@ fn put_first_byte(form: Form, out: &mut [u8]) -> usize
 
 fn put_head(form: Form, out: &mut [u8], vertices: usize, triangles: usize, pieces: usize) -> usize
     requires { (vertices < 4_294_967_296) × ((triangles < 4_294_967_296) × (pieces < 4_294_967_296)) }
-    ensures { Puts (given out) 0 (head_bytes form vertices triangles pieces) (left out) result × (result ≤ 16) }
+    ensures { Puts out.old 0 (head_bytes form vertices triangles pieces) out.new result × (result ≤ 16) }
 {
     let a = put_first_byte(form, out);
     let b = put_number(form, out, a, vertices);
@@ -154,7 +153,7 @@ fn put_head(form: Form, out: &mut [u8], vertices: usize, triangles: usize, piece
 
 fn move_bytes(s: &[u8], i: usize, n: usize, out: &mut [u8], o: usize) -> Step
     requires { (i < 4_000_000_000_000_000_000) × ((o < 4_000_000_000_000_000_000) × (n < 4_000_000_000_000_000_000)) }
-    ensures { Moves (given out) o (bytes_moved (given s) n i) (left out) result }
+    ensures { Moves out.old o (bytes_moved s.now n i) out.new result }
 {
     let end = i + n;
     if s.len() < end {
@@ -166,7 +165,7 @@ fn move_bytes(s: &[u8], i: usize, n: usize, out: &mut [u8], o: usize) -> Step
 
 fn move_number(from: Form, to: Form, s: &[u8], i: usize, out: &mut [u8], o: usize) -> Step
     requires { (i < 4_000_000_000_000_000_000) × (o < 4_000_000_000_000_000_000) }
-    ensures { Moves (given out) o (number_moved from to (given s) i) (left out) result }
+    ensures { Moves out.old o (number_moved from to s.now i) out.new result }
 {
     match read_number(from, s, i) {
         Number::Short => Step::Stopped(Refusal::TooShort),
@@ -188,7 +187,7 @@ fn move_numbers(
     o: usize,
 ) -> Step
     requires { (i < 1_000_000_000_000_000_000) × ((o < 1_000_000_000_000_000_000) × (n < 100_000_000_000)) }
-    ensures { Moves (given out) o (numbers_moved from to (given s) n i) (left out) result }
+    ensures { Moves out.old o (numbers_moved from to s.now n i) out.new result }
 {
     let mut at = i;
     let mut p = o;
@@ -221,7 +220,7 @@ pub fn ends_size(kind: u8) -> usize
 // A piece of a kind.
 fn move_kind(from: Form, to: Form, s: &[u8], i: usize, kind: u8, out: &mut [u8], o: usize) -> Step
     requires { (i < 2_000_000_000_000_000_000) × (o < 2_000_000_000_000_000_000) }
-    ensures { Moves (given out) o (piece_of_kind from to (given s) kind i) (left out) result }
+    ensures { Moves out.old o (piece_of_kind from to s.now kind i) out.new result }
 {
     match move_bytes(s, i, 1, out, o) {
         Step::Stopped(r) => Step::Stopped(r),
@@ -234,7 +233,7 @@ fn move_kind(from: Form, to: Form, s: &[u8], i: usize, kind: u8, out: &mut [u8],
 
 fn move_piece(from: Form, to: Form, s: &[u8], i: usize, out: &mut [u8], o: usize) -> Step
     requires { (i < 2_000_000_000_000_000_000) × (o < 2_000_000_000_000_000_000) }
-    ensures { Moves (given out) o (piece_moved from to (given s) i) (left out) result }
+    ensures { Moves out.old o (piece_moved from to s.now i) out.new result }
 {
     if s.len() <= i {
         return Step::Stopped(Refusal::TooShort);
@@ -248,7 +247,7 @@ fn move_piece(from: Form, to: Form, s: &[u8], i: usize, out: &mut [u8], o: usize
 
 fn move_pieces(from: Form, to: Form, s: &[u8], i: usize, n: usize, out: &mut [u8], o: usize) -> Step
     requires { (i < 1_000_000_000_000_000_000) × ((o < 1_000_000_000_000_000_000) × (n < 100_000_000_000)) }
-    ensures { Moves (given out) o (pieces_moved from to (given s) n i) (left out) result }
+    ensures { Moves out.old o (pieces_moved from to s.now n i) out.new result }
 {
     let mut at = i;
     let mut p = o;
@@ -279,7 +278,7 @@ fn move_mesh(
     o: usize,
 ) -> Step
     requires { (i ≤ 16) × ((o ≤ 16) × ((vertices < 4_294_967_296) × (triangles < 4_294_967_296))) }
-    ensures { Moves (given out) o (mesh_moved from to (given s) vertices triangles i) (left out) result }
+    ensures { Moves out.old o (mesh_moved from to s.now vertices triangles i) out.new result }
 {
     match move_bytes(s, i, 24 * vertices, out, o) {
         Step::Stopped(r) => Step::Stopped(r),
@@ -301,7 +300,7 @@ fn move_rest(
     o: usize,
 ) -> Step
     requires { (i < 500_000_000_000_000_000) × ((o < 500_000_000_000_000_000) × (pieces < 4_294_967_296)) }
-    ensures { Moves (given out) o (rest_moved from to (given s) pieces i) (left out) result }
+    ensures { Moves out.old o (rest_moved from to s.now pieces i) out.new result }
 {
     match move_pieces(from, to, s, i, pieces, out, o) {
         Step::Stopped(r) => Step::Stopped(r),
@@ -322,7 +321,7 @@ fn move_body(
     o: usize,
 ) -> Step
     requires { (i ≤ 16) × ((o ≤ 16) × ((vertices < 4_294_967_296) × ((triangles < 4_294_967_296) × (pieces < 4_294_967_296)))) }
-    ensures { Moves (given out) o (then (body_moved from to (given s) vertices triangles pieces i) (ended (given s))) (left out) result }
+    ensures { Moves out.old o (then (body_moved from to s.now vertices triangles pieces i) (ended s.now)) out.new result }
 {
     match move_mesh(from, to, s, i, vertices, triangles, out, o) {
         Step::Stopped(r) => Step::Stopped(r),
@@ -340,7 +339,7 @@ fn move_body(
 
 // The whole slip from place 0 on; what is past the end of the output is left out, and counted all the same.
 fn move_whole(from: Form, to: Form, s: &[u8], out: &mut [u8]) -> Step
-    ensures { Moves (given out) 0 (slip_moved from to (given s)) (left out) result }
+    ensures { Moves out.old 0 (slip_moved from to s.now) out.new result }
 {
     match read_head(from, s) {
         Head::Refused(r) => Step::Stopped(r),
@@ -353,7 +352,7 @@ fn move_whole(from: Form, to: Form, s: &[u8], out: &mut [u8]) -> Step
 
 // Moves a slip from one form to another, to the front of a slice. Refused, or where the slice is too short, it writes nothing: a first pass only counts.
 pub fn move_slip(from: Form, to: Form, s: &[u8], out: &mut [u8]) -> Moved
-    ensures { (result, left out) ≡ moving from to (given s) (given out) }
+    ensures { (result, out.new) ≡ moving from to s.now out.old }
 {
     let mut none = [0u8; 1];
     match move_whole(from, to, s, &mut none) {
@@ -370,13 +369,13 @@ pub fn move_slip(from: Form, to: Form, s: &[u8], out: &mut [u8]) -> Moved
 
 // Moves a plain slip to groups, and back.
 pub fn to_groups(s: &[u8], out: &mut [u8]) -> Moved
-    ensures { (result, left out) ≡ moving Form.Plain Form.Groups (given s) (given out) }
+    ensures { (result, out.new) ≡ moving Form.Plain Form.Groups s.now out.old }
 {
     move_slip(Form::Plain, Form::Groups, s, out)
 }
 
 pub fn from_groups(s: &[u8], out: &mut [u8]) -> Moved
-    ensures { (result, left out) ≡ moving Form.Groups Form.Plain (given s) (given out) }
+    ensures { (result, out.new) ≡ moving Form.Groups Form.Plain s.now out.old }
 {
     move_slip(Form::Groups, Form::Plain, s, out)
 }

@@ -1,7 +1,6 @@
 // Binary STL: a mesh read from the bytes of a file, and the file of a mesh. All is checked before anything is written.
 ghost use Rattle.std.specs.Prelude.{◌≡◌, ℕ, ◌+◌, ◌-◌, ◌*◌, ◌/◌, ◌%◌, ◌≤◌, ◌<◌, T, length, get_or};
 ghost use Rattle.std.specs.Float.{nan};
-ghost use Rattle.buffers.specs.Lent.{given, left};
 ghost use Rattle.job_checks.specs.Any.{any_below};
 ghost use Rattle.job_checks.specs.Refusals.{missing};
 ghost use Rattle.little_endian.specs.Bytes.{put_in_front};
@@ -48,7 +47,7 @@ fn wide(x: u32) -> usize
 
 // Whether a triangle names none of count vertices.
 fn any_missing(triangles: &[u32], count: usize) -> bool
-    ensures { result ≡ any_below (missing count (given triangles)) (length (given triangles)) }
+    ensures { result ≡ any_below (missing count triangles.now) (length triangles.now) }
 {
     let mut i = 0;
     while i < triangles.len() {
@@ -61,7 +60,7 @@ fn any_missing(triangles: &[u32], count: usize) -> bool
 }
 
 fn any_not_single(vertices: &[f64]) -> bool
-    ensures { result ≡ any_below (not_single (given vertices)) (length (given vertices)) }
+    ensures { result ≡ any_below (not_single vertices.now) (length vertices.now) }
 {
     let mut i = 0;
     while i < vertices.len() {
@@ -76,14 +75,14 @@ fn any_not_single(vertices: &[f64]) -> bool
 // The bytes of a single, of a vertex, of a triangle's record, of the first n records and of a file, from place i on: each answers the place behind.
 fn put_single(out: &mut [u8], i: usize, x: f64) -> usize
     requires { (i < 9_000_000_000_000_000) × T (is_single x) }
-    ensures { Puts (given out) i (single_bytes x) (left out) result × (result ≡ i + 4) }
+    ensures { Puts out.old i (single_bytes x) out.new result × (result ≡ i + 4) }
 {
     put_number(out, i, single_bits(x))
 }
 
 fn put_vertex(out: &mut [u8], i: usize, vertices: &[f64], a: u32) -> usize
     requires { (i < 8_000_000_000_000_000) × Writable vertices.now a }
-    ensures { Puts (given out) i (vertex_bytes (given vertices) a) (left out) result × (result ≡ i + 12) }
+    ensures { Puts out.old i (vertex_bytes vertices.now a) out.new result × (result ≡ i + 12) }
 {
     let k = 3 * (a as usize);
     let j = put_single(out, i, vertices[k]);
@@ -93,7 +92,7 @@ fn put_vertex(out: &mut [u8], i: usize, vertices: &[f64], a: u32) -> usize
 
 fn put_record(out: &mut [u8], i: usize, vertices: &[f64], triangles: &[u32], t: usize) -> usize
     requires { (i < 7_000_000_000_000_000) × ((3 * t + 3 ≤ length triangles.now) × WritableTriangles vertices.now triangles.now) }
-    ensures { Puts (given out) i (record_bytes (given vertices) (given triangles) t) (left out) result × (result ≡ i + 50) }
+    ensures { Puts out.old i (record_bytes vertices.now triangles.now t) out.new result × (result ≡ i + 50) }
 {
     let normal = [0u8; 12];
     let attributes = [0u8; 2];
@@ -106,7 +105,7 @@ fn put_record(out: &mut [u8], i: usize, vertices: &[f64], triangles: &[u32], t: 
 
 fn put_records(out: &mut [u8], i: usize, vertices: &[f64], triangles: &[u32]) -> usize
     requires { (i ≤ 84) × ((length triangles.now / 3 ≤ 131_070) × WritableTriangles vertices.now triangles.now) }
-    ensures { Puts (given out) i (records_bytes (given vertices) (given triangles) (length (given triangles) / 3)) (left out) result }
+    ensures { Puts out.old i (records_bytes vertices.now triangles.now (length triangles.now / 3)) out.new result }
 {
     let n = triangles.len() / 3;
     let mut at = i;
@@ -120,7 +119,7 @@ fn put_records(out: &mut [u8], i: usize, vertices: &[f64], triangles: &[u32]) ->
 
 fn put_file(out: &mut [u8], vertices: &[f64], triangles: &[u32]) -> usize
     requires { (length triangles.now / 3 ≤ 131_070) × WritableTriangles vertices.now triangles.now }
-    ensures { Puts (given out) 0 (file_of (given vertices) (given triangles)) (left out) result }
+    ensures { Puts out.old 0 (file_of vertices.now triangles.now) out.new result }
 {
     let header = [0u8; 80];
     let a = put_text(out, 0, &header);
@@ -130,7 +129,7 @@ fn put_file(out: &mut [u8], vertices: &[f64], triangles: &[u32]) -> usize
 
 // The file of a mesh to the front of a slice. Refused, it writes nothing.
 pub fn write(vertices: &[f64], triangles: &[u32], out: &mut [u8]) -> Stl
-    ensures { (result, left out) ≡ stl_writing (given vertices) (given triangles) (given out) }
+    ensures { (result, out.new) ≡ stl_writing vertices.now triangles.now out.old }
 {
     if has_wrong_sizes(vertices.len(), triangles.len()) {
         return Stl::Malformed;
@@ -153,7 +152,7 @@ pub fn write(vertices: &[f64], triangles: &[u32], out: &mut [u8]) -> Stl
 
 fn is_not_finite(s: &[u8], h: usize) -> bool
     requires { HasPoint s.now h }
-    ensures { result ≡ bytes_not_finite (given s) h }
+    ensures { result ≡ bytes_not_finite s.now h }
 {
     if !is_finite(coordinate_at(s, h, 0)) {
         return true;
@@ -169,7 +168,7 @@ fn is_not_finite(s: &[u8], h: usize) -> bool
 
 fn any_not_finite(s: &[u8], points: usize) -> bool
     requires { HasPoints s.now points }
-    ensures { result ≡ any_below (bytes_not_finite (given s)) points }
+    ensures { result ≡ any_below (bytes_not_finite s.now) points }
 {
     let mut h: usize = 0;
     while h < points {
@@ -184,7 +183,7 @@ fn any_not_finite(s: &[u8], points: usize) -> bool
 // The coordinates of the points firsts, in n vertices.
 fn write_vertices(s: &[u8], firsts: &[u32], n: usize, vertices: &mut [f64])
     requires { (n ≤ length firsts.now) × ((3 * n ≤ length vertices.old) × ((i : ℕ) → i < n → HasPoint s.now (get_or firsts.now i 0))) }
-    ensures { left vertices ≡ put_in_front (list_of (3 * n) (λ j. coordinate (given s) (get_or (given firsts) (j / 3) 0) (j % 3))) (given vertices) }
+    ensures { vertices.new ≡ put_in_front (list_of (3 * n) (λ j. coordinate s.now (get_or firsts.now (j / 3) 0) (j % 3))) vertices.old }
 {
     let mut j: usize = 0;
     while j < 3 * n {
@@ -213,7 +212,7 @@ fn write_triangles(
     triangles: &mut [u32],
 )
     requires { (n ≤ length triangles.old) × ((h : ℕ) → h < n → Findable s.now heads.now links.now firsts.now h) }
-    ensures { left triangles ≡ put_in_front (list_of n (λ h. found_at (given s) (given heads) (given links) (given firsts) h - 1)) (given triangles) }
+    ensures { triangles.new ≡ put_in_front (list_of n (λ h. found_at s.now heads.now links.now firsts.now h - 1)) triangles.old }
 {
     let mut h: u32 = 0;
     while h < n {
@@ -225,7 +224,7 @@ fn write_triangles(
 // The mesh of a file of n records that 40 to 42 passed. Its vertices are counted in arrays of its own before anything is written.
 fn read_mesh(s: &[u8], n: u32, vertices: &mut [f64], triangles: &mut [u32]) -> Stl
     requires { CheckedFile s.now n }
-    ensures { (result, mesh_lists (left vertices) (left triangles)) ≡ stl_reading (given s) (mesh_lists (given vertices) (given triangles)) }
+    ensures { (result, mesh_lists vertices.new triangles.new) ≡ stl_reading s.now (mesh_lists vertices.old triangles.old) }
 {
     let mut heads = [0u32; 131072];
     let mut links = [0u32; 65536];
@@ -250,7 +249,7 @@ fn read_mesh(s: &[u8], n: u32, vertices: &mut [f64], triangles: &mut [u32]) -> S
 
 // Reads a file: its mesh to the fronts of the two slices, where there is room for it. Refused, it writes nothing.
 pub fn read(s: &[u8], vertices: &mut [f64], triangles: &mut [u32]) -> Stl
-    ensures { (result, mesh_lists (left vertices) (left triangles)) ≡ stl_reading (given s) (mesh_lists (given vertices) (given triangles)) }
+    ensures { (result, mesh_lists vertices.new triangles.new) ≡ stl_reading s.now (mesh_lists vertices.old triangles.old) }
 {
     if s.len() < 84 {
         return Stl::TooShort;
