@@ -1,6 +1,8 @@
 // The live windows of the edges, in the window buffer and its chains. A link is a window's number plus one, and 0 is none or, where
 // something stands behind a link, the head of the chain. A link that is read counts only where it leads to one of the first `made`
 // windows, so whatever the buffers hold, no other window is touched.
+#![tactic(auto)]
+
 ghost use Rattle.std.specs.Prelude.{◌≡◌, ◌&&◌, not, ◌+◌, ◌*◌, ◌≤◌, ◌<◌, get_or, length};
 ghost use Rattle.std.specs.Float.{nan};
 ghost use Rattle.std.specs.Float.Ieee.{lt};
@@ -31,14 +33,14 @@ pub fn next_link(
     before: u32,
 ) -> u32
     requires { (made ≤ capacity_of (length words.now) (length reals.now)) × ((e.0 < slots_of (length edges.now) words_per_edge) × (before ≤ made)) }
-    ensures { LinkFollows made (links (given edges) (given words)) e.0 before result }
+    ensures { LinkFollows made (links edges.now words.now) e.0 before result }
 {
     chains::link_at(edges, words, reals, made, e, before)
 }
 
 // Whether a window starts before b0 and ends at or before lo.
 fn passes_by(reals: &[f64], i: u32, b0: f64, lo: f64) -> bool
-    ensures { result ≡ (lt (get_or (given reals) (reals_per_window * i + window_b0) nan) b0 && not (lt lo (get_or (given reals) (reals_per_window * i + window_b1) nan))) }
+    ensures { result ≡ (lt (get_or reals.now (reals_per_window * i + window_b0) nan) b0 && not (lt lo (get_or reals.now (reals_per_window * i + window_b1) nan))) }
 {
     let start = read_f64(reals, REALS_PER_WINDOW, i, WINDOW_B0);
     let end = read_f64(reals, REALS_PER_WINDOW, i, WINDOW_B1);
@@ -53,7 +55,7 @@ fn passes_by(reals: &[f64], i: u32, b0: f64, lo: f64) -> bool
 
 // Whether a window starts before b0, as windows are sorted.
 fn starts_by(reals: &[f64], i: u32, b0: f64) -> bool
-    ensures { result ≡ total_less (get_or (given reals) (reals_per_window * i + window_b0) nan) b0 }
+    ensures { result ≡ total_less (get_or reals.now (reals_per_window * i + window_b0) nan) b0 }
 {
     let start = read_f64(reals, REALS_PER_WINDOW, i, WINDOW_B0);
     float64::total_less(start, b0)
@@ -69,7 +71,7 @@ fn remembered(
     b0: f64,
     tiny: f64,
 ) -> u32
-    ensures { Begins (passes tiny b0) made (links (given edges) (given words)) (given reals) e.0 result }
+    ensures { Begins (passes tiny b0) made (links edges.now words.now) reals.now e.0 result }
 {
     let link = read_u32(edges, WORDS_PER_EDGE, e.0, EDGE_SCRATCH);
     let at = chains::within(link, made);
@@ -103,7 +105,7 @@ fn pass_from(
     tiny: f64,
 ) -> u32
     requires { (made ≤ capacity_of (length words.now) (length reals.now)) × ((e.0 < slots_of (length edges.now) words_per_edge) × (from ≤ made)) }
-    ensures { Walked (passes tiny b0) made (links (given edges) (given words)) (given reals) e.0 from result }
+    ensures { Walked (passes tiny b0) made (links edges.now words.now) reals.now e.0 from result }
 {
     let lo = b0 - tiny;
     let mut before = from;
@@ -135,7 +137,7 @@ pub fn pass_front(
     tiny: f64,
 ) -> u32
     requires { (made ≤ capacity_of (length words.now) (length reals.now)) × (e.0 < slots_of (length edges.old) words_per_edge) }
-    ensures { Fronted (passes tiny b0) made (links (given edges) (given words)) (given reals) (left edges) e.0 result }
+    ensures { Fronted (passes tiny b0) made (links (given edges) words.now) reals.now (left edges) e.0 result }
 {
     let from = remembered(edges, words, reals, made, e, b0, tiny);
     let last = pass_from(edges, words, reals, made, e, from, b0, tiny);
@@ -154,7 +156,7 @@ pub fn seat_from(
     b0: f64,
 ) -> u32
     requires { (made ≤ capacity_of (length words.now) (length reals.now)) × ((e.0 < slots_of (length edges.now) words_per_edge) × (from ≤ made)) }
-    ensures { Walked (sorts_before b0) made (links (given edges) (given words)) (given reals) e.0 from result }
+    ensures { Walked (sorts_before b0) made (links edges.now words.now) reals.now e.0 from result }
 {
     let mut before = from;
     let mut left = made;
@@ -176,7 +178,7 @@ pub fn seat_from(
 
 pub fn load(words: &[u32], reals: &[f64], id: WindowId) -> WindowRecord
     requires { id.0 < capacity_of (length words.now) (length reals.now) }
-    ensures { Loads (given words) (given reals) id.0 result }
+    ensures { Loads words.now reals.now id.0 result }
 {
     windows::load(words, reals, id)
 }
