@@ -1,5 +1,7 @@
 // The tests of the Rust's main loop, on values: whether a vertex's event passes its distance on, and whether a window's event goes on into the face ahead;
 // and the distance that a vertex has emitted.
+#![tactic(auto)]
+
 ghost use Rattle.std.specs.Prelude.{◌≡◌};
 ghost use Rattle.field_tests.specs.Tests.{emits_of, goes_on_of, emitted_of, with_emitted};
 ghost use Rattle.buffers.specs.Lent.{given, left};
@@ -33,7 +35,7 @@ pub fn goes_on(into: FaceId, b0: f64, b1: f64, src: Src, limit: f64) -> bool
 }
 
 pub fn emitted(vertex: &[f64], v: VertexId) -> f64
-    ensures { result ≡ emitted_of (given vertex) v.0 }
+    ensures { result ≡ emitted_of vertex.now v.0 }
 {
     read_f64(vertex, REALS_PER_VERTEX, v.0, VERTEX_EMITTED)
 }

@@ -1,17 +1,15 @@
 -- The distances of a source from lo to hi lie between its lowest and its highest there, as computed. A point's fall up to its foot and rise from there on, since the hypotenuse
 -- rises with its leg along the edge; a line's rise or fall by the sign of its direction. Assumes nothing.
 --     edge_low_lem, edge_high_lem (the bounds), edge_from_minus_one (what the guard tells)
-use mathlib.Core.Bool.{◌&&◌}
 use mathlib.Core.Logic.{inl, inr}
-use lib.Dec.{T, T_not}
+use lib.Dec.{T}
 use lib.Ieee.{Float, binary64, neg, lt, le, fits, add, sum, round, of_bits}
-use lib.Ieee.Fits.{and_i}
 use lib.Ieee.Scale.{finite}
 use Rattle.nat_laws.proofs.Tests.{branch}
 use Rattle.root_spec.specs.Root.{hypot_of}
 use Rattle.float64.specs.Scalar.{zero64, one, min_of, max_of, abs_of}
 use Rattle.float64.specs.Notation.{◌⊕◌, ◌⊖◌, ◌⊗◌}
-use Rattle.float_laws.proofs.Order.{Number, finite_number, zero_finite, le_refl, le_trans, lt_le, le_total, le_or_lt, not_le_lt, le_number_l, le_number_r, neg_le, neg_zero_le}
+use Rattle.float_laws.proofs.Order.{Number, finite_number, zero_finite, le_refl, le_trans, lt_le, le_total, not_le_lt, le_number_l, le_number_r, neg_le, neg_zero_le}
 use Rattle.float_laws.proofs.MinMax.{min_le_l, min_le_r, max_ge_l, max_ge_r, abs_nonneg, le_abs, neg_abs_le, abs_le}
 use Rattle.float_laws.proofs.Sum.{sub_mono, sub_number, sub_nonneg, sub_nonpos}
 use Rattle.float_laws.proofs.Roots.{hypot_nonneg}

@@ -13,7 +13,6 @@ use lib.Dec.{T}
 use lib.ListN.{length, set}
 use lib.Ieee.{Float, binary64, neg, lt, le, fits}
 use lib.Ieee.Fits.{and_l, and_r, add-fits}
-use lib.Ieee.Scale.{finite}
 use Rattle.root_spec.specs.Root.{hypot_of}
 use Rattle.float64.specs.Scalar.{one, is_finite}
 use Rattle.float64.specs.Notation.{◌⊕◌, ◌⊖◌, ◌⊗◌}

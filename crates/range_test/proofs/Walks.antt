@@ -2,7 +2,7 @@
 -- All that it asks of the two sources is asked at its points and at middles of two of them, and these lie from lo to hi. Its points are lo, at most two ties
 -- strictly between, and hi; ties that are equal leave an empty stretch between them, and the next stretch continues the last all the same.
 --     never, always     what the range tests tell
-use Prim.Native.Nat.{ℕ, zero, suc, ◌+◌, ◌≤◌}
+use Prim.Native.Nat.{suc, ◌+◌, ◌≤◌}
 use native.Mathlib.Omega.{arith}
 use mathlib.Core.Bool.{Bool, true, false, not, ◌&&◌}
 use mathlib.Core.Logic.{inl, inr}
@@ -10,7 +10,7 @@ use mathlib.Core.Path.{◌≡◌, refl, sym, ap, ◌∙◌, subst}
 use mathlib.Core.List.{List, [], ◌∷◌, ◌++◌}
 use lib.Dec.{T, T_not, not_T}
 use lib.ListN.{length, length-append}
-use lib.Ieee.{Float, binary64, lt, le, eq, fits}
+use lib.Ieee.{Float, binary64, lt, le, eq}
 use lib.Ieee.Bits.{is_true, is_false}
 use lib.Ieee.Fits.{and_l, and_r, div-fits}
 use lib.Ieee.Scale.{finite}
@@ -32,7 +32,7 @@ use Rattle.better.specs.declared.Compared.TheVariants.{Shorter, Equal, Longer}
 use Rattle.better.specs.declared.Cut.TheVariants.{Nowhere}
 use Rattle.better.specs.Claim.{Point}
 use Rattle.better.specs.Cutting.{shorter, longer, sign_of, change_of, cut_of}
-use Rattle.better.specs.Points.{root_list, inside_of, inside, insert_of, sorted_points, pts_of, points_behind, walk_of}
+use Rattle.better.specs.Points.{root_list, inside, insert_of, sorted_points, pts_of, points_behind, walk_of}
 use Rattle.better.specs.Stretches.{Interval, interval, joined, shorter_between, stretches, out_of, better_of}
 use Rattle.better.proofs.Cutting.{cut_none, cut_flat}
 use Rattle.better.proofs.Points.{Rising, Rises, Le, Inside, walk_next, pts_all, pts_rises}

@@ -1,4 +1,5 @@
 // Where the ranges of two sources along a stretch of their edge are apart, they tell the answer of `better` with no tie, middle or halving.
+#![tactic(auto)]
 
 ghost use Rattle.std.specs.Prelude.{◌≡◌, cond, ◌&&◌, T, leb, length};
 ghost use Rattle.std.specs.Float.{binary64};
