@@ -13,8 +13,8 @@ use Rattle.topology.proofs.Growth.{no_third_face}
 use Rattle.edge_table.specs.declared.Table.{Table}
 use Rattle.edge_table.specs.declared.Table.TheVariants.{Edges, ThirdFace}
 use Rattle.edge_table.specs.Words.{last_in, head_word, edge_word, triangle_word}
-use Rattle.edge_table.specs.Table.{Mesh, TableFits, Built, table_of, head_words, edge_words, triangle_words}
-use Rattle.edge_table.specs.Sides.{linked_word, without_links, Partial, Turned, Blank, faces_so_far, number_so_far}
+use Rattle.edge_table.specs.Table.{TableFits, Built, table_of, head_words, edge_words, triangle_words}
+use Rattle.edge_table.specs.Sides.{linked_word, without_links, Partial, Turned, faces_so_far, number_so_far}
 use Rattle.buffers.proofs.Zeroing.{zero_at}
 use Rattle.edge_table.proofs.Holding.{words_are}
 use Rattle.edge_table.proofs.Unlinking.{length_unlinked, unlinked}

@@ -2,6 +2,8 @@
 // as the mesh has sides, each a chain of edges through the edge buffer, the newest first. `bucket_of` in specs/ spreads them.
 // On the meshes of tests/mesh/bench.rs no bucket has more than 7 edges. Nothing proves that: tests/mesh/worst.rs counts how full one can get, some
 // thousands, and from the code alone E edges take at most a step for each edge before, E (E - 1) / 2.
+#![tactic(auto)]
+
 ghost use Rattle.std.specs.Prelude.{◌≡◌, [], ◌∷◌, ◌+◌, ◌*◌, ◌/◌, ◌<◌, ◌≤◌, length, get_or, set};
 ghost use Rattle.layout.specs.Layout.{words_per_round, round_head, words_per_edge};
 ghost use Rattle.buffers.specs.Slots.{fill};

@@ -1,5 +1,7 @@
 // The frames of a mesh in lent buffers: each edge's length and unit vector, each triangle's inward normals.
 // Reads past an end give 0 or a NaN, so none of these functions asks anything of the buffers' content; those that write ask that there is room.
+#![tactic(auto)]
+
 ghost use Rattle.std.specs.Prelude.{◌≡◌, [], ◌∷◌, ◌+◌, ◌*◌, ◌%◌, ◌≤◌, ◌<◌, length, get_or, replicate};
 ghost use Rattle.std.specs.Float.{nan};
 ghost use Rattle.layout.specs.Layout.{reals_per_edge, reals_per_triangle, reals_per_normal};

@@ -1,4 +1,6 @@
 // A mesh's topology in six buffers that a caller lends: the checks of its job, then the edge table, the faces round each vertex, and the frames.
+#![tactic(auto)]
+
 ghost use Rattle.std.specs.Prelude.{◌≡◌, ◌≤◌, min, length};
 ghost use Rattle.buffers.specs.Lent.{given, left};
 ghost use Rattle.job_checks.specs.Job.{job};

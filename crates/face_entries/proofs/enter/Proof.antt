@@ -15,7 +15,7 @@ same_length c = search rules
 returns : tie.Need-returns
 returns c =
     let a = c.before.before.before.before.before.args in
-    let b = entry_buffers a.triangle_words_held.now a.entry_words_held.now in
+    let b = entry_buffers a.triangle_words.now a.entry_words_held.now in
     let x : PiecePart = record { piece = a.piece; part = a.part } in
     enter_said b a.count a.face.0 x (enter_full b a.count a.face.0 x (omega (arith, c.if1.true, c.before.capacity.ensures)))
 
@@ -52,7 +52,7 @@ returns-2 c =
     let tested = stored.before.before in
     let counted = tested.before in
     let a = counted.before.before.before.before.args in
-    let b = entry_buffers a.triangle_words_held.now a.entry_words_held.now in
+    let b = entry_buffers a.triangle_words.now a.entry_words_held.now in
     let x : PiecePart = record { piece = a.piece; part = a.part } in
     enter_said b a.count a.face.0 x
     (enter_done b a.count a.face.0 x _ read.read_u32.result last.within.result _ (omega (arith, tested.if1.false, counted.capacity.ensures))

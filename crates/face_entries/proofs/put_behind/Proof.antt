@@ -19,7 +19,7 @@ returns c =
     let tested = first.before.before in
     let last = tested.before.before.before in
     let a = last.before.before.before.before.args in
-    put_first (entry_buffers a.triangle_words_held.now a.entry_words_held.now) a.face.0 a.last a.link _ _ tested.if1.true last.write-u32.ensures first.write-u322.ensures
+    put_first (entry_buffers a.triangle_words.now a.entry_words_held.now) a.face.0 a.last a.link _ _ tested.if1.true last.write-u32.ensures first.write-u322.ensures
 
 sub-write-u32 : tie.Need-overflow-sub-write-u32
 sub-write-u32 c = search rules
@@ -39,7 +39,7 @@ returns-2 c =
     let tested = linked.before.before in
     let last = tested.before.before.before in
     let a = last.before.before.before.before.args in
-    put_next (entry_buffers a.triangle_words_held.now a.entry_words_held.now) a.face.0 a.last a.link _ _ tested.if1.false last.write-u32.ensures linked.write-u323.ensures
+    put_next (entry_buffers a.triangle_words.now a.entry_words_held.now) a.face.0 a.last a.link _ _ tested.if1.false last.write-u32.ensures linked.write-u323.ensures
 
 pub put-behind-spec : {M : Type 1} → statement M
 put-behind-spec =

@@ -29,7 +29,7 @@ returns-2 c =
     let edge = size.before in
     let a = edge.before.before.before.before.before.before.args in
     passes _ _ _ (sym edge.before.any-edge-outside.ensures ∙ edge.if1.false)
-    (holds _ _ (ap (λ (k : ℕ). any_below (triangle_outside a.n k a.triangle_words_held.now) a.n.triangles) (sym size.capacity.ensures) ∙ sym test.any-triangle-outside.ensures ∙ c.if2.true))
+    (holds _ _ (ap (λ (k : ℕ). any_below (triangle_outside a.n k a.triangle_words.now) a.n.triangles) (sym size.capacity.ensures) ∙ sym test.any-triangle-outside.ensures ∙ c.if2.true))
 
 returns-3 : tie.Need-returns-3
 returns-3 c =
@@ -39,7 +39,7 @@ returns-3 c =
     let edge = size.before in
     let a = edge.before.before.before.before.before.before.args in
     passes _ _ _ (sym edge.before.any-edge-outside.ensures ∙ edge.if1.false)
-    (passes _ _ _ (ap (λ (k : ℕ). any_below (triangle_outside a.n k a.triangle_words_held.now) a.n.triangles) (sym size.capacity.ensures) ∙ sym test.any-triangle-outside.ensures ∙ other.if2.false) c.any-window-outside.ensures)
+    (passes _ _ _ (ap (λ (k : ℕ). any_below (triangle_outside a.n k a.triangle_words.now) a.n.triangles) (sym size.capacity.ensures) ∙ sym test.any-triangle-outside.ensures ∙ other.if2.false) c.any-window-outside.ensures)
 
 pub points-outside-spec : {M : Type 1} → statement M
 points-outside-spec =

@@ -19,7 +19,7 @@ decreases-loop edge_words_held words reals made edges left₀ e₀ left e = edge
 loop-holds : tie.Need-loop-init invariant-loop decreases-loop
 loop-holds c =
     let a = c.before.before.before.args in
-    (omega arith, sound_start (link_of a.words.now) (window_unsound a.reals.now) (head_of a.edge_words_held.now) a.made)
+    (omega arith, sound_start (link_of a.words.now) (window_unsound a.reals.now) (head_of a.edge_words.now) a.made)
 
 read-u32-requires : tie.Need-read-u32-requires invariant-loop decreases-loop
 read-u32-requires c κs = search rules
@@ -35,7 +35,7 @@ returns c =
     let i = head.before.before in
     let l = i.loop in
     let a = i.before.before.before.before.args in
-    sym (unsound_there (link_of a.words.now) (window_unsound a.reals.now) (head_of a.edge_words_held.now) a.made l.left l.e l.invariant.1 walked.walk-windows.result (walked.walk-windows.ensures ∙ ap (walk_of (link_of a.words.now) (window_unsound a.reals.now) l.left 0) head.read_u32.ensures) c.if1.true a.edges head.before.loop-test.true)
+    sym (unsound_there (link_of a.words.now) (window_unsound a.reals.now) (head_of a.edge_words.now) a.made l.left l.e l.invariant.1 walked.walk-windows.result (walked.walk-windows.ensures ∙ ap (walk_of (link_of a.words.now) (window_unsound a.reals.now) l.left 0) head.read_u32.ensures) c.if1.true a.edges head.before.loop-test.true)
 
 add-e : tie.Need-overflow-add-e invariant-loop decreases-loop
 add-e c = search rules
@@ -51,7 +51,7 @@ loop-again c =
     let l = i.loop in
     let a = i.before.before.before.before.args in (
       omega (arith, head.before.loop-test.true),
-      sound_on (link_of a.words.now) (window_unsound a.reals.now) (head_of a.edge_words_held.now) a.made l.left l.e l.invariant.1 walked.walk-windows.result (walked.walk-windows.ensures ∙ ap (walk_of (link_of a.words.now) (window_unsound a.reals.now) l.left 0) head.read_u32.ensures) c.if1.false,
+      sound_on (link_of a.words.now) (window_unsound a.reals.now) (head_of a.edge_words.now) a.made l.left l.e l.invariant.1 walked.walk-windows.result (walked.walk-windows.ensures ∙ ap (walk_of (link_of a.words.now) (window_unsound a.reals.now) l.left 0) head.read_u32.ensures) c.if1.false,
     )
 
 returns-2 : tie.Need-returns-2 invariant-loop decreases-loop
@@ -60,7 +60,7 @@ returns-2 c =
     let i = c.before in
     let l = i.loop in
     let a = i.before.before.before.before.args in
-    sym (sound_all (link_of a.words.now) (window_unsound a.reals.now) (head_of a.edge_words_held.now) a.made l.left l.e a.edges l.invariant.1 l.invariant.0 c.loop-test.false)
+    sym (sound_all (link_of a.words.now) (window_unsound a.reals.now) (head_of a.edge_words.now) a.made l.left l.e a.edges l.invariant.1 l.invariant.0 c.loop-test.false)
 
 pub windows-unsound-spec : {M : Type 1} → statement M
 windows-unsound-spec =

@@ -56,14 +56,14 @@ returns c =
     let a = begun.before.before.before.before.before.before.before.before.before.before.before.before.before.before.before.before.before.before.before.before.before.before.before.before.before.before.before.before.before.before.before.before.args in
     let first = begun.begin-buffers in
     says_wedge a.vertices.now a.triangles.now a.kinds.now a.faces.now a.coords.now a.limit
-    (mesh_buffers a.vertex_words_held.now a.edge_words_held.now a.edge_reals_held.now a.round.now a.triangle_words_held.now a.triangle_reals.now)
+    (mesh_buffers a.vertex_words.now a.edge_words.now a.edge_reals.now a.round.now a.triangle_words.now a.triangle_reals.now)
     (work_slices a.piece_words.now a.piece_reals.now a.vertex.now a.words.now a.reals.now a.keys.now a.events.now a.entry_words_held.now)
     (cut_buffers a.pts.now a.out.now a.keep.now a.next.now)
     (work_slices first.new.1.1.1.0 first.new.1.1.1.1.0 first.new.1.1.1.1.1.0 first.new.1.1.1.1.1.1.0 first.new.1.1.1.1.1.1.1.0 first.new.1.1.1.1.1.1.1.1.0
     first.new.1.1.1.1.1.1.1.1.1.0 first.new.1.1.1.1.1.1.1.1.1.1.0)
     first.ensures
-    (slices a.edge_words_held.now first.new.1.1.1.1.1.1.0 first.new.1.1.1.1.1.1.1.0 first.new.1.1.1.1.1.1.1.1.0 first.new.1.1.1.1.1.1.1.1.1.0 first.new.1.1.1.1.1.0)
-    (entry_buffers a.triangle_words_held.now first.new.1.1.1.1.1.1.1.1.1.1.0) (sym c.before.any-wedge.ensures ∙ c.if1.true)
+    (slices a.edge_words.now first.new.1.1.1.1.1.1.0 first.new.1.1.1.1.1.1.1.0 first.new.1.1.1.1.1.1.1.1.0 first.new.1.1.1.1.1.1.1.1.1.0 first.new.1.1.1.1.1.0)
+    (entry_buffers a.triangle_words.now first.new.1.1.1.1.1.1.1.1.1.1.0) (sym c.before.any-wedge.ensures ∙ c.if1.true)
 
 insert-all-requires : tie.Need-insert-all-requires
 insert-all-requires c κs =
@@ -144,7 +144,7 @@ returns-2 c =
     let first = begun.begin-buffers in
     let all = made.insert_all in
     says_answer a.vertices.now a.triangles.now a.kinds.now a.faces.now a.coords.now a.limit
-    (mesh_buffers a.vertex_words_held.now a.edge_words_held.now a.edge_reals_held.now a.round.now a.triangle_words_held.now a.triangle_reals.now)
+    (mesh_buffers a.vertex_words.now a.edge_words.now a.edge_reals.now a.round.now a.triangle_words.now a.triangle_reals.now)
     (work_slices a.piece_words.now a.piece_reals.now a.vertex.now a.words.now a.reals.now a.keys.now a.events.now a.entry_words_held.now)
     (cut_buffers a.pts.now a.out.now a.keep.now a.next.now)
     (work_slices first.new.1.1.1.0 first.new.1.1.1.1.0 first.new.1.1.1.1.1.0 first.new.1.1.1.1.1.1.0 first.new.1.1.1.1.1.1.1.0 first.new.1.1.1.1.1.1.1.1.0

@@ -78,8 +78,8 @@ returns c =
     let read = c.before.before.before.before.before.before.before.before.before.before.before.before.before.before.before.before.before.before.before.before.before.before.before.before.before.before.before.before.before.before.before.before.before.before.before.before.before.insert_at_lem in
     let a = c.before.before.before.before.before.before.before.before.before.before.before.before.before.before.before.before.before.before.before.before.before.before.before.before.before.before.before.before.before.before.before.before.before.before.before.before.before.before.before.before.before.before.before.before.before.before.before.before.before.before.before.before.before.before.before.before.before.before.before.before.before.before.args in
     let r = c.before.before.before.before.before.before.before.before.before.before.before.before.before.before.before.before.before.before.before.before.before.before.before.before.insert in
-    inserts_read a.limit a.vertex_words_held.now a.edge_reals_held.now read.result _ read.ensures a.counts
-    (slices a.edge_words_held.now a.words.now a.reals.now a.keys.now a.events.now a.vertex.now) (entry_buffers a.triangle_words_held.now a.entry_words_held.now)
+    inserts_read a.limit a.vertex_words.now a.edge_reals.now read.result _ read.ensures a.counts
+    (slices a.edge_words.now a.words.now a.reals.now a.keys.now a.events.now a.vertex.now) (entry_buffers a.triangle_words.now a.entry_words_held.now)
     (cut_buffers a.pts.now a.out.now a.keep.now a.next.now) r.result
     (slices r.new.0 r.new.1.0 r.new.1.1.0 r.new.1.1.1.0 r.new.1.1.1.1.0 r.new.1.1.1.1.1.0) (entry_buffers r.new.1.1.1.1.1.1.1.1.1.1.1.1.0 r.new.1.1.1.1.1.1.1.1.1.1.1.1.1.0) r.ensures
 

@@ -32,8 +32,8 @@ loop-holds : tie.Need-loop-init invariant-loop decreases-loop
 loop-holds c =
     let start = c.before.before.before.before.before.before.before.before.before.before.before.before.before.before.before.before.before.before.before.before.before.before.before.before.before.before.before in
     let a = start.args in
-    let k = (insertion_slices a.vertices.now a.vertex_words_held.now a.edge_reals_held.now a.triangle_reals.now a.round.now a.kinds.now a.faces.now a.coords.now a.piece_words.now a.piece_reals.now) in
-    insert_start a.limit k (one_of k a.j) a.counts (slices a.edge_words_held.now a.words.now a.reals.now a.keys.now a.events.now a.vertex.now) (entry_buffers a.triangle_words_held.now a.entry_words_held.now)
+    let k = (insertion_slices a.vertices.now a.vertex_words.now a.edge_reals.now a.triangle_reals.now a.round.now a.kinds.now a.faces.now a.coords.now a.piece_words.now a.piece_reals.now) in
+    insert_start a.limit k (one_of k a.j) a.counts (slices a.edge_words.now a.words.now a.reals.now a.keys.now a.events.now a.vertex.now) (entry_buffers a.triangle_words.now a.entry_words_held.now)
     (cut_buffers a.pts.now a.out.now a.keep.now a.next.now) c.insert_count.result start.requires.0
 
 insert-number-requires : tie.Need-insert-number-requires invariant-loop decreases-loop
@@ -43,11 +43,11 @@ insert-number-requires c κs =
     let start = tested.before.before.before.before.before.before.before.before.before.before.before.before.before.before.before.before.before.before.before.before.before.before.before.before.before.before.before.before.before in
     let a = start.args in
     let l = loop.loop in
-    let k = (insertion_slices a.vertices.now a.vertex_words_held.now a.edge_reals_held.now a.triangle_reals.now a.round.now a.kinds.now a.faces.now a.coords.now a.piece_words.now a.piece_reals.now) in
+    let k = (insertion_slices a.vertices.now a.vertex_words.now a.edge_reals.now a.triangle_reals.now a.round.now a.kinds.now a.faces.now a.coords.now a.piece_words.now a.piece_reals.now) in
     let n = loop.before.insert_count.result in (
-      insert_fits a.limit k (one_of k a.j) a.counts (slices a.edge_words_held.now a.words.now a.reals.now a.keys.now a.events.now a.vertex.now) (entry_buffers a.triangle_words_held.now a.entry_words_held.now)
+      insert_fits a.limit k (one_of k a.j) a.counts (slices a.edge_words.now a.words.now a.reals.now a.keys.now a.events.now a.vertex.now) (entry_buffers a.triangle_words.now a.entry_words_held.now)
           (cut_buffers a.pts.now a.out.now a.keep.now a.next.now) n (slices l.edge_words_held l.words l.reals l.keys l.events l.vertex) (entry_buffers l.triangle_words_held l.entry_words_held) (cut_buffers l.pts l.out l.keep l.next) l.now l.i l.invariant tested.loop-test.true,
-      insert_sizes a.limit k (one_of k a.j) a.counts (slices a.edge_words_held.now a.words.now a.reals.now a.keys.now a.events.now a.vertex.now) (entry_buffers a.triangle_words_held.now a.entry_words_held.now)
+      insert_sizes a.limit k (one_of k a.j) a.counts (slices a.edge_words.now a.words.now a.reals.now a.keys.now a.events.now a.vertex.now) (entry_buffers a.triangle_words.now a.entry_words_held.now)
           (cut_buffers a.pts.now a.out.now a.keep.now a.next.now) n (slices l.edge_words_held l.words l.reals l.keys l.events l.vertex) (entry_buffers l.triangle_words_held l.entry_words_held) (cut_buffers l.pts l.out l.keep l.next) l.now l.i l.invariant tested.loop-test.true
           start.requires.1.0,
     )
@@ -138,9 +138,9 @@ returns c =
     let a = start.args in
     let l = loop.loop in
     let r = made.insert-number in
-    let k = (insertion_slices a.vertices.now a.vertex_words_held.now a.edge_reals_held.now a.triangle_reals.now a.round.now a.kinds.now a.faces.now a.coords.now a.piece_words.now a.piece_reals.now) in
+    let k = (insertion_slices a.vertices.now a.vertex_words.now a.edge_reals.now a.triangle_reals.now a.round.now a.kinds.now a.faces.now a.coords.now a.piece_words.now a.piece_reals.now) in
     let e = c.before.one.given in
-    source_stopped a.limit k a.pieces start.requires.1.1.0 a.j start.requires.1.1.1 a.counts (slices a.edge_words_held.now a.words.now a.reals.now a.keys.now a.events.now a.vertex.now) (entry_buffers a.triangle_words_held.now a.entry_words_held.now)
+    source_stopped a.limit k a.pieces start.requires.1.1.0 a.j start.requires.1.1.1 a.counts (slices a.edge_words.now a.words.now a.reals.now a.keys.now a.events.now a.vertex.now) (entry_buffers a.triangle_words.now a.entry_words_held.now)
     (cut_buffers a.pts.now a.out.now a.keep.now a.next.now) read.job-source.result read.job-source.ensures counted.insert_count.result counted.insert_count.ensures
     (slices l.edge_words_held l.words l.reals l.keys l.events l.vertex) (entry_buffers l.triangle_words_held l.entry_words_held) (cut_buffers l.pts l.out l.keep l.next) l.now l.i l.invariant tested.loop-test.true
     (slices r.new.1.0 r.new.1.1.0 r.new.1.1.1.0 r.new.1.1.1.1.0 r.new.1.1.1.1.1.0 r.new.1.1.1.1.1.1.0) (entry_buffers r.new.1.1.1.1.1.1.1.1.1.1.1.1.1.1.1.1.1.1.1.1.0 r.new.1.1.1.1.1.1.1.1.1.1.1.1.1.1.1.1.1.1.1.1.1.0) e.0.0 (rw e.1 at r.ensures)
@@ -169,9 +169,9 @@ loop-again c =
     let a = start.args in
     let l = loop.loop in
     let r = made.insert-number in
-    let k = (insertion_slices a.vertices.now a.vertex_words_held.now a.edge_reals_held.now a.triangle_reals.now a.round.now a.kinds.now a.faces.now a.coords.now a.piece_words.now a.piece_reals.now) in
+    let k = (insertion_slices a.vertices.now a.vertex_words.now a.edge_reals.now a.triangle_reals.now a.round.now a.kinds.now a.faces.now a.coords.now a.piece_words.now a.piece_reals.now) in
     let e = c.before.one2.given in
-    source_next a.limit k a.pieces start.requires.1.1.0 a.j start.requires.1.1.1 a.counts (slices a.edge_words_held.now a.words.now a.reals.now a.keys.now a.events.now a.vertex.now) (entry_buffers a.triangle_words_held.now a.entry_words_held.now)
+    source_next a.limit k a.pieces start.requires.1.1.0 a.j start.requires.1.1.1 a.counts (slices a.edge_words.now a.words.now a.reals.now a.keys.now a.events.now a.vertex.now) (entry_buffers a.triangle_words.now a.entry_words_held.now)
     (cut_buffers a.pts.now a.out.now a.keep.now a.next.now) read.job-source.result read.job-source.ensures counted.insert_count.result counted.insert_count.ensures
     (slices l.edge_words_held l.words l.reals l.keys l.events l.vertex) (entry_buffers l.triangle_words_held l.entry_words_held) (cut_buffers l.pts l.out l.keep l.next) l.now l.i l.invariant tested.loop-test.true
     (slices r.new.1.0 r.new.1.1.0 r.new.1.1.1.0 r.new.1.1.1.1.0 r.new.1.1.1.1.1.0 r.new.1.1.1.1.1.1.0) (entry_buffers r.new.1.1.1.1.1.1.1.1.1.1.1.1.1.1.1.1.1.1.1.1.0 r.new.1.1.1.1.1.1.1.1.1.1.1.1.1.1.1.1.1.1.1.1.1.0) e.0.0
@@ -237,8 +237,8 @@ returns-2 c =
     let start = read.before.before.before.before.before.before.before.before.before.before.before.before.before.before.before.before.before.before.before.before.before.before.before.before.before in
     let a = start.args in
     let l = loop.loop in
-    let k = (insertion_slices a.vertices.now a.vertex_words_held.now a.edge_reals_held.now a.triangle_reals.now a.round.now a.kinds.now a.faces.now a.coords.now a.piece_words.now a.piece_reals.now) in
-    source_over a.limit k a.pieces start.requires.1.1.0 a.j start.requires.1.1.1 a.counts (slices a.edge_words_held.now a.words.now a.reals.now a.keys.now a.events.now a.vertex.now) (entry_buffers a.triangle_words_held.now a.entry_words_held.now)
+    let k = (insertion_slices a.vertices.now a.vertex_words.now a.edge_reals.now a.triangle_reals.now a.round.now a.kinds.now a.faces.now a.coords.now a.piece_words.now a.piece_reals.now) in
+    source_over a.limit k a.pieces start.requires.1.1.0 a.j start.requires.1.1.1 a.counts (slices a.edge_words.now a.words.now a.reals.now a.keys.now a.events.now a.vertex.now) (entry_buffers a.triangle_words.now a.entry_words_held.now)
     (cut_buffers a.pts.now a.out.now a.keep.now a.next.now) read.job-source.result read.job-source.ensures counted.insert_count.result counted.insert_count.ensures
     (slices l.edge_words_held l.words l.reals l.keys l.events l.vertex) (entry_buffers l.triangle_words_held l.entry_words_held) (cut_buffers l.pts l.out l.keep l.next) l.now l.i l.invariant (omega (arith, c.loop-test.false))
 

@@ -70,7 +70,7 @@ returns c =
     let a = c.before.before.before.before.before.before.before.before.before.before.before.before.before.before.before.before.before.before.before.before.before.before.before.before.before.before.before.before.before.before.before.before.before.before.before.before.before.before.before.before.before.before.before.before.before.before.before.args in
     let r = c.before.before.before.before.before.before.before.before.before.before.before.before.before.before.before.before.before.before.before.before.before.before.before.offer in
     let e = c.before.added.given in
-    offered_stopped a.limit a.vertex_words_held.now a.edge_reals_held.now a.o a.counts (slices a.edge_words_held.now a.words.now a.reals.now a.keys.now a.events.now a.vertex.now)
+    offered_stopped a.limit a.vertex_words.now a.edge_reals.now a.o a.counts (slices a.edge_words.now a.words.now a.reals.now a.keys.now a.events.now a.vertex.now)
     (cut_buffers a.pts.now a.out.now a.keep.now a.next.now) r.result
     (slices r.new.0 r.new.1.0 r.new.1.1.0 r.new.1.1.1.0 r.new.1.1.1.1.0 r.new.1.1.1.1.1.0) (cut_buffers r.new.1.1.1.1.1.1.1.1.0 r.new.1.1.1.1.1.1.1.1.1.0 r.new.1.1.1.1.1.1.1.1.1.1.0 r.new.1.1.1.1.1.1.1.1.1.1.1.0) r.ensures e.0.0 e.1
 
@@ -129,7 +129,7 @@ returns-2 c =
     let a = c.before.before.before.before.before.before.before.before.before.before.before.before.before.before.before.before.before.before.before.before.before.before.before.before.before.before.before.before.before.before.before.before.before.before.before.before.before.before.before.before.before.before.before.before.before.before.before.args in
     let r = c.before.before.before.before.before.before.before.before.before.before.before.before.before.before.before.before.before.before.before.before.before.before.before.offer in
     let e = c.before.added2.given in
-    offered_went a.limit a.vertex_words_held.now a.edge_reals_held.now a.o a.counts (slices a.edge_words_held.now a.words.now a.reals.now a.keys.now a.events.now a.vertex.now)
+    offered_went a.limit a.vertex_words.now a.edge_reals.now a.o a.counts (slices a.edge_words.now a.words.now a.reals.now a.keys.now a.events.now a.vertex.now)
     (cut_buffers a.pts.now a.out.now a.keep.now a.next.now) r.result
     (slices r.new.0 r.new.1.0 r.new.1.1.0 r.new.1.1.1.0 r.new.1.1.1.1.0 r.new.1.1.1.1.1.0) (cut_buffers r.new.1.1.1.1.1.1.1.1.0 r.new.1.1.1.1.1.1.1.1.1.0 r.new.1.1.1.1.1.1.1.1.1.1.0 r.new.1.1.1.1.1.1.1.1.1.1.1.0) r.ensures e.0.0 e.1
 

@@ -19,14 +19,14 @@ returns : tie.Need-returns
 returns c =
     let a = c.before.before.before.before.before.before.before.before.before.before.before.before.before.before.before.before.args in
     let j = job a.vertices.now a.triangles.now a.flags.now a.kinds.now a.faces.now a.coords.now a.limit in
-    let m = mesh_buffers a.vertex_words_held.now a.edge_words_held.now a.edge_reals_held.now a.round.now a.triangle_words_held.now a.triangle_reals.now in
+    let m = mesh_buffers a.vertex_words.now a.edge_words.now a.edge_reals.now a.round.now a.triangle_words.now a.triangle_reals.now in
     answer_refused j a.others m _ _ (counted _ _ _ _ c.before.before.check.ensures c.before.before.before.buffer-counts.ensures) c.before.refusal-number.ensures c.if1.true
 
 topology-requires : tie.Need-topology-requires
 topology-requires c κs =
     let a = c.before.before.before.before.before.before.before.before.before.before.before.before.before.before.before.before.before.before.before.before.before.before.args in
     let j = job a.vertices.now a.triangles.now a.flags.now a.kinds.now a.faces.now a.coords.now a.limit in
-    let m = mesh_buffers a.vertex_words_held.now a.edge_words_held.now a.edge_reals_held.now a.round.now a.triangle_words_held.now a.triangle_reals.now in
+    let m = mesh_buffers a.vertex_words.now a.edge_words.now a.edge_reals.now a.round.now a.triangle_words.now a.triangle_reals.now in
     fits j a.others m (passed_of _ _ _ _ _ c.before.before.before.before.before.before.before.before.check.ensures c.before.before.before.before.before.before.before.refusal-number.ensures c.before.before.before.before.before.before.if1.false c.before.before.before.before.before.before.before.before.before.buffer-counts.ensures)
 
 enum-known-edges : tie.Need-enum-known-edges
@@ -76,7 +76,7 @@ returns-2 c =
     let start = at-buffer-counts.before.before.before.before.before.before.before.before.before.before.before.before.before in
     let a = start.args in
     let j = job a.vertices.now a.triangles.now a.flags.now a.kinds.now a.faces.now a.coords.now a.limit in
-    let m = mesh_buffers a.vertex_words_held.now a.edge_words_held.now a.edge_reals_held.now a.round.now a.triangle_words_held.now a.triangle_reals.now in
+    let m = mesh_buffers a.vertex_words.now a.edge_words.now a.edge_reals.now a.round.now a.triangle_words.now a.triangle_reals.now in
     answer_edges j a.others m (passed_of _ _ _ _ _ at-check.check.ensures at-refusal-number.refusal-number.ensures at-if1.if1.false at-buffer-counts.buffer-counts.ensures)
     _ _ at-topology.topology.ensures _ at-edges.edges.given.1
 
@@ -120,7 +120,7 @@ returns-3 c =
     let start = at-buffer-counts.before.before.before.before.before.before.before.before.before.before.before.before.before in
     let a = start.args in
     let j = job a.vertices.now a.triangles.now a.flags.now a.kinds.now a.faces.now a.coords.now a.limit in
-    let m = mesh_buffers a.vertex_words_held.now a.edge_words_held.now a.edge_reals_held.now a.round.now a.triangle_words_held.now a.triangle_reals.now in
+    let m = mesh_buffers a.vertex_words.now a.edge_words.now a.edge_reals.now a.round.now a.triangle_words.now a.triangle_reals.now in
     answer_third j a.others m (passed_of _ _ _ _ _ at-check.check.ensures at-refusal-number.refusal-number.ensures at-if1.if1.false at-buffer-counts.buffer-counts.ensures)
     _ _ at-topology.topology.ensures c.enum_told.given.1
 

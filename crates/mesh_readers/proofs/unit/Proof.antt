@@ -24,7 +24,7 @@ vector-from-requires : tie.Need-vector-from-requires
 vector-from-requires c κs = search rules
 
 returns : tie.Need-returns
-returns c = c.vector-from.ensures ∙ vector_at_lem reals_per_edge c.before.before.before.args.edge_reals_held.now c.before.before.before.args.e.0 edge_unit
+returns c = c.vector-from.ensures ∙ vector_at_lem reals_per_edge c.before.before.before.args.edge_reals.now c.before.before.before.args.e.0 edge_unit
 
 pub unit_spec : {M : Type 1} → statement M
 unit_spec =

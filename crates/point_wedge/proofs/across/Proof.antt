@@ -26,7 +26,7 @@ returns c =
     let here = into.before in
     let along = here.before in
     let a = along.before.before.before.before.args in
-    across_is a.edge_reals_held.now a.triangle_words_held.now a.triangle_reals.now a.g.0 a.h.0 a.e.0 here.local.result there.local2.result along.unit.result into.normal.result c.normal2.result
+    across_is a.edge_reals.now a.triangle_words.now a.triangle_reals.now a.g.0 a.h.0 a.e.0 here.local.result there.local2.result along.unit.result into.normal.result c.normal2.result
     along.unit.ensures here.local.ensures into.normal.ensures there.local2.ensures c.normal2.ensures
 
 pub across-spec : {M : Type 1} → statement M

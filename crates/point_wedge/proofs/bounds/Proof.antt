@@ -34,7 +34,7 @@ returns c =
     let both = from.before in
     let edge = both.before in
     let a = edge.before.before.before.before.before.before.before.before.before.before.before.args in
-    bounds_is a.edge_words_held.now a.edge_reals_held.now a.triangle_words_held.now a.triangle_reals.now a.kinds.now a.faces.now a.coords.now a.words.now a.reals.now a.pieces a.g.0 a.vertices.now a.k a.p a.count a.h.0 a.first edge.side.result both.ends.result from.vertex.result along.unit.result long.length.result whole.whole-edge.result c.narrow-wedge.result
+    bounds_is a.edge_words.now a.edge_reals.now a.triangle_words.now a.triangle_reals.now a.kinds.now a.faces.now a.coords.now a.words.now a.reals.now a.pieces a.g.0 a.vertices.now a.k a.p a.count a.h.0 a.first edge.side.result both.ends.result from.vertex.result along.unit.result long.length.result whole.whole-edge.result c.narrow-wedge.result
     edge.side.ensures both.ends.ensures from.vertex.ensures along.unit.ensures long.length.ensures whole.whole-edge.ensures c.narrow-wedge.ensures
 
 pub bounds-spec : {M : Type 1} → statement M

@@ -11,7 +11,7 @@ returns : tie.Need-returns
 returns c =
     let towards = c.before in
     let a = towards.before.before.before.before.before.before.before.before.before.before.args in
-    pair_none a.edge_words_held.now a.edge_reals_held.now a.triangle_words_held.now a.triangle_reals.now a.kinds.now a.faces.now a.coords.now a.words.now a.reals.now a.pieces a.g.0 a.first a.o a.p a.xhat a.w a.h.0 towards.side-to.result towards.side-to.ensures c.if1.true
+    pair_none a.edge_words.now a.edge_reals.now a.triangle_words.now a.triangle_reals.now a.kinds.now a.faces.now a.coords.now a.words.now a.reals.now a.pieces a.g.0 a.first a.o a.p a.xhat a.w a.h.0 towards.side-to.result towards.side-to.ensures c.if1.true
 
 side-requires : tie.Need-side-requires
 side-requires c κs = search rules
@@ -33,7 +33,7 @@ returns-2 c =
     let tested = edge.before in
     let towards = tested.before in
     let a = towards.before.before.before.before.before.before.before.before.before.before.args in
-    pair_both a.edge_words_held.now a.edge_reals_held.now a.triangle_words_held.now a.triangle_reals.now a.kinds.now a.faces.now a.coords.now a.words.now a.reals.now a.pieces a.g.0 a.first a.o a.p a.xhat a.w a.h.0 towards.side-to.result towards.side-to.ensures tested.if1.false
+    pair_both a.edge_words.now a.edge_reals.now a.triangle_words.now a.triangle_reals.now a.kinds.now a.faces.now a.coords.now a.words.now a.reals.now a.pieces a.g.0 a.first a.o a.p a.xhat a.w a.h.0 towards.side-to.result towards.side-to.ensures tested.if1.false
     edge.side.result edge.side.ensures plane.across.result plane.across.ensures own.narrow-behind.result c.narrow-behind2.result own.narrow-behind.ensures c.narrow-behind2.ensures
 
 pub narrow-pair-spec : {M : Type 1} → statement M

@@ -10,7 +10,7 @@ segment-source-requires c κs = search rules
 returns : tie.Need-returns
 returns c =
     let a = c.before.before.before.before.before.before.before.before.before.before.before.args in
-    source_whole a.vertices.now a.edge_words_held.now a.edge_reals_held.now a.triangle_words_held.now a.triangle_reals.now a.kinds.now a.faces.now a.coords.now a.piece_words.now a.pieces a.j
+    source_whole a.vertices.now a.edge_words.now a.edge_reals.now a.triangle_words.now a.triangle_reals.now a.kinds.now a.faces.now a.coords.now a.piece_words.now a.pieces a.j
     c.before.if1.true c.segment-source.result c.segment-source.ensures
 
 part-of-requires : tie.Need-part-of-requires
@@ -28,7 +28,7 @@ end-source-requires c κs = search rules
 returns-2 : tie.Need-returns-2
 returns-2 c =
     let a = c.before.before.before.before.before.before.before.before.before.before.before.before.args in
-    source_end a.vertices.now a.edge_words_held.now a.edge_reals_held.now a.triangle_words_held.now a.triangle_reals.now a.kinds.now a.faces.now a.coords.now a.piece_words.now a.pieces a.j
+    source_end a.vertices.now a.edge_words.now a.edge_reals.now a.triangle_words.now a.triangle_reals.now a.kinds.now a.faces.now a.coords.now a.piece_words.now a.pieces a.j
     c.before.before.if1.false c.before.part_of.result c.before.part_of.ensures c.end-source.result c.end-source.ensures
 
 pub job-source-spec : {M : Type 1} → statement M

@@ -11,7 +11,7 @@ returns : tie.Need-returns
 returns c =
     let face = c.before in
     let a = face.before.before.before.before.before.before.before.before.before.before.before.before.before.args in
-    point_entry a.vertices.now a.edge_words_held.now a.edge_reals_held.now a.triangle_words_held.now a.triangle_reals.now a.vertex_words_held.now a.round.now a.kinds.now a.faces.now a.coords.now a.piece_words.now a.piece_reals.now a.pieces
+    point_entry a.vertices.now a.edge_words.now a.edge_reals.now a.triangle_words.now a.triangle_reals.now a.vertex_words.now a.round.now a.kinds.now a.faces.now a.coords.now a.piece_words.now a.piece_reals.now a.pieces
     a.f.0 a.p a.c a.piece a.part a.first a.i face.carrier-face.result face.carrier-face.ensures c.if1.true
 
 sub-point-side : tie.Need-overflow-sub-point-side
@@ -25,7 +25,7 @@ returns-2 c =
     let branch = c.before in
     let face = branch.before in
     let a = face.before.before.before.before.before.before.before.before.before.before.before.before.before.args in
-    point_side a.vertices.now a.edge_words_held.now a.edge_reals_held.now a.triangle_words_held.now a.triangle_reals.now a.vertex_words_held.now a.round.now a.kinds.now a.faces.now a.coords.now a.piece_words.now a.piece_reals.now a.pieces
+    point_side a.vertices.now a.edge_words.now a.edge_reals.now a.triangle_words.now a.triangle_reals.now a.vertex_words.now a.round.now a.kinds.now a.faces.now a.coords.now a.piece_words.now a.piece_reals.now a.pieces
     a.f.0 a.p a.c a.piece a.part a.first a.i face.carrier-face.result face.carrier-face.ensures branch.if1.false c.point_side.result c.point_side.ensures
 
 pub point-insert-spec : {M : Type 1} → statement M

@@ -22,7 +22,7 @@ returns c =
     let other = part.before in
     let count = other.before in
     let a = count.before.before.before.before.before.before.before.before.before.before.before.before.before.args in
-    side_is a.vertices.now a.edge_words_held.now a.edge_reals_held.now a.triangle_words_held.now a.triangle_reals.now a.vertex_words_held.now a.round.now a.kinds.now a.faces.now a.coords.now a.piece_words.now a.piece_reals.now a.pieces
+    side_is a.vertices.now a.edge_words.now a.edge_reals.now a.triangle_words.now a.triangle_reals.now a.vertex_words.now a.round.now a.kinds.now a.faces.now a.coords.now a.piece_words.now a.piece_reals.now a.pieces
     a.f.0 a.p a.c a.first a.g.0 a.k count.carrier-count.result other.other-carrier.result part.bounds.result c.point-offer.result
     count.carrier-count.ensures other.other-carrier.ensures part.bounds.ensures c.point-offer.ensures
 

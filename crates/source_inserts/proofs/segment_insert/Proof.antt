@@ -7,7 +7,7 @@ use Rattle.source_inserts.proofs.segment_insert.Tie as tie
 returns : tie.Need-returns
 returns c =
     let a = c.before.before.before.before.before.before.args in
-    segment_entry a.vertices.now a.edge_words_held.now a.edge_reals_held.now a.triangle_words_held.now a.triangle_reals.now a.f a.a a.b a.piece a.i c.if1.true
+    segment_entry a.vertices.now a.edge_words.now a.edge_reals.now a.triangle_words.now a.triangle_reals.now a.f a.a a.b a.piece a.i c.if1.true
 
 sub-normal-of : tie.Need-overflow-sub-normal-of
 sub-normal-of c = search rules
@@ -26,7 +26,7 @@ returns-2 c =
     let normal = c.before in
     let branch = normal.before in
     let a = branch.before.before.before.before.before.before.args in
-    segment_side a.vertices.now a.edge_words_held.now a.edge_reals_held.now a.triangle_words_held.now a.triangle_reals.now a.f a.a a.b a.piece a.i
+    segment_side a.vertices.now a.edge_words.now a.edge_reals.now a.triangle_words.now a.triangle_reals.now a.f a.a a.b a.piece a.i
     branch.if1.false normal.normal_of_lem.result normal.normal_of_lem.ensures c.segment-offer.result c.segment-offer.ensures
 
 pub segment-insert-spec : {M : Type 1} → statement M

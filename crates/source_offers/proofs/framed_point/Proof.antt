@@ -35,7 +35,7 @@ returns c =
     let long = there.before in
     let side = long.before in
     let a = side.before.before.before.before.before.before.args in
-    point_on_lem a.vertices.now a.edge_words_held.now a.edge_reals_held.now a.triangle_words_held.now a.triangle_reals.now a.f.0 a.k side.side.result long.length.result face.no-face.result side.side.ensures long.length.ensures a.p a.w there.coords.result there.coords.ensures
+    point_on_lem a.vertices.now a.edge_words.now a.edge_reals.now a.triangle_words.now a.triangle_reals.now a.f.0 a.k side.side.result long.length.result face.no-face.result side.side.ensures long.length.ensures a.p a.w there.coords.result there.coords.ensures
     window.point-window.result window.point-window.ensures on.lies-on.result on.lies-on.ensures tested.if1.true face.no-face.ensures c.offered.result c.offered.ensures
 
 other-requires : tie.Need-other-requires
@@ -54,7 +54,7 @@ returns-2 c =
     let long = there.before in
     let side = long.before in
     let a = side.before.before.before.before.before.before.args in
-    point_off a.vertices.now a.edge_words_held.now a.edge_reals_held.now a.triangle_words_held.now a.triangle_reals.now a.f.0 a.k side.side.result long.length.result face.other.result side.side.ensures long.length.ensures a.p a.w there.coords.result there.coords.ensures
+    point_off a.vertices.now a.edge_words.now a.edge_reals.now a.triangle_words.now a.triangle_reals.now a.f.0 a.k side.side.result long.length.result face.other.result side.side.ensures long.length.ensures a.p a.w there.coords.result there.coords.ensures
     window.point-window.result window.point-window.ensures on.lies-on.result on.lies-on.ensures tested.if1.false face.other.ensures c.offered2.result c.offered2.ensures
 
 pub framed-point-spec : {M : Type 1} → statement M

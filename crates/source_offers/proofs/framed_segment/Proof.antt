@@ -38,7 +38,7 @@ returns c =
     let long = first.before in
     let side = long.before in
     let a = side.before.before.before.before.before.before.args in
-    segment_is a.vertices.now a.edge_words_held.now a.edge_reals_held.now a.triangle_words_held.now a.triangle_reals.now a.f.0 a.k side.side.result long.length.result other.other.result side.side.ensures long.length.ensures a.a a.b a.n first.coords.result second.coords2.result
+    segment_is a.vertices.now a.edge_words.now a.edge_reals.now a.triangle_words.now a.triangle_reals.now a.f.0 a.k side.side.result long.length.result other.other.result side.side.ensures long.length.ensures a.a a.b a.n first.coords.result second.coords2.result
     first.coords.ensures second.coords2.ensures framed.in_frame.result framed.in_frame.ensures window.segment-window.result window.segment-window.ensures other.other.ensures c.offered.result c.offered.ensures
 
 pub framed-segment-spec : {M : Type 1} → statement M

@@ -19,7 +19,7 @@ returns c =
     let long = told.before in
     let side = long.before in
     let a = side.before.before.before.before.before.before.args in
-    point_narrow a.vertices.now a.edge_words_held.now a.edge_reals_held.now a.triangle_words_held.now a.triangle_reals.now a.f.0 a.k side.side.result side.side.ensures a.p a.w long.length.result long.length.ensures told.too-narrow.result told.too-narrow.ensures c.if1.true
+    point_narrow a.vertices.now a.edge_words.now a.edge_reals.now a.triangle_words.now a.triangle_reals.now a.f.0 a.k side.side.result side.side.ensures a.p a.w long.length.result long.length.ensures told.too-narrow.result told.too-narrow.ensures c.if1.true
 
 framed-point-requires : tie.Need-framed-point-requires
 framed-point-requires c κs = search rules

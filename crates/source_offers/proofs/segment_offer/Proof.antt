@@ -23,7 +23,7 @@ returns c =
     let first = second.before in
     let side = first.before in
     let a = side.before.before.before.before.before.before.args in
-    segment_back a.vertices.now a.edge_words_held.now a.edge_reals_held.now a.triangle_words_held.now a.triangle_reals.now a.f.0 a.k side.side.result side.side.ensures a.a a.b a.n first.along.result second.along2.result first.along.ensures second.along2.ensures
+    segment_back a.vertices.now a.edge_words.now a.edge_reals.now a.triangle_words.now a.triangle_reals.now a.f.0 a.k side.side.result side.side.ensures a.a a.b a.n first.along.result second.along2.result first.along.ensures second.along2.ensures
     told.goes_back.result told.goes_back.ensures c.if1.true
 
 framed-segment-requires : tie.Need-framed-segment-requires

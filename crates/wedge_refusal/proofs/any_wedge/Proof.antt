@@ -39,7 +39,7 @@ cast-pieces c = omega (arith, c.before.before.before.before.before.before.before
 loop-holds : tie.Need-loop-init invariant-loop decreases-loop
 loop-holds c =
     let a = c.before.before.before.before.before.before.before.before.before.before.before.args in
-    (omega arith, none_yet (wedge_at a.vertices.now a.edge_words_held.now a.edge_reals_held.now a.triangle_words_held.now a.triangle_reals.now a.vertex_words_held.now a.triangles.now a.kinds.now a.faces.now a.coords.now a.words.now (length a.kinds.now)))
+    (omega arith, none_yet (wedge_at a.vertices.now a.edge_words.now a.edge_reals.now a.triangle_words.now a.triangle_reals.now a.vertex_words.now a.triangles.now a.kinds.now a.faces.now a.coords.now a.words.now (length a.kinds.now)))
 
 mul-loop : tie.Need-overflow-mul-loop invariant-loop decreases-loop
 mul-loop c = record { fits = omega (arith, c.before.before.before.before.before.before.before.before.before.before.before.before.requires) }
@@ -53,7 +53,7 @@ returns c =
     let more = said.before in
     let at = more.before in
     let a = at.before.before.before.before.before.before.before.before.before.before.before.before.args in
-    any_found a.vertices.now a.edge_words_held.now a.edge_reals_held.now a.triangle_words_held.now a.triangle_reals.now a.vertex_words_held.now a.triangles.now a.kinds.now a.faces.now a.coords.now a.words.now at.loop.e more.loop-test.true said.wedge-at.ensures c.if1.true
+    any_found a.vertices.now a.edge_words.now a.edge_reals.now a.triangle_words.now a.triangle_reals.now a.vertex_words.now a.triangles.now a.kinds.now a.faces.now a.coords.now a.words.now at.loop.e more.loop-test.true said.wedge-at.ensures c.if1.true
 
 add-e : tie.Need-overflow-add-e invariant-loop decreases-loop
 add-e c = omega (arith, c.before.before.before.before.before.before.before.before.before.before.before.before.before.before.before.requires)
@@ -67,13 +67,13 @@ loop-again c =
     let more = said.before in
     let at = more.before in
     let a = at.before.before.before.before.before.before.before.before.before.before.before.before.args in
-    (search rules, none_more (wedge_at a.vertices.now a.edge_words_held.now a.edge_reals_held.now a.triangle_words_held.now a.triangle_reals.now a.vertex_words_held.now a.triangles.now a.kinds.now a.faces.now a.coords.now a.words.now (length a.kinds.now)) at.loop.e at.loop.invariant.1 (sym said.wedge-at.ensures ∙ c.if1.false))
+    (search rules, none_more (wedge_at a.vertices.now a.edge_words.now a.edge_reals.now a.triangle_words.now a.triangle_reals.now a.vertex_words.now a.triangles.now a.kinds.now a.faces.now a.coords.now a.words.now (length a.kinds.now)) at.loop.e at.loop.invariant.1 (sym said.wedge-at.ensures ∙ c.if1.false))
 
 returns-2 : tie.Need-returns-2 invariant-loop decreases-loop
 returns-2 c =
     let at = c.before in
     let a = at.before.before.before.before.before.before.before.before.before.before.before.before.args in
-    any_none a.vertices.now a.edge_words_held.now a.edge_reals_held.now a.triangle_words_held.now a.triangle_reals.now a.vertex_words_held.now a.triangles.now a.kinds.now a.faces.now a.coords.now a.words.now at.loop.e at.loop.invariant.0 c.loop-test.false at.loop.invariant.1
+    any_none a.vertices.now a.edge_words.now a.edge_reals.now a.triangle_words.now a.triangle_reals.now a.vertex_words.now a.triangles.now a.kinds.now a.faces.now a.coords.now a.words.now at.loop.e at.loop.invariant.0 c.loop-test.false at.loop.invariant.1
 
 pub any-wedge-spec : {M : Type 1} → statement M
 any-wedge-spec =

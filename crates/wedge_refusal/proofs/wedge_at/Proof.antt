@@ -13,7 +13,7 @@ returns : tie.Need-returns
 returns c =
     let first = c.before in
     let a = first.before.before.before.before.before.before.before.before.before.before.before.before.args in
-    met_before a.vertices.now a.edge_words_held.now a.edge_reals_held.now a.triangle_words_held.now a.triangle_reals.now a.vertex_words_held.now a.triangles.now a.kinds.now a.faces.now a.coords.now a.words.now a.pieces a.e (sym first.is_first.ensures ∙ not-true _ c.if1.true)
+    met_before a.vertices.now a.edge_words.now a.edge_reals.now a.triangle_words.now a.triangle_reals.now a.vertex_words.now a.triangles.now a.kinds.now a.faces.now a.coords.now a.words.now a.pieces a.e (sym first.is_first.ensures ∙ not-true _ c.if1.true)
 
 face-of-requires : tie.Need-face-of-requires
 face-of-requires c κs = search rules
@@ -32,7 +32,7 @@ returns-2 c =
     let branch = face.before in
     let first = branch.before in
     let a = first.before.before.before.before.before.before.before.before.before.before.before.before.args in
-    few_carriers a.vertices.now a.edge_words_held.now a.edge_reals_held.now a.triangle_words_held.now a.triangle_reals.now a.vertex_words_held.now a.triangles.now a.kinds.now a.faces.now a.coords.now a.words.now a.pieces a.e (sym first.is_first.ensures ∙ not-false _ branch.if1.false) _ _ _ face.face-of.ensures point.end_point_lem.ensures over.over_two.ensures (not-true _ c.if2.true)
+    few_carriers a.vertices.now a.edge_words.now a.edge_reals.now a.triangle_words.now a.triangle_reals.now a.vertex_words.now a.triangles.now a.kinds.now a.faces.now a.coords.now a.words.now a.pieces a.e (sym first.is_first.ensures ∙ not-false _ branch.if1.false) _ _ _ face.face-of.ensures point.end_point_lem.ensures over.over_two.ensures (not-true _ c.if2.true)
 
 nearest-vertex-requires : tie.Need-nearest-vertex-requires
 nearest-vertex-requires c κs = search rules
@@ -50,7 +50,7 @@ returns-3 c =
     let branch = face.before in
     let first = branch.before in
     let a = first.before.before.before.before.before.before.before.before.before.before.before.before.args in
-    many_carriers a.vertices.now a.edge_words_held.now a.edge_reals_held.now a.triangle_words_held.now a.triangle_reals.now a.vertex_words_held.now a.triangles.now a.kinds.now a.faces.now a.coords.now a.words.now a.pieces a.e (sym first.is_first.ensures ∙ not-false _ branch.if1.false) _ _ _ face.face-of.ensures point.end_point_lem.ensures over.over_two.ensures _ _ (not-false _ many.if2.false) nearest.nearest-vertex.ensures c.any-round.ensures
+    many_carriers a.vertices.now a.edge_words.now a.edge_reals.now a.triangle_words.now a.triangle_reals.now a.vertex_words.now a.triangles.now a.kinds.now a.faces.now a.coords.now a.words.now a.pieces a.e (sym first.is_first.ensures ∙ not-false _ branch.if1.false) _ _ _ face.face-of.ensures point.end_point_lem.ensures over.over_two.ensures _ _ (not-false _ many.if2.false) nearest.nearest-vertex.ensures c.any-round.ensures
 
 pub wedge-at-spec : {M : Type 1} → statement M
 wedge-at-spec =

@@ -1,0 +1,7 @@
+use mathlib.Core.Path.{ap, ◌∙◌}
+use Rattle.job_checks.specs.Edge.{vertex_at}
+use borrow.Author.Rules.{rules}
+use Rattle.frames.proofs.origin.Goals as goal
+
+pub returns : goal.returns
+returns c = c.vertex.ensures ∙ ap (vertex_at c.args.vertices.now) c.read_u32.ensures

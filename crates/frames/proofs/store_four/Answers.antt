@@ -1,0 +1,21 @@
+use Prim.Native.Nat.{◌+◌, ◌*◌}
+use mathlib.Core.Path.{◌≡◌, refl}
+use native.Mathlib.Omega.{arith}
+use lib.ListN.{length-set}
+use Rattle.layout.specs.Layout.{reals_per_edge}
+use Rattle.buffers.specs.Slots.{fill}
+use borrow.Author.Rules.{rules}
+use Rattle.frames.proofs.store_four.Goals as goal
+
+pub bounds-reals-i-2 : goal.bounds-reals-i-2
+bounds-reals-i-2 c = simp length-set (omega arith)
+
+pub bounds-reals-i-3 : goal.bounds-reals-i-3
+bounds-reals-i-3 c = simp length-set (omega arith)
+
+pub bounds-reals-i-4 : goal.bounds-reals-i-4
+bounds-reals-i-4 c = simp length-set (omega arith)
+
+pub returns : goal.returns
+unfolding fill
+returns c = let z : reals_per_edge * c.args.slot + 0 ≡ reals_per_edge * c.args.slot = omega arith in rw z refl

@@ -1,0 +1,7 @@
+use mathlib.Core.Path.{◌∙◌}
+use Rattle.frames.proofs.Turns.{vertex_is}
+use borrow.Author.Rules.{rules}
+use Rattle.frames.proofs.vertex.Goals as goal
+
+pub returns : goal.returns
+returns c = c.vector.ensures ∙ vertex_is c.args.vertices.now c.args.k
