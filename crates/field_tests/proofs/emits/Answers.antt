@@ -1,4 +1,3 @@
-use mathlib.Core.Logic.{⊎_elim}
 use Rattle.field_tests.specs.Tests.{emits_of}
 use Rattle.field_tests.proofs.emits.Goals.{then-d-key-via-then-d-key, then-d-key-via-else-d-key+then-d-emitted}
 use Rattle.field_tests.proofs.emits.Goals as goal

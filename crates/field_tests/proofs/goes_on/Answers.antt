@@ -1,6 +1,5 @@
 use mathlib.Core.Logic.{◌≢◌}
 use mathlib.Core.Path.{sym, ap, ◌∙◌}
-use borrow.Author.Rules.{rules}
 use borrow.Author.Tests.{eq-eqb, ne_eqb}
 use Rattle.buffers.specs.declared.FaceId.{FaceId}
 use Rattle.topology.specs.Edges.{no_face}
