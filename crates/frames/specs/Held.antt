@@ -1,5 +1,5 @@
 -- The topology's buffers hold a mesh's topology. Definitions only.
-use Rattle.std.specs.Prelude.{ℕ, ◌+◌, ◌*◌, ◌/◌, ◌%◌, ◌<◌, ◌≡◌, List, length, get_or, Float}
+use Rattle.std.specs.Prelude.{ℕ, ◌<◌, ◌≡◌, List, length, get_or, Float}
 use Rattle.topology.specs.Edges.{no_edge, edges, face, tri_edge}
 use Rattle.topology.specs.Frames.{len, xhat, yhat}
 use Rattle.frames.specs.Stored.{low_at, high_at, face_at, side_at, length_at, unit_at, normal_at}

@@ -1,6 +1,5 @@
 use mathlib.Core.Path.{◌∙◌}
 use Rattle.vec3.specs.Vec.{sub_of}
-use borrow.Author.Rules.{rules}
 use Rattle.frames.proofs.edge_vector.Goals as goal
 
 pub returns : goal.returns

@@ -4,7 +4,6 @@ use lib.ListN.{length}
 use Rattle.layout.specs.Layout.{reals_per_normal}
 use Rattle.frames.proofs.Rows.{rows_done}
 use Rattle.frames.proofs.Turns.{normals_made}
-use borrow.Author.Rules.{rules}
 use Rattle.frames.proofs.normals.Goals as goal
 
 pub returns : goal.returns

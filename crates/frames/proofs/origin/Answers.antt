@@ -1,6 +1,5 @@
 use mathlib.Core.Path.{ap, ◌∙◌}
 use Rattle.job_checks.specs.Edge.{vertex_at}
-use borrow.Author.Rules.{rules}
 use Rattle.frames.proofs.origin.Goals as goal
 
 pub returns : goal.returns

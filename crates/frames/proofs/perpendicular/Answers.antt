@@ -1,5 +1,4 @@
 use Rattle.frames.proofs.Turns.{perpendicular_steps}
-use borrow.Author.Rules.{rules}
 use Rattle.frames.proofs.perpendicular.Goals as goal
 
 pub returns : goal.returns

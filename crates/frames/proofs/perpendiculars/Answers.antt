@@ -1,10 +1,8 @@
-use Prim.Native.Nat.{◌≤◌, ◌+◌, ◌-◌, ◌*◌}
-use mathlib.Core.Path.{◌≡◌, refl, ◌∙◌}
+use Prim.Native.Nat.{◌+◌, ◌*◌}
+use mathlib.Core.Path.{refl, ◌∙◌}
 use native.Mathlib.Omega.{arith}
 use borrow.Author.Rules.{rules}
-use lib.ListN.{length}
 use Rattle.layout.specs.Layout.{reals_per_normal}
-use Rattle.frames.specs.Stored.{with_rows, perpendicular_row}
 use Rattle.frames.proofs.Rows.{rows_start, rows_turn_three, rows_done}
 use Rattle.frames.proofs.perpendiculars.Goals as goal
 
@@ -17,7 +15,7 @@ store_perpendiculars-requires c = (omega (arith, c.requires.0, c.loop-f.invarian
 pub loop-f-preserved : goal.loop-f-preserved
 loop-f-preserved c =
     let l = c.loop-f in
-    (search rules, (c.store_perpendiculars.auto.1.1.1.1.1.0 ∙ l.invariant.1.0, rows_turn_three reals_per_normal _ _ _ _ _ _ _ (3 * l.f) (3 * (l.f + 1)) (omega arith) c.store_perpendiculars.ensures refl refl refl l.invariant.1.1))
+    (search rules, (c.store_perpendiculars.auto.triangle_reals ∙ l.invariant.1.0, rows_turn_three reals_per_normal _ _ _ _ _ _ _ (3 * l.f) (3 * (l.f + 1)) (omega arith) c.store_perpendiculars.ensures refl refl refl l.invariant.1.1))
 
 pub returns : goal.returns
 returns c = let l = c.loop-f in rows_done reals_per_normal _ _ _ (3 * l.f) _ l.invariant.1.1 (omega (arith, l.invariant.0)) (omega (arith, c.loop-f-test.false))

@@ -1,11 +1,8 @@
-use Prim.Native.Nat.{◌≤◌, ◌+◌, ◌-◌, ◌*◌}
-use mathlib.Core.Path.{◌≡◌, refl, ◌∙◌}
-use native.Mathlib.Omega.{arith}
-use borrow.Author.Rules.{rules}
+use Prim.Native.Nat.{◌≤◌, ◌-◌, ◌*◌}
+use mathlib.Core.Path.{◌≡◌}
 use lib.ListN.{length}
 use Rattle.layout.specs.Layout.{reals_per_normal}
 use Rattle.frames.specs.Stored.{with_rows, perpendicular_row}
-use Rattle.frames.proofs.Rows.{rows_start, rows_turn_three, rows_done}
 use Rattle.frames.proofs.perpendiculars.Given as goal
 
 abbrev pub invariant-loop-f : goal.invariant-loop-f

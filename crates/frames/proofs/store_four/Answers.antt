@@ -4,7 +4,6 @@ use native.Mathlib.Omega.{arith}
 use lib.ListN.{length-set}
 use Rattle.layout.specs.Layout.{reals_per_edge}
 use Rattle.buffers.specs.Slots.{fill}
-use borrow.Author.Rules.{rules}
 use Rattle.frames.proofs.store_four.Goals as goal
 
 pub bounds-reals-i-2 : goal.bounds-reals-i-2

@@ -2,7 +2,6 @@ use mathlib.Core.Path.{ap, ◌∙◌}
 use Rattle.layout.specs.Layout.{reals_per_edge}
 use Rattle.buffers.specs.Slots.{fill}
 use Rattle.frames.proofs.Turns.{length_row_lem}
-use borrow.Author.Rules.{rules}
 use Rattle.frames.proofs.store_length.Goals as goal
 
 pub returns : goal.returns

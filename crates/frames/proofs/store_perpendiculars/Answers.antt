@@ -4,7 +4,6 @@ use native.Mathlib.Omega.{arith}
 use Rattle.layout.specs.Layout.{reals_per_normal}
 use Rattle.frames.proofs.Rows.{three_stored}
 use Rattle.frames.proofs.Turns.{perpendicular_row_lem}
-use borrow.Author.Rules.{rules}
 use Rattle.frames.proofs.store_perpendiculars.Goals as goal
 
 pub overflow_mul-f : goal.overflow_mul-f

@@ -3,7 +3,6 @@ use native.Mathlib.Omega.{arith}
 use Rattle.layout.specs.Layout.{reals_per_edge}
 use Rattle.frames.proofs.Rows.{three_stored}
 use Rattle.frames.proofs.Turns.{length_row_lem}
-use borrow.Author.Rules.{rules}
 use Rattle.frames.proofs.store_three_lengths.Goals as goal
 
 pub overflow_add-e-3 : goal.overflow_add-e-3

@@ -3,7 +3,6 @@ use native.Mathlib.Omega.{arith}
 use Rattle.layout.specs.Layout.{reals_per_normal}
 use Rattle.frames.proofs.Rows.{three_stored}
 use Rattle.frames.proofs.Turns.{unit_row}
-use borrow.Author.Rules.{rules}
 use Rattle.frames.proofs.store_units.Goals as goal
 
 pub overflow_mul-f-5 : goal.overflow_mul-f-5

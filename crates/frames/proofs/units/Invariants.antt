@@ -1,12 +1,8 @@
-use Prim.Native.Nat.{◌≤◌, ◌+◌, ◌-◌, ◌*◌}
-use mathlib.Core.Path.{◌≡◌, refl, ◌∙◌}
-use native.Mathlib.Omega.{arith}
-use borrow.Author.Rules.{rules}
+use Prim.Native.Nat.{◌≤◌, ◌-◌, ◌*◌}
+use mathlib.Core.Path.{◌≡◌}
 use lib.ListN.{length}
 use Rattle.layout.specs.Layout.{reals_per_normal}
 use Rattle.frames.specs.Stored.{with_rows, unit_row_of}
-use Rattle.frames.proofs.Rows.{rows_start, rows_turn_three, rows_done}
-use Rattle.frames.proofs.Turns.{unit_past}
 use Rattle.frames.proofs.units.Given as goal
 
 abbrev pub invariant-loop-f : goal.invariant-loop-f

@@ -1,6 +1,5 @@
 use mathlib.Core.Path.{refl}
 use Rattle.frames.proofs.Turns.{vector_of}
-use borrow.Author.Rules.{rules}
 use Rattle.frames.proofs.vector_from.Goals as goal
 
 pub returns : goal.returns

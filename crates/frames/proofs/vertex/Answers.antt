@@ -1,6 +1,5 @@
 use mathlib.Core.Path.{◌∙◌}
 use Rattle.frames.proofs.Turns.{vertex_is}
-use borrow.Author.Rules.{rules}
 use Rattle.frames.proofs.vertex.Goals as goal
 
 pub returns : goal.returns
