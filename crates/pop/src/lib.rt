@@ -1,4 +1,6 @@
 // A pop of the queue: the least event is taken out, and a live window that it names is no more queued.
+#![tactic(auto)]
+
 ghost use Rattle.std.specs.Prelude.{◌≡◌};
 ghost use Rattle.heap.specs.Queue.{queue, popping};
 ghost use Rattle.pop.specs.Words.{is_pending, claimed, item_pending, item_claimed, taken_of, words_after};
