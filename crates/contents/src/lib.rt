@@ -1,4 +1,6 @@
 // What the buffers hold as a function of the state, and the scratch word of each edge.
+#![tactic(auto)]
+
 ghost use Rattle.std.specs.Prelude.{◌≡◌, ◌/◌, length};
 ghost use Rattle.layout.specs.Layout.{words_per_edge};
 ghost use Rattle.contents.specs.Contents.{forgotten};
