@@ -1,5 +1,7 @@
 // Replays stored runs of the queue: of each file that the arguments name, how many operations it has and how many are answered
 // otherwise. A record is four numbers of 8 bytes: what was done and answered, then an event's key, number and kind.
+#![tactic(auto)]
+
 ghost use Rattle.std.specs.Prelude.{IfOk, ◌≡◌, cond, ◌+◌, ◌*◌, ◌/◌, ◌%◌, ◌≤◌, ◌<◌, length};
 ghost use Rattle.heap.specs.Queue.{queue, pushing, popping};
 ghost use Rattle.heap_vectors.specs.Replay.{event_at, same_event, replay_push, pop_differs, replay_pop, replay_record, replay_records};

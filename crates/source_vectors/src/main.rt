@@ -1,5 +1,7 @@
 // Replays the stored cases of `source`: of each function, how many there are and how many differ.
 // A file is a count of 4 bytes and packed records: a function's arguments and its answer.
+#![tactic(auto)]
+
 ghost use Rattle.std.specs.Prelude.{◌≡◌, ◌+◌, ◌*◌, ◌≤◌, length};
 ghost use Rattle.source_vectors.specs.Replay.{same_roots, same_value, holds_for, leaf_records, leaf_differences};
 ghost use Rattle.source_vectors.specs.declared.Leaf.TheVariants.{Roots, Ties, Edge, Free, Foot, Lowest, Eval};

@@ -1,0 +1,16 @@
+use Prim.Native.Nat.{◌%◌}
+use mathlib.Core.Path.{ap, ◌∙◌}
+use Rattle.heap.specs.Order.{item_of}
+use Rattle.heap_vectors.specs.Replay.{event_at}
+use Rattle.heap_vectors.proofs.event.Goals as goal
+
+pub returns : goal.returns
+unfolding event_at
+returns c =
+    let kind = c in
+    let number = kind in
+    let key = number in
+    λ t. record {
+      key = key.float_at.ensures t;
+      item = (c.item_of.ensures ∙ (λ i. item_of ((number.low.ensures ∙ ap (λ z. z % 4294967296) number.word.ensures) i) ((c.low-2.ensures ∙ ap (λ z. z % 4294967296) kind.word-2.ensures) i))) t;
+    }
