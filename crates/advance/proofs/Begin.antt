@@ -8,24 +8,24 @@ use lib.ListN.{length}
 use lib.Ieee.{Float}
 use Rattle.buffers.specs.Lack.{lack_number}
 use Rattle.buffers.specs.declared.Lack.TheVariants.{Entries}
-use Rattle.better.specs.Claim.{All}
+use Rattle.insertion.specs.of_better.Claim.{All}
 use Rattle.job_checks.specs.Sound.{ValidTriangles}
-use Rattle.trim_model.specs.Model.{Candidate}
-use Rattle.trim_model.proofs.Ranks.{by_cases}
-use Rattle.trim_model.proofs.Lists.{all_map, all_left, all_right}
-use Rattle.trim_state.specs.State as state
-use Rattle.trim_state.specs.State.{State, Result}
-use Rattle.offers.specs.Offers.{add_all, offer_list}
-use Rattle.offers.specs.Walks.{edge_data}
-use Rattle.face_entries.specs.Entries.{FaceEntry}
-use Rattle.source_inserts.specs.declared.Insert.{Insert}
-use Rattle.source_inserts.specs.declared.Insert.TheVariants.{Entry, Offer}
-use Rattle.source_inserts.specs.Inserts.{candidates_at, candidates_in}
+use Rattle.insertion.specs.of_trim_model.Model.{Candidate}
+use Rattle.field_step.proofs.laws_of_trim_model.Ranks.{by_cases}
+use Rattle.field_step.proofs.laws_of_trim_model.Lists.{all_map, all_left, all_right}
+use Rattle.field_step.specs.of_trim_state.State as state
+use Rattle.field_step.specs.of_trim_state.State.{State, Result}
+use Rattle.insertion.specs.of_offers.Offers.{add_all, offer_list}
+use Rattle.insertion.specs.of_offers.Walks.{edge_data}
+use Rattle.insertion.specs.of_face_entries.Entries.{FaceEntry}
+use Rattle.insertion.specs.of_source_inserts.declared.Insert.{Insert}
+use Rattle.insertion.specs.of_source_inserts.declared.Insert.TheVariants.{Entry, Offer}
+use Rattle.insertion.specs.of_source_inserts.Inserts.{candidates_at, candidates_in}
 use Rattle.insertion.specs.Insertion.{Inserted, InsertResult, stopped, went, and_insert, with_entries, insert_one, insert_each}
-use Rattle.windows_there.specs.There.{GoesInto, CandidateThere, WindowsThere, EndsThere, EventsThere}
-use Rattle.windows_there.proofs.Sides.{into_ends}
-use Rattle.windows_there.proofs.Kept.{there_all}
-use Rattle.windows_there.proofs.Events.{events_all}
+use Rattle.field_step.specs.of_windows_there.There.{GoesInto, CandidateThere, WindowsThere, EndsThere, EventsThere}
+use Rattle.field_step.proofs.laws_of_windows_there.Sides.{into_ends}
+use Rattle.field_step.proofs.laws_of_windows_there.Kept.{there_all}
+use Rattle.field_step.proofs.laws_of_windows_there.Events.{events_all}
 
 module _ (cuts windows slots : ℕ) (limit : Float) (flags : List ℕ) (v : List Float) (triangles : List ℕ) (n : ℕ) (valid : ValidTriangles triangles n) where
   abbrev Good : State → Type 0

@@ -9,17 +9,17 @@ use Rattle.buffers.specs.Lack.{lack_number}
 use Rattle.buffers.specs.declared.Lack.{Lack}
 use Rattle.heap.specs.Queue.{queue, popping}
 use Rattle.actions.specs.Actions.{Stock}
-use Rattle.cut_lists.specs.Buffers.{Cuts}
-use Rattle.trim_model.specs.Model.{Candidate}
-use Rattle.trim_state.specs.State.{State, Result, stopped, went}
-use Rattle.trim_split.specs.declared.Counts.{Counts}
-use Rattle.trim_split.specs.Running as running
-use Rattle.trim_split.specs.Running.{Snapshot}
-use Rattle.trim_split.proofs.Untouched.{untouched_same, untouched_then}
-use Rattle.trim.specs.Buffers.{Slices}
-use Rattle.trim.specs.Adding.{snapshot_at}
-use Rattle.offers.specs.Offers.{and_next}
-use Rattle.offers.proofs.Walks.{mesh_kept, SameSizes, same_refl, same_trans, windows_in, windows_same}
+use Rattle.insertion.specs.of_cut_lists.Buffers.{Cuts}
+use Rattle.insertion.specs.of_trim_model.Model.{Candidate}
+use Rattle.field_step.specs.of_trim_state.State.{State, Result, stopped, went}
+use Rattle.insertion.specs.of_trim_split.declared.Counts.{Counts}
+use Rattle.insertion.specs.of_trim_split.Running as running
+use Rattle.insertion.specs.of_trim_split.Running.{Snapshot}
+use Rattle.insertion.proofs.laws_of_trim_split.Untouched.{untouched_same, untouched_then}
+use Rattle.insertion.specs.of_trim.Buffers.{Slices}
+use Rattle.insertion.specs.of_trim.Adding.{snapshot_at}
+use Rattle.insertion.specs.of_offers.Offers.{and_next}
+use Rattle.insertion.proofs.laws_of_offers.Walks.{mesh_kept, SameSizes, same_refl, same_trans, windows_in, windows_same}
 use Rattle.field_step.specs.declared.Stepped.{Stepped}
 use Rattle.field_step.specs.declared.Stepped.TheVariants.{Idle, Stopped, Went}
 use Rattle.field_step.specs.Step.{step_of, is_empty, idle_of, step_candidates}

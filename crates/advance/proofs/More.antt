@@ -9,9 +9,9 @@ use lib.Ieee.{Float}
 use Rattle.heap.specs.declared.Popped.{Popped}
 use Rattle.heap.specs.declared.Popped.TheVariants.{Empty, First}
 use Rattle.heap.specs.Queue.{Queue, popping}
-use Rattle.trim_model.specs.Model.{Candidate}
-use Rattle.trim_state.specs.State.{State, Result, stopped, went}
-use Rattle.offers.specs.Offers.{and_next}
+use Rattle.insertion.specs.of_trim_model.Model.{Candidate}
+use Rattle.field_step.specs.of_trim_state.State.{State, Result, stopped, went}
+use Rattle.insertion.specs.of_offers.Offers.{and_next}
 use Rattle.field_step.specs.Step.{step_with, step_of, is_empty, idle_of, candidates_with, step_candidates}
 use Rattle.advance.specs.Advance.{of_state, advance_of, steps_of, advance_candidates}
 

@@ -3,9 +3,9 @@ use Prim.Native.Nat.{ℕ, zero, suc}
 use mathlib.Core.List.{List, [], ◌++◌}
 use Rattle.std.specs.Prelude.{Float}
 use Rattle.float64.specs.Notation.{if◌then◌else◌}
-use Rattle.trim_model.specs.Model.{Candidate}
-use Rattle.trim_state.specs.State.{State, Result, stopped, went}
-use Rattle.offers.specs.Offers.{and_next}
+use Rattle.insertion.specs.of_trim_model.Model.{Candidate}
+use Rattle.field_step.specs.of_trim_state.State.{State, Result, stopped, went}
+use Rattle.insertion.specs.of_offers.Offers.{and_next}
 use Rattle.field_step.specs.Step.{step_of, idle_of, step_candidates}
 
 -- what is said of the state that a result leaves; d of a stop

@@ -2,13 +2,13 @@
 use Rattle.std.specs.Prelude.{ℕ, ◌≤◌, List, ◌++◌, ◌≡◌, length, Float}
 use Rattle.buffers.specs.Lack.{lack_number}
 use Rattle.windows.specs.Windows.{capacity_of}
-use Rattle.trim_model.specs.Model.{Candidate}
-use Rattle.trim_state.specs.State.{State}
-use Rattle.cut_lists.specs.Buffers.{Cuts}
-use Rattle.trim_split.specs.declared.Counts.{Counts}
-use Rattle.trim_split.specs.Running.{End, stopped, at}
-use Rattle.trim.specs.Buffers.{Slices}
-use Rattle.trim.specs.Adding.{snapshot_at}
+use Rattle.insertion.specs.of_trim_model.Model.{Candidate}
+use Rattle.field_step.specs.of_trim_state.State.{State}
+use Rattle.insertion.specs.of_cut_lists.Buffers.{Cuts}
+use Rattle.insertion.specs.of_trim_split.declared.Counts.{Counts}
+use Rattle.insertion.specs.of_trim_split.Running.{End, stopped, at}
+use Rattle.insertion.specs.of_trim.Buffers.{Slices}
+use Rattle.insertion.specs.of_trim.Adding.{snapshot_at}
 use Rattle.field_step.specs.Contract.{FieldMesh, FieldStands, FieldEnds}
 use Rattle.advance.specs.declared.Advanced.{Advanced}
 use Rattle.advance.specs.declared.Advanced.TheVariants.{Stopped, Went}

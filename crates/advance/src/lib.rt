@@ -2,14 +2,15 @@
 ghost use Rattle.std.specs.Prelude.{◌≤◌, length};
 ghost use Rattle.buffers.specs.Lent.{given};
 ghost use Rattle.windows.specs.Windows.{capacity_of};
-ghost use Rattle.cut_lists.specs.Buffers.{cuts_before};
-ghost use Rattle.cut_lists.specs.Cut.{Sizes};
-ghost use Rattle.trim.specs.Buffers.{before, after};
+ghost use Rattle.insertion.specs.of_cut_lists.Buffers.{cuts_before};
+ghost use Rattle.insertion.specs.of_cut_lists.Cut.{Sizes};
+ghost use Rattle.insertion.specs.of_trim.Buffers.{before, after};
 ghost use Rattle.advance.specs.Contract.{AdvancesTo};
 
 use buffers::Lack;
 use field_step::Stepped;
-use trim_split::Counts;
+pub use insertion as of_insertion;
+use insertion::of_trim_split::Counts;
 
 // There is no slot for something; or so many windows and events there are now, after so many steps. Every pop is a step, skipped ones included.
 #[derive(Clone, Copy)]

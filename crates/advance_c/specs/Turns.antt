@@ -4,9 +4,9 @@ use Rattle.layout.specs.Layout.{words_per_edge}
 use Rattle.buffers.specs.Lack.{lack_number}
 use Rattle.buffers.specs.Slots.{slots_of}
 use Rattle.windows.specs.Windows.{capacity_of}
-use Rattle.cut_lists.specs.Buffers.{Cuts}
-use Rattle.trim.specs.Buffers.{Slices}
-use Rattle.trim_split.specs.declared.Counts.{Counts}
+use Rattle.advance.specs.of_cut_lists.Buffers.{Cuts}
+use Rattle.finish.specs.of_trim.Buffers.{Slices}
+use Rattle.advance.specs.of_trim_split.declared.Counts.{Counts}
 use Rattle.advance.specs.declared.Advanced.{Advanced}
 use Rattle.advance.specs.declared.Advanced.TheVariants.{Stopped, Went}
 use Rattle.advance.specs.Contract.{AdvancesTo}

@@ -2,14 +2,14 @@
 ghost use Rattle.std.specs.Prelude.{◌≡◌, ◌+◌, eqb, length};
 ghost use Rattle.buffers.specs.Lent.{given, left};
 ghost use Rattle.buffers.specs.Slots.{slots_of};
-ghost use Rattle.cut_lists.specs.Buffers.{cuts_before, cuts_after};
-ghost use Rattle.trim.specs.Buffers.{before, after, slices};
+ghost use Rattle.advance.specs.of_cut_lists.Buffers.{cuts_before, cuts_after};
+ghost use Rattle.finish.specs.of_trim.Buffers.{before, after, slices};
 ghost use Rattle.advance_c.specs.Turns.{told_counts, turns_told, turns_fit, TurnsAnswer, finish_fits, FinishAnswer};
 
 use advance::Advanced;
 use buffers::{read_u32, write_u32};
+use finish::of_trim_split::Counts;
 use layout::{REALS_PER_WINDOW, WORDS_PER_EDGE, WORDS_PER_WINDOW};
-use trim_split::Counts;
 
 fn told_counts(told: &[u32]) -> Counts
     ensures { result ≡ told_counts (given told) }

@@ -1,2 +1,4 @@
-// Which candidate windows are proper: laws, in proofs/. There is no code here.
+/
+pub use source_windows as of_source_windows;
+/ Which candidate windows are proper: laws, in proofs/. There is no code here.
 #![tactic(auto)]

@@ -14,7 +14,9 @@ use layout::{
     EDGE_FIRST_FACE, EDGE_SECOND_FACE, VERTEX_START, WORDS_PER_EDGE, WORDS_PER_ROUND,
     WORDS_PER_VERTEX,
 };
+pub use mesh_readers as of_mesh_readers;
 use mesh_readers::{coords, face_vertex, length, shared_vertex, side, vertex, vertex_degree};
+pub use source_windows as of_source_windows;
 use source_windows::lies_on;
 use vec3::Vec3;
 

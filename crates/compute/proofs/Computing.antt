@@ -17,25 +17,25 @@ use Rattle.job_checks.specs.Refusals.{refusals, refusal_of}
 use Rattle.job_checks.proofs.Any.{first_past}
 use Rattle.job_checks.proofs.Sound.{refusals_numbered}
 use Rattle.topology.specs.Edges.{edges, shared_by_three}
-use Rattle.mesh.specs.declared.OtherCounts.{OtherCounts}
-use Rattle.mesh.specs.declared.Meshed.{Meshed}
-use Rattle.mesh.specs.Topology.{MeshBuffers, topology_of}
-use Rattle.mesh.specs.Answer.{meshed_number, counts_in, mesh_refusals, mesh_refusal, afterwards, Answered}
-use Rattle.cut_lists.specs.Buffers.{Cuts}
-use Rattle.begin.specs.Begin.{WorkSlices, work_slices}
-use Rattle.zero_buffers.specs.ZeroIf.{zero_words, words_if, reals_if, mesh_if, cuts_if}
-use Rattle.insert_job.proofs.Begun.{checked, begun_fits, begun_job_lem}
-use Rattle.insertion.specs.Insertion.{Inserted}
-use Rattle.run_steps.specs.declared.FieldWork.{FieldWork}
-use Rattle.run_steps.specs.declared.FieldWork.TheVariants.{Refused, Done}
-use Rattle.run_steps.specs.Run.{WorkResult, refused, field}
-use Rattle.finish.specs.Contents.{FieldBuffers}
-use Rattle.finish.specs.Refused.{zero_field, FieldLengths}
-use Rattle.finish.proofs.Refused.{zero_lengths}
+use Rattle.field_model.specs.of_mesh.declared.OtherCounts.{OtherCounts}
+use Rattle.field_model.specs.of_mesh.declared.Meshed.{Meshed}
+use Rattle.field_model.specs.of_mesh.Topology.{MeshBuffers, topology_of}
+use Rattle.field_model.specs.of_mesh.Answer.{meshed_number, counts_in, mesh_refusals, mesh_refusal, afterwards, Answered}
+use Rattle.field_model.specs.of_cut_lists.Buffers.{Cuts}
+use Rattle.make_field.specs.of_begin.Begin.{WorkSlices, work_slices}
+use Rattle.field_model.specs.of_zero_buffers.ZeroIf.{zero_words, words_if, reals_if, mesh_if, cuts_if}
+use Rattle.make_field.proofs.laws_of_insert_job.Begun.{checked, begun_fits, begun_job_lem}
+use Rattle.make_field.specs.of_insertion.Insertion.{Inserted}
+use Rattle.make_field.specs.of_run_steps.declared.FieldWork.{FieldWork}
+use Rattle.make_field.specs.of_run_steps.declared.FieldWork.TheVariants.{Refused, Done}
+use Rattle.make_field.specs.of_run_steps.Run.{WorkResult, refused, field}
+use Rattle.field_model.specs.of_finish.Contents.{FieldBuffers}
+use Rattle.field_model.specs.of_finish.Refused.{zero_field, FieldLengths}
+use Rattle.field_model.proofs.laws_of_finish.Refused.{zero_lengths}
 use Rattle.computed.specs.declared.Computed.{Computed}
 use Rattle.computed.specs.declared.Computed.TheVariants as computed
-use Rattle.compute_spec.specs.Compute.{other_counts, field_buffers, work_slices_in, compute_by_heap, LeavesByHeap, answer_by_heap, ComputesByHeap}
-use Rattle.compute_spec.proofs.Refusals.{compute_refused}
+use Rattle.field_model.specs.of_compute_spec.Compute.{other_counts, field_buffers, work_slices_in, compute_by_heap, LeavesByHeap, answer_by_heap, ComputesByHeap}
+use Rattle.field_model.proofs.laws_of_compute_spec.Refusals.{compute_refused}
 use Rattle.field_model.specs.Queue.{queue_in_order}
 use Rattle.field_model.specs.Lent.{ComputesOver}
 use Rattle.field_model.proofs.Lawful.{in_order}

@@ -5,10 +5,10 @@ use mathlib.Core.Path.{◌≡◌, sym, ap, ◌∙◌}
 use lib.Dec.{ltb}
 use Rattle.layout.specs.Layout.{coordinates_per_vertex, vertices_per_triangle}
 use Rattle.buffers.specs.Slots.{slots_of}
-use Rattle.mesh.specs.declared.OtherCounts.{OtherCounts}
-use Rattle.insertion.specs.declared.InsertCounts.{InsertCounts}
-use Rattle.run_steps.specs.declared.FieldWork.{FieldWork}
-use Rattle.run_steps.specs.declared.FieldWork.TheVariants.{Refused, Done}
+use Rattle.field_model.specs.of_mesh.declared.OtherCounts.{OtherCounts}
+use Rattle.make_field.specs.of_insertion.declared.InsertCounts.{InsertCounts}
+use Rattle.make_field.specs.of_run_steps.declared.FieldWork.{FieldWork}
+use Rattle.make_field.specs.of_run_steps.declared.FieldWork.TheVariants.{Refused, Done}
 use Rattle.computed.specs.declared.Computed.TheVariants as computed
 use Rattle.compute.specs.Answers.{zeroes, clears, told}
 

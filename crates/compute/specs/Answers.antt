@@ -3,11 +3,11 @@ use Rattle.std.specs.Prelude.{ℕ, min, Bool, true, false, ltb}
 use Rattle.layout.specs.Layout.{coordinates_per_vertex, vertices_per_triangle, reals_per_vertex, words_per_piece, reals_per_piece}
 use Rattle.buffers.specs.Slots.{slots_of}
 use Rattle.windows.specs.Windows.{capacity_of}
-use Rattle.mesh.specs.declared.OtherCounts.{OtherCounts}
-use Rattle.mesh.specs.declared.Meshed.{Meshed}
-use Rattle.mesh.specs.declared.Meshed.TheVariants as meshed
-use Rattle.run_steps.specs.declared.FieldWork.{FieldWork}
-use Rattle.run_steps.specs.declared.FieldWork.TheVariants.{Refused, Done}
+use Rattle.field_model.specs.of_mesh.declared.OtherCounts.{OtherCounts}
+use Rattle.field_model.specs.of_mesh.declared.Meshed.{Meshed}
+use Rattle.field_model.specs.of_mesh.declared.Meshed.TheVariants as meshed
+use Rattle.make_field.specs.of_run_steps.declared.FieldWork.{FieldWork}
+use Rattle.make_field.specs.of_run_steps.declared.FieldWork.TheVariants.{Refused, Done}
 use Rattle.computed.specs.declared.Computed.{Computed}
 use Rattle.computed.specs.declared.Computed.TheVariants as computed
 

@@ -2,20 +2,23 @@
 ghost use Rattle.std.specs.Prelude.{◌≡◌};
 ghost use Rattle.buffers.specs.Lent.{given};
 ghost use Rattle.job_checks.specs.Job.{job};
-ghost use Rattle.compute_spec.specs.Compute.{buffers_before, buffers_after};
+ghost use Rattle.field_model.specs.of_compute_spec.Compute.{buffers_before, buffers_after};
 ghost use Rattle.field_model.specs.Queue.{queue_in_order};
 ghost use Rattle.field_model.specs.Lent.{ComputesOver};
 ghost use Rattle.compute.specs.Answers.{other_counts_of, edges_answered, zeroes, clears, told};
 
 use buffers::slots;
 use computed::{Computed, Field};
+use field_model::of_mesh as mesh;
+use field_model::of_mesh::{Meshed, OtherCounts};
+use field_model::of_zero_buffers::{
+    zero_cuts_if, zero_mesh_if, zero_pieces_if, zero_windows_if, zero_words_if,
+};
 use layout::{
     COORDINATES_PER_VERTEX, REALS_PER_PIECE, REALS_PER_VERTEX, REALS_PER_WINDOW,
     VERTICES_PER_TRIANGLE, WORDS_PER_PIECE, WORDS_PER_WINDOW,
 };
-use mesh::{Meshed, OtherCounts};
-use run_steps::FieldWork;
-use zero_buffers::{zero_cuts_if, zero_mesh_if, zero_pieces_if, zero_windows_if, zero_words_if};
+use make_field::of_run_steps::FieldWork;
 
 // The slots that slices of these lengths have.
 fn other_counts(

@@ -7,25 +7,25 @@ use lib.Ieee.{Float}
 use Rattle.windows.specs.Windows.{capacity_of}
 use Rattle.job_checks.specs.Job.{Job}
 use Rattle.topology.specs.Edges.{edges}
-use Rattle.mesh.specs.declared.Meshed.{Meshed}
-use Rattle.mesh.specs.Topology.{MeshBuffers}
-use Rattle.mesh.specs.Answer.{counts_in, mesh_refusal, Answered}
-use Rattle.mesh.proofs.Fields.{held, fresh}
-use Rattle.cut_lists.specs.Buffers.{Cuts}
-use Rattle.trim.specs.Buffers.{Slices}
-use Rattle.offers.specs.Walks.{edge_data}
-use Rattle.face_entries.specs.Buffers.{EntryBuffers}
-use Rattle.piece_ends.specs.Table.{piece_words_of}
-use Rattle.piece_ends.specs.Directions.{piece_reals_of}
-use Rattle.insertion.specs.declared.InsertCounts.{InsertCounts}
-use Rattle.insert_job.specs.Field.{trim_slices, begun_job}
+use Rattle.field_work.specs.of_mesh.declared.Meshed.{Meshed}
+use Rattle.field_work.specs.of_mesh.Topology.{MeshBuffers}
+use Rattle.field_work.specs.of_mesh.Answer.{counts_in, mesh_refusal, Answered}
+use Rattle.finish.proofs.laws_of_mesh.Fields.{held, fresh}
+use Rattle.cut_slots.specs.of_cut_lists.Buffers.{Cuts}
+use Rattle.finish.specs.of_trim.Buffers.{Slices}
+use Rattle.finish.specs.of_offers.Walks.{edge_data}
+use Rattle.finish.specs.of_face_entries.Buffers.{EntryBuffers}
+use Rattle.finish.specs.of_piece_ends.Table.{piece_words_of}
+use Rattle.finish.specs.of_piece_ends.Directions.{piece_reals_of}
+use Rattle.field_work.specs.of_insertion.declared.InsertCounts.{InsertCounts}
+use Rattle.field_work.specs.of_insert_job.Field.{trim_slices, begun_job}
 use Rattle.field_work.specs.Contract.{FieldDone}
 use Rattle.finish.specs.Finish.{FinishesTo}
 use Rattle.finish.specs.Contents.{FieldBuffers, FieldContents, WorkLengths, BuffersKept, after_finish}
 use Rattle.finish.proofs.Contents.{work_in, contents_are}
-use Rattle.zero_buffers.specs.ZeroIf.{zero_words}
-use Rattle.insertion.specs.Insertion.{Inserted}
-use Rattle.run_steps.specs.Run.{WorkResult, field}
+use Rattle.finish.specs.of_zero_buffers.ZeroIf.{zero_words}
+use Rattle.field_work.specs.of_insertion.Insertion.{Inserted}
+use Rattle.field_work.specs.of_run_steps.Run.{WorkResult, field}
 use Rattle.field_work.specs.Work.{work_of, work_candidates}
 use Rattle.cut_slots.specs.Slots.{cut_count, cut_to}
 use Rattle.compute_spec.specs.Compute.{other_counts, work_slices_in, compute_by_heap, LeavesByHeap}

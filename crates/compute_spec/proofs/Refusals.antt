@@ -10,11 +10,11 @@ use Rattle.job_checks.specs.Refusals.{refusals, refusal_of}
 use Rattle.job_checks.proofs.Any.{both_passed, passed_here}
 use Rattle.job_checks.proofs.Sound.{refusals_numbered}
 use Rattle.topology.specs.Edges.{shared_by_three}
-use Rattle.mesh.specs.declared.OtherCounts.{OtherCounts}
-use Rattle.mesh.specs.declared.Meshed.{Meshed}
-use Rattle.mesh.specs.Topology.{MeshBuffers, filled, topology_of}
-use Rattle.mesh.specs.Answer.{counts_in, mesh_refusals, mesh_refusal, afterwards, Answered}
-use Rattle.run_steps.specs.Run.{WorkResult, refused}
+use Rattle.field_work.specs.of_mesh.declared.OtherCounts.{OtherCounts}
+use Rattle.field_work.specs.of_mesh.declared.Meshed.{Meshed}
+use Rattle.field_work.specs.of_mesh.Topology.{MeshBuffers, filled, topology_of}
+use Rattle.field_work.specs.of_mesh.Answer.{counts_in, mesh_refusals, mesh_refusal, afterwards, Answered}
+use Rattle.field_work.specs.of_run_steps.Run.{WorkResult, refused}
 use Rattle.field_work.specs.Work.{work_of}
 use Rattle.finish.specs.Contents.{FieldBuffers}
 use Rattle.cut_slots.specs.Slots.{cut_count, cut_to}

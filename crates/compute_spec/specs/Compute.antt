@@ -6,14 +6,14 @@ use Rattle.buffers.specs.Lent.{Lent, given, left}
 use Rattle.windows.specs.Windows.{capacity_of}
 use Rattle.job_checks.specs.Job.{Job, vertex_count, triangle_count, piece_count}
 use Rattle.topology.specs.Edges.{edges}
-use Rattle.mesh.specs.declared.OtherCounts.{OtherCounts}
-use Rattle.mesh.specs.Topology.{MeshBuffers, before, after, filled}
-use Rattle.mesh.specs.Answer.{counts_in, mesh_refusal}
-use Rattle.cut_lists.specs.Buffers.{Cuts, cuts_before, cuts_after}
+use Rattle.field_work.specs.of_mesh.declared.OtherCounts.{OtherCounts}
+use Rattle.field_work.specs.of_mesh.Topology.{MeshBuffers, before, after, filled}
+use Rattle.field_work.specs.of_mesh.Answer.{counts_in, mesh_refusal}
+use Rattle.cut_slots.specs.of_cut_lists.Buffers.{Cuts, cuts_before, cuts_after}
 use Rattle.cut_slots.specs.Slots.{cut_count, cut_to}
-use Rattle.offers.specs.Walks.{edge_data}
-use Rattle.begin.specs.Begin.{WorkSlices, work_slices, work_before, work_after}
-use Rattle.run_steps.specs.Run.{WorkResult, refused, field}
+use Rattle.finish.specs.of_offers.Walks.{edge_data}
+use Rattle.field_work.specs.of_begin.Begin.{WorkSlices, work_slices, work_before, work_after}
+use Rattle.field_work.specs.of_run_steps.Run.{WorkResult, refused, field}
 use Rattle.field_work.specs.Work.{work_of}
 use Rattle.finish.specs.Contents.{FieldBuffers, FieldContents}
 use Rattle.finish.specs.Refused.{zero_field}

@@ -13,6 +13,7 @@ ghost use Rattle.source.specs.Distance.{edge_of, foot_of, lowest_of, eval_of};
 ghost use Rattle.source_bounds.specs.Bounds.{Encloses};
 ghost use Rattle.face_distance.specs.Floors.{UpTo};
 
+pub use face_distance as of_face_distance;
 use source::{Src, Win};
 
 // Whether the hypotenuse of d and y is told to be at least lo.

@@ -15,7 +15,7 @@ use Rattle.windows.specs.Windows.{window_at, win_at}
 use Rattle.chains.specs.Chains.{Links, link_in, link_at}
 use Rattle.last_pass.specs.Buffers.{chain_behind, wins_on}
 use Rattle.last_pass.proofs.Chains.{chain_end, chain_next, chain_out}
-use Rattle.face_distance.specs.Entries.{through_ends}
+use Rattle.last_pass.specs.of_face_distance.Entries.{through_ends}
 use Rattle.edge_query.specs.declared.Passed.{Passed}
 use Rattle.edge_query.specs.EdgeDistance.{partition_point, with_next, backwards, edge_distance}
 use Rattle.edge_query.specs.Forward.{win_of_number, value_of, passed_value, past_of, forward, no_windows_passed}

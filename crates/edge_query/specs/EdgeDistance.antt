@@ -9,7 +9,7 @@ use Rattle.windows.specs.declared.Edge.{Edge}
 use Rattle.actions.specs.Actions.{distance_of}
 use Rattle.chains.specs.Chains.{Links}
 use Rattle.last_pass.specs.Buffers.{chain_behind, wins_on}
-use Rattle.face_distance.specs.Entries.{through_ends}
+use Rattle.last_pass.specs.of_face_distance.Entries.{through_ends}
 
 -- `list.partition_point(|&id| wins[id].b0 <= x)`: how many windows there are before the first that starts past x. The Rust searches by halves, which comes to the same in a list
 -- whose starts rise, as they do wherever a query answers

@@ -10,6 +10,7 @@ ghost use Rattle.edge_query.specs.Forward.{value_of, passed_value, past_of};
 ghost use Rattle.edge_query.specs.Resume.{from_head, head_cursor, cursor_for, cursor_past, ResumesAt, Resumes};
 
 use buffers::{EdgeId, WindowId, read_f64};
+use last_pass::of_face_distance as face_distance;
 use layout::{REALS_PER_WINDOW, WINDOW_B0, WINDOW_B1};
 use windows::Edge;
 

@@ -2,7 +2,7 @@
 use Rattle.std.specs.Prelude.{ℕ, List, Float, get_or}
 use Rattle.std.specs.Float.{nan}
 use Rattle.computed.specs.declared.Field.{Field}
-use Rattle.field_check.specs.FieldCheck.{FieldSlices}
+use Rattle.queries.specs.of_field_check.FieldCheck.{FieldSlices}
 use Rattle.queries.specs.declared.EdgeDistance.{EdgeDistance}
 use Rattle.queries.specs.Answers.{edge_answer_number, edge_value}
 use Rattle.queries.specs.Queries.{edge_answer}

@@ -1,3 +1,4 @@
+pub use Rattle.mesh.proofs as laws_of_mesh
 pub mod Calls
 pub mod Numbers
 pub mod Linking

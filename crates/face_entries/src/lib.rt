@@ -11,6 +11,8 @@ use layout::{
     ENTRY_LINK, ENTRY_PART, ENTRY_PIECE, TRIANGLE_FIRST_ENTRY, TRIANGLE_LAST_ENTRY,
     WORDS_PER_ENTRY, WORDS_PER_TRIANGLE,
 };
+pub use mesh as of_mesh;
+pub use mesh::of_frames as of_frames;
 
 // Which part of a source piece an entry is of: a point or a segment's end a, its end b, or the whole segment.
 #[derive(Clone, Copy)]

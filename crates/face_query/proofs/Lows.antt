@@ -13,10 +13,10 @@ use Rattle.float_laws.proofs.Order.{Number, le_refl, le_trans, le_number_l, lt_n
 use Rattle.float_laws.proofs.MinMax.{min_le_l, min_le_r}
 use Rattle.float_monotone.proofs.HypotOrder.{below_infinity}
 use Rattle.float_monotone.proofs.SumOrder.{add_rises_r}
-use Rattle.face_distance.proofs.Floors.{sum_number_r}
+use Rattle.last_pass.proofs.laws_of_face_distance.Floors.{sum_number_r}
 use Rattle.buffers.specs.declared.EdgeId.{EdgeId}
 use Rattle.chains.specs.Chains.{Links, links, link_in, link_at}
-use Rattle.mesh_readers.specs.Readers.{side_in}
+use Rattle.last_pass.specs.of_mesh_readers.Readers.{side_in}
 use Rattle.last_pass.specs.Buffers.{chain_behind}
 use Rattle.last_pass.proofs.Chains.{chain_end, chain_next, chain_out}
 use Rattle.face_query.specs.declared.LowWalk.{LowWalk}

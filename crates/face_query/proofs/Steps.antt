@@ -16,10 +16,10 @@ use Rattle.windows.specs.declared.WindowRecord.{WindowRecord}
 use Rattle.chains.specs.Chains.{links}
 use Rattle.actions.specs.Actions.{distance_of}
 use Rattle.job_checks.specs.Edge.{vertex_at}
-use Rattle.mesh_readers.specs.Readers.{side_in, coords_at}
-use Rattle.mesh_readers.specs.declared.FrameCoords.{FrameCoords}
+use Rattle.last_pass.specs.of_mesh_readers.Readers.{side_in, coords_at}
+use Rattle.last_pass.specs.of_mesh_readers.declared.FrameCoords.{FrameCoords}
 use Rattle.last_pass.specs.Buffers.{chain_behind}
-use Rattle.face_distance.specs.Entries.{through_vertex, through_window}
+use Rattle.last_pass.specs.of_face_distance.Entries.{through_vertex, through_window}
 use Rattle.face_query.specs.FaceDistance.{through_windows, records_on, through_face_vertex, through_side}
 
 -- 1.0 / 0.0

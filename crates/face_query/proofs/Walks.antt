@@ -15,7 +15,7 @@ use Rattle.last_pass.proofs.Chains.{chain_end, chain_next, chain_out}
 use Rattle.face_entries.specs.declared.PiecePart.{PiecePart}
 use Rattle.face_entries.specs.Buffers.{part_at, next_entry_of}
 use Rattle.face_entries.specs.Entries.{entries_from_link}
-use Rattle.face_distance.specs.Entries.{through_window}
+use Rattle.last_pass.specs.of_face_distance.Entries.{through_window}
 use Rattle.face_query.specs.FaceDistance.{through_windows, records_on, to_part, to_entries}
 
 -- ---- windows; r is the link that was read

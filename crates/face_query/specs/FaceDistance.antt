@@ -11,16 +11,16 @@ use Rattle.windows.specs.declared.WindowRecord.{WindowRecord}
 use Rattle.chains.specs.Chains.{links}
 use Rattle.actions.specs.Actions.{distance_of}
 use Rattle.job_checks.specs.Edge.{vertex_at}
-use Rattle.frames.specs.Stored.{vector_from}
-use Rattle.mesh_readers.specs.Readers.{side_in, coords_at}
-use Rattle.mesh_readers.specs.declared.FrameCoords.{FrameCoords}
+use Rattle.face_entries.specs.of_frames.Stored.{vector_from}
+use Rattle.last_pass.specs.of_mesh_readers.Readers.{side_in, coords_at}
+use Rattle.last_pass.specs.of_mesh_readers.declared.FrameCoords.{FrameCoords}
 use Rattle.last_pass.specs.Buffers.{chain_behind}
 use Rattle.face_entries.specs.declared.Part.{Part}
 use Rattle.face_entries.specs.declared.Part.TheVariants.{EndA, EndB, Whole}
 use Rattle.face_entries.specs.declared.PiecePart.{PiecePart}
 use Rattle.face_entries.specs.Buffers.{entry_capacity, first_entry_of}
 use Rattle.face_entries.specs.Entries.{entries_from_link}
-use Rattle.face_distance.specs.Entries.{to_point, to_segment, through_vertex, through_window}
+use Rattle.last_pass.specs.of_face_distance.Entries.{to_point, to_segment, through_vertex, through_window}
 
 -- `for &id in &on_edge[e] { if w.alive && y + w.low < d { d = d.min(w.eval(x, y)); } }`
 unfoldable pub through_windows : Float → Float → Float → List WindowRecord → Float

@@ -5,7 +5,7 @@ use Rattle.layout.specs.Layout.{reals_per_window, window_low}
 use Rattle.float64.specs.Scalar.{min_of}
 use Rattle.float64.specs.Notation.{if◌then◌else◌}
 use Rattle.chains.specs.Chains.{Links, links}
-use Rattle.mesh_readers.specs.Readers.{side_in}
+use Rattle.last_pass.specs.of_mesh_readers.Readers.{side_in}
 use Rattle.last_pass.specs.Buffers.{chain_behind}
 use Rattle.face_query.specs.declared.LowWalk.{LowWalk}
 

@@ -8,12 +8,13 @@ ghost use Rattle.chains.specs.Chains.{links, link_in, link_at};
 ghost use Rattle.last_pass.specs.Buffers.{chain_behind};
 ghost use Rattle.face_entries.specs.Buffers.{entry_capacity};
 ghost use Rattle.face_entries.specs.Entries.{entries_from_link};
-ghost use Rattle.face_distance.specs.Entries.{to_point, to_segment, through_window};
+ghost use Rattle.last_pass.specs.of_face_distance.Entries.{to_point, to_segment, through_window};
 ghost use Rattle.face_query.specs.Lows.{least_low, side_low, WalksOn};
 ghost use Rattle.face_query.specs.FaceDistance.{through_windows, records_on, first_end, second_end, to_part, to_entries, through_face_vertex, through_vertices, through_side, through_sides, to_pieces, face_distance_in};
 
 use buffers::{EdgeId, FaceId, WindowId, read_f64, read_u32};
-use face_entries::Part;
+use face_entries::{Part, of_frames as frames};
+use last_pass::{of_face_distance as face_distance, of_mesh_readers as mesh_readers};
 use layout::{
     COORDINATES_PER_PIECE, COORDINATES_PER_VERTEX, EDGE_HEAD, REALS_PER_WINDOW, WINDOW_LINK,
     WINDOW_LOW, WORDS_PER_EDGE, WORDS_PER_WINDOW,

@@ -2,7 +2,7 @@
 use Rattle.std.specs.Prelude.{ℕ, List, Float, get_or}
 use Rattle.job_checks.specs.Edge.{vertex_at}
 use Rattle.computed.specs.declared.Field.{Field}
-use Rattle.field_check.specs.FieldCheck.{JobSlices, FieldSlices}
+use Rattle.queries.specs.of_field_check.FieldCheck.{JobSlices, FieldSlices}
 use Rattle.queries.specs.declared.FaceDistance.{FaceDistance}
 use Rattle.queries.specs.Answers.{face_answer_number, face_value}
 use Rattle.queries.specs.Queries.{face_answer}

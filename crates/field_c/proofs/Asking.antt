@@ -14,7 +14,7 @@ use Rattle.vec3.specs.declared.Vec3.{Vec3}
 use Rattle.windows.specs.Windows.{capacity_of}
 use Rattle.computed.specs.declared.Computed.TheVariants.{Field as isField}
 use Rattle.computed.specs.declared.Field.{Field}
-use Rattle.field_check.specs.FieldCheck.{JobSlices, FieldSlices, field_unsound}
+use Rattle.queries.specs.of_field_check.FieldCheck.{JobSlices, FieldSlices, field_unsound}
 use Rattle.queries.specs.declared.FaceDistance.{FaceDistance}
 use Rattle.queries.specs.declared.EdgeDistance.{EdgeDistance}
 use Rattle.queries.specs.Answers.{face_answer_number, edge_answer_number, face_value, edge_value}

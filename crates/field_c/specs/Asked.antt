@@ -7,7 +7,7 @@ use Rattle.buffers.specs.Slots.{slots_of}
 use Rattle.vec3.specs.declared.Vec3.{Vec3}
 use Rattle.windows.specs.Windows.{capacity_of}
 use Rattle.computed.specs.declared.Field.{Field}
-use Rattle.field_check.specs.FieldCheck.{JobSlices, FieldSlices}
+use Rattle.queries.specs.of_field_check.FieldCheck.{JobSlices, FieldSlices}
 use Rattle.queries.specs.Answers.{face_answer_number, edge_answer_number, face_value, edge_value}
 use Rattle.queries.specs.Queries.{face_answer, edge_answer}
 

@@ -1,11 +1,11 @@
 -- What a caller in C or Rust is told of a job. Definitions only.
 use Rattle.std.specs.Prelude.{ℕ, List, ◌≡◌, set}
 use Rattle.job_checks.specs.Job.{Job}
-use Rattle.finish.specs.Contents.{FieldBuffers}
+use Rattle.compute.specs.of_finish.Contents.{FieldBuffers}
 use Rattle.computed.specs.declared.Computed.{Computed}
 use Rattle.computed.specs.declared.Computed.TheVariants.{Refused, Field}
-use Rattle.field_model.specs.Queue.{queue_in_order}
-use Rattle.field_model.specs.Lent.{ComputesOver}
+use Rattle.compute.specs.of_field_model.Queue.{queue_in_order}
+use Rattle.compute.specs.of_field_model.Lent.{ComputesOver}
 
 -- the number that is answered, and what six numbers then hold, as far as they are lent
 unfoldable pub field_told : Computed → List ℕ → ℕ × List ℕ

@@ -2,8 +2,8 @@
 ghost use Rattle.std.specs.Prelude.{◌≡◌, get_or};
 ghost use Rattle.buffers.specs.Lent.{given, left};
 ghost use Rattle.job_checks.specs.Job.{job};
-ghost use Rattle.compute_spec.specs.Compute.{buffers_before, buffers_after};
-ghost use Rattle.field_check.specs.FieldCheck.{job_slices, field_slices};
+ghost use Rattle.compute.specs.of_compute_spec.Compute.{buffers_before, buffers_after};
+ghost use Rattle.queries.specs.of_field_check.FieldCheck.{job_slices, field_slices};
 ghost use Rattle.queries.specs.Told.{told_field, told_answer};
 ghost use Rattle.text_out.specs.Text.{Puts};
 ghost use Rattle.print_out.specs.PrintOut.{live_count, text_of};

@@ -18,6 +18,7 @@ use layout::{
     VERTICES_PER_TRIANGLE, WINDOW_B0, WINDOW_B1, WINDOW_EDGE, WINDOW_INTO, WINDOW_LINK,
     WORDS_PER_EDGE, WORDS_PER_ENTRY, WORDS_PER_TRIANGLE, WORDS_PER_WINDOW,
 };
+pub use mesh_readers as of_mesh_readers;
 
 // What a walk along a chain comes to: that it is no field's, or how many more links there may be.
 #[derive(Clone, Copy)]

@@ -12,45 +12,45 @@ use lib.ListN.{length, get_or, replicate, get_or-append}
 use lib.Ieee.{Float}
 use Rattle.layout.specs.Layout.{words_per_edge, words_per_triangle, words_per_piece}
 use Rattle.float64.specs.Scalar.{zero64}
-use Rattle.better.specs.Claim.{All}
+use Rattle.work_laws.specs.of_better.Claim.{All}
 use Rattle.chains.specs.Chains.{links, link_at, Path}
 use Rattle.job_checks.specs.declared.BufferCounts.{BufferCounts}
 use Rattle.job_checks.specs.Any.{first_of}
 use Rattle.job_checks.specs.Job.{Job, vertex_count, triangle_count, piece_count}
 use Rattle.job_checks.specs.Refusals.{refusals}
 use Rattle.topology.specs.Edges.{edges}
-use Rattle.mesh.specs.Topology.{MeshBuffers, filled}
-use Rattle.mesh.specs.Answer.{counts_in, mesh_refusals, mesh_refusal}
-use Rattle.trim_model.specs.Windows.{Window, unqueued}
-use Rattle.trim_model.proofs.Ranks.{by_cases}
-use Rattle.trim_model.proofs.Lists.{all_map}
-use Rattle.trim_state.specs.State.{State, EdgeData}
-use Rattle.trim_state.proofs.Follows.{follows_demand3}
-use Rattle.live_windows.specs.Live.{nums}
-use Rattle.live_windows.proofs.Places.{head_path, short}
-use Rattle.contents.specs.Contents.{words_from, reals_from}
-use Rattle.offers.specs.Walks.{edge_data}
-use Rattle.face_entries.specs.Buffers.{first_entry_of, last_entry_of}
-use Rattle.face_entries.specs.Entries.{FaceEntry, numbers_of, triangles_with, entry_words_from, entry_words, HoldsEntries, HoldsOnly}
-use Rattle.face_entries.proofs.Linking.{chain_first}
-use Rattle.face_entries.proofs.Numbers.{numbers_few}
-use Rattle.face_entries.proofs.Content.{FaceThere, content_only}
-use Rattle.face_entries.proofs.Keeping.{fresh_none}
-use Rattle.insertion.specs.Insertion.{Inserted}
-use Rattle.cut_slots.specs.Slots.{cut_count, cut_to}
-use Rattle.run_steps.specs.Run as run
-use Rattle.run_steps.specs.Run.{WorkResult, field}
-use Rattle.field_work.specs.Work.{work_of}
-use Rattle.last_pass.proofs.Chains.{chain_is}
-use Rattle.last_pass.proofs.Finished.{lows_stay, lists_stay}
-use Rattle.finish.specs.Contents.{FieldBuffers, FieldContents}
-use Rattle.finish.specs.Refused.{zero_field}
-use Rattle.finish.proofs.Spare.{fresh_spare, field_spare}
+use Rattle.work_laws.specs.of_mesh.Topology.{MeshBuffers, filled}
+use Rattle.work_laws.specs.of_mesh.Answer.{counts_in, mesh_refusals, mesh_refusal}
+use Rattle.work_laws.specs.of_trim_model.Windows.{Window, unqueued}
+use Rattle.work_laws.proofs.laws_of_trim_model.Ranks.{by_cases}
+use Rattle.work_laws.proofs.laws_of_trim_model.Lists.{all_map}
+use Rattle.work_laws.specs.of_trim_state.State.{State, EdgeData}
+use Rattle.work_laws.proofs.laws_of_trim_state.Follows.{follows_demand3}
+use Rattle.work_laws.specs.of_live_windows.Live.{nums}
+use Rattle.work_laws.proofs.laws_of_live_windows.Places.{head_path, short}
+use Rattle.field_model.specs.of_contents.Contents.{words_from, reals_from}
+use Rattle.field_model.specs.of_offers.Walks.{edge_data}
+use Rattle.field_model.specs.of_face_entries.Buffers.{first_entry_of, last_entry_of}
+use Rattle.field_model.specs.of_face_entries.Entries.{FaceEntry, numbers_of, triangles_with, entry_words_from, entry_words, HoldsEntries, HoldsOnly}
+use Rattle.field_model.proofs.laws_of_face_entries.Linking.{chain_first}
+use Rattle.field_model.proofs.laws_of_face_entries.Numbers.{numbers_few}
+use Rattle.field_model.proofs.laws_of_face_entries.Content.{FaceThere, content_only}
+use Rattle.field_model.proofs.laws_of_face_entries.Keeping.{fresh_none}
+use Rattle.work_laws.specs.of_insertion.Insertion.{Inserted}
+use Rattle.field_model.specs.of_cut_slots.Slots.{cut_count, cut_to}
+use Rattle.work_laws.specs.of_run_steps.Run as run
+use Rattle.work_laws.specs.of_run_steps.Run.{WorkResult, field}
+use Rattle.work_laws.specs.of_field_work.Work.{work_of}
+use Rattle.work_laws.proofs.laws_of_last_pass.Chains.{chain_is}
+use Rattle.work_laws.proofs.laws_of_last_pass.Finished.{lows_stay, lists_stay}
+use Rattle.field_model.specs.of_finish.Contents.{FieldBuffers, FieldContents}
+use Rattle.field_model.specs.of_finish.Refused.{zero_field}
+use Rattle.field_model.proofs.laws_of_finish.Spare.{fresh_spare, field_spare}
 use Rattle.computed.specs.declared.Computed.{Computed}
 use Rattle.computed.specs.declared.Computed.TheVariants.{Refused, Field as Computed-as-Field}
 use Rattle.computed.specs.declared.Field.{Field}
-use Rattle.compute_spec.specs.Compute.{other_counts, work_slices_in, unless_refused, compute_by_heap}
-use Rattle.trim_model.specs.Model.{Candidate}
+use Rattle.field_model.specs.of_compute_spec.Compute.{other_counts, work_slices_in, unless_refused, compute_by_heap}
+use Rattle.work_laws.specs.of_trim_model.Model.{Candidate}
 use Rattle.field_model.specs.Queue.{queue_in_order}
 use Rattle.field_model.specs.Field.{Reply, refused, gives}
 use Rattle.field_model.specs.Job.{Finished}
@@ -58,7 +58,7 @@ use Rattle.field_model.specs.Lent.{compute_over, candidates_over, answer_over, e
 use Rattle.field_model.proofs.Lawful.{in_order}
 use Rattle.field_model.proofs.Whole.{job_same, job_candidates_lem}
 use Rattle.topology.proofs.Checked.{edge_ends}
-use Rattle.last_pass.specs.Lowered.{lowered_all}
+use Rattle.work_laws.specs.of_last_pass.Lowered.{lowered_all}
 use Rattle.work_laws.proofs.Zeros.{zeros_behind}
 use Rattle.work_laws.proofs.Beyond.{Beyond, beyond_lowered}
 use Rattle.work_laws.proofs.Stops.{WorkEnds, work_ends}
@@ -69,7 +69,7 @@ use Rattle.field_laws.proofs.Entries.{job_entries, first_there, last_there, link
 use Rattle.field_laws.proofs.Lengths.{entries_from, field_lengths}
 use Rattle.field_laws.proofs.Reasons.{refused_for}
 use Rattle.field_laws.proofs.Taken.{none_numbered, vertex_slots_lem, edge_slots_zero, length_slots, round_slots, triangle_slots_zero, normal_slots, direction_slots}
-use Rattle.piece_ends.proofs.Held.{spare_zero}
+use Rattle.field_model.proofs.laws_of_piece_ends.Held.{spare_zero}
 use Rattle.field_laws.proofs.Field.{idle_windows, no_windows_held, mesh_laws, window_laws}
 
 -- windows of which none is queued

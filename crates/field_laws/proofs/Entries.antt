@@ -8,27 +8,27 @@ use lib.Dec.{eqb}
 use lib.ListN.{length, get_or}
 use lib.Ieee.{Float}
 use Rattle.vec3.specs.declared.Vec3.{Vec3}
-use Rattle.better.specs.Claim.{All}
+use Rattle.work_laws.specs.of_better.Claim.{All}
 use Rattle.job_checks.specs.Sound.{ValidTriangles}
 use Rattle.topology.specs.Edges.{no_face}
-use Rattle.trim_model.proofs.Ranks.{by_cases}
-use Rattle.trim_model.proofs.Lists.{all_map, all_append}
+use Rattle.work_laws.proofs.laws_of_trim_model.Ranks.{by_cases}
+use Rattle.work_laws.proofs.laws_of_trim_model.Lists.{all_map, all_append}
 use Rattle.chains.specs.Chains.{first_link}
-use Rattle.source_windows.specs.declared.Normal.TheVariants.{Left, Right}
-use Rattle.source_offers.specs.Offering.{segment_offer, point_offer}
-use Rattle.carriers.specs.Carrier.{carrier_of}
-use Rattle.offers.proofs.Each.{each_all}
-use Rattle.face_entries.specs.declared.Part.{Part}
-use Rattle.face_entries.specs.declared.Part.TheVariants.{EndA, EndB}
-use Rattle.face_entries.specs.Entries.{FaceEntry, entry_numbers_from, numbers_of, final_link, entry_words_from}
-use Rattle.face_entries.proofs.Numbers.{Numbered, each_numbered, numbers_below, final_in}
-use Rattle.piece_ends.specs.Ends.{end_point, first_of_bits}
-use Rattle.point_wedge.specs.Wedge.{bounds_in}
-use Rattle.source_inserts.specs.declared.Insert.{Insert}
-use Rattle.source_inserts.specs.declared.Insert.TheVariants.{Entry, Offer}
-use Rattle.source_inserts.specs.Inserts.{carrier_inserts, point_inserts, segment_inserts, end_inserts, whole_inserts, piece_inserts, job_inserts}
-use Rattle.source_inserts.proofs.Each.{job_all}
-use Rattle.insertion.specs.Insertion.{entries_in}
+use Rattle.work_laws.specs.of_source_windows.declared.Normal.TheVariants.{Left, Right}
+use Rattle.work_laws.specs.of_source_offers.Offering.{segment_offer, point_offer}
+use Rattle.work_laws.specs.of_carriers.Carrier.{carrier_of}
+use Rattle.field_model.proofs.laws_of_offers.Each.{each_all}
+use Rattle.field_model.specs.of_face_entries.declared.Part.{Part}
+use Rattle.field_model.specs.of_face_entries.declared.Part.TheVariants.{EndA, EndB}
+use Rattle.field_model.specs.of_face_entries.Entries.{FaceEntry, entry_numbers_from, numbers_of, final_link, entry_words_from}
+use Rattle.field_model.proofs.laws_of_face_entries.Numbers.{Numbered, each_numbered, numbers_below, final_in}
+use Rattle.field_model.specs.of_piece_ends.Ends.{end_point, first_of_bits}
+use Rattle.work_laws.specs.of_point_wedge.Wedge.{bounds_in}
+use Rattle.work_laws.specs.of_source_inserts.declared.Insert.{Insert}
+use Rattle.work_laws.specs.of_source_inserts.declared.Insert.TheVariants.{Entry, Offer}
+use Rattle.work_laws.specs.of_source_inserts.Inserts.{carrier_inserts, point_inserts, segment_inserts, end_inserts, whole_inserts, piece_inserts, job_inserts}
+use Rattle.work_laws.proofs.laws_of_source_inserts.Each.{job_all}
+use Rattle.work_laws.specs.of_insertion.Insertion.{entries_in}
 
 -- an entry of one of the first n faces, and of one of the first n pieces
 abbrev OfFace : ℕ → Insert → Type 0

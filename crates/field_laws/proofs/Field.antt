@@ -14,7 +14,7 @@ use lib.Ieee.{Float, lt}
 use Rattle.layout.specs.Layout.{words_per_edge, edge_head, edge_scratch, words_per_triangle, triangle_first_entry, triangle_last_entry, words_per_window, reals_per_window}
 use Rattle.float64.specs.Scalar.{zero64}
 use Rattle.nat_laws.proofs.Lists.{length_list_of, get_d_list_of}
-use Rattle.better.specs.Claim.{All, Point}
+use Rattle.work_laws.specs.of_better.Claim.{All, Point}
 use Rattle.buffers.specs.declared.EdgeId.{EdgeId}
 use Rattle.buffers.specs.declared.FaceId.{FaceId}
 use Rattle.heap.specs.declared.Popped.{Popped}
@@ -32,37 +32,37 @@ use Rattle.topology.specs.Frames.{len}
 use Rattle.topology.proofs.Checked.{edge_ends}
 use Rattle.topology.proofs.Edges.{tri_edge_there}
 use Rattle.topology.proofs.Other.{face_or_none}
-use Rattle.frames.specs.Stored.{face_at}
+use Rattle.work_laws.specs.of_frames.Stored.{face_at}
 use Rattle.vertex_faces.specs.Ranges.{degree_among, start_of, end_of}
 use Rattle.vertex_faces.proofs.Ranges.{sums_grow}
 use Rattle.vertex_faces.proofs.Sides.{start_sum, total_is}
-use Rattle.mesh.specs.Topology.{MeshBuffers}
-use Rattle.mesh.specs.Held.{Held, Worked}
-use Rattle.mesh.proofs.Keeping.{held_kept}
-use Rattle.mesh_readers.proofs.Mesh.{mesh_round}
-use Rattle.mesh_readers.proofs.Round.{entry_there}
-use Rattle.trim_model.specs.Intervals.{tiny_of}
-use Rattle.trim_model.specs.Windows.{Window}
-use Rattle.trim_model.proofs.Lists.{all_map2}
-use Rattle.trim_model.proofs.Ranks.{by_cases, rank_lt, wide_pos, tiny_nonneg}
-use Rattle.trim_model.proofs.Windows.{Wide}
-use Rattle.trim_state.specs.State.{State}
-use Rattle.trim_state.proofs.Follows.{follows_differ, follows_below, follows_tidy, follows_demand3}
-use Rattle.live_windows.specs.Live.{nums, HoldsWindows}
-use Rattle.live_windows.proofs.Places.{short}
-use Rattle.pop.proofs.Pending.{window_is}
-use Rattle.contents.specs.Contents.{padded, words_from, reals_from, reals_of_all, link_after}
-use Rattle.windows_there.specs.There.{FaceOf, GoesInto, LiveThere}
-use Rattle.windows_there.proofs.Kept.{there_at}
-use Rattle.face_entries.specs.Entries.{FaceEntry, word_with, triangles_with}
-use Rattle.field_step.specs.Step.{is_empty, no_window}
-use Rattle.insertion.specs.Insertion.{Inserted}
-use Rattle.last_pass.proofs.Finished.{low_stored}
-use Rattle.offers.specs.Walks.{edge_data}
-use Rattle.finish.specs.Contents.{FieldBuffers, FieldContents, edge_word_with, edges_with}
-use Rattle.run_steps.specs.Run.{field}
-use Rattle.insert_job.specs.Field.{begun_job}
-use Rattle.compute_spec.specs.Compute.{work_slices_in, compute_by_heap}
+use Rattle.work_laws.specs.of_mesh.Topology.{MeshBuffers}
+use Rattle.work_laws.specs.of_mesh.Held.{Held, Worked}
+use Rattle.work_laws.proofs.laws_of_mesh.Keeping.{held_kept}
+use Rattle.work_laws.proofs.laws_of_mesh_readers.Mesh.{mesh_round}
+use Rattle.work_laws.proofs.laws_of_mesh_readers.Round.{entry_there}
+use Rattle.work_laws.specs.of_trim_model.Intervals.{tiny_of}
+use Rattle.work_laws.specs.of_trim_model.Windows.{Window}
+use Rattle.work_laws.proofs.laws_of_trim_model.Lists.{all_map2}
+use Rattle.work_laws.proofs.laws_of_trim_model.Ranks.{by_cases, rank_lt, wide_pos, tiny_nonneg}
+use Rattle.work_laws.proofs.laws_of_trim_model.Windows.{Wide}
+use Rattle.work_laws.specs.of_trim_state.State.{State}
+use Rattle.work_laws.proofs.laws_of_trim_state.Follows.{follows_differ, follows_below, follows_tidy, follows_demand3}
+use Rattle.work_laws.specs.of_live_windows.Live.{nums, HoldsWindows}
+use Rattle.work_laws.proofs.laws_of_live_windows.Places.{short}
+use Rattle.work_laws.proofs.laws_of_pop.Pending.{window_is}
+use Rattle.field_model.specs.of_contents.Contents.{padded, words_from, reals_from, reals_of_all, link_after}
+use Rattle.work_laws.specs.of_windows_there.There.{FaceOf, GoesInto, LiveThere}
+use Rattle.work_laws.proofs.laws_of_windows_there.Kept.{there_at}
+use Rattle.field_model.specs.of_face_entries.Entries.{FaceEntry, word_with, triangles_with}
+use Rattle.work_laws.specs.of_field_step.Step.{is_empty, no_window}
+use Rattle.work_laws.specs.of_insertion.Insertion.{Inserted}
+use Rattle.work_laws.proofs.laws_of_last_pass.Finished.{low_stored}
+use Rattle.field_model.specs.of_offers.Walks.{edge_data}
+use Rattle.field_model.specs.of_finish.Contents.{FieldBuffers, FieldContents, edge_word_with, edges_with}
+use Rattle.work_laws.specs.of_run_steps.Run.{field}
+use Rattle.work_laws.specs.of_insert_job.Field.{begun_job}
+use Rattle.field_model.specs.of_compute_spec.Compute.{work_slices_in, compute_by_heap}
 use Rattle.work_laws.specs.Account.{names, waiting, OnRecord}
 use Rattle.work_laws.specs.Laws.{StateLaws}
 use Rattle.field_laws.specs.Demands.{MeshLaws, WindowLaws}

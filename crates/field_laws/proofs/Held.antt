@@ -17,16 +17,16 @@ use Rattle.nat_laws.proofs.Lists.{length_list_of, get_d_list_of}
 use Rattle.source.specs.declared.Src.{Src}
 use Rattle.source.specs.declared.Src.TheVariants.{Point, Line}
 use Rattle.source.specs.declared.Win.{Win}
-use Rattle.better.specs.Claim.{All, Pairs}
+use Rattle.work_laws.specs.of_better.Claim.{All, Pairs}
 use Rattle.windows.specs.declared.WindowRecord.{WindowRecord}
 use Rattle.windows.specs.Windows.{is_line, reals_of, src_of, flags_of, has_flag, flags_at, win_at, window_at, relinked}
 use Rattle.chains.specs.Chains.{Links, links, head_of, next_link, Path, Belongs, first_link}
-use Rattle.trim_model.specs.Windows.{Window}
-use Rattle.trim_model.proofs.Lists.{all_map, all_map2}
-use Rattle.trim_state.specs.Trace.{record_of}
-use Rattle.live_windows.specs.Live.{live_of, nums, Alive, Among, Stands, bare, wins_of, HoldsWindows}
-use Rattle.contents.specs.Contents.{link_after, four_words, words_from, six_reals, reals_from, words_of, reals_of_all}
-use Rattle.finish.specs.Contents.{edge_word_with, edges_with}
+use Rattle.work_laws.specs.of_trim_model.Windows.{Window}
+use Rattle.work_laws.proofs.laws_of_trim_model.Lists.{all_map, all_map2}
+use Rattle.work_laws.specs.of_trim_state.Trace.{record_of}
+use Rattle.work_laws.specs.of_live_windows.Live.{live_of, nums, Alive, Among, Stands, bare, wins_of, HoldsWindows}
+use Rattle.field_model.specs.of_contents.Contents.{link_after, four_words, words_from, six_reals, reals_from, words_of, reals_of_all}
+use Rattle.field_model.specs.of_finish.Contents.{edge_word_with, edges_with}
 use Rattle.work_laws.specs.Account.{OnRecord}
 
 -- ---- the slots of a window

@@ -8,7 +8,7 @@ use lib.ListN.{length, get_or}
 use lib.Ieee.{Float}
 use Rattle.layout.specs.Layout.{words_per_edge}
 use Rattle.buffers.specs.Slots.{slots_of}
-use Rattle.better.specs.Claim.{All}
+use Rattle.work_laws.specs.of_better.Claim.{All}
 use Rattle.windows.specs.Windows.{capacity_of}
 use Rattle.job_checks.specs.Job.{Job, vertex_count, triangle_count}
 use Rattle.job_checks.specs.Refusals.{refusals, refusal_of}
@@ -17,33 +17,33 @@ use Rattle.job_checks.proofs.Any.{both_passed, passed_here}
 use Rattle.job_checks.proofs.Sound.{refusals_numbered}
 use Rattle.topology.specs.Edges.{edges, shared_by_three}
 use Rattle.topology.specs.Frames.{len}
-use Rattle.mesh_laws.specs.Bounds.{EdgeLength}
-use Rattle.mesh_laws.proofs.Frames.{len_bounds}
-use Rattle.mesh.specs.declared.Meshed.{Meshed}
-use Rattle.mesh.specs.declared.Meshed.TheVariants.{Edges}
-use Rattle.mesh.specs.Topology.{MeshBuffers, filled, topology_of}
-use Rattle.mesh.specs.Answer.{counts_in, mesh_refusals, mesh_refusal, afterwards, Answered}
-use Rattle.mesh.specs.Held.{Held, Fresh}
-use Rattle.mesh.proofs.Fields.{held, fresh}
-use Rattle.trim_model.specs.Model.{Candidate}
-use Rattle.trim_model.specs.Claim.{AdmittedProper}
-use Rattle.cut_lists.specs.Buffers.{Cuts}
-use Rattle.face_entries.specs.Buffers.{entry_capacity}
-use Rattle.source_inserts.specs.Inserts.{candidates_in}
-use Rattle.insertion.specs.Insertion.{Inserted, entries_in}
-use Rattle.inside_edges.specs.Inside.{AdmittedInside}
-use Rattle.inside_edges.proofs.Sources.{job_inside}
-use Rattle.windows_there.specs.There.{GoesInto, CandidateThere}
-use Rattle.windows_there.proofs.Inserted.{job_into}
-use Rattle.field_step.specs.Step.{idle_of}
-use Rattle.insert_job.specs.Field.{begun_job, inserts_of}
-use Rattle.insert_job.proofs.Begun.{checked, begun_proper, begun_job_lem}
-use Rattle.cut_slots.specs.Slots.{cut_count, cut_to}
-use Rattle.run_steps.specs.Run.{WorkResult, refused, field}
-use Rattle.field_work.specs.Work.{work_of, work_candidates}
-use Rattle.finish.specs.Contents.{FieldBuffers}
-use Rattle.compute_spec.specs.Compute.{other_counts, work_slices_in, compute_by_heap}
-use Rattle.compute_spec.proofs.Refusals.{compute_refused, compute_worked}
+use Rattle.work_laws.specs.of_mesh_laws.Bounds.{EdgeLength}
+use Rattle.work_laws.proofs.laws_of_mesh_laws.Frames.{len_bounds}
+use Rattle.work_laws.specs.of_mesh.declared.Meshed.{Meshed}
+use Rattle.work_laws.specs.of_mesh.declared.Meshed.TheVariants.{Edges}
+use Rattle.work_laws.specs.of_mesh.Topology.{MeshBuffers, filled, topology_of}
+use Rattle.work_laws.specs.of_mesh.Answer.{counts_in, mesh_refusals, mesh_refusal, afterwards, Answered}
+use Rattle.work_laws.specs.of_mesh.Held.{Held, Fresh}
+use Rattle.work_laws.proofs.laws_of_mesh.Fields.{held, fresh}
+use Rattle.work_laws.specs.of_trim_model.Model.{Candidate}
+use Rattle.work_laws.specs.of_trim_model.Claim.{AdmittedProper}
+use Rattle.field_model.specs.of_cut_lists.Buffers.{Cuts}
+use Rattle.field_model.specs.of_face_entries.Buffers.{entry_capacity}
+use Rattle.work_laws.specs.of_source_inserts.Inserts.{candidates_in}
+use Rattle.work_laws.specs.of_insertion.Insertion.{Inserted, entries_in}
+use Rattle.work_laws.specs.of_inside_edges.Inside.{AdmittedInside}
+use Rattle.work_laws.proofs.laws_of_inside_edges.Sources.{job_inside}
+use Rattle.work_laws.specs.of_windows_there.There.{GoesInto, CandidateThere}
+use Rattle.work_laws.proofs.laws_of_windows_there.Inserted.{job_into}
+use Rattle.work_laws.specs.of_field_step.Step.{idle_of}
+use Rattle.work_laws.specs.of_insert_job.Field.{begun_job, inserts_of}
+use Rattle.work_laws.proofs.laws_of_insert_job.Begun.{checked, begun_proper, begun_job_lem}
+use Rattle.field_model.specs.of_cut_slots.Slots.{cut_count, cut_to}
+use Rattle.work_laws.specs.of_run_steps.Run.{WorkResult, refused, field}
+use Rattle.work_laws.specs.of_field_work.Work.{work_of, work_candidates}
+use Rattle.field_model.specs.of_finish.Contents.{FieldBuffers}
+use Rattle.field_model.specs.of_compute_spec.Compute.{other_counts, work_slices_in, compute_by_heap}
+use Rattle.field_model.proofs.laws_of_compute_spec.Refusals.{compute_refused, compute_worked}
 use Rattle.work_laws.specs.Kept.{SoundCandidate}
 use Rattle.work_laws.specs.Laws.{StateLaws}
 use Rattle.work_laws.proofs.Laws.{state_laws}

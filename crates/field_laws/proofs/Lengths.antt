@@ -12,27 +12,27 @@ use Rattle.job_checks.specs.Job.{Job, vertex_count}
 use Rattle.job_checks.specs.Sound.{ValidTriangles}
 use Rattle.topology.specs.Edges.{edges, vertex_faces}
 use Rattle.topology.specs.Rows.{rows}
-use Rattle.edge_table.specs.Table.{edge_words, triangle_words}
-use Rattle.edge_table.proofs.Holding as table
+use Rattle.field_model.specs.of_edge_table.Table.{edge_words, triangle_words}
+use Rattle.field_model.proofs.laws_of_edge_table.Holding as table
 use Rattle.vertex_faces.specs.Ranges.{start_of, end_of, round_of, with_flags}
 use Rattle.vertex_faces.proofs.Ranges.{length_ranges, length_flags}
 use Rattle.vertex_faces.proofs.Sides.{total_is}
-use Rattle.frames.specs.Stored.{length_row}
-use Rattle.frames.proofs.Rows.{length_rows}
-use Rattle.mesh.specs.Topology.{MeshBuffers, vertex_words, filled}
-use Rattle.piece_ends.specs.Table.{piece_words_of}
-use Rattle.piece_ends.specs.Directions.{piece_reals_of}
-use Rattle.begin.specs.Begin.{unreached, vertex_reals}
-use Rattle.trim_state.specs.State.{State}
-use Rattle.contents.specs.Contents.{words_from, reals_from}
-use Rattle.face_entries.specs.Entries.{FaceEntry, word_with, entry_words_from}
-use Rattle.insertion.specs.Insertion.{Inserted}
-use Rattle.last_pass.proofs.Held.{length_lowered}
-use Rattle.offers.specs.Walks.{edge_data}
-use Rattle.run_steps.specs.Run.{field}
-use Rattle.finish.specs.Contents.{FieldBuffers, FieldContents, edge_word_with, WorkLengths}
-use Rattle.finish.specs.Refused.{FieldLengths}
-use Rattle.compute_spec.specs.Compute.{compute_by_heap}
+use Rattle.work_laws.specs.of_frames.Stored.{length_row}
+use Rattle.work_laws.proofs.laws_of_frames.Rows.{length_rows}
+use Rattle.work_laws.specs.of_mesh.Topology.{MeshBuffers, vertex_words, filled}
+use Rattle.field_model.specs.of_piece_ends.Table.{piece_words_of}
+use Rattle.field_model.specs.of_piece_ends.Directions.{piece_reals_of}
+use Rattle.work_laws.specs.of_begin.Begin.{unreached, vertex_reals}
+use Rattle.work_laws.specs.of_trim_state.State.{State}
+use Rattle.field_model.specs.of_contents.Contents.{words_from, reals_from}
+use Rattle.field_model.specs.of_face_entries.Entries.{FaceEntry, word_with, entry_words_from}
+use Rattle.work_laws.specs.of_insertion.Insertion.{Inserted}
+use Rattle.work_laws.proofs.laws_of_last_pass.Held.{length_lowered}
+use Rattle.field_model.specs.of_offers.Walks.{edge_data}
+use Rattle.work_laws.specs.of_run_steps.Run.{field}
+use Rattle.field_model.specs.of_finish.Contents.{FieldBuffers, FieldContents, edge_word_with, WorkLengths}
+use Rattle.field_model.specs.of_finish.Refused.{FieldLengths}
+use Rattle.field_model.specs.of_compute_spec.Compute.{compute_by_heap}
 use Rattle.field_laws.proofs.Held.{length_words, length_reals}
 use Rattle.field_laws.proofs.Job.{built, sound_job, laws, entries_fit}
 use Rattle.field_laws.proofs.Field.{padded_length}

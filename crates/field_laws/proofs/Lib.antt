@@ -1,3 +1,4 @@
+pub use Rattle.work_laws.proofs.laws_of_windows_there as laws_of_windows_there
 pub mod Held
 pub mod Job
 pub mod Field

@@ -7,10 +7,10 @@ use Rattle.float64.specs.Notation.{if◌then◌else◌}
 use Rattle.heap.specs.declared.Event.{Event}
 use Rattle.heap.specs.Model.{taking}
 use Rattle.job_checks.specs.Job.{Job}
-use Rattle.mesh.specs.Answer.{counts_in, mesh_refusal}
-use Rattle.insert_job.specs.Job.{wedge_in}
-use Rattle.finish.specs.Contents.{FieldBuffers}
-use Rattle.compute_spec.specs.Compute.{other_counts}
+use Rattle.work_laws.specs.of_mesh.Answer.{counts_in, mesh_refusal}
+use Rattle.work_laws.specs.of_insert_job.Job.{wedge_in}
+use Rattle.field_model.specs.of_finish.Contents.{FieldBuffers}
+use Rattle.field_model.specs.of_compute_spec.Compute.{other_counts}
 use Rattle.field_model.specs.Queue.{queue_in_order, first_taken}
 use Rattle.field_model.specs.Field.{FieldState, Reply, refused, gives, and_go, Slots, event_in, loop_in}
 use Rattle.field_model.specs.Job.{finished, pseudo_of, after_sources, field_of, unless_mesh}

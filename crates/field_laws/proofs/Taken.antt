@@ -13,24 +13,24 @@ use Rattle.layout.specs.Layout.{words_per_vertex, words_per_edge, edge_head, rea
 use Rattle.float64.specs.Scalar.{zero64}
 use Rattle.nat_laws.specs.Lists.{list_of}
 use Rattle.nat_laws.proofs.Lists.{length_list_of, get_d_list_of}
-use Rattle.better.specs.Claim.{All}
+use Rattle.work_laws.specs.of_better.Claim.{All}
 use Rattle.chains.specs.Chains.{first_link}
 use Rattle.job_checks.specs.Sound.{ValidTriangles}
 use Rattle.topology.specs.Edges.{edges, tri_edge, edge_faces, vertex_faces}
 use Rattle.topology.specs.Rows.{rows}
-use Rattle.edge_table.specs.Words.{edge_word, triangle_word}
-use Rattle.edge_table.specs.Table.{edge_words, triangle_words}
-use Rattle.edge_table.proofs.Holding.{words_zero}
+use Rattle.field_model.specs.of_edge_table.Words.{edge_word, triangle_word}
+use Rattle.field_model.specs.of_edge_table.Table.{edge_words, triangle_words}
+use Rattle.field_model.proofs.laws_of_edge_table.Holding.{words_zero}
 use Rattle.vertex_faces.specs.Ranges.{start_of, end_of, round_of, with_flags}
 use Rattle.vertex_faces.proofs.Ranges.{read_past, flags_past}
 use Rattle.vertex_faces.proofs.Sides.{total_is}
-use Rattle.frames.specs.Stored.{length_row, row3, normal_of}
-use Rattle.mesh.specs.Topology.{MeshBuffers, vertex_words, filled}
-use Rattle.piece_ends.specs.Directions.{piece_reals_of, direction_of}
-use Rattle.trim_model.specs.Windows.{Window}
-use Rattle.live_windows.specs.Live.{nums}
-use Rattle.face_entries.specs.Entries.{FaceEntry, entry_numbers_from, numbers_of, final_link, word_with, triangles_with}
-use Rattle.finish.specs.Contents.{edge_word_with, edges_with}
+use Rattle.work_laws.specs.of_frames.Stored.{length_row, row3, normal_of}
+use Rattle.work_laws.specs.of_mesh.Topology.{MeshBuffers, vertex_words, filled}
+use Rattle.field_model.specs.of_piece_ends.Directions.{piece_reals_of, direction_of}
+use Rattle.work_laws.specs.of_trim_model.Windows.{Window}
+use Rattle.work_laws.specs.of_live_windows.Live.{nums}
+use Rattle.field_model.specs.of_face_entries.Entries.{FaceEntry, entry_numbers_from, numbers_of, final_link, word_with, triangles_with}
+use Rattle.field_model.specs.of_finish.Contents.{edge_word_with, edges_with}
 use Rattle.work_laws.proofs.Zeros.{zeros_at, zeros_behind, rows_zero}
 
 -- ---- lists

@@ -7,8 +7,8 @@ use Rattle.std.specs.Prelude.{ℕ, zero, suc, ◌+◌, ◌*◌, ◌≤◌, ◌<�
 use Rattle.std.specs.Float.Ieee.{lt}
 use Rattle.layout.specs.Layout.{words_per_vertex, reals_per_vertex, vertex_start, vertex_end, words_per_edge, reals_per_edge, words_per_triangle, reals_per_normal, words_per_piece, reals_per_piece, words_per_window, reals_per_window, words_per_entry, entry_piece}
 use Rattle.float64.specs.Scalar.{zero64}
-use Rattle.better.specs.Claim.{All, Pairs, Point}
-use Rattle.better.specs.Stretches.{better_of}
+use Rattle.work_laws.specs.of_better.Claim.{All, Pairs, Point}
+use Rattle.work_laws.specs.of_better.Stretches.{better_of}
 use Rattle.heap.specs.declared.Event.{Event}
 use Rattle.windows.specs.declared.WindowRecord.{WindowRecord}
 use Rattle.windows.specs.Windows.{capacity_of, edge_stored, into_of, window_at}
@@ -16,29 +16,29 @@ use Rattle.chains.specs.Chains.{links, head_of, next_link}
 use Rattle.job_checks.specs.Job.{Job, vertex_count, triangle_count, piece_count}
 use Rattle.topology.specs.Edges.{no_face, edges}
 use Rattle.topology.specs.Frames.{len}
-use Rattle.frames.specs.Stored.{low_at, high_at, face_at, side_at}
-use Rattle.mesh.specs.Answer.{counts_in, mesh_refusal}
-use Rattle.mesh.specs.Held.{Held}
-use Rattle.mesh_readers.specs.Readers.{round_at}
-use Rattle.trim_model.specs.Intervals.{tiny_of}
-use Rattle.trim_model.specs.Windows.{Window, unqueued}
-use Rattle.trim_model.specs.Model.{Candidate, Model, empty, steps, steps_bound}
-use Rattle.trim_model.specs.Claim.{Trimmed}
-use Rattle.live_windows.specs.Live.{nums, wins_of, HoldsWindows}
-use Rattle.inside_edges.specs.Inside.{OnLength}
-use Rattle.windows_there.specs.There.{GoesInto}
-use Rattle.offers.specs.Walks.{edge_data}
-use Rattle.face_entries.specs.Buffers.{first_entry_of, last_entry_of, next_entry_of}
-use Rattle.face_entries.specs.Entries.{FaceEntry, numbers_of, HoldsEntries}
-use Rattle.insert_job.specs.Job.{wedge_in}
-use Rattle.last_pass.specs.Lowered.{lowered_all}
-use Rattle.last_pass.specs.Buffers.{chain_behind}
-use Rattle.last_pass.specs.Finished.{lows_set, retained, resorted, LowIs}
-use Rattle.zero_buffers.specs.ZeroIf.{zero_reals, zero_words, zero_cuts}
-use Rattle.finish.specs.Contents.{FieldBuffers, SpareZero}
-use Rattle.finish.specs.Refused.{zero_field, FieldLengths}
+use Rattle.work_laws.specs.of_frames.Stored.{low_at, high_at, face_at, side_at}
+use Rattle.work_laws.specs.of_mesh.Answer.{counts_in, mesh_refusal}
+use Rattle.work_laws.specs.of_mesh.Held.{Held}
+use Rattle.work_laws.specs.of_mesh_readers.Readers.{round_at}
+use Rattle.work_laws.specs.of_trim_model.Intervals.{tiny_of}
+use Rattle.work_laws.specs.of_trim_model.Windows.{Window, unqueued}
+use Rattle.work_laws.specs.of_trim_model.Model.{Candidate, Model, empty, steps, steps_bound}
+use Rattle.work_laws.specs.of_trim_model.Claim.{Trimmed}
+use Rattle.work_laws.specs.of_live_windows.Live.{nums, wins_of, HoldsWindows}
+use Rattle.work_laws.specs.of_inside_edges.Inside.{OnLength}
+use Rattle.work_laws.specs.of_windows_there.There.{GoesInto}
+use Rattle.field_model.specs.of_offers.Walks.{edge_data}
+use Rattle.field_model.specs.of_face_entries.Buffers.{first_entry_of, last_entry_of, next_entry_of}
+use Rattle.field_model.specs.of_face_entries.Entries.{FaceEntry, numbers_of, HoldsEntries}
+use Rattle.work_laws.specs.of_insert_job.Job.{wedge_in}
+use Rattle.work_laws.specs.of_last_pass.Lowered.{lowered_all}
+use Rattle.work_laws.specs.of_last_pass.Buffers.{chain_behind}
+use Rattle.work_laws.specs.of_last_pass.Finished.{lows_set, retained, resorted, LowIs}
+use Rattle.field_model.specs.of_zero_buffers.ZeroIf.{zero_reals, zero_words, zero_cuts}
+use Rattle.field_model.specs.of_finish.Contents.{FieldBuffers, SpareZero}
+use Rattle.field_model.specs.of_finish.Refused.{zero_field, FieldLengths}
 use Rattle.computed.specs.declared.Field.{Field}
-use Rattle.compute_spec.specs.Compute.{other_counts}
+use Rattle.field_model.specs.of_compute_spec.Compute.{other_counts}
 use Rattle.field_model.specs.Queue.{queue_in_order}
 use Rattle.field_model.specs.Field.{FieldState, Reply, refused, gives, Slots, event_in}
 use Rattle.field_model.specs.Job.{Finished, pseudo_of, after_sources}

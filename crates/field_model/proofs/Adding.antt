@@ -4,19 +4,19 @@ use mathlib.Core.Bool.{Bool, cond}
 use mathlib.Core.List.{List, [], ◌∷◌}
 use mathlib.Core.Path.{subst}
 use lib.Ieee.{Float}
-use Rattle.better.specs.Stretches.{better_of}
+use Rattle.compute_spec.specs.of_better.Stretches.{better_of}
 use Rattle.windows.specs.declared.WindowRecord.{WindowRecord}
 use Rattle.actions.specs.Actions.{Action, Outcome, wins_after, play}
-use Rattle.trim_model.specs.Intervals.{tiny_of}
-use Rattle.trim_model.specs.Windows.{Window}
-use Rattle.trim_model.specs.Add.{add_to}
-use Rattle.trim_model.specs.Model.{Candidate, as_window, admits}
-use Rattle.trim_state.specs.Trace.{adding}
-use Rattle.trim_state.specs.State as state
-use Rattle.trim_state.specs.State.{State, Result, EdgeData, edge_in, put, finish, admit_of, add_of}
-use Rattle.offers.specs.Offers.{and_next, add_all}
-use Rattle.offers.specs.Walks.{edge_data}
-use Rattle.face_entries.specs.Entries.{FaceEntry}
+use Rattle.compute_spec.specs.of_trim_model.Intervals.{tiny_of}
+use Rattle.compute_spec.specs.of_trim_model.Windows.{Window}
+use Rattle.compute_spec.specs.of_trim_model.Add.{add_to}
+use Rattle.compute_spec.specs.of_trim_model.Model.{Candidate, as_window, admits}
+use Rattle.compute_spec.specs.of_trim_state.Trace.{adding}
+use Rattle.compute_spec.specs.of_trim_state.State as state
+use Rattle.compute_spec.specs.of_trim_state.State.{State, Result, EdgeData, edge_in, put, finish, admit_of, add_of}
+use Rattle.compute_spec.specs.of_offers.Offers.{and_next, add_all}
+use Rattle.compute_spec.specs.of_offers.Walks.{edge_data}
+use Rattle.compute_spec.specs.of_face_entries.Entries.{FaceEntry}
 use Rattle.field_model.specs.Queue.{QueueKind, LeastFirst}
 use Rattle.field_model.specs.Field.{FieldState, Reply, refused, gives, and_go, Slots, with_live, play_in, admit_in, add_in, add_all_in}
 use Rattle.field_model.proofs.Numbers.{AllFit, adding_fit}

@@ -9,15 +9,15 @@ use Rattle.heap.specs.declared.Popped.{Popped}
 use Rattle.heap.specs.declared.Popped.TheVariants.{First}
 use Rattle.heap.specs.Queue.{Queue, popping}
 use Rattle.heap.specs.Model.{TakenFrom, taking}
-use Rattle.trim_model.specs.Model.{Candidate}
-use Rattle.trim_state.specs.State.{State, Result}
-use Rattle.offers.specs.Walks.{edge_data}
-use Rattle.face_entries.specs.Entries.{FaceEntry}
-use Rattle.insertion.specs.Insertion.{Inserted, InsertResult}
-use Rattle.field_step.specs.Step.{step_with, turn_candidates, candidates_with}
-use Rattle.advance.specs.Advance.{of_state, advance_candidates}
-use Rattle.advance.proofs.More.{candidates_idle}
-use Rattle.field_work.specs.Work.{then_offered}
+use Rattle.compute_spec.specs.of_trim_model.Model.{Candidate}
+use Rattle.compute_spec.specs.of_trim_state.State.{State, Result}
+use Rattle.compute_spec.specs.of_offers.Walks.{edge_data}
+use Rattle.compute_spec.specs.of_face_entries.Entries.{FaceEntry}
+use Rattle.compute_spec.specs.of_insertion.Insertion.{Inserted, InsertResult}
+use Rattle.compute_spec.specs.of_field_step.Step.{step_with, turn_candidates, candidates_with}
+use Rattle.compute_spec.specs.of_advance.Advance.{of_state, advance_candidates}
+use Rattle.compute_spec.proofs.laws_of_advance.More.{candidates_idle}
+use Rattle.compute_spec.specs.of_field_work.Work.{then_offered}
 use Rattle.field_model.specs.Queue.{QueueKind, OfRest, LeastFirst}
 use Rattle.field_model.specs.Field.{FieldState, Reply, or_none, Slots, turn_in, event_in, loop_candidates}
 use Rattle.field_model.proofs.Queues.{SamePop, no_event, one_event, pop_same}

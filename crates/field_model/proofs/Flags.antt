@@ -16,12 +16,12 @@ use Rattle.job_checks.proofs.Sound.{refusals_numbered, sound}
 use Rattle.topology.specs.Edges.{EndPair, no_edge, edges, shared_by_three}
 use Rattle.topology.proofs.Checked.{edge_ends}
 use Rattle.vertex_faces.specs.Ranges.{with_ranges, with_flags}
-use Rattle.mesh.specs.declared.OtherCounts.{OtherCounts}
-use Rattle.mesh.specs.declared.Meshed.TheVariants.{Edges}
-use Rattle.mesh.specs.Topology.{MeshBuffers, vertex_words, filled, topology_of}
-use Rattle.mesh.specs.Answer.{counts_in, mesh_refusals, mesh_refusal, afterwards, Answered}
-use Rattle.mesh.proofs.Fields.{held}
-use Rattle.offers.specs.Walks.{edge_data}
+use Rattle.compute_spec.specs.of_mesh.declared.OtherCounts.{OtherCounts}
+use Rattle.compute_spec.specs.of_mesh.declared.Meshed.TheVariants.{Edges}
+use Rattle.compute_spec.specs.of_mesh.Topology.{MeshBuffers, vertex_words, filled, topology_of}
+use Rattle.compute_spec.specs.of_mesh.Answer.{counts_in, mesh_refusals, mesh_refusal, afterwards, Answered}
+use Rattle.compute_spec.proofs.laws_of_mesh.Fields.{held}
+use Rattle.compute_spec.specs.of_offers.Walks.{edge_data}
 use Rattle.field_model.specs.Job.{pseudo_of}
 use Rattle.field_model.proofs.Playing.{Agreed}
 

@@ -14,19 +14,19 @@ use Rattle.windows.specs.Windows.{capacity_of}
 use Rattle.heap.specs.declared.Event.{Event}
 use Rattle.heap.specs.Queue as heap
 use Rattle.heap.specs.Queue.{queue}
-use Rattle.trim_state.specs.State.{Result}
-use Rattle.offers.specs.Offers.{offer_list, add_all}
-use Rattle.offers.specs.Walks.{edge_data}
-use Rattle.face_entries.specs.Entries.{FaceEntry}
-use Rattle.face_entries.specs.Buffers.{entry_capacity}
-use Rattle.source_inserts.specs.declared.Insert.{Insert}
-use Rattle.source_inserts.specs.declared.Insert.TheVariants.{Entry, Offer}
-use Rattle.insertion.specs.Insertion as insertion
-use Rattle.insertion.specs.Insertion.{Inserted, InsertResult, and_insert, with_entries, insert_one, insert_each}
-use Rattle.begin.specs.Begin.{WorkSlices}
-use Rattle.cut_lists.specs.Buffers.{Cuts}
+use Rattle.compute_spec.specs.of_trim_state.State.{Result}
+use Rattle.compute_spec.specs.of_offers.Offers.{offer_list, add_all}
+use Rattle.compute_spec.specs.of_offers.Walks.{edge_data}
+use Rattle.compute_spec.specs.of_face_entries.Entries.{FaceEntry}
+use Rattle.compute_spec.specs.of_face_entries.Buffers.{entry_capacity}
+use Rattle.compute_spec.specs.of_source_inserts.declared.Insert.{Insert}
+use Rattle.compute_spec.specs.of_source_inserts.declared.Insert.TheVariants.{Entry, Offer}
+use Rattle.compute_spec.specs.of_insertion.Insertion as insertion
+use Rattle.compute_spec.specs.of_insertion.Insertion.{Inserted, InsertResult, and_insert, with_entries, insert_one, insert_each}
+use Rattle.compute_spec.specs.of_begin.Begin.{WorkSlices}
+use Rattle.compute_spec.specs.of_cut_lists.Buffers.{Cuts}
 use Rattle.job_checks.specs.Job.{Job}
-use Rattle.insert_job.specs.Field.{begun_job, empty_field}
+use Rattle.compute_spec.specs.of_insert_job.Field.{begun_job, empty_field}
 use Rattle.field_model.specs.Queue.{QueueKind, LeastFirst}
 use Rattle.field_model.specs.Field.{FieldState, Reply, refused, gives, and_go, Slots, add_all_in, insert_in, insert_all_in}
 use Rattle.field_model.proofs.Queues.{SameQueue, none_same}

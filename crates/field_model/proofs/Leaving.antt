@@ -6,15 +6,15 @@ use lib.ListN.{length}
 use lib.Ieee.{Float}
 use Rattle.job_checks.specs.Job.{Job}
 use Rattle.topology.specs.Edges.{edges}
-use Rattle.mesh.specs.Topology.{MeshBuffers, filled}
-use Rattle.trim_state.specs.State.{State, EdgeData}
-use Rattle.offers.specs.Walks.{edge_data}
-use Rattle.face_entries.specs.Entries.{FaceEntry}
-use Rattle.contents.specs.Contents.{words_of, reals_of_all}
-use Rattle.last_pass.specs.Lowered.{lowered_all}
-use Rattle.run_steps.specs.Run as run
-use Rattle.run_steps.specs.Run.{WorkResult}
-use Rattle.finish.specs.Contents.{edges_with, FieldBuffers, FieldContents}
+use Rattle.compute_spec.specs.of_mesh.Topology.{MeshBuffers, filled}
+use Rattle.compute_spec.specs.of_trim_state.State.{State, EdgeData}
+use Rattle.compute_spec.specs.of_offers.Walks.{edge_data}
+use Rattle.compute_spec.specs.of_face_entries.Entries.{FaceEntry}
+use Rattle.compute_spec.specs.of_contents.Contents.{words_of, reals_of_all}
+use Rattle.compute_spec.specs.of_last_pass.Lowered.{lowered_all}
+use Rattle.compute_spec.specs.of_run_steps.Run as run
+use Rattle.compute_spec.specs.of_run_steps.Run.{WorkResult}
+use Rattle.compute_spec.specs.of_finish.Contents.{edges_with, FieldBuffers, FieldContents}
 use Rattle.computed.specs.declared.Computed.{Computed}
 use Rattle.compute_spec.specs.Compute.{compute_by_heap, LeavesByHeap, answer_by_heap, ComputesByHeap}
 use Rattle.field_model.specs.Queue.{QueueKind, LeastFirst}

@@ -10,14 +10,14 @@ use Rattle.heap.specs.declared.Popped.{Popped}
 use Rattle.heap.specs.declared.Popped.TheVariants.{Empty, First}
 use Rattle.heap.specs.Queue.{Queue, popping}
 use Rattle.heap.specs.Model.{TakenFrom, taking}
-use Rattle.trim_state.specs.State.{State, Result}
-use Rattle.offers.specs.Offers.{and_next}
-use Rattle.offers.specs.Walks.{edge_data}
-use Rattle.face_entries.specs.Entries.{FaceEntry}
-use Rattle.field_step.specs.Step.{step_with, is_empty, idle_of}
-use Rattle.advance.specs.Advance.{of_state, advance_of, steps_of}
-use Rattle.advance.proofs.More.{advance_idle, steps_idle}
-use Rattle.run_steps.specs.Run.{budgeted}
+use Rattle.compute_spec.specs.of_trim_state.State.{State, Result}
+use Rattle.compute_spec.specs.of_offers.Offers.{and_next}
+use Rattle.compute_spec.specs.of_offers.Walks.{edge_data}
+use Rattle.compute_spec.specs.of_face_entries.Entries.{FaceEntry}
+use Rattle.compute_spec.specs.of_field_step.Step.{step_with, is_empty, idle_of}
+use Rattle.compute_spec.specs.of_advance.Advance.{of_state, advance_of, steps_of}
+use Rattle.compute_spec.proofs.laws_of_advance.More.{advance_idle, steps_idle}
+use Rattle.compute_spec.specs.of_run_steps.Run.{budgeted}
 use Rattle.field_model.specs.Queue.{QueueKind, OfRest, LeastFirst}
 use Rattle.field_model.specs.Field.{FieldState, Reply, refused, gives, and_go, Slots, event_in, loop_in}
 use Rattle.field_model.specs.Job.{Finished, finished}

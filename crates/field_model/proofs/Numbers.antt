@@ -16,17 +16,17 @@ use Rattle.source.specs.declared.Src.{Src}
 use Rattle.source.specs.declared.Src.TheVariants.{Point, Line}
 use Rattle.source.specs.declared.Win.{Win}
 use Rattle.source.specs.Distance.{edge_of, free_of, foot_of, lowest_of, eval_of}
-use Rattle.better.specs.Points.{pts_of, walk_of}
-use Rattle.better.specs.Stretches.{Interval, better_of}
+use Rattle.compute_spec.specs.of_better.Points.{pts_of, walk_of}
+use Rattle.compute_spec.specs.of_better.Stretches.{Interval, better_of}
 use Rattle.heap.specs.Order.{item_number}
 use Rattle.windows.specs.declared.Edge.{Edge}
 use Rattle.actions.specs.Actions.{Action, list, make, trim, kill, push, touch}
-use Rattle.trim_model.specs.Intervals.{width, tiny_of, push_if, next, pieces, wide_of}
-use Rattle.trim_model.specs.Windows.{Window, part}
-use Rattle.trim_model.specs.Add.{Walk, run, shared_lo, shared_hi, start, untouched, meet, visit, visits, add_to}
-use Rattle.trim_model.proofs.Ranks.{by_cases}
-use Rattle.trim_state.specs.Trace.{window_event, win_of, making, makings, splitting, losing, visiting, visitings, near, touching, keeping, adding}
-use Rattle.trim_state.proofs.Made.{one}
+use Rattle.compute_spec.specs.of_trim_model.Intervals.{width, tiny_of, push_if, next, pieces, wide_of}
+use Rattle.compute_spec.specs.of_trim_model.Windows.{Window, part}
+use Rattle.compute_spec.specs.of_trim_model.Add.{Walk, run, shared_lo, shared_hi, start, untouched, meet, visit, visits, add_to}
+use Rattle.compute_spec.proofs.laws_of_trim_model.Ranks.{by_cases}
+use Rattle.compute_spec.specs.of_trim_state.Trace.{window_event, win_of, making, makings, splitting, losing, visiting, visitings, near, touching, keeping, adding}
+use Rattle.compute_spec.proofs.laws_of_trim_state.Made.{one}
 
 -- ---- keys
 abbrev pub Double : Float → Type 0

@@ -19,9 +19,9 @@ use Rattle.windows.specs.declared.WindowRecord.{WindowRecord}
 use Rattle.windows.specs.Windows.{adjust, trimmed, dead}
 use Rattle.actions.specs.Actions as actions
 use Rattle.actions.specs.Actions.{Action, list, make, trim, kill, push, touch, Stock, stock, Outcome, wins_with, wins_after, distance_of, with_distance, queueing, and_then, act, play}
-use Rattle.trim_model.specs.Windows.{Window}
-use Rattle.trim_state.proofs.Made.{one}
-use Rattle.face_entries.specs.Entries.{FaceEntry}
+use Rattle.compute_spec.specs.of_trim_model.Windows.{Window}
+use Rattle.compute_spec.proofs.laws_of_trim_state.Made.{one}
+use Rattle.compute_spec.specs.of_face_entries.Entries.{FaceEntry}
 use Rattle.field_model.specs.Queue.{QueueKind, LeastFirst}
 use Rattle.field_model.specs.Field.{FieldState, Reply, refused, gives, and_go, Slots, push_in, touch_in, act_in, play_in}
 use Rattle.field_model.proofs.Queues.{SameQueue, count_same, push_same}

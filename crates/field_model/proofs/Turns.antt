@@ -11,14 +11,14 @@ use Rattle.heap.specs.declared.Item.TheVariants.{Window as Item-as-Window, Verte
 use Rattle.heap.specs.declared.Popped.TheVariants.{First}
 use Rattle.heap.specs.Queue.{Queue}
 use Rattle.windows.specs.declared.WindowRecord.{WindowRecord}
-use Rattle.trim_state.specs.State.{State}
-use Rattle.pop.specs.State.{claimed_win, wins_claimed, after_pop}
-use Rattle.offers.specs.Walks.{edge_data}
-use Rattle.spread_offers.specs.Spreading.{spread_candidates}
-use Rattle.face_entries.specs.Entries.{FaceEntry}
-use Rattle.field_step.specs.declared.Turn.{Turn}
-use Rattle.field_step.specs.declared.Turn.TheVariants.{Skip, Pass}
-use Rattle.field_step.specs.Step.{turn_of, marked, after_turn, step_with}
+use Rattle.compute_spec.specs.of_trim_state.State.{State}
+use Rattle.compute_spec.specs.of_pop.State.{claimed_win, wins_claimed, after_pop}
+use Rattle.compute_spec.specs.of_offers.Walks.{edge_data}
+use Rattle.compute_spec.specs.of_spread_offers.Spreading.{spread_candidates}
+use Rattle.compute_spec.specs.of_face_entries.Entries.{FaceEntry}
+use Rattle.compute_spec.specs.of_field_step.declared.Turn.{Turn}
+use Rattle.compute_spec.specs.of_field_step.declared.Turn.TheVariants.{Skip, Pass}
+use Rattle.compute_spec.specs.of_field_step.Step.{turn_of, marked, after_turn, step_with}
 use Rattle.field_model.specs.Queue.{QueueKind, LeastFirst}
 use Rattle.field_model.specs.Field.{Slots, turn_in, pass_in, event_in}
 use Rattle.field_model.proofs.Queues.{SameQueue}

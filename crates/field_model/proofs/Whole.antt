@@ -9,24 +9,24 @@ use Rattle.float64.specs.Notation.{if◌then◌else◌}
 use Rattle.layout.specs.Layout.{words_per_event}
 use Rattle.buffers.specs.Slots.{slots_of}
 use Rattle.windows.specs.Windows.{capacity_of}
-use Rattle.face_entries.specs.Buffers.{entry_capacity}
-use Rattle.cut_lists.specs.Buffers.{Cuts}
+use Rattle.compute_spec.specs.of_face_entries.Buffers.{entry_capacity}
+use Rattle.compute_spec.specs.of_cut_lists.Buffers.{Cuts}
 use Rattle.job_checks.specs.Job.{Job}
-use Rattle.mesh.specs.Topology.{filled}
-use Rattle.mesh.specs.Answer.{counts_in, mesh_refusal}
-use Rattle.offers.specs.Walks.{edge_data}
-use Rattle.trim_model.specs.Model.{Candidate}
-use Rattle.source_inserts.specs.Inserts.{candidates_in}
-use Rattle.insertion.specs.Insertion.{InsertResult}
-use Rattle.begin.specs.Begin.{WorkSlices}
-use Rattle.insert_job.specs.Field.{begun_job, empty_field, inserts_of, inserted_field}
-use Rattle.insert_job.specs.Job.{wedge_in}
-use Rattle.cut_slots.specs.Slots.{cut_count, cut_to}
-use Rattle.run_steps.specs.Run as run
-use Rattle.advance.specs.Advance.{advance_of, steps_of}
-use Rattle.run_steps.specs.Run.{WorkResult, budgeted, loop_of}
-use Rattle.field_work.specs.Work.{and_loop, work_of, work_candidates}
-use Rattle.finish.specs.Contents.{FieldBuffers}
+use Rattle.compute_spec.specs.of_mesh.Topology.{filled}
+use Rattle.compute_spec.specs.of_mesh.Answer.{counts_in, mesh_refusal}
+use Rattle.compute_spec.specs.of_offers.Walks.{edge_data}
+use Rattle.compute_spec.specs.of_trim_model.Model.{Candidate}
+use Rattle.compute_spec.specs.of_source_inserts.Inserts.{candidates_in}
+use Rattle.compute_spec.specs.of_insertion.Insertion.{InsertResult}
+use Rattle.compute_spec.specs.of_begin.Begin.{WorkSlices}
+use Rattle.compute_spec.specs.of_insert_job.Field.{begun_job, empty_field, inserts_of, inserted_field}
+use Rattle.compute_spec.specs.of_insert_job.Job.{wedge_in}
+use Rattle.compute_spec.specs.of_cut_slots.Slots.{cut_count, cut_to}
+use Rattle.compute_spec.specs.of_run_steps.Run as run
+use Rattle.compute_spec.specs.of_advance.Advance.{advance_of, steps_of}
+use Rattle.compute_spec.specs.of_run_steps.Run.{WorkResult, budgeted, loop_of}
+use Rattle.compute_spec.specs.of_field_work.Work.{and_loop, work_of, work_candidates}
+use Rattle.compute_spec.specs.of_finish.Contents.{FieldBuffers}
 use Rattle.compute_spec.specs.Compute.{other_counts, work_slices_in, unless_refused, compute_by_heap}
 use Rattle.field_model.specs.Queue.{QueueKind, queue_in_order, LeastFirst, queue_kind}
 use Rattle.field_model.specs.Field.{FieldState, Reply, refused, and_go, Slots, loop_in}

@@ -10,29 +10,29 @@ use Rattle.std.specs.Float.Ieee.{lt, le}
 use Rattle.buffers.specs.declared.Lack.TheVariants.{Windows, Events, Cuts, Entries}
 use Rattle.buffers.specs.Lack.{lack_number}
 use Rattle.float64.specs.Notation.{if◌then◌else◌}
-use Rattle.better.specs.Stretches.{better_of}
+use Rattle.compute_spec.specs.of_better.Stretches.{better_of}
 use Rattle.heap.specs.declared.Event.{Event}
 use Rattle.heap.specs.declared.Item.{Item}
 use Rattle.heap.specs.declared.Item.TheVariants.{Window as Item-as-Window, Vertex as Item-as-Vertex}
 use Rattle.heap.specs.Model.{taking}
 use Rattle.windows.specs.declared.WindowRecord.{WindowRecord}
 use Rattle.actions.specs.Actions.{Action, list, make, trim, kill, push, touch, wins_with, distance_of, with_distance}
-use Rattle.trim_model.specs.Intervals.{tiny_of}
-use Rattle.trim_model.specs.Windows.{Window}
-use Rattle.trim_model.specs.Add.{add_to}
-use Rattle.trim_model.specs.Model.{Candidate, as_window, admits}
-use Rattle.trim_state.specs.Trace.{adding}
-use Rattle.trim_state.specs.State.{put, edge_in}
-use Rattle.pop.specs.State.{wins_claimed, live_claimed}
-use Rattle.offers.specs.Offers.{offer_list}
-use Rattle.offers.specs.Walks.{edge_data}
-use Rattle.face_entries.specs.Entries.{FaceEntry}
-use Rattle.source_inserts.specs.declared.Insert.{Insert}
-use Rattle.source_inserts.specs.declared.Insert.TheVariants.{Entry, Offer}
-use Rattle.spread_offers.specs.Spreading.{spread_candidates}
-use Rattle.field_step.specs.declared.Turn.{Turn}
-use Rattle.field_step.specs.declared.Turn.TheVariants.{Skip, Pass}
-use Rattle.field_step.specs.Step.{no_window, vertex_turn, window_turn, marked_vertex, turn_candidates}
+use Rattle.compute_spec.specs.of_trim_model.Intervals.{tiny_of}
+use Rattle.compute_spec.specs.of_trim_model.Windows.{Window}
+use Rattle.compute_spec.specs.of_trim_model.Add.{add_to}
+use Rattle.compute_spec.specs.of_trim_model.Model.{Candidate, as_window, admits}
+use Rattle.compute_spec.specs.of_trim_state.Trace.{adding}
+use Rattle.compute_spec.specs.of_trim_state.State.{put, edge_in}
+use Rattle.compute_spec.specs.of_pop.State.{wins_claimed, live_claimed}
+use Rattle.compute_spec.specs.of_offers.Offers.{offer_list}
+use Rattle.compute_spec.specs.of_offers.Walks.{edge_data}
+use Rattle.compute_spec.specs.of_face_entries.Entries.{FaceEntry}
+use Rattle.compute_spec.specs.of_source_inserts.declared.Insert.{Insert}
+use Rattle.compute_spec.specs.of_source_inserts.declared.Insert.TheVariants.{Entry, Offer}
+use Rattle.compute_spec.specs.of_spread_offers.Spreading.{spread_candidates}
+use Rattle.compute_spec.specs.of_field_step.declared.Turn.{Turn}
+use Rattle.compute_spec.specs.of_field_step.declared.Turn.TheVariants.{Skip, Pass}
+use Rattle.compute_spec.specs.of_field_step.Step.{no_window, vertex_turn, window_turn, marked_vertex, turn_candidates}
 use Rattle.field_model.specs.Queue.{QueueKind}
 
 -- `Field`, with a queue of states S

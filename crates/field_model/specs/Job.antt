@@ -2,16 +2,16 @@
 use Rattle.std.specs.Prelude.{ℕ, zero, suc, Bool, List, [], ◌++◌, eqb, get_or, Float}
 use Rattle.float64.specs.Notation.{if◌then◌else◌}
 use Rattle.windows.specs.declared.WindowRecord.{WindowRecord}
-use Rattle.trim_model.specs.Windows.{Window}
-use Rattle.trim_model.specs.Model.{Candidate}
-use Rattle.source_inserts.specs.Inserts.{candidates_in}
-use Rattle.face_entries.specs.Entries.{FaceEntry}
+use Rattle.compute_spec.specs.of_trim_model.Windows.{Window}
+use Rattle.compute_spec.specs.of_trim_model.Model.{Candidate}
+use Rattle.compute_spec.specs.of_source_inserts.Inserts.{candidates_in}
+use Rattle.compute_spec.specs.of_face_entries.Entries.{FaceEntry}
 use Rattle.job_checks.specs.Job.{Job, vertex_count}
 use Rattle.job_checks.specs.declared.BufferCounts.{BufferCounts}
-use Rattle.mesh.specs.Answer.{mesh_refusal}
-use Rattle.begin.specs.Begin.{vertex_reals}
-use Rattle.insert_job.specs.Field.{inserts_of}
-use Rattle.insert_job.specs.Job.{wedge_in}
+use Rattle.compute_spec.specs.of_mesh.Answer.{mesh_refusal}
+use Rattle.compute_spec.specs.of_begin.Begin.{vertex_reals}
+use Rattle.compute_spec.specs.of_insert_job.Field.{inserts_of}
+use Rattle.compute_spec.specs.of_insert_job.Job.{wedge_in}
 use Rattle.field_model.specs.Queue.{QueueKind}
 use Rattle.field_model.specs.Field.{FieldState, Reply, refused, gives, and_go, or_none, Slots, insert_all_in, loop_in, loop_candidates}
 

@@ -5,19 +5,19 @@ use Rattle.buffers.specs.Slots.{slots_of}
 use Rattle.windows.specs.Windows.{capacity_of}
 use Rattle.heap.specs.Queue.{queue}
 use Rattle.actions.specs.Actions.{stock}
-use Rattle.trim_model.specs.Model.{Candidate}
-use Rattle.trim_state.specs.State.{State}
+use Rattle.compute_spec.specs.of_trim_model.Model.{Candidate}
+use Rattle.compute_spec.specs.of_trim_state.State.{State}
 use Rattle.job_checks.specs.Job.{Job, vertex_count, triangle_count, piece_count}
 use Rattle.topology.specs.Edges.{edges}
-use Rattle.mesh.specs.Topology.{filled}
-use Rattle.mesh.specs.Answer.{counts_in}
-use Rattle.offers.specs.Walks.{edge_data}
-use Rattle.face_entries.specs.Buffers.{entry_capacity}
-use Rattle.cut_slots.specs.Slots.{cut_count}
-use Rattle.run_steps.specs.Run as run
-use Rattle.run_steps.specs.Run.{WorkResult}
-use Rattle.finish.specs.Contents.{FieldBuffers, FieldContents}
-use Rattle.finish.specs.Refused.{zero_field}
+use Rattle.compute_spec.specs.of_mesh.Topology.{filled}
+use Rattle.compute_spec.specs.of_mesh.Answer.{counts_in}
+use Rattle.compute_spec.specs.of_offers.Walks.{edge_data}
+use Rattle.compute_spec.specs.of_face_entries.Buffers.{entry_capacity}
+use Rattle.compute_spec.specs.of_cut_slots.Slots.{cut_count}
+use Rattle.compute_spec.specs.of_run_steps.Run as run
+use Rattle.compute_spec.specs.of_run_steps.Run.{WorkResult}
+use Rattle.compute_spec.specs.of_finish.Contents.{FieldBuffers, FieldContents}
+use Rattle.compute_spec.specs.of_finish.Refused.{zero_field}
 use Rattle.compute_spec.specs.Compute.{other_counts}
 use Rattle.computed.specs.declared.Computed.{Computed}
 use Rattle.computed.specs.declared.Computed.TheVariants as computed

@@ -1,1 +1,4 @@
-// A whole job over any queue that pops the least event: definitions and laws, no code.
+/
+pub use compute_spec::of_zero_buffers as of_zero_buffers;
+pub use compute_spec::of_mesh as of_mesh;
+/ A whole job over any queue that pops the least event: definitions and laws, no code.

@@ -14,7 +14,7 @@ use Rattle.windows.specs.declared.WindowRecord.{WindowRecord}
 use Rattle.windows.specs.Windows.{window_at}
 use Rattle.actions.specs.Actions.{distance_of}
 use Rattle.field_tests.specs.Tests.{emits_of, goes_on_of, emitted_of}
-use Rattle.spread_offers.specs.declared.Spread.TheVariants.{Window, Vertex}
+use Rattle.spread.specs.of_spread_offers.declared.Spread.TheVariants.{Window, Vertex}
 use Rattle.field_step.specs.declared.Turn.{Turn}
 use Rattle.field_step.specs.declared.Turn.TheVariants.{Skip, Pass}
 use Rattle.field_step.specs.Step.{vertex_turn, window_turn}

@@ -15,32 +15,32 @@ use Rattle.windows.specs.Windows.{capacity_of}
 use Rattle.chains.specs.Chains.{links}
 use Rattle.actions.specs.Actions as actions
 use Rattle.actions.specs.Actions.{Stock}
-use Rattle.trim_model.specs.Model.{Candidate}
-use Rattle.trim_model.proofs.Lists.{all_map}
-use Rattle.trim_state.specs.State.{State}
-use Rattle.trim_state.specs.Follows.{Follows}
-use Rattle.trim_state.proofs.Follows.{follows_unqueue}
-use Rattle.live_windows.specs.Live.{HoldsWindows}
-use Rattle.cut_lists.specs.Buffers.{Cuts}
-use Rattle.trim_split.specs.declared.Counts.{Counts}
-use Rattle.trim_split.specs.Running as running
-use Rattle.trim_split.specs.Running.{Snapshot, Untouched}
-use Rattle.trim_split.proofs.Untouched.{untouched_then}
-use Rattle.trim.specs.Buffers.{Slices, slices}
-use Rattle.trim.specs.Adding.{AddedWithin, snapshot_at, added_end_in}
-use Rattle.trim.specs.declared.Added.{Added}
-use Rattle.trim.specs.declared.Added.TheVariants.{Stopped as Added-as-Stopped, Went as Added-as-Went}
-use Rattle.pop.specs.declared.Taken.{Taken}
-use Rattle.pop.specs.declared.Taken.TheVariants.{Empty as Taken-as-Empty, First as Taken-as-First}
-use Rattle.pop.specs.Words.{item_pending, item_claimed, taken_of, words_after}
-use Rattle.pop.specs.State.{wins_claimed, live_claimed, after_pop}
-use Rattle.pop.proofs.Claimed.{item_holds, item_words}
-use Rattle.pop.proofs.Answers.{taken_none, taken_one, empty_queue, live_claimed_lem}
-use Rattle.offers.specs.Offers.{add_all, StandsFor, OfferEnds}
-use Rattle.offers.specs.Walks.{edge_data, AddsCandidates}
-use Rattle.spread_offers.specs.declared.Spread.{Spread}
-use Rattle.spread_offers.specs.Spreading.{spread_candidates, SpreadOf}
-use Rattle.spread_offers.proofs.Proper.{spread_proper}
+use Rattle.windows_there.specs.of_trim_model.Model.{Candidate}
+use Rattle.windows_there.proofs.laws_of_trim_model.Lists.{all_map}
+use Rattle.windows_there.specs.of_trim_state.State.{State}
+use Rattle.windows_there.specs.of_trim_state.Follows.{Follows}
+use Rattle.windows_there.proofs.laws_of_trim_state.Follows.{follows_unqueue}
+use Rattle.windows_there.specs.of_live_windows.Live.{HoldsWindows}
+use Rattle.spread.specs.of_cut_lists.Buffers.{Cuts}
+use Rattle.spread.specs.of_trim_split.declared.Counts.{Counts}
+use Rattle.spread.specs.of_trim_split.Running as running
+use Rattle.spread.specs.of_trim_split.Running.{Snapshot, Untouched}
+use Rattle.spread.proofs.laws_of_trim_split.Untouched.{untouched_then}
+use Rattle.spread.specs.of_trim.Buffers.{Slices, slices}
+use Rattle.spread.specs.of_trim.Adding.{AddedWithin, snapshot_at, added_end_in}
+use Rattle.spread.specs.of_trim.declared.Added.{Added}
+use Rattle.spread.specs.of_trim.declared.Added.TheVariants.{Stopped as Added-as-Stopped, Went as Added-as-Went}
+use Rattle.windows_there.specs.of_pop.declared.Taken.{Taken}
+use Rattle.windows_there.specs.of_pop.declared.Taken.TheVariants.{Empty as Taken-as-Empty, First as Taken-as-First}
+use Rattle.windows_there.specs.of_pop.Words.{item_pending, item_claimed, taken_of, words_after}
+use Rattle.windows_there.specs.of_pop.State.{wins_claimed, live_claimed, after_pop}
+use Rattle.windows_there.proofs.laws_of_pop.Claimed.{item_holds, item_words}
+use Rattle.windows_there.proofs.laws_of_pop.Answers.{taken_none, taken_one, empty_queue, live_claimed_lem}
+use Rattle.spread.specs.of_offers.Offers.{add_all, StandsFor, OfferEnds}
+use Rattle.spread.specs.of_offers.Walks.{edge_data, AddsCandidates}
+use Rattle.spread.specs.of_spread_offers.declared.Spread.{Spread}
+use Rattle.spread.specs.of_spread_offers.Spreading.{spread_candidates, SpreadOf}
+use Rattle.spread.proofs.laws_of_spread_offers.Proper.{spread_proper}
 use Rattle.spread.specs.Walk.{SpreadIn}
 use Rattle.windows_there.specs.There.{GoesInto, CandidateThere, WindowsThere, EndsThere, ItemThere, EventsThere}
 use Rattle.windows_there.proofs.Kept.{there_stock, there_all, there_pop}

@@ -21,14 +21,14 @@ use Rattle.windows.specs.Windows.{has_flag, flags_at, window_at, capacity_of}
 use Rattle.chains.specs.Chains.{links}
 use Rattle.actions.specs.Actions.{distance_of}
 use Rattle.field_tests.specs.Tests.{emits_of, goes_on_of, emitted_of}
-use Rattle.trim_model.proofs.Ranks.{by_cases}
-use Rattle.trim_state.specs.State.{State}
-use Rattle.live_windows.specs.Live.{HoldsWindows}
-use Rattle.live_windows.proofs.Stored.{length_wins}
-use Rattle.pop.specs.Words.{is_pending, claimed, item_pending, item_claimed}
-use Rattle.pop.proofs.Pending.{SameWindow, pending_past, pending_is, claimed_is}
-use Rattle.spread_offers.specs.declared.Spread.TheVariants.{Window, Vertex}
-use Rattle.spread_offers.specs.Spreading.{SpreadOf}
+use Rattle.windows_there.proofs.laws_of_trim_model.Ranks.{by_cases}
+use Rattle.windows_there.specs.of_trim_state.State.{State}
+use Rattle.windows_there.specs.of_live_windows.Live.{HoldsWindows}
+use Rattle.windows_there.proofs.laws_of_live_windows.Stored.{length_wins}
+use Rattle.windows_there.specs.of_pop.Words.{is_pending, claimed, item_pending, item_claimed}
+use Rattle.windows_there.proofs.laws_of_pop.Pending.{SameWindow, pending_past, pending_is, claimed_is}
+use Rattle.spread.specs.of_spread_offers.declared.Spread.TheVariants.{Window, Vertex}
+use Rattle.spread.specs.of_spread_offers.Spreading.{SpreadOf}
 use Rattle.windows_there.specs.There.{GoesInto, RecordThere, WindowsThere, ItemThere}
 use Rattle.windows_there.proofs.Kept.{there_at}
 use Rattle.windows_there.proofs.Sides.{face_there}

@@ -7,20 +7,20 @@ use Rattle.heap.specs.Queue.{queue, popping}
 use Rattle.windows.specs.Windows.{window_at, capacity_of}
 use Rattle.topology.specs.Edges.{edges}
 use Rattle.topology.specs.Frames.{len}
-use Rattle.mesh_laws.specs.Bounds.{EdgeLength}
-use Rattle.mesh_readers.specs.Held.{HoldsRound}
-use Rattle.trim_model.specs.Model.{Candidate}
-use Rattle.trim_state.specs.State.{State, Result, stopped, went}
-use Rattle.cut_lists.specs.Buffers.{Cuts}
-use Rattle.trim_split.specs.declared.Counts.{Counts}
-use Rattle.trim_split.specs.Running as running
-use Rattle.trim_split.specs.Running.{Snapshot, End, Untouched}
-use Rattle.trim.specs.Buffers.{Slices}
-use Rattle.trim.specs.Adding.{snapshot_at}
-use Rattle.trim.specs.declared.Added.{Added}
-use Rattle.trim.specs.declared.Added.TheVariants.{Stopped as Added-as-Stopped, Went as Added-as-Went}
-use Rattle.offers.specs.Offers.{StandsFor}
-use Rattle.offers.specs.Walks.{MeshIn, edge_data}
+use Rattle.spread.specs.of_mesh_laws.Bounds.{EdgeLength}
+use Rattle.spread.specs.of_mesh_readers.Held.{HoldsRound}
+use Rattle.windows_there.specs.of_trim_model.Model.{Candidate}
+use Rattle.windows_there.specs.of_trim_state.State.{State, Result, stopped, went}
+use Rattle.spread.specs.of_cut_lists.Buffers.{Cuts}
+use Rattle.spread.specs.of_trim_split.declared.Counts.{Counts}
+use Rattle.spread.specs.of_trim_split.Running as running
+use Rattle.spread.specs.of_trim_split.Running.{Snapshot, End, Untouched}
+use Rattle.spread.specs.of_trim.Buffers.{Slices}
+use Rattle.spread.specs.of_trim.Adding.{snapshot_at}
+use Rattle.spread.specs.of_trim.declared.Added.{Added}
+use Rattle.spread.specs.of_trim.declared.Added.TheVariants.{Stopped as Added-as-Stopped, Went as Added-as-Went}
+use Rattle.spread.specs.of_offers.Offers.{StandsFor}
+use Rattle.spread.specs.of_offers.Walks.{MeshIn, edge_data}
 use Rattle.windows_there.specs.There.{GoesInto, WindowsThere, EventsThere}
 use Rattle.field_step.specs.declared.Turn.{Turn}
 use Rattle.field_step.specs.declared.Turn.TheVariants.{Skip}

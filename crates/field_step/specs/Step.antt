@@ -12,14 +12,14 @@ use Rattle.heap.specs.Queue.{Queue, popping}
 use Rattle.windows.specs.declared.WindowRecord.{WindowRecord}
 use Rattle.actions.specs.Actions.{stock, distance_of}
 use Rattle.field_tests.specs.Tests.{emits_of, goes_on_of, emitted_of, with_emitted}
-use Rattle.trim_model.specs.Model.{Candidate}
-use Rattle.trim_state.specs.State.{State, Result, went}
-use Rattle.pop.specs.State.{after_pop}
-use Rattle.offers.specs.Offers.{add_all}
-use Rattle.offers.specs.Walks.{edge_data}
-use Rattle.spread_offers.specs.declared.Spread.{Spread}
-use Rattle.spread_offers.specs.declared.Spread.TheVariants.{Window, Vertex}
-use Rattle.spread_offers.specs.Spreading.{spread_candidates}
+use Rattle.windows_there.specs.of_trim_model.Model.{Candidate}
+use Rattle.windows_there.specs.of_trim_state.State.{State, Result, went}
+use Rattle.windows_there.specs.of_pop.State.{after_pop}
+use Rattle.spread.specs.of_offers.Offers.{add_all}
+use Rattle.spread.specs.of_offers.Walks.{edge_data}
+use Rattle.spread.specs.of_spread_offers.declared.Spread.{Spread}
+use Rattle.spread.specs.of_spread_offers.declared.Spread.TheVariants.{Window, Vertex}
+use Rattle.spread.specs.of_spread_offers.Spreading.{spread_candidates}
 use Rattle.field_step.specs.declared.Turn.{Turn}
 use Rattle.field_step.specs.declared.Turn.TheVariants.{Skip, Pass}
 

@@ -2,19 +2,20 @@
 ghost use Rattle.std.specs.Prelude.{◌≤◌, ◌<◌, cond, ◌≡◌, ltb, length};
 ghost use Rattle.buffers.specs.Lent.{given, left};
 ghost use Rattle.windows.specs.Windows.{window_at, capacity_of};
-ghost use Rattle.cut_lists.specs.Buffers.{cuts_before};
-ghost use Rattle.cut_lists.specs.Cut.{Sizes};
-ghost use Rattle.trim.specs.Buffers.{before, after};
+ghost use Rattle.spread.specs.of_cut_lists.Buffers.{cuts_before};
+ghost use Rattle.spread.specs.of_cut_lists.Cut.{Sizes};
+ghost use Rattle.spread.specs.of_trim.Buffers.{before, after};
 ghost use Rattle.field_step.specs.declared.Turn.TheVariants.{Skip};
 ghost use Rattle.field_step.specs.Step.{vertex_turn, window_turn, marked_vertex};
 ghost use Rattle.field_step.specs.Contract.{turn_at, SlotFor, stepped_of, StepsOnce};
 
 use buffers::{Lack, VertexId, WindowId};
 use heap::{Event, Item};
-use pop::Taken;
-use spread_offers::Spread;
-use trim::Added;
-use trim_split::Counts;
+use spread::of_spread_offers::Spread;
+use spread::of_trim::Added;
+use spread::of_trim_split::Counts;
+use windows_there::of_pop as pop;
+use windows_there::of_pop::Taken;
 
 // What a popped event comes to: nothing, or what passes distances on.
 #[derive(Clone, Copy)]

@@ -12,39 +12,39 @@ use Rattle.buffers.specs.Slots.{slots_of}
 use Rattle.windows.specs.Windows.{capacity_of}
 use Rattle.job_checks.specs.Job.{Job, job, vertex_count}
 use Rattle.topology.specs.Edges.{edges}
-use Rattle.mesh_laws.proofs.Frames.{len_bounds}
-use Rattle.mesh.specs.declared.OtherCounts.{OtherCounts}
-use Rattle.mesh.specs.declared.Meshed.{Meshed}
-use Rattle.mesh.specs.Topology.{MeshBuffers}
-use Rattle.mesh.specs.Answer.{counts_in, mesh_refusal, Answered}
-use Rattle.cut_lists.specs.Buffers.{Cuts}
-use Rattle.cut_lists.specs.Cut.{Sizes}
-use Rattle.trim_split.proofs.Untouched.{untouched_then}
-use Rattle.trim.specs.Buffers.{Slices}
-use Rattle.trim.specs.Adding.{snapshot_at}
-use Rattle.trim_model.specs.Model.{Candidate}
-use Rattle.offers.specs.Offers.{StandsFor}
-use Rattle.offers.specs.Walks.{edge_data}
-use Rattle.face_entries.specs.Buffers.{EntryBuffers, entry_capacity}
-use Rattle.face_entries.specs.Entries.{HoldsOnly}
-use Rattle.source_inserts.specs.Inserts.{candidates_in}
-use Rattle.insertion.specs.declared.InsertCounts.{InsertCounts}
-use Rattle.insertion.specs.Insertion.{Inserted, InsertResult, stopped, went}
-use Rattle.insertion.specs.Snapshots.{at, insert_snapshot}
-use Rattle.begin.specs.Begin.{WorkSlices}
-use Rattle.windows_there.specs.There.{GoesInto, WindowsThere, EventsThere}
-use Rattle.windows_there.proofs.Kept.{there_none}
-use Rattle.windows_there.proofs.Events.{events_none}
-use Rattle.windows_there.proofs.Inserted.{job_into}
-use Rattle.field_step.specs.Contract.{FieldMesh, FieldStands}
-use Rattle.advance.specs.Advance.{advance_candidates}
-use Rattle.advance.proofs.Begin.{inserted_there}
-use Rattle.insert_job.specs.declared.InsertedJob.{InsertedJob}
-use Rattle.insert_job.specs.declared.InsertedJob.TheVariants.{Wedge, Stopped, Went}
-use Rattle.insert_job.specs.Field.{trim_slices, begun_job, no_counts, PiecesCounted, empty_field, inserts_of, inserted_field, FieldInserted}
-use Rattle.insert_job.specs.Job.{wedge_in, JobInserted, JobWithin, InsertsJob}
-use Rattle.insert_job.proofs.Begun.{checked, begun_job_lem}
-use Rattle.insert_job.proofs.Kept.{inserted_mesh}
+use Rattle.run_steps.proofs.laws_of_mesh_laws.Frames.{len_bounds}
+use Rattle.run_steps.specs.of_mesh.declared.OtherCounts.{OtherCounts}
+use Rattle.run_steps.specs.of_mesh.declared.Meshed.{Meshed}
+use Rattle.run_steps.specs.of_mesh.Topology.{MeshBuffers}
+use Rattle.run_steps.specs.of_mesh.Answer.{counts_in, mesh_refusal, Answered}
+use Rattle.run_steps.specs.of_cut_lists.Buffers.{Cuts}
+use Rattle.run_steps.specs.of_cut_lists.Cut.{Sizes}
+use Rattle.run_steps.proofs.laws_of_trim_split.Untouched.{untouched_then}
+use Rattle.run_steps.specs.of_trim.Buffers.{Slices}
+use Rattle.run_steps.specs.of_trim.Adding.{snapshot_at}
+use Rattle.run_steps.specs.of_trim_model.Model.{Candidate}
+use Rattle.run_steps.specs.of_offers.Offers.{StandsFor}
+use Rattle.run_steps.specs.of_offers.Walks.{edge_data}
+use Rattle.run_steps.specs.of_face_entries.Buffers.{EntryBuffers, entry_capacity}
+use Rattle.run_steps.specs.of_face_entries.Entries.{HoldsOnly}
+use Rattle.run_steps.specs.of_source_inserts.Inserts.{candidates_in}
+use Rattle.run_steps.specs.of_insertion.declared.InsertCounts.{InsertCounts}
+use Rattle.run_steps.specs.of_insertion.Insertion.{Inserted, InsertResult, stopped, went}
+use Rattle.run_steps.specs.of_insertion.Snapshots.{at, insert_snapshot}
+use Rattle.run_steps.specs.of_begin.Begin.{WorkSlices}
+use Rattle.run_steps.specs.of_windows_there.There.{GoesInto, WindowsThere, EventsThere}
+use Rattle.run_steps.proofs.laws_of_windows_there.Kept.{there_none}
+use Rattle.run_steps.proofs.laws_of_windows_there.Events.{events_none}
+use Rattle.run_steps.proofs.laws_of_windows_there.Inserted.{job_into}
+use Rattle.run_steps.specs.of_field_step.Contract.{FieldMesh, FieldStands}
+use Rattle.run_steps.specs.of_advance.Advance.{advance_candidates}
+use Rattle.run_steps.proofs.laws_of_advance.Begin.{inserted_there}
+use Rattle.run_steps.specs.of_insert_job.declared.InsertedJob.{InsertedJob}
+use Rattle.run_steps.specs.of_insert_job.declared.InsertedJob.TheVariants.{Wedge, Stopped, Went}
+use Rattle.run_steps.specs.of_insert_job.Field.{trim_slices, begun_job, no_counts, PiecesCounted, empty_field, inserts_of, inserted_field, FieldInserted}
+use Rattle.run_steps.specs.of_insert_job.Job.{wedge_in, JobInserted, JobWithin, InsertsJob}
+use Rattle.run_steps.proofs.laws_of_insert_job.Begun.{checked, begun_job_lem}
+use Rattle.run_steps.proofs.laws_of_insert_job.Kept.{inserted_mesh}
 use Rattle.run_steps.specs.declared.FieldWork.{FieldWork}
 use Rattle.run_steps.specs.declared.FieldWork.TheVariants.{Refused, Done}
 use Rattle.run_steps.specs.Run.{WorkResult, refused, loop_of}

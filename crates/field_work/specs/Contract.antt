@@ -1,24 +1,24 @@
 -- What the work on a job answers and leaves. Definitions only.
 use Rattle.std.specs.Prelude.{ℕ, List, ◌≡◌, length, Float}
 use Rattle.job_checks.specs.Job.{Job, job}
-use Rattle.mesh.specs.declared.OtherCounts.{OtherCounts}
-use Rattle.mesh.specs.declared.Meshed.{Meshed}
-use Rattle.mesh.specs.Topology.{MeshBuffers}
-use Rattle.mesh.specs.Answer.{counts_in, mesh_refusal, Answered}
+use Rattle.run_steps.specs.of_mesh.declared.OtherCounts.{OtherCounts}
+use Rattle.run_steps.specs.of_mesh.declared.Meshed.{Meshed}
+use Rattle.run_steps.specs.of_mesh.Topology.{MeshBuffers}
+use Rattle.run_steps.specs.of_mesh.Answer.{counts_in, mesh_refusal, Answered}
 use Rattle.windows.specs.Windows.{capacity_of}
-use Rattle.cut_lists.specs.Buffers.{Cuts}
-use Rattle.trim_split.specs.Running.{Untouched}
-use Rattle.trim.specs.Buffers.{Slices}
-use Rattle.trim.specs.Adding.{snapshot_at}
-use Rattle.offers.specs.Walks.{edge_data}
-use Rattle.face_entries.specs.Buffers.{EntryBuffers}
-use Rattle.piece_ends.specs.Table.{piece_words_of}
-use Rattle.piece_ends.specs.Directions.{piece_reals_of}
-use Rattle.insertion.specs.declared.InsertCounts.{InsertCounts}
-use Rattle.insertion.specs.Insertion.{Inserted}
-use Rattle.insertion.specs.Snapshots.{insert_snapshot, HoldsInserted}
-use Rattle.begin.specs.Begin.{WorkSlices}
-use Rattle.insert_job.specs.Field.{trim_slices, begun_job, no_counts, PiecesCounted}
+use Rattle.run_steps.specs.of_cut_lists.Buffers.{Cuts}
+use Rattle.run_steps.specs.of_trim_split.Running.{Untouched}
+use Rattle.run_steps.specs.of_trim.Buffers.{Slices}
+use Rattle.run_steps.specs.of_trim.Adding.{snapshot_at}
+use Rattle.run_steps.specs.of_offers.Walks.{edge_data}
+use Rattle.run_steps.specs.of_face_entries.Buffers.{EntryBuffers}
+use Rattle.run_steps.specs.of_piece_ends.Table.{piece_words_of}
+use Rattle.run_steps.specs.of_piece_ends.Directions.{piece_reals_of}
+use Rattle.run_steps.specs.of_insertion.declared.InsertCounts.{InsertCounts}
+use Rattle.run_steps.specs.of_insertion.Insertion.{Inserted}
+use Rattle.run_steps.specs.of_insertion.Snapshots.{insert_snapshot, HoldsInserted}
+use Rattle.run_steps.specs.of_begin.Begin.{WorkSlices}
+use Rattle.run_steps.specs.of_insert_job.Field.{trim_slices, begun_job, no_counts, PiecesCounted}
 use Rattle.run_steps.specs.declared.FieldWork.{FieldWork}
 use Rattle.run_steps.specs.declared.FieldWork.TheVariants.{Refused, Done}
 use Rattle.run_steps.specs.Run.{refused, field}

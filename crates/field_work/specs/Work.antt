@@ -3,14 +3,14 @@ use Rattle.std.specs.Prelude.{ℕ, List, [], ◌++◌, length}
 use Rattle.float64.specs.Notation.{if◌then◌else◌}
 use Rattle.windows.specs.Windows.{capacity_of}
 use Rattle.job_checks.specs.Job.{Job}
-use Rattle.cut_lists.specs.Buffers.{Cuts}
-use Rattle.insertion.specs.Insertion.{Inserted, InsertResult, stopped, went}
-use Rattle.begin.specs.Begin.{WorkSlices}
-use Rattle.insert_job.specs.Field.{inserts_of, inserted_field}
-use Rattle.advance.specs.Advance.{advance_candidates}
-use Rattle.source_inserts.specs.Inserts.{candidates_in}
-use Rattle.trim_model.specs.Model.{Candidate}
-use Rattle.insert_job.specs.Job.{wedge_in}
+use Rattle.run_steps.specs.of_cut_lists.Buffers.{Cuts}
+use Rattle.run_steps.specs.of_insertion.Insertion.{Inserted, InsertResult, stopped, went}
+use Rattle.run_steps.specs.of_begin.Begin.{WorkSlices}
+use Rattle.run_steps.specs.of_insert_job.Field.{inserts_of, inserted_field}
+use Rattle.run_steps.specs.of_advance.Advance.{advance_candidates}
+use Rattle.run_steps.specs.of_source_inserts.Inserts.{candidates_in}
+use Rattle.run_steps.specs.of_trim_model.Model.{Candidate}
+use Rattle.run_steps.specs.of_insert_job.Job.{wedge_in}
 use Rattle.run_steps.specs.Run.{WorkResult, refused, loop_of}
 
 -- what there is no slot for stops it

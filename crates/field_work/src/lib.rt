@@ -2,15 +2,16 @@
 ghost use Rattle.std.specs.Prelude.{◌*◌, ◌/◌, ◌≤◌, length};
 ghost use Rattle.layout.specs.Layout.{words_per_piece};
 ghost use Rattle.buffers.specs.Lent.{given, left};
-ghost use Rattle.cut_lists.specs.Buffers.{cuts_before};
-ghost use Rattle.cut_lists.specs.Cut.{Sizes};
-ghost use Rattle.trim.specs.Buffers.{after};
-ghost use Rattle.mesh.specs.Topology.{mesh_buffers};
-ghost use Rattle.insertion.specs.Snapshots.{entries_after};
-ghost use Rattle.begin.specs.Begin.{work_before};
+ghost use Rattle.run_steps.specs.of_cut_lists.Buffers.{cuts_before};
+ghost use Rattle.run_steps.specs.of_cut_lists.Cut.{Sizes};
+ghost use Rattle.run_steps.specs.of_trim.Buffers.{after};
+ghost use Rattle.run_steps.specs.of_mesh.Topology.{mesh_buffers};
+ghost use Rattle.run_steps.specs.of_insertion.Snapshots.{entries_after};
+ghost use Rattle.run_steps.specs.of_begin.Begin.{work_before};
 ghost use Rattle.field_work.specs.Contract.{WorksTo};
 
-use run_steps::FieldWork;
+pub use run_steps as of_run_steps;
+use run_steps::{FieldWork, of_insert_job as insert_job};
 
 pub fn work(
     vertices: &[f64],

@@ -9,23 +9,23 @@ use Rattle.layout.specs.Layout.{words_per_edge, words_per_window, reals_per_wind
 use Rattle.float64.specs.Scalar.{zero64}
 use Rattle.windows.specs.Windows.{capacity_of}
 use Rattle.chains.specs.Chains.{Links, links}
-use Rattle.mesh.specs.Topology.{MeshBuffers}
-use Rattle.mesh.specs.Held.{Held, Fresh, Worked}
-use Rattle.mesh.proofs.Keeping.{held_kept}
-use Rattle.mesh_readers.specs.Readers.{trim_edge_at}
-use Rattle.mesh_readers.proofs.Held.{trim_edge_held}
+use Rattle.face_entries.specs.of_mesh.Topology.{MeshBuffers}
+use Rattle.face_entries.specs.of_mesh.Held.{Held, Fresh, Worked}
+use Rattle.face_entries.proofs.laws_of_mesh.Keeping.{held_kept}
+use Rattle.last_pass.specs.of_mesh_readers.Readers.{trim_edge_at}
+use Rattle.offers.proofs.laws_of_mesh_readers.Held.{trim_edge_held}
 use Rattle.topology.specs.Edges.{edges}
 use Rattle.offers.specs.Walks.{edge_data}
-use Rattle.cut_lists.specs.Buffers.{Cuts}
-use Rattle.trim_state.specs.State.{State, EdgeData, edge_in}
-use Rattle.trim_split.specs.Running.{Untouched}
-use Rattle.trim_split.specs.declared.Counts.{Counts}
-use Rattle.trim.specs.Buffers.{Slices}
-use Rattle.trim.specs.Adding.{snapshot_at}
+use Rattle.offers.specs.of_cut_lists.Buffers.{Cuts}
+use Rattle.offers.specs.of_trim_state.State.{State, EdgeData, edge_in}
+use Rattle.offers.specs.of_trim_split.Running.{Untouched}
+use Rattle.offers.specs.of_trim_split.declared.Counts.{Counts}
+use Rattle.offers.specs.of_trim.Buffers.{Slices}
+use Rattle.offers.specs.of_trim.Adding.{snapshot_at}
 use Rattle.actions.specs.Actions.{Stock}
-use Rattle.trim_model.specs.Model.{Candidate}
+use Rattle.contents.specs.of_trim_model.Model.{Candidate}
 use Rattle.offers.specs.Offers.{StandsFor}
-use Rattle.live_windows.specs.Live.{HoldsWindows}
+use Rattle.contents.specs.of_live_windows.Live.{HoldsWindows}
 use Rattle.contents.specs.Contents.{words_of, reals_of_all}
 use Rattle.contents.proofs.Forgotten.{kept}
 use Rattle.contents.proofs.Held.{drop_zeros, words_are, reals_are_all}

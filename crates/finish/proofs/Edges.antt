@@ -18,8 +18,8 @@ use Rattle.nat_laws.proofs.Lists.{length_list_of, get_d_list_of}
 use Rattle.windows.specs.declared.WindowRecord.{WindowRecord}
 use Rattle.chains.specs.Chains.{links, head_of, first_link}
 use Rattle.chains.proofs.Paths.{path_first}
-use Rattle.trim_model.specs.Windows.{Window}
-use Rattle.live_windows.specs.Live.{nums, HoldsWindows}
+use Rattle.contents.specs.of_trim_model.Windows.{Window}
+use Rattle.contents.specs.of_live_windows.Live.{nums, HoldsWindows}
 use Rattle.contents.specs.Contents.{forgotten}
 use Rattle.contents.proofs.Forgotten.{length_forgotten, forgot, kept, forget_holds}
 use Rattle.finish.specs.Contents.{edge_word_with, edges_with}

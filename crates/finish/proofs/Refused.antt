@@ -2,8 +2,8 @@
 use mathlib.Core.Path.{◌≡◌}
 use lib.ListN.{replicate}
 use Rattle.float64.specs.Scalar.{zero64}
-use Rattle.mesh.specs.Topology.{mesh_buffers}
-use Rattle.cut_lists.specs.Buffers.{cut_buffers}
+use Rattle.face_entries.specs.of_mesh.Topology.{mesh_buffers}
+use Rattle.offers.specs.of_cut_lists.Buffers.{cut_buffers}
 use Rattle.finish.specs.Contents.{FieldBuffers}
 use Rattle.finish.specs.Refused.{zero_field, FieldLengths}
 

@@ -10,10 +10,10 @@ use lib.Ieee.{Float}
 use Rattle.layout.specs.Layout.{words_per_edge, edge_head, edge_scratch, words_per_triangle, triangle_first_entry, triangle_last_entry}
 use Rattle.nat_laws.specs.Lists.{list_of}
 use Rattle.nat_laws.proofs.Lists.{length_list_of, get_d_list_of}
-use Rattle.mesh.specs.Topology.{MeshBuffers}
-use Rattle.mesh.specs.Held.{Fresh}
-use Rattle.trim_model.specs.Windows.{Window}
-use Rattle.trim_state.specs.State.{State, EdgeData}
+use Rattle.face_entries.specs.of_mesh.Topology.{MeshBuffers}
+use Rattle.face_entries.specs.of_mesh.Held.{Fresh}
+use Rattle.contents.specs.of_trim_model.Windows.{Window}
+use Rattle.offers.specs.of_trim_state.State.{State, EdgeData}
 use Rattle.face_entries.specs.Entries.{FaceEntry, word_with}
 use Rattle.finish.specs.Contents.{edge_word_with, FieldBuffers, FieldContents, SpareZero}
 

@@ -5,17 +5,17 @@ use Rattle.nat_laws.specs.Lists.{list_of}
 use Rattle.windows.specs.Windows.{capacity_of}
 use Rattle.heap.specs.Queue.{queue}
 use Rattle.chains.specs.Chains.{links, first_link}
-use Rattle.mesh.specs.Topology.{MeshBuffers}
-use Rattle.mesh.specs.Held.{Fresh}
-use Rattle.mesh_readers.specs.Readers.{trim_edge_at}
-use Rattle.cut_lists.specs.Buffers.{Cuts}
-use Rattle.trim_model.specs.Windows.{Window}
-use Rattle.trim_state.specs.State.{State, EdgeData, edge_in}
-use Rattle.trim_split.specs.Running.{Snapshot, snapshot, Untouched}
-use Rattle.trim_split.specs.declared.Counts.{Counts}
-use Rattle.trim.specs.Buffers.{Slices, slices}
-use Rattle.trim.specs.Adding.{snapshot_at}
-use Rattle.live_windows.specs.Live.{nums, HoldsWindows}
+use Rattle.face_entries.specs.of_mesh.Topology.{MeshBuffers}
+use Rattle.face_entries.specs.of_mesh.Held.{Fresh}
+use Rattle.last_pass.specs.of_mesh_readers.Readers.{trim_edge_at}
+use Rattle.offers.specs.of_cut_lists.Buffers.{Cuts}
+use Rattle.contents.specs.of_trim_model.Windows.{Window}
+use Rattle.offers.specs.of_trim_state.State.{State, EdgeData, edge_in}
+use Rattle.offers.specs.of_trim_split.Running.{Snapshot, snapshot, Untouched}
+use Rattle.offers.specs.of_trim_split.declared.Counts.{Counts}
+use Rattle.offers.specs.of_trim.Buffers.{Slices, slices}
+use Rattle.offers.specs.of_trim.Adding.{snapshot_at}
+use Rattle.contents.specs.of_live_windows.Live.{nums, HoldsWindows}
 use Rattle.contents.specs.Contents.{words_of, reals_of_all}
 use Rattle.face_entries.specs.Entries.{FaceEntry, HoldsOnly, entry_words, triangles_with}
 use Rattle.piece_ends.specs.Table.{piece_words_of}

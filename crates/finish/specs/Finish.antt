@@ -2,8 +2,8 @@
 use Rattle.std.specs.Prelude.{ℕ, ◌/◌, List, ◌≡◌, length, Float}
 use Rattle.layout.specs.Layout.{words_per_edge}
 use Rattle.chains.specs.Chains.{links}
-use Rattle.cut_lists.specs.Buffers.{Cuts}
-use Rattle.trim.specs.Buffers.{Slices}
+use Rattle.offers.specs.of_cut_lists.Buffers.{Cuts}
+use Rattle.offers.specs.of_trim.Buffers.{Slices}
 use Rattle.zero_buffers.specs.ZeroIf.{zero_reals, zero_words, zero_cuts}
 use Rattle.contents.specs.Contents.{forgotten}
 use Rattle.last_pass.specs.Buffers.{lowered_all_at}

@@ -4,9 +4,13 @@ ghost use Rattle.layout.specs.Layout.{words_per_edge};
 ghost use Rattle.buffers.specs.Slots.{slots_of};
 ghost use Rattle.buffers.specs.Lent.{given, left};
 ghost use Rattle.windows.specs.Windows.{capacity_of};
-ghost use Rattle.cut_lists.specs.Buffers.{cuts_before, cuts_after};
-ghost use Rattle.trim.specs.Buffers.{slices};
+ghost use Rattle.offers.specs.of_cut_lists.Buffers.{cuts_before, cuts_after};
+ghost use Rattle.offers.specs.of_trim.Buffers.{slices};
 ghost use Rattle.finish.specs.Finish.{FinishesTo};
+
+pub use face_entries::of_mesh as of_mesh;
+pub use offers::of_trim_split as of_trim_split;
+pub use zero_buffers as of_zero_buffers;
 
 // Of so many edges, where so many windows are made. The edges forget the links that they remember; the queue and the lists of additions are zeroed.
 pub fn finish(

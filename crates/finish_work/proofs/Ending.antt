@@ -3,9 +3,9 @@ use Prim.Native.Nat.{ℕ, ◌≤◌}
 use mathlib.Core.List.{List}
 use mathlib.Core.Path.{◌≡◌, refl, sym, subst}
 use lib.Ieee.{Float}
-use Rattle.cut_lists.specs.Buffers.{Cuts}
-use Rattle.trim.specs.Buffers.{Slices}
-use Rattle.insertion.specs.declared.InsertCounts.{InsertCounts}
+use Rattle.run_steps.specs.of_cut_lists.Buffers.{Cuts}
+use Rattle.finish.specs.of_trim.Buffers.{Slices}
+use Rattle.run_steps.specs.of_insertion.declared.InsertCounts.{InsertCounts}
 use Rattle.run_steps.specs.declared.FieldWork.{FieldWork}
 use Rattle.run_steps.specs.declared.FieldWork.TheVariants.{Refused, Done}
 use Rattle.run_steps.specs.Contract.{WorkWithin}

@@ -1,7 +1,7 @@
 -- What `finish_work` does to the buffers. Definitions only.
 use Rattle.std.specs.Prelude.{ℕ, List, ◌≡◌, Float}
-use Rattle.cut_lists.specs.Buffers.{Cuts}
-use Rattle.trim.specs.Buffers.{Slices}
+use Rattle.run_steps.specs.of_cut_lists.Buffers.{Cuts}
+use Rattle.finish.specs.of_trim.Buffers.{Slices}
 use Rattle.run_steps.specs.declared.FieldWork.{FieldWork}
 use Rattle.run_steps.specs.declared.FieldWork.TheVariants.{Refused, Done}
 use Rattle.finish.specs.Finish.{FinishesTo}

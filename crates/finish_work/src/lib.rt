@@ -4,11 +4,12 @@ ghost use Rattle.layout.specs.Layout.{words_per_edge};
 ghost use Rattle.buffers.specs.Slots.{slots_of};
 ghost use Rattle.buffers.specs.Lent.{given, left};
 ghost use Rattle.windows.specs.Windows.{capacity_of};
-ghost use Rattle.cut_lists.specs.Buffers.{cuts_before, cuts_after};
-ghost use Rattle.trim.specs.Buffers.{slices};
+ghost use Rattle.run_steps.specs.of_cut_lists.Buffers.{cuts_before, cuts_after};
+ghost use Rattle.finish.specs.of_trim.Buffers.{slices};
 ghost use Rattle.run_steps.specs.Contract.{WorkWithin};
 ghost use Rattle.finish_work.specs.FinishWork.{FinishesWork};
 
+pub use run_steps as of_run_steps;
 use run_steps::FieldWork;
 
 pub fn finish_work(

@@ -7,13 +7,13 @@ use lib.ListN.{length}
 use lib.Ieee.{Float}
 use Rattle.layout.specs.Layout.{words_per_piece}
 use Rattle.job_checks.specs.Job.{Job, job, vertex_count}
-use Rattle.cut_lists.specs.Buffers.{Cuts}
+use Rattle.cut_slots.specs.of_cut_lists.Buffers.{Cuts}
 use Rattle.cut_slots.specs.Slots.{cut_count, cut_to}
-use Rattle.mesh.specs.declared.OtherCounts.{OtherCounts}
-use Rattle.mesh.specs.declared.Meshed.{Meshed}
-use Rattle.mesh.specs.Topology.{MeshBuffers, mesh_buffers}
-use Rattle.mesh.specs.Answer.{meshed_number, counts_in, mesh_refusal, Answered}
-use Rattle.begin.specs.Begin.{WorkSlices}
+use Rattle.insert_job.specs.of_mesh.declared.OtherCounts.{OtherCounts}
+use Rattle.insert_job.specs.of_mesh.declared.Meshed.{Meshed}
+use Rattle.insert_job.specs.of_mesh.Topology.{MeshBuffers, mesh_buffers}
+use Rattle.insert_job.specs.of_mesh.Answer.{meshed_number, counts_in, mesh_refusal, Answered}
+use Rattle.insert_job.specs.of_begin.Begin.{WorkSlices}
 use Rattle.insert_job.specs.declared.InsertedJob.{InsertedJob}
 use Rattle.insert_job.specs.Field.{trim_slices, entry_slices}
 use Rattle.insert_job.specs.Job.{InsertsJob}

@@ -5,8 +5,8 @@ use mathlib.Core.Path.{◌≡◌, sym, ◌∙◌}
 use lib.ListN.{set}
 use Rattle.buffers.specs.declared.Lack.{Lack}
 use Rattle.buffers.specs.Lack.{lack_number}
-use Rattle.mesh.specs.declared.OtherCounts.{OtherCounts}
-use Rattle.insertion.specs.declared.InsertCounts.{InsertCounts}
+use Rattle.insert_job.specs.of_mesh.declared.OtherCounts.{OtherCounts}
+use Rattle.insert_job.specs.of_insertion.declared.InsertCounts.{InsertCounts}
 use Rattle.insert_job.specs.declared.InsertedJob.{InsertedJob}
 use Rattle.insert_job.specs.declared.InsertedJob.TheVariants.{Wedge, Stopped, Went}
 use Rattle.insert_c.specs.Exports.{insert_told}

@@ -5,14 +5,14 @@ use Rattle.buffers.specs.Lack.{lack_number}
 use Rattle.buffers.specs.Slots.{slots_of}
 use Rattle.job_checks.specs.Job.{Job}
 use Rattle.topology.specs.Edges.{edges}
-use Rattle.cut_lists.specs.Buffers.{Cuts}
+use Rattle.cut_slots.specs.of_cut_lists.Buffers.{Cuts}
 use Rattle.cut_slots.specs.Slots.{cut_count, cut_to}
-use Rattle.mesh.specs.declared.OtherCounts.{OtherCounts}
-use Rattle.mesh.specs.declared.Meshed.{Meshed}
-use Rattle.mesh.specs.declared.Meshed.TheVariants as meshed
-use Rattle.mesh.specs.Topology.{MeshBuffers, mesh_buffers}
-use Rattle.mesh.specs.Answer.{counts_in, mesh_refusal, Answered}
-use Rattle.begin.specs.Begin.{WorkSlices}
+use Rattle.insert_job.specs.of_mesh.declared.OtherCounts.{OtherCounts}
+use Rattle.insert_job.specs.of_mesh.declared.Meshed.{Meshed}
+use Rattle.insert_job.specs.of_mesh.declared.Meshed.TheVariants as meshed
+use Rattle.insert_job.specs.of_mesh.Topology.{MeshBuffers, mesh_buffers}
+use Rattle.insert_job.specs.of_mesh.Answer.{counts_in, mesh_refusal, Answered}
+use Rattle.insert_job.specs.of_begin.Begin.{WorkSlices}
 use Rattle.insert_job.specs.declared.InsertedJob.{InsertedJob}
 use Rattle.insert_job.specs.declared.InsertedJob.TheVariants.{Wedge, Stopped, Went}
 use Rattle.insert_job.specs.Field.{trim_slices, entry_slices}

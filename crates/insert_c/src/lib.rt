@@ -2,22 +2,22 @@
 ghost use Rattle.std.specs.Prelude.{◌≡◌, ◌*◌, ◌/◌, ◌≤◌, length};
 ghost use Rattle.layout.specs.Layout.{words_per_piece};
 ghost use Rattle.buffers.specs.Lent.{given, left};
-ghost use Rattle.cut_lists.specs.Buffers.{cut_buffers, cuts_before, cuts_after};
-ghost use Rattle.trim.specs.Buffers.{after as Buffers·after};
+ghost use Rattle.cut_slots.specs.of_cut_lists.Buffers.{cut_buffers, cuts_before, cuts_after};
+ghost use Rattle.insert_job.specs.of_trim.Buffers.{after as Buffers·after};
 ghost use Rattle.cut_slots.specs.Slots.{cut_count, cut_to};
 ghost use Rattle.job_checks.specs.Job.{job};
-ghost use Rattle.mesh.specs.Topology.{mesh_buffers, before, after};
-ghost use Rattle.insertion.specs.Snapshots.{entries_after};
-ghost use Rattle.begin.specs.Begin.{work_before, work_after};
+ghost use Rattle.insert_job.specs.of_mesh.Topology.{mesh_buffers, before, after};
+ghost use Rattle.insert_job.specs.of_insertion.Snapshots.{entries_after};
+ghost use Rattle.insert_job.specs.of_begin.Begin.{work_before, work_after};
 ghost use Rattle.insert_job.specs.Job.{InsertsJob};
 ghost use Rattle.insert_c.specs.Exports.{lent_counts, edges_told, insert_told, InsertAnswers};
 
 use buffers::write_u32;
-use insert_job::InsertedJob;
+use insert_job::of_mesh::{Meshed, OtherCounts};
+use insert_job::{InsertedJob, of_mesh as mesh};
 use layout::{
     REALS_PER_PIECE, REALS_PER_VERTEX, REALS_PER_WINDOW, WORDS_PER_PIECE, WORDS_PER_WINDOW,
 };
-use mesh::{Meshed, OtherCounts};
 
 // The slots that slices of these lengths have. No scratch is lent, so none can lack.
 fn lent_counts(

@@ -9,15 +9,15 @@ use Rattle.float64.specs.Scalar.{zero64}
 use Rattle.buffers.specs.declared.Lack.{Lack}
 use Rattle.windows.specs.Windows.{capacity_of}
 use Rattle.job_checks.specs.Job.{Job, job}
-use Rattle.mesh.specs.Topology.{MeshBuffers}
-use Rattle.cut_lists.specs.Buffers.{Cuts}
-use Rattle.trim.specs.Buffers.{Slices}
-use Rattle.face_entries.specs.Buffers.{EntryBuffers}
-use Rattle.wedge_refusal.specs.Wedge.{any_wedge_at}
-use Rattle.source_inserts.specs.Inserts.{job_inserts}
-use Rattle.insertion.specs.declared.InsertCounts.{InsertCounts}
-use Rattle.insertion.specs.declared.InsertAnswer.{InsertAnswer}
-use Rattle.insertion.specs.declared.InsertAnswer.TheVariants as answer
+use Rattle.insert_sources.specs.of_mesh.Topology.{MeshBuffers}
+use Rattle.insert_sources.specs.of_cut_lists.Buffers.{Cuts}
+use Rattle.insert_sources.specs.of_trim.Buffers.{Slices}
+use Rattle.insert_sources.specs.of_face_entries.Buffers.{EntryBuffers}
+use Rattle.insert_sources.specs.of_wedge_refusal.Wedge.{any_wedge_at}
+use Rattle.insert_sources.specs.of_source_inserts.Inserts.{job_inserts}
+use Rattle.insert_sources.specs.of_insertion.declared.InsertCounts.{InsertCounts}
+use Rattle.insert_sources.specs.of_insertion.declared.InsertAnswer.{InsertAnswer}
+use Rattle.insert_sources.specs.of_insertion.declared.InsertAnswer.TheVariants as answer
 use Rattle.insert_sources.specs.Job.{insertion_slices, InsertsAll}
 use Rattle.begin.specs.Begin.{WorkSlices, begun}
 use Rattle.insert_job.specs.declared.InsertedJob.{InsertedJob}

@@ -18,39 +18,39 @@ use Rattle.job_checks.proofs.Sound.{refusals_numbered, sound}
 use Rattle.topology.specs.Edges.{edges, shared_by_three}
 use Rattle.topology.specs.Frames.{len}
 use Rattle.topology.proofs.Edges.{edge_count_held}
-use Rattle.mesh_laws.proofs.Frames.{len_bounds}
-use Rattle.edge_table.specs.Table.{edge_words, triangle_words}
-use Rattle.edge_table.proofs.Holding.{length_words}
-use Rattle.frames.proofs.Rows.{length_rows}
-use Rattle.mesh.specs.declared.OtherCounts.{OtherCounts}
-use Rattle.mesh.specs.declared.Meshed.{Meshed}
-use Rattle.mesh.specs.Topology.{MeshBuffers, filled, topology_of}
-use Rattle.mesh.specs.Answer.{counts_in, mesh_refusals, mesh_refusal, afterwards, Answered}
-use Rattle.mesh.specs.Held.{Held, Fresh}
-use Rattle.mesh.proofs.Fields.{held, fresh}
-use Rattle.mesh_readers.specs.Held.{HoldsMesh}
-use Rattle.mesh_readers.proofs.Mesh.{mesh_holds, mesh_round}
+use Rattle.insert_sources.proofs.laws_of_mesh_laws.Frames.{len_bounds}
+use Rattle.begin.specs.of_edge_table.Table.{edge_words, triangle_words}
+use Rattle.begin.proofs.laws_of_edge_table.Holding.{length_words}
+use Rattle.begin.proofs.laws_of_frames.Rows.{length_rows}
+use Rattle.insert_sources.specs.of_mesh.declared.OtherCounts.{OtherCounts}
+use Rattle.insert_sources.specs.of_mesh.declared.Meshed.{Meshed}
+use Rattle.insert_sources.specs.of_mesh.Topology.{MeshBuffers, filled, topology_of}
+use Rattle.insert_sources.specs.of_mesh.Answer.{counts_in, mesh_refusals, mesh_refusal, afterwards, Answered}
+use Rattle.insert_sources.specs.of_mesh.Held.{Held, Fresh}
+use Rattle.insert_sources.proofs.laws_of_mesh.Fields.{held, fresh}
+use Rattle.insert_sources.specs.of_mesh_readers.Held.{HoldsMesh}
+use Rattle.insert_sources.proofs.laws_of_mesh_readers.Mesh.{mesh_holds, mesh_round}
 use Rattle.windows.specs.Windows.{capacity_of}
 use Rattle.chains.specs.Chains.{links}
-use Rattle.better.specs.Claim.{All}
-use Rattle.trim_model.specs.Claim.{AdmittedProper}
-use Rattle.trim_state.proofs.Follows.{follows_empty}
-use Rattle.live_windows.proofs.Standing.{no_live}
-use Rattle.cut_lists.specs.Buffers.{Cuts}
-use Rattle.trim.specs.Buffers.{Slices}
-use Rattle.offers.specs.Walks.{edge_data}
-use Rattle.face_entries.specs.Buffers.{EntryBuffers, entry_capacity}
-use Rattle.face_entries.proofs.Keeping.{none_only, fresh_none}
-use Rattle.piece_ends.specs.Directions.{piece_reals_of}
-use Rattle.piece_ends.proofs.Held.{built_holds}
-use Rattle.wedge_refusal.specs.Wedge.{any_wedge, any_wedge_at}
-use Rattle.wedge_refusal.specs.Held.{HoldsJob}
-use Rattle.wedge_refusal.proofs.Held.{wedge_held}
-use Rattle.source_inserts.specs.Inserts.{job_inserts, candidates_in}
-use Rattle.source_inserts.proofs.Proper.{job_proper}
-use Rattle.insertion.specs.declared.InsertAnswer.{InsertAnswer}
-use Rattle.insertion.specs.Insertion.{insert_each}
-use Rattle.insertion.specs.Snapshots.{insert_snapshot, HoldsInserted, InsertEnds, insert_end}
+use Rattle.insert_sources.specs.of_better.Claim.{All}
+use Rattle.insert_sources.specs.of_trim_model.Claim.{AdmittedProper}
+use Rattle.insert_sources.proofs.laws_of_trim_state.Follows.{follows_empty}
+use Rattle.insert_sources.proofs.laws_of_live_windows.Standing.{no_live}
+use Rattle.insert_sources.specs.of_cut_lists.Buffers.{Cuts}
+use Rattle.insert_sources.specs.of_trim.Buffers.{Slices}
+use Rattle.insert_sources.specs.of_offers.Walks.{edge_data}
+use Rattle.insert_sources.specs.of_face_entries.Buffers.{EntryBuffers, entry_capacity}
+use Rattle.insert_sources.proofs.laws_of_face_entries.Keeping.{none_only, fresh_none}
+use Rattle.begin.specs.of_piece_ends.Directions.{piece_reals_of}
+use Rattle.begin.proofs.laws_of_piece_ends.Held.{built_holds}
+use Rattle.insert_sources.specs.of_wedge_refusal.Wedge.{any_wedge, any_wedge_at}
+use Rattle.insert_sources.specs.of_wedge_refusal.Held.{HoldsJob}
+use Rattle.insert_sources.proofs.laws_of_wedge_refusal.Held.{wedge_held}
+use Rattle.insert_sources.specs.of_source_inserts.Inserts.{job_inserts, candidates_in}
+use Rattle.insert_sources.proofs.laws_of_source_inserts.Proper.{job_proper}
+use Rattle.insert_sources.specs.of_insertion.declared.InsertAnswer.{InsertAnswer}
+use Rattle.insert_sources.specs.of_insertion.Insertion.{insert_each}
+use Rattle.insert_sources.specs.of_insertion.Snapshots.{insert_snapshot, HoldsInserted, InsertEnds, insert_end}
 use Rattle.insert_sources.specs.Job.{JobIn, InsertsAll}
 use Rattle.begin.specs.Begin.{WorkSlices}
 use Rattle.insert_job.specs.Field.{read_slices, trim_slices, entry_slices, begun_job, no_counts, PiecesCounted, empty_field, inserts_of, inserted_field, FieldInserted}

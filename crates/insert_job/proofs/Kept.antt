@@ -6,14 +6,14 @@ use lib.ListN.{length, drop, replicate}
 use Rattle.layout.specs.Layout.{words_per_window, reals_per_window}
 use Rattle.float64.specs.Scalar.{zero64}
 use Rattle.job_checks.specs.Job.{Job, vertex_count}
-use Rattle.mesh.specs.declared.OtherCounts.{OtherCounts}
-use Rattle.mesh.specs.declared.Meshed.{Meshed}
-use Rattle.mesh.specs.Topology.{MeshBuffers}
-use Rattle.mesh.specs.Answer.{counts_in, mesh_refusal, Answered}
-use Rattle.mesh_readers.specs.Held.{HoldsMesh}
-use Rattle.mesh_readers.proofs.Mesh.{mesh_stays, mesh_entered}
-use Rattle.cut_lists.specs.Buffers.{Cuts}
-use Rattle.insertion.specs.Snapshots.{InsertSnapshot, at}
+use Rattle.insert_sources.specs.of_mesh.declared.OtherCounts.{OtherCounts}
+use Rattle.insert_sources.specs.of_mesh.declared.Meshed.{Meshed}
+use Rattle.insert_sources.specs.of_mesh.Topology.{MeshBuffers}
+use Rattle.insert_sources.specs.of_mesh.Answer.{counts_in, mesh_refusal, Answered}
+use Rattle.insert_sources.specs.of_mesh_readers.Held.{HoldsMesh}
+use Rattle.insert_sources.proofs.laws_of_mesh_readers.Mesh.{mesh_stays, mesh_entered}
+use Rattle.insert_sources.specs.of_cut_lists.Buffers.{Cuts}
+use Rattle.insert_sources.specs.of_insertion.Snapshots.{InsertSnapshot, at}
 use Rattle.begin.specs.Begin.{WorkSlices}
 use Rattle.insert_job.specs.Field.{FieldInserted}
 use Rattle.insert_job.proofs.Begun.{begun_mesh}

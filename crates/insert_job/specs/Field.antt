@@ -3,20 +3,20 @@ use Rattle.std.specs.Prelude.{ℕ, ◌≤◌, min, List, [], length}
 use Rattle.layout.specs.Layout.{words_per_piece, reals_per_piece}
 use Rattle.buffers.specs.Slots.{slots_of}
 use Rattle.job_checks.specs.Job.{Job, vertex_count}
-use Rattle.mesh.specs.declared.OtherCounts.{OtherCounts}
-use Rattle.mesh.specs.Topology.{MeshBuffers}
+use Rattle.insert_sources.specs.of_mesh.declared.OtherCounts.{OtherCounts}
+use Rattle.insert_sources.specs.of_mesh.Topology.{MeshBuffers}
 use Rattle.windows.specs.Windows.{capacity_of}
 use Rattle.heap.specs.Queue.{queue}
 use Rattle.actions.specs.Actions.{stock}
-use Rattle.cut_lists.specs.Buffers.{Cuts}
-use Rattle.trim.specs.Buffers.{Slices, slices}
-use Rattle.offers.specs.Walks.{edge_data}
-use Rattle.face_entries.specs.Buffers.{EntryBuffers, entry_buffers, entry_capacity}
-use Rattle.source_inserts.specs.declared.Insert.{Insert}
-use Rattle.source_inserts.specs.Inserts.{job_inserts, candidates_in}
-use Rattle.insertion.specs.declared.InsertCounts.{InsertCounts}
-use Rattle.insertion.specs.Insertion.{Inserted, InsertResult, insert_each}
-use Rattle.insertion.specs.Snapshots.{InsertEnd, InsertEnds, insert_snapshot}
+use Rattle.insert_sources.specs.of_cut_lists.Buffers.{Cuts}
+use Rattle.insert_sources.specs.of_trim.Buffers.{Slices, slices}
+use Rattle.insert_sources.specs.of_offers.Walks.{edge_data}
+use Rattle.insert_sources.specs.of_face_entries.Buffers.{EntryBuffers, entry_buffers, entry_capacity}
+use Rattle.insert_sources.specs.of_source_inserts.declared.Insert.{Insert}
+use Rattle.insert_sources.specs.of_source_inserts.Inserts.{job_inserts, candidates_in}
+use Rattle.insert_sources.specs.of_insertion.declared.InsertCounts.{InsertCounts}
+use Rattle.insert_sources.specs.of_insertion.Insertion.{Inserted, InsertResult, insert_each}
+use Rattle.insert_sources.specs.of_insertion.Snapshots.{InsertEnd, InsertEnds, insert_snapshot}
 use Rattle.insert_sources.specs.Job.{InsertionSlices, insertion_slices}
 use Rattle.begin.specs.Begin.{WorkSlices, begun}
 

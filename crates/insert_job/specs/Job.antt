@@ -1,20 +1,20 @@
 -- What `insert_job` answers and leaves. Definitions only.
 use Rattle.std.specs.Prelude.{ℕ, ◌≤◌, Bool, true, false, List, ◌≡◌, length, Float}
 use Rattle.job_checks.specs.Job.{Job, job}
-use Rattle.mesh.specs.declared.OtherCounts.{OtherCounts}
-use Rattle.mesh.specs.declared.Meshed.{Meshed}
-use Rattle.mesh.specs.Topology.{MeshBuffers}
-use Rattle.mesh.specs.Answer.{counts_in, mesh_refusal, Answered}
+use Rattle.insert_sources.specs.of_mesh.declared.OtherCounts.{OtherCounts}
+use Rattle.insert_sources.specs.of_mesh.declared.Meshed.{Meshed}
+use Rattle.insert_sources.specs.of_mesh.Topology.{MeshBuffers}
+use Rattle.insert_sources.specs.of_mesh.Answer.{counts_in, mesh_refusal, Answered}
 use Rattle.windows.specs.Windows.{capacity_of}
-use Rattle.cut_lists.specs.Buffers.{Cuts}
-use Rattle.trim.specs.Buffers.{Slices}
-use Rattle.face_entries.specs.Buffers.{EntryBuffers}
-use Rattle.piece_ends.specs.Table.{piece_words_of}
-use Rattle.piece_ends.specs.Directions.{piece_reals_of}
-use Rattle.wedge_refusal.specs.Wedge.{any_wedge}
-use Rattle.insertion.specs.declared.InsertAnswer.{InsertAnswer}
-use Rattle.insertion.specs.declared.InsertAnswer.TheVariants as answer
-use Rattle.insertion.specs.Snapshots.{insert_end}
+use Rattle.insert_sources.specs.of_cut_lists.Buffers.{Cuts}
+use Rattle.insert_sources.specs.of_trim.Buffers.{Slices}
+use Rattle.insert_sources.specs.of_face_entries.Buffers.{EntryBuffers}
+use Rattle.begin.specs.of_piece_ends.Table.{piece_words_of}
+use Rattle.begin.specs.of_piece_ends.Directions.{piece_reals_of}
+use Rattle.insert_sources.specs.of_wedge_refusal.Wedge.{any_wedge}
+use Rattle.insert_sources.specs.of_insertion.declared.InsertAnswer.{InsertAnswer}
+use Rattle.insert_sources.specs.of_insertion.declared.InsertAnswer.TheVariants as answer
+use Rattle.insert_sources.specs.of_insertion.Snapshots.{insert_end}
 use Rattle.begin.specs.Begin.{WorkSlices}
 use Rattle.insert_job.specs.declared.InsertedJob.{InsertedJob}
 use Rattle.insert_job.specs.declared.InsertedJob.TheVariants.{Wedge, Stopped, Went}

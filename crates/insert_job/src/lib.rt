@@ -2,17 +2,19 @@
 ghost use Rattle.std.specs.Prelude.{◌≡◌, ◌*◌, ◌/◌, ◌≤◌, length};
 ghost use Rattle.layout.specs.Layout.{words_per_piece};
 ghost use Rattle.buffers.specs.Lent.{given, left};
-ghost use Rattle.cut_lists.specs.Buffers.{cuts_before};
-ghost use Rattle.cut_lists.specs.Cut.{Sizes};
-ghost use Rattle.trim.specs.Buffers.{after};
-ghost use Rattle.mesh.specs.Topology.{mesh_buffers};
-ghost use Rattle.insertion.specs.Snapshots.{entries_after};
+ghost use Rattle.insert_sources.specs.of_cut_lists.Buffers.{cuts_before};
+ghost use Rattle.insert_sources.specs.of_cut_lists.Cut.{Sizes};
+ghost use Rattle.insert_sources.specs.of_trim.Buffers.{after};
+ghost use Rattle.insert_sources.specs.of_mesh.Topology.{mesh_buffers};
+ghost use Rattle.insert_sources.specs.of_insertion.Snapshots.{entries_after};
 ghost use Rattle.begin.specs.Begin.{work_before};
 ghost use Rattle.insert_job.specs.Job.{job_answer, InsertsJob};
 
 use buffers::Lack;
-use insertion::{InsertAnswer, InsertCounts};
-use trim_split::Counts;
+use insert_sources::of_insertion::{InsertAnswer, InsertCounts};
+pub use insert_sources::of_mesh as of_mesh;
+use insert_sources::of_trim_split::Counts;
+use insert_sources::of_wedge_refusal as wedge_refusal;
 
 // Refusal 11, what there is no slot for, or the counts after the last piece.
 #[derive(Clone, Copy)]

@@ -6,8 +6,8 @@ use mathlib.Core.Path.{◌≡◌, refl, sym, ap, ◌∙◌}
 use lib.ListN.{length, get_or}
 use Rattle.nat_laws.specs.Lists.{All, list_of}
 use Rattle.nat_laws.proofs.Lists.{length_list_of, get_d_list_of, list_of_same}
-use Rattle.source_inserts.specs.declared.Insert.{Insert}
-use Rattle.offers.specs.Each.{each_of}
+use Rattle.insertion.specs.of_source_inserts.declared.Insert.{Insert}
+use Rattle.insertion.specs.of_offers.Each.{each_of}
 
 pub each_next : (f : ℕ → List Insert) (k : ℕ) → each_of f (suc k) ≡ each_of f k ++ f k
 unfolding each_of

@@ -11,22 +11,22 @@ use Rattle.buffers.specs.declared.Lack.{Lack}
 use Rattle.buffers.specs.Lack.{lack_number}
 use Rattle.buffers.specs.Slots.{slots_of}
 use Rattle.topology.specs.Edges.{edges}
-use Rattle.cut_lists.specs.Buffers.{Cuts}
-use Rattle.cut_lists.specs.Cut.{Sizes}
-use Rattle.trim_split.specs.Running.{Untouched}
-use Rattle.trim.specs.Buffers.{Slices}
-use Rattle.mesh_readers.proofs.Mesh.{mesh_stays, mesh_entered}
-use Rattle.offers.specs.Walks.{edge_data}
-use Rattle.offers.proofs.Walks.{SameSizes, same_refl, same_trans, windows_in, windows_same, sizes_same}
-use Rattle.face_entries.specs.Buffers.{EntryBuffers, entry_capacity}
-use Rattle.source_inserts.specs.declared.Insert.{Insert}
-use Rattle.offers.specs.Each.{each_of}
+use Rattle.insertion.specs.of_cut_lists.Buffers.{Cuts}
+use Rattle.insertion.specs.of_cut_lists.Cut.{Sizes}
+use Rattle.insertion.specs.of_trim_split.Running.{Untouched}
+use Rattle.insertion.specs.of_trim.Buffers.{Slices}
+use Rattle.insertion.proofs.laws_of_mesh_readers.Mesh.{mesh_stays, mesh_entered}
+use Rattle.insertion.specs.of_offers.Walks.{edge_data}
+use Rattle.insertion.proofs.laws_of_offers.Walks.{SameSizes, same_refl, same_trans, windows_in, windows_same, sizes_same}
+use Rattle.insertion.specs.of_face_entries.Buffers.{EntryBuffers, entry_capacity}
+use Rattle.insertion.specs.of_source_inserts.declared.Insert.{Insert}
+use Rattle.insertion.specs.of_offers.Each.{each_of}
 use Rattle.insertion.specs.declared.InsertCounts.{InsertCounts}
 use Rattle.insertion.specs.Snapshots as snapshots
 use Rattle.insertion.specs.Snapshots.{InsertSnapshot, InsertEnd, SidesKept, insert_snapshot, InsertsFrom}
 use Rattle.insertion.proofs.Inserts.{inserts_none, inserts_stop, inserts_then}
 use Rattle.insert_sources.specs.Job.{InsertionSlices, JobIn}
-use Rattle.offers.proofs.Each.{each_more}
+use Rattle.insertion.proofs.laws_of_offers.Each.{each_more}
 use Rattle.insert_sources.proofs.Lists.{each_next}
 
 -- ---- lengths

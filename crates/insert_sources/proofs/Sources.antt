@@ -8,24 +8,24 @@ use lib.Ieee.{Float}
 use Rattle.layout.specs.Layout.{words_per_triangle}
 use Rattle.buffers.specs.declared.Lack.{Lack}
 use Rattle.buffers.proofs.Strides.{in_slots}
-use Rattle.cut_lists.specs.Buffers.{Cuts}
-use Rattle.mesh_readers.proofs.Held.{trim_edge_held}
-use Rattle.trim.specs.Buffers.{Slices}
-use Rattle.offers.specs.declared.Offered.{Offered}
-use Rattle.offers.specs.declared.Offered.TheVariants.{Nothing, Window}
-use Rattle.offers.specs.Offers.{EdgeThere}
-use Rattle.offers.specs.Walks.{edge_data}
-use Rattle.offers.proofs.Walks.{windows_in}
-use Rattle.face_entries.specs.Buffers.{EntryBuffers}
-use Rattle.source_inserts.specs.declared.Insert.{Insert}
-use Rattle.source_inserts.specs.declared.Insert.TheVariants.{Entry, Offer}
-use Rattle.source_inserts.specs.declared.Source.{Source}
-use Rattle.offers.specs.Each.{each_of}
-use Rattle.source_inserts.specs.Inserts.{source_inserts, job_inserts, IsSource, There, OfferThere}
-use Rattle.source_inserts.specs.Read.{job_source_at, insert_at, insert_count_at}
-use Rattle.source_inserts.proofs.Held.{source_is, source_inserts_held}
-use Rattle.source_inserts.proofs.Job.{job_inserts_lem}
-use Rattle.source_inserts.proofs.There.{source_there}
+use Rattle.insertion.specs.of_cut_lists.Buffers.{Cuts}
+use Rattle.insertion.proofs.laws_of_mesh_readers.Held.{trim_edge_held}
+use Rattle.insertion.specs.of_trim.Buffers.{Slices}
+use Rattle.insertion.specs.of_offers.declared.Offered.{Offered}
+use Rattle.insertion.specs.of_offers.declared.Offered.TheVariants.{Nothing, Window}
+use Rattle.insertion.specs.of_offers.Offers.{EdgeThere}
+use Rattle.insertion.specs.of_offers.Walks.{edge_data}
+use Rattle.insertion.proofs.laws_of_offers.Walks.{windows_in}
+use Rattle.insertion.specs.of_face_entries.Buffers.{EntryBuffers}
+use Rattle.insertion.specs.of_source_inserts.declared.Insert.{Insert}
+use Rattle.insertion.specs.of_source_inserts.declared.Insert.TheVariants.{Entry, Offer}
+use Rattle.insertion.specs.of_source_inserts.declared.Source.{Source}
+use Rattle.insertion.specs.of_offers.Each.{each_of}
+use Rattle.insertion.specs.of_source_inserts.Inserts.{source_inserts, job_inserts, IsSource, There, OfferThere}
+use Rattle.insertion.specs.of_source_inserts.Read.{job_source_at, insert_at, insert_count_at}
+use Rattle.insertion.proofs.laws_of_source_inserts.Held.{source_is, source_inserts_held}
+use Rattle.insertion.proofs.laws_of_source_inserts.Job.{job_inserts_lem}
+use Rattle.insertion.proofs.laws_of_source_inserts.There.{source_there}
 use Rattle.insertion.specs.declared.InsertCounts.{InsertCounts}
 use Rattle.insertion.specs.declared.InsertAnswer.{InsertAnswer}
 use Rattle.insertion.specs.declared.InsertAnswer.TheVariants.{Stopped, Went}

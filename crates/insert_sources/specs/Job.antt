@@ -4,13 +4,13 @@ use Rattle.layout.specs.Layout.{words_per_edge, words_per_triangle, reals_per_pi
 use Rattle.buffers.specs.Slots.{slots_of}
 use Rattle.topology.specs.Edges.{edges}
 use Rattle.windows.specs.Windows.{capacity_of}
-use Rattle.cut_lists.specs.Buffers.{Cuts}
-use Rattle.trim.specs.Buffers.{Slices}
-use Rattle.offers.specs.Walks.{edge_data}
-use Rattle.face_entries.specs.Buffers.{EntryBuffers, entry_capacity}
-use Rattle.piece_ends.specs.Directions.{piece_reals_of}
-use Rattle.wedge_refusal.specs.Held.{HoldsJob}
-use Rattle.source_inserts.specs.declared.Insert.{Insert}
+use Rattle.insertion.specs.of_cut_lists.Buffers.{Cuts}
+use Rattle.insertion.specs.of_trim.Buffers.{Slices}
+use Rattle.insertion.specs.of_offers.Walks.{edge_data}
+use Rattle.insertion.specs.of_face_entries.Buffers.{EntryBuffers, entry_capacity}
+use Rattle.insertion.specs.of_piece_ends.Directions.{piece_reals_of}
+use Rattle.insertion.specs.of_wedge_refusal.Held.{HoldsJob}
+use Rattle.insertion.specs.of_source_inserts.declared.Insert.{Insert}
 use Rattle.insertion.specs.declared.InsertCounts.{InsertCounts}
 use Rattle.insertion.specs.declared.InsertAnswer.{InsertAnswer}
 use Rattle.insertion.specs.Snapshots.{insert_snapshot, insert_end, InsertsFrom, InsertedWithin}

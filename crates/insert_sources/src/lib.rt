@@ -1,17 +1,22 @@
 // The sources of a job are inserted, piece by piece: the Rust's loop over `sources` in `compute`, with `source_point` and `source_segment`.
 ghost use Rattle.std.specs.Prelude.{◌≤◌, ◌<◌, ◌*◌, ◌≡◌, length};
 ghost use Rattle.buffers.specs.Lent.{given};
-ghost use Rattle.cut_lists.specs.Buffers.{cuts_before};
-ghost use Rattle.cut_lists.specs.Cut.{Sizes};
-ghost use Rattle.trim.specs.Buffers.{before, after};
+ghost use Rattle.insertion.specs.of_cut_lists.Buffers.{cuts_before};
+ghost use Rattle.insertion.specs.of_cut_lists.Cut.{Sizes};
+ghost use Rattle.insertion.specs.of_trim.Buffers.{before, after};
 ghost use Rattle.windows.specs.Windows.{capacity_of};
-ghost use Rattle.source_inserts.specs.Inserts.{source_inserts, job_inserts};
-ghost use Rattle.source_inserts.specs.Read.{insert_at};
+ghost use Rattle.insertion.specs.of_source_inserts.Inserts.{source_inserts, job_inserts};
+ghost use Rattle.insertion.specs.of_source_inserts.Read.{insert_at};
 ghost use Rattle.insertion.specs.Snapshots.{InsertsTo, entries_before, entries_after};
 ghost use Rattle.insert_sources.specs.Job.{insertion_slices, InsertsAll};
 
-use insertion::{InsertAnswer, InsertCounts};
-use source_inserts::Source;
+pub use insertion as of_insertion;
+use insertion::of_source_inserts::Source;
+pub use insertion::{
+    of_mesh as of_mesh, of_piece_ends as of_piece_ends, of_trim_split as of_trim_split,
+    of_wedge_refusal as of_wedge_refusal,
+};
+use insertion::{InsertAnswer, InsertCounts, of_source_inserts as source_inserts};
 
 // The i-th of what source s does, in a job of so many pieces.
 fn insert_number(

@@ -4,22 +4,25 @@
 ghost use Rattle.std.specs.Prelude.{◌≤◌, ◌<◌, ◌≡◌, length};
 
 use heap::Popped;
-use insertion::{InsertAnswer, InsertCounts};
+use insert_sources::of_insertion::{InsertAnswer, InsertCounts};
+use insert_sources::of_mesh::{Meshed, OtherCounts};
+use insert_sources::of_trim_split::Counts;
+use insert_sources::{
+    of_mesh as mesh, of_piece_ends as piece_ends, of_wedge_refusal as wedge_refusal,
+};
 use layout::{
     EDGE_HEAD, ENTRY_LINK, REALS_PER_VERTEX, REALS_PER_WINDOW, TRIANGLE_FIRST_ENTRY, WINDOW_LINK,
     WORDS_PER_EDGE, WORDS_PER_ENTRY, WORDS_PER_TRIANGLE, WORDS_PER_WINDOW,
 };
-use mesh::{Meshed, OtherCounts};
+use std::io;
+use std::rt::Files;
 use stored_jobs::{list_places, load_mesh, load_pieces};
 use stored_numbers::{all_f64, all_u32, at_most, count, double, number, record_size};
 use stored_slots::{
     SummedWalk, broken, compare_or_sum, compare_or_sum_double, section, start_at, visit_all_links,
     visit_f64, visit_u32,
 };
-use trim_split::Counts;
 use vectors::Tally;
-use std::io;
-use std::rt::Files;
 
 // The walk behind a pop, and how many events are left.
 #[derive(Clone, Copy)]

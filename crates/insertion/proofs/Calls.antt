@@ -9,19 +9,19 @@ use Rattle.buffers.specs.declared.Lack.{Lack}
 use Rattle.buffers.specs.declared.Lack.TheVariants.{Entries}
 use Rattle.buffers.specs.Lack.{lack_number}
 use Rattle.windows.specs.Windows.{capacity_of}
-use Rattle.cut_lists.specs.Buffers.{Cuts}
-use Rattle.trim_split.specs.declared.Counts.{Counts}
-use Rattle.trim_split.specs.Running as running
-use Rattle.trim.specs.Buffers.{Slices}
-use Rattle.trim.specs.Adding.{snapshot_at}
-use Rattle.trim.specs.declared.Added.{Added}
-use Rattle.trim.specs.declared.Added.TheVariants as added
-use Rattle.offers.specs.declared.Offered.{Offered}
-use Rattle.offers.specs.Offers.{OffersTo}
-use Rattle.face_entries.specs.declared.PiecePart.{PiecePart}
-use Rattle.face_entries.specs.declared.Entered.{Entered}
-use Rattle.face_entries.specs.declared.Entered.TheVariants.{Full, Count}
-use Rattle.face_entries.specs.Buffers.{EntryBuffers, entry_capacity, entering}
+use Rattle.source_inserts.specs.of_cut_lists.Buffers.{Cuts}
+use Rattle.source_inserts.specs.of_trim_split.declared.Counts.{Counts}
+use Rattle.source_inserts.specs.of_trim_split.Running as running
+use Rattle.source_inserts.specs.of_trim.Buffers.{Slices}
+use Rattle.source_inserts.specs.of_trim.Adding.{snapshot_at}
+use Rattle.source_inserts.specs.of_trim.declared.Added.{Added}
+use Rattle.source_inserts.specs.of_trim.declared.Added.TheVariants as added
+use Rattle.source_inserts.specs.of_offers.declared.Offered.{Offered}
+use Rattle.source_inserts.specs.of_offers.Offers.{OffersTo}
+use Rattle.source_inserts.specs.of_face_entries.declared.PiecePart.{PiecePart}
+use Rattle.source_inserts.specs.of_face_entries.declared.Entered.{Entered}
+use Rattle.source_inserts.specs.of_face_entries.declared.Entered.TheVariants.{Full, Count}
+use Rattle.source_inserts.specs.of_face_entries.Buffers.{EntryBuffers, entry_capacity, entering}
 use Rattle.source_inserts.specs.declared.Insert.{Insert}
 use Rattle.source_inserts.specs.declared.Insert.TheVariants.{Entry, Offer}
 use Rattle.insertion.specs.declared.InsertCounts.{InsertCounts}

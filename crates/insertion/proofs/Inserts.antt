@@ -9,24 +9,24 @@ use Rattle.layout.specs.Layout.{words_per_triangle, triangle_last_entry}
 use Rattle.buffers.specs.declared.FaceId.{FaceId}
 use Rattle.buffers.specs.declared.Lack.TheVariants.{Entries}
 use Rattle.buffers.specs.Lack.{lack_number}
-use Rattle.better.specs.Claim.{All}
-use Rattle.trim_model.specs.Model.{Candidate}
-use Rattle.trim_model.specs.Claim.{AdmittedProper}
-use Rattle.trim_model.proofs.Lists.{all_left, all_right}
-use Rattle.trim_state.specs.State.{EdgeData}
-use Rattle.trim_state.specs.State as state
-use Rattle.trim_split.specs.Running as running
-use Rattle.trim_split.specs.Running.{End, Untouched}
-use Rattle.trim_split.proofs.Untouched.{untouched_same, untouched_then}
-use Rattle.offers.specs.declared.Offered.{Offered}
-use Rattle.offers.specs.Offers.{add_all, offer_list, Offers}
-use Rattle.face_entries.specs.declared.PiecePart.{PiecePart}
-use Rattle.face_entries.specs.declared.Entered.{Entered}
-use Rattle.face_entries.specs.declared.Entered.TheVariants.{Full, Count}
-use Rattle.face_entries.specs.Buffers.{EntryBuffers, entry_capacity, entering}
-use Rattle.face_entries.specs.Entries.{FaceEntry}
-use Rattle.face_entries.proofs.Answers.{was_free, was_full, call_only}
-use Rattle.face_entries.proofs.Keeping.{enter_others}
+use Rattle.source_inserts.specs.of_better.Claim.{All}
+use Rattle.source_inserts.specs.of_trim_model.Model.{Candidate}
+use Rattle.source_inserts.specs.of_trim_model.Claim.{AdmittedProper}
+use Rattle.source_inserts.proofs.laws_of_trim_model.Lists.{all_left, all_right}
+use Rattle.source_inserts.specs.of_trim_state.State.{EdgeData}
+use Rattle.source_inserts.specs.of_trim_state.State as state
+use Rattle.source_inserts.specs.of_trim_split.Running as running
+use Rattle.source_inserts.specs.of_trim_split.Running.{End, Untouched}
+use Rattle.source_inserts.proofs.laws_of_trim_split.Untouched.{untouched_same, untouched_then}
+use Rattle.source_inserts.specs.of_offers.declared.Offered.{Offered}
+use Rattle.source_inserts.specs.of_offers.Offers.{add_all, offer_list, Offers}
+use Rattle.source_inserts.specs.of_face_entries.declared.PiecePart.{PiecePart}
+use Rattle.source_inserts.specs.of_face_entries.declared.Entered.{Entered}
+use Rattle.source_inserts.specs.of_face_entries.declared.Entered.TheVariants.{Full, Count}
+use Rattle.source_inserts.specs.of_face_entries.Buffers.{EntryBuffers, entry_capacity, entering}
+use Rattle.source_inserts.specs.of_face_entries.Entries.{FaceEntry}
+use Rattle.source_inserts.proofs.laws_of_face_entries.Answers.{was_free, was_full, call_only}
+use Rattle.source_inserts.proofs.laws_of_face_entries.Keeping.{enter_others}
 use Rattle.source_inserts.specs.declared.Insert.{Insert}
 use Rattle.source_inserts.specs.declared.Insert.TheVariants.{Entry, Offer}
 use Rattle.source_inserts.specs.Inserts.{candidates_at, candidates_in}

@@ -10,12 +10,12 @@ use lib.Ieee.{Float}
 use Rattle.buffers.specs.declared.FaceId.{FaceId}
 use Rattle.buffers.specs.declared.Lack.TheVariants.{Entries}
 use Rattle.buffers.specs.Lack.{lack_number}
-use Rattle.trim_state.specs.State as state
-use Rattle.trim_state.specs.State.{State, Result, EdgeData}
-use Rattle.offers.specs.declared.Offered.{Offered}
-use Rattle.offers.specs.Offers.{and_next, add_all, offer_list}
-use Rattle.offers.proofs.Offers.{add_append}
-use Rattle.face_entries.specs.declared.PiecePart.{PiecePart}
+use Rattle.source_inserts.specs.of_trim_state.State as state
+use Rattle.source_inserts.specs.of_trim_state.State.{State, Result, EdgeData}
+use Rattle.source_inserts.specs.of_offers.declared.Offered.{Offered}
+use Rattle.source_inserts.specs.of_offers.Offers.{and_next, add_all, offer_list}
+use Rattle.source_inserts.proofs.laws_of_offers.Offers.{add_append}
+use Rattle.source_inserts.specs.of_face_entries.declared.PiecePart.{PiecePart}
 use Rattle.source_inserts.specs.declared.Insert.{Insert}
 use Rattle.source_inserts.specs.declared.Insert.TheVariants.{Entry, Offer}
 use Rattle.source_inserts.specs.Inserts.{candidates_in}

@@ -4,10 +4,10 @@ use Rattle.std.proofs.Math.Bool.{cond}
 use mathlib.Core.List.{List, [], ◌∷◌, ◌++◌}
 use Rattle.buffers.specs.declared.Lack.TheVariants.{Entries}
 use Rattle.buffers.specs.Lack.{lack_number}
-use Rattle.trim_state.specs.State as state
-use Rattle.trim_state.specs.State.{State, Result, EdgeData}
-use Rattle.offers.specs.Offers.{add_all, offer_list}
-use Rattle.face_entries.specs.Entries.{FaceEntry}
+use Rattle.source_inserts.specs.of_trim_state.State as state
+use Rattle.source_inserts.specs.of_trim_state.State.{State, Result, EdgeData}
+use Rattle.source_inserts.specs.of_offers.Offers.{add_all, offer_list}
+use Rattle.source_inserts.specs.of_face_entries.Entries.{FaceEntry}
 use Rattle.source_inserts.specs.declared.Insert.{Insert}
 use Rattle.source_inserts.specs.declared.Insert.TheVariants.{Entry, Offer}
 

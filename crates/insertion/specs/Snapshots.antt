@@ -3,26 +3,26 @@ use Rattle.std.specs.Prelude.{ℕ, ◌+◌, ◌*◌, ◌≤◌, ◌<◌, List, [
 use Rattle.layout.specs.Layout.{words_per_triangle, triangle_first_entry, triangle_last_entry}
 use Rattle.buffers.specs.Lack.{lack_number}
 use Rattle.buffers.specs.Lent.{Lent, given, left}
-use Rattle.better.specs.Claim.{All}
-use Rattle.trim_model.specs.Model.{Candidate}
-use Rattle.trim_model.specs.Claim.{AdmittedProper}
-use Rattle.trim_state.specs.State.{EdgeData}
-use Rattle.trim_split.specs.Running.{Snapshot, Untouched}
+use Rattle.source_inserts.specs.of_better.Claim.{All}
+use Rattle.source_inserts.specs.of_trim_model.Model.{Candidate}
+use Rattle.source_inserts.specs.of_trim_model.Claim.{AdmittedProper}
+use Rattle.source_inserts.specs.of_trim_state.State.{EdgeData}
+use Rattle.source_inserts.specs.of_trim_split.Running.{Snapshot, Untouched}
 use Rattle.windows.specs.Windows.{capacity_of}
-use Rattle.cut_lists.specs.Buffers.{Cuts}
-use Rattle.trim.specs.Buffers.{Slices}
-use Rattle.trim.specs.Adding.{snapshot_at}
-use Rattle.trim.specs.declared.Added.{Added}
-use Rattle.trim.specs.declared.Added.TheVariants as added
+use Rattle.source_inserts.specs.of_cut_lists.Buffers.{Cuts}
+use Rattle.source_inserts.specs.of_trim.Buffers.{Slices}
+use Rattle.source_inserts.specs.of_trim.Adding.{snapshot_at}
+use Rattle.source_inserts.specs.of_trim.declared.Added.{Added}
+use Rattle.source_inserts.specs.of_trim.declared.Added.TheVariants as added
 use Rattle.buffers.specs.declared.FaceId.{FaceId}
 use Rattle.buffers.specs.declared.Lack.TheVariants.{Entries}
-use Rattle.offers.specs.declared.Offered.{Offered}
-use Rattle.offers.specs.Offers.{StandsFor, EdgeThere, OffersTo}
-use Rattle.face_entries.specs.declared.PiecePart.{PiecePart}
-use Rattle.face_entries.specs.declared.Entered.{Entered}
-use Rattle.face_entries.specs.declared.Entered.TheVariants.{Full, Count}
-use Rattle.face_entries.specs.Buffers.{EntryBuffers, entry_buffers, entry_capacity, entering}
-use Rattle.face_entries.specs.Entries.{HoldsOnly}
+use Rattle.source_inserts.specs.of_offers.declared.Offered.{Offered}
+use Rattle.source_inserts.specs.of_offers.Offers.{StandsFor, EdgeThere, OffersTo}
+use Rattle.source_inserts.specs.of_face_entries.declared.PiecePart.{PiecePart}
+use Rattle.source_inserts.specs.of_face_entries.declared.Entered.{Entered}
+use Rattle.source_inserts.specs.of_face_entries.declared.Entered.TheVariants.{Full, Count}
+use Rattle.source_inserts.specs.of_face_entries.Buffers.{EntryBuffers, entry_buffers, entry_capacity, entering}
+use Rattle.source_inserts.specs.of_face_entries.Entries.{HoldsOnly}
 use Rattle.source_inserts.specs.declared.Insert.{Insert}
 use Rattle.source_inserts.specs.declared.Insert.TheVariants.{Entry, Offer}
 use Rattle.insertion.specs.declared.InsertCounts.{InsertCounts}

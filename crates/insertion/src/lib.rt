@@ -1,17 +1,22 @@
 // One thing that a source does: a part of a piece is entered in a face, or a window is offered to an edge.
 ghost use Rattle.std.specs.Prelude.{◌≤◌, length};
-ghost use Rattle.cut_lists.specs.Buffers.{cuts_before, cuts_after};
-ghost use Rattle.cut_lists.specs.Cut.{Sizes};
-ghost use Rattle.trim.specs.Buffers.{before, after};
+ghost use Rattle.source_inserts.specs.of_cut_lists.Buffers.{cuts_before, cuts_after};
+ghost use Rattle.source_inserts.specs.of_cut_lists.Cut.{Sizes};
+ghost use Rattle.source_inserts.specs.of_trim.Buffers.{before, after};
 ghost use Rattle.windows.specs.Windows.{capacity_of};
 ghost use Rattle.insertion.specs.Snapshots.{EntersTo, OfferedTo, InsertsTo, entries_before, entries_after};
 
 use buffers::{FaceId, Lack};
-use face_entries::{Entered, PiecePart};
-use offers::Offered;
-use source_inserts::Insert;
-use trim::Added;
-use trim_split::Counts;
+pub use source_inserts as of_source_inserts;
+use source_inserts::of_face_entries::{Entered, PiecePart};
+use source_inserts::of_offers::Offered;
+use source_inserts::of_trim::Added;
+use source_inserts::of_trim_split::Counts;
+pub use source_inserts::{
+    of_mesh as of_mesh, of_piece_ends as of_piece_ends, of_trim_split as of_trim_split,
+    of_wedge_refusal as of_wedge_refusal,
+};
+use source_inserts::{Insert, of_face_entries as face_entries, of_offers as offers};
 
 // How many windows are made and events queued, and how many entries there are.
 #[derive(Clone, Copy)]

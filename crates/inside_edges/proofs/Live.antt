@@ -6,24 +6,24 @@ use mathlib.Core.Path.{subst}
 use lib.Dec.{T}
 use lib.Ieee.{Float, lt, le}
 use Rattle.float64.specs.Scalar.{zero64}
-use Rattle.better.specs.Claim.{All, Point}
-use Rattle.better.specs.Stretches.{better_of}
-use Rattle.better.proofs.Stretches.{better_separates}
+use Rattle.source_inserts.specs.of_better.Claim.{All, Point}
+use Rattle.source_inserts.specs.of_better.Stretches.{better_of}
+use Rattle.spread_offers.proofs.laws_of_better.Stretches.{better_separates}
 use Rattle.float_laws.proofs.Order.{zero_finite}
 use Rattle.float_bounds.specs.Within.{Inside}
 use Rattle.float_bounds.proofs.Ends.{start_zero}
 use Rattle.source.specs.Distance.{lowest_of}
-use Rattle.trim_model.specs.Intervals.{width, tiny_of, wide_of}
-use Rattle.trim_model.specs.Windows.{Window, fresh, sorted}
-use Rattle.trim_model.specs.Model.{Candidate, as_window, admits}
-use Rattle.trim_model.specs.Claim.{Proper}
-use Rattle.trim_model.specs.Add.{before, run, behind, start, visits, add_to}
-use Rattle.trim_model.proofs.Ranks.{rank, rank_le, le_yes, Nonneg, wide_no, tiny_nonneg}
-use Rattle.trim_model.proofs.Model.{not_or}
-use Rattle.trim_model.proofs.Lists.{all_map, all_map2, all_append, all_left, all_right}
-use Rattle.trim_model.proofs.Windows.{parted, sorted_all, Wide, FineWindow}
-use Rattle.trim_model.proofs.Order.{walked_ok, news_fine}
-use Rattle.trim_model.proofs.Demand3.{stretches}
+use Rattle.source_inserts.specs.of_trim_model.Intervals.{width, tiny_of, wide_of}
+use Rattle.source_inserts.specs.of_trim_model.Windows.{Window, fresh, sorted}
+use Rattle.source_inserts.specs.of_trim_model.Model.{Candidate, as_window, admits}
+use Rattle.source_inserts.specs.of_trim_model.Claim.{Proper}
+use Rattle.source_inserts.specs.of_trim_model.Add.{before, run, behind, start, visits, add_to}
+use Rattle.source_inserts.proofs.laws_of_trim_model.Ranks.{rank, rank_le, le_yes, Nonneg, wide_no, tiny_nonneg}
+use Rattle.source_inserts.proofs.laws_of_trim_model.Model.{not_or}
+use Rattle.source_inserts.proofs.laws_of_trim_model.Lists.{all_map, all_map2, all_append, all_left, all_right}
+use Rattle.source_inserts.proofs.laws_of_trim_model.Windows.{parted, sorted_all, Wide, FineWindow}
+use Rattle.source_inserts.proofs.laws_of_trim_model.Order.{walked_ok, news_fine}
+use Rattle.source_inserts.proofs.laws_of_trim_model.Demand3.{stretches}
 use Rattle.inside_edges.specs.Inside.{OnLength}
 
 -- m and M are ranks of doubles, below and above

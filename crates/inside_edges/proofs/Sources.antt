@@ -7,26 +7,26 @@ use mathlib.Core.Path.{refl}
 use lib.ListN.{length, get_or}
 use lib.Ieee.{Float}
 use Rattle.vec3.specs.declared.Vec3.{Vec3}
-use Rattle.better.specs.Claim.{All}
+use Rattle.source_inserts.specs.of_better.Claim.{All}
 use Rattle.job_checks.specs.Sound.{ValidTriangles}
 use Rattle.topology.specs.Edges.{no_face, edges, tri_edge, other}
 use Rattle.topology.specs.Frames.{origin, len, xhat, coords_x, coords_y}
 use Rattle.topology.proofs.Edges.{tri_edge_there}
 use Rattle.topology.proofs.Checked.{inside}
-use Rattle.mesh_laws.specs.Bounds.{EdgeLength}
-use Rattle.source_windows.specs.declared.Normal.{Normal}
-use Rattle.source_windows.specs.declared.CandidateRange.{CandidateRange}
-use Rattle.source_windows.specs.declared.CandidateRange.TheVariants.{Nothing as NoRange, Window as Range}
-use Rattle.source_windows.specs.Wedge.{whole_of, lies_on, point_window_of}
-use Rattle.source_windows.specs.Segment.{in_frame_of, segment_window_of}
-use Rattle.source_windows.specs.Ends.{EndsOn}
-use Rattle.source_windows.proofs.Ends.{whole_on, wedge_on, segment_window_on, point_window_on, ends_of}
-use Rattle.trim_model.specs.Model.{Candidate}
-use Rattle.candidate_laws.proofs.Admitted.{length_point, admitted_inside}
-use Rattle.offers.specs.Offers.{offer_list}
-use Rattle.source_offers.specs.Offering.{offered, segment_on, point_on, segment_offer, point_offer}
-use Rattle.source_offers.proofs.Proper.{from_zero}
-use Rattle.point_wedge.specs.Wedge.{directions_in, bounds_in}
+use Rattle.spread_offers.specs.of_mesh_laws.Bounds.{EdgeLength}
+use Rattle.spread_offers.specs.of_source_windows.declared.Normal.{Normal}
+use Rattle.spread_offers.specs.of_source_windows.declared.CandidateRange.{CandidateRange}
+use Rattle.spread_offers.specs.of_source_windows.declared.CandidateRange.TheVariants.{Nothing as NoRange, Window as Range}
+use Rattle.spread_offers.specs.of_source_windows.Wedge.{whole_of, lies_on, point_window_of}
+use Rattle.spread_offers.specs.of_source_windows.Segment.{in_frame_of, segment_window_of}
+use Rattle.spread_offers.specs.of_source_windows.Ends.{EndsOn}
+use Rattle.spread_offers.proofs.laws_of_source_windows.Ends.{whole_on, wedge_on, segment_window_on, point_window_on, ends_of}
+use Rattle.source_inserts.specs.of_trim_model.Model.{Candidate}
+use Rattle.spread_offers.proofs.laws_of_candidate_laws.Admitted.{length_point, admitted_inside}
+use Rattle.spread_offers.specs.of_offers.Offers.{offer_list}
+use Rattle.spread_offers.specs.of_source_offers.Offering.{offered, segment_on, point_on, segment_offer, point_offer}
+use Rattle.spread_offers.proofs.laws_of_source_offers.Proper.{from_zero}
+use Rattle.source_inserts.specs.of_point_wedge.Wedge.{directions_in, bounds_in}
 use Rattle.source_inserts.specs.declared.Insert.{Insert}
 use Rattle.source_inserts.specs.declared.Insert.TheVariants.{Offer}
 use Rattle.source_inserts.specs.Inserts.{job_inserts, candidates_at, candidates_in}

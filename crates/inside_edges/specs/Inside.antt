@@ -3,8 +3,8 @@ use Rattle.std.specs.Prelude.{ℕ, T, Float}
 use Rattle.std.specs.Float.Ieee.{le}
 use Rattle.float64.specs.Scalar.{zero64}
 use Rattle.float_bounds.specs.Within.{Inside}
-use Rattle.trim_model.specs.Windows.{Window}
-use Rattle.trim_model.specs.Model.{Candidate, admits}
+use Rattle.source_inserts.specs.of_trim_model.Windows.{Window}
+use Rattle.source_inserts.specs.of_trim_model.Model.{Candidate, admits}
 
 -- asked of a candidate only if it is admitted
 abbrev pub AdmittedInside : Float → (ℕ → Float) → Candidate → Type 0

@@ -9,11 +9,11 @@ use lib.Ieee.{Float}
 use Rattle.source.specs.declared.Win.{Win}
 use Rattle.chains.specs.Chains.{Links, link_in, link_at, Path, AllBelong}
 use Rattle.chains.proofs.Turns.{link_in_lem}
-use Rattle.better.specs.Claim.{All}
-use Rattle.trim_model.specs.Windows.{Window}
-use Rattle.trim_state.specs.Trace.{win_of}
-use Rattle.live_windows.specs.Live.{nums, Alive, Stands}
-use Rattle.live_windows.proofs.Places.{head_path, short}
+use Rattle.pop.specs.of_better.Claim.{All}
+use Rattle.pop.specs.of_trim_model.Windows.{Window}
+use Rattle.pop.specs.of_trim_state.Trace.{win_of}
+use Rattle.pop.specs.of_live_windows.Live.{nums, Alive, Stands}
+use Rattle.pop.proofs.laws_of_live_windows.Places.{head_path, short}
 use Rattle.last_pass.specs.Buffers.{from_link, chain_behind, wins_on}
 
 module _ (made : ℕ) (b : Links) (e : ℕ) where

@@ -14,16 +14,16 @@ use Rattle.source.specs.Distance.{lowest_of}
 use Rattle.windows.specs.declared.WindowRecord.{WindowRecord}
 use Rattle.windows.specs.Windows.{window_at, trimmed, trimmed_win}
 use Rattle.chains.specs.Chains.{links, AllBelong}
-use Rattle.better.specs.Claim.{All}
-use Rattle.trim_model.specs.Windows.{Window, insert, sorted}
-use Rattle.trim_model.specs.Model.{Candidate}
-use Rattle.trim_model.proofs.Lists.{all_map}
-use Rattle.trim_model.proofs.Windows.{ordered_from, sorted_all}
-use Rattle.trim_model.proofs.Insertion.{Start, sorted_self, ordered_differ}
-use Rattle.trim_state.specs.Follows.{Follows}
-use Rattle.trim_state.proofs.Follows.{follows_tidy}
-use Rattle.live_windows.specs.Live.{nums, Alive, HoldsWindows}
-use Rattle.live_windows.proofs.Stored.{length_wins}
+use Rattle.pop.specs.of_better.Claim.{All}
+use Rattle.pop.specs.of_trim_model.Windows.{Window, insert, sorted}
+use Rattle.pop.specs.of_trim_model.Model.{Candidate}
+use Rattle.pop.proofs.laws_of_trim_model.Lists.{all_map}
+use Rattle.pop.proofs.laws_of_trim_model.Windows.{ordered_from, sorted_all}
+use Rattle.pop.proofs.laws_of_trim_model.Insertion.{Start, sorted_self, ordered_differ}
+use Rattle.pop.specs.of_trim_state.Follows.{Follows}
+use Rattle.pop.proofs.laws_of_trim_state.Follows.{follows_tidy}
+use Rattle.pop.specs.of_live_windows.Live.{nums, Alive, HoldsWindows}
+use Rattle.pop.proofs.laws_of_live_windows.Stored.{length_wins}
 use Rattle.pop.proofs.Pending.{window_is}
 use Rattle.last_pass.specs.Finished.{lows_set, retained, resorted, LowIs}
 

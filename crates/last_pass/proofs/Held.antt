@@ -15,10 +15,10 @@ use Rattle.windows.specs.declared.Edge.{Edge}
 use Rattle.windows.specs.declared.WindowRecord.{WindowRecord}
 use Rattle.chains.specs.Chains.{Links}
 use Rattle.mesh_readers.specs.Readers.{trim_edge_at}
-use Rattle.trim_model.specs.Windows.{Window}
-use Rattle.trim_state.specs.Trace.{win_of}
-use Rattle.trim_state.specs.State.{EdgeData, edge_in}
-use Rattle.live_windows.specs.Live.{HoldsWindows}
+use Rattle.pop.specs.of_trim_model.Windows.{Window}
+use Rattle.pop.specs.of_trim_state.Trace.{win_of}
+use Rattle.pop.specs.of_trim_state.State.{EdgeData, edge_in}
+use Rattle.pop.specs.of_live_windows.Live.{HoldsWindows}
 use Rattle.last_pass.specs.Lowered.{lowered, lowered_by, lowered_edge, lowered_all}
 use Rattle.last_pass.specs.Buffers.{lowered_at, lowered_all_at}
 use Rattle.last_pass.proofs.Chains.{stands_chain}

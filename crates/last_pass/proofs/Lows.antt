@@ -9,20 +9,20 @@ use Rattle.float64.specs.Scalar.{zero64}
 use Rattle.float64.specs.Notation.{◌⊖◌, ◌⊗◌}
 use Rattle.source.specs.declared.Src.{Src}
 use Rattle.source.specs.Distance.{lowest_of, eval_of}
-use Rattle.better.specs.Claim.{All}
-use Rattle.better.specs.Points.{pts_of, walk_of}
-use Rattle.better.specs.Stretches.{Interval, better_of}
+use Rattle.pop.specs.of_better.Claim.{All}
+use Rattle.pop.specs.of_better.Points.{pts_of, walk_of}
+use Rattle.pop.specs.of_better.Stretches.{Interval, better_of}
 use Rattle.windows.specs.declared.Edge.{Edge}
 use Rattle.windows.specs.declared.WindowRecord.{WindowRecord}
 use Rattle.windows.specs.Windows.{trimmed, trimmed_win, reflagged, relinked, dead, adjust}
 use Rattle.actions.specs.Actions.{Action, list, make, trim, kill, push, touch, wins_with, wins_after}
-use Rattle.trim_model.specs.Intervals.{width, tiny_of, push_if, next, pieces, wide_of}
-use Rattle.trim_model.specs.Windows.{Window, part}
-use Rattle.trim_model.specs.Add.{Walk, before, run, behind, shared_lo, shared_hi, start, visit, visits}
-use Rattle.trim_model.proofs.Ranks.{by_cases}
-use Rattle.trim_model.proofs.Lists.{all_append, all_left, all_right}
-use Rattle.trim_model.proofs.Windows.{parted}
-use Rattle.trim_state.specs.Trace.{window_event, win_of, making, makings, splitting, losing, visiting, visitings, near, touching, keeping, adding}
+use Rattle.pop.specs.of_trim_model.Intervals.{width, tiny_of, push_if, next, pieces, wide_of}
+use Rattle.pop.specs.of_trim_model.Windows.{Window, part}
+use Rattle.pop.specs.of_trim_model.Add.{Walk, before, run, behind, shared_lo, shared_hi, start, visit, visits}
+use Rattle.pop.proofs.laws_of_trim_model.Ranks.{by_cases}
+use Rattle.pop.proofs.laws_of_trim_model.Lists.{all_append, all_left, all_right}
+use Rattle.pop.proofs.laws_of_trim_model.Windows.{parted}
+use Rattle.pop.specs.of_trim_state.Trace.{window_event, win_of, making, makings, splitting, losing, visiting, visitings, near, touching, keeping, adding}
 use Rattle.last_pass.specs.Finished.{LowIs, sources_of, Sourced}
 use Rattle.last_pass.proofs.Sources.{made_by, sources_with}
 

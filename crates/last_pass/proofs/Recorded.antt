@@ -10,8 +10,8 @@ use lib.Ieee.{Float}
 use Rattle.source.specs.declared.Src.{Src}
 use Rattle.source.specs.declared.Win.{Win}
 use Rattle.source.specs.Distance.{lowest_of}
-use Rattle.better.specs.Claim.{All}
-use Rattle.better.specs.Stretches.{better_of}
+use Rattle.pop.specs.of_better.Claim.{All}
+use Rattle.pop.specs.of_better.Stretches.{better_of}
 use Rattle.heap.specs.declared.Item.{Item}
 use Rattle.heap.specs.declared.Item.TheVariants.{Window as Item-as-Window, Vertex}
 use Rattle.heap.specs.declared.Popped.{Popped}
@@ -20,16 +20,16 @@ use Rattle.heap.specs.Queue.{Queue}
 use Rattle.windows.specs.declared.WindowRecord.{WindowRecord}
 use Rattle.windows.specs.Windows.{reflagged, unqueued_record, adjust}
 use Rattle.actions.specs.Actions.{Stock, stock, wins_after, play}
-use Rattle.trim_model.specs.Intervals.{tiny_of}
-use Rattle.trim_model.specs.Windows.{Window, unqueued}
-use Rattle.trim_model.specs.Add.{add_to}
-use Rattle.trim_model.specs.Model.{Candidate, as_window, admits}
-use Rattle.trim_model.proofs.Ranks.{by_cases}
-use Rattle.trim_state.specs.Trace.{adding}
-use Rattle.trim_state.specs.State as state
-use Rattle.trim_state.specs.State.{State, EdgeData, edge_in, put, admit_of, add_of}
-use Rattle.trim_state.proofs.Made.{After, finish_after}
-use Rattle.live_windows.specs.Live.{unqueued_in}
+use Rattle.pop.specs.of_trim_model.Intervals.{tiny_of}
+use Rattle.pop.specs.of_trim_model.Windows.{Window, unqueued}
+use Rattle.pop.specs.of_trim_model.Add.{add_to}
+use Rattle.pop.specs.of_trim_model.Model.{Candidate, as_window, admits}
+use Rattle.pop.proofs.laws_of_trim_model.Ranks.{by_cases}
+use Rattle.pop.specs.of_trim_state.Trace.{adding}
+use Rattle.pop.specs.of_trim_state.State as state
+use Rattle.pop.specs.of_trim_state.State.{State, EdgeData, edge_in, put, admit_of, add_of}
+use Rattle.pop.proofs.laws_of_trim_state.Made.{After, finish_after}
+use Rattle.pop.specs.of_live_windows.Live.{unqueued_in}
 use Rattle.pop.specs.State.{claimed_win, wins_claimed, live_claimed, after_pop}
 use Rattle.last_pass.specs.Finished.{LowIs, sources_of, Sourced, Recorded}
 use Rattle.last_pass.proofs.Sources.{made_by_all, sources_adjust, sources_after, length_sources, count_play, grow_all, add_sourced}

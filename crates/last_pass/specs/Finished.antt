@@ -8,9 +8,9 @@ use Rattle.source.specs.declared.Src.{Src}
 use Rattle.source.specs.Distance.{lowest_of}
 use Rattle.windows.specs.declared.WindowRecord.{WindowRecord}
 use Rattle.windows.specs.Windows.{trimmed}
-use Rattle.better.specs.Claim.{All}
-use Rattle.trim_model.specs.Windows.{Window}
-use Rattle.trim_state.specs.State.{State}
+use Rattle.pop.specs.of_better.Claim.{All}
+use Rattle.pop.specs.of_trim_model.Windows.{Window}
+use Rattle.pop.specs.of_trim_state.State.{State}
 
 -- `for w in &mut field.wins { w.low = w.src.lowest(w.b0, w.b1); }`, dead ones too
 abbrev pub low_set : WindowRecord → WindowRecord

@@ -5,9 +5,9 @@ use Rattle.source.specs.declared.Win.{Win}
 use Rattle.source.specs.Distance.{eval_of}
 use Rattle.windows.specs.declared.Edge.{Edge}
 use Rattle.actions.specs.Actions.{distance_of, with_distance}
-use Rattle.trim_model.specs.Windows.{Window}
-use Rattle.trim_state.specs.Trace.{win_of}
-use Rattle.trim_state.specs.State.{EdgeData, edge_in}
+use Rattle.pop.specs.of_trim_model.Windows.{Window}
+use Rattle.pop.specs.of_trim_state.Trace.{win_of}
+use Rattle.pop.specs.of_trim_state.State.{EdgeData, edge_in}
 
 -- `vertex[v] = vertex[v].min(d)`
 abbrev pub lowered : List Float → ℕ → Float → List Float

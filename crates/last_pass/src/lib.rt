@@ -11,7 +11,9 @@ ghost use Rattle.last_pass.specs.Lowered.{lowered, lowered_by, lowered_edge};
 ghost use Rattle.last_pass.specs.Buffers.{chain_behind, wins_on, lowered_all_at, lowered_from};
 
 use buffers::{EdgeId, VertexId, WindowId, write_f64};
+pub use distance_tests::of_face_distance as of_face_distance;
 use layout::{REALS_PER_VERTEX, VERTEX_DISTANCE};
+pub use mesh_readers as of_mesh_readers;
 use source::Win;
 use windows::Edge;
 

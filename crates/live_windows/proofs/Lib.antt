@@ -1,3 +1,4 @@
+pub use Rattle.trim_state.proofs as laws_of_trim_state
 pub mod Places
 pub mod Stored
 pub mod Walks

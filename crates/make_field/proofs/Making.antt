@@ -10,27 +10,27 @@ use Rattle.buffers.specs.Slots.{slots_of}
 use Rattle.windows.specs.Windows.{capacity_of}
 use Rattle.job_checks.specs.Job.{Job, job}
 use Rattle.topology.specs.Edges.{edges}
-use Rattle.mesh.specs.declared.Meshed.{Meshed}
-use Rattle.mesh.specs.Topology.{MeshBuffers, mesh_buffers}
-use Rattle.mesh.specs.Answer.{counts_in, mesh_refusal, Answered}
-use Rattle.cut_lists.specs.Buffers.{Cuts}
-use Rattle.trim.specs.Buffers.{Slices}
-use Rattle.live_windows.proofs.Stored.{length_wins}
-use Rattle.cut_slots.specs.Slots.{cut_count, cut_to}
-use Rattle.face_entries.specs.Buffers.{EntryBuffers}
-use Rattle.piece_ends.specs.Table.{piece_words_of}
-use Rattle.piece_ends.specs.Directions.{piece_reals_of}
-use Rattle.begin.specs.Begin.{WorkSlices, work_slices}
-use Rattle.insertion.specs.declared.InsertCounts.{InsertCounts}
-use Rattle.run_steps.specs.declared.FieldWork.{FieldWork}
-use Rattle.run_steps.specs.declared.FieldWork.TheVariants.{Refused, Done}
-use Rattle.run_steps.specs.Run.{refused, field}
-use Rattle.run_steps.specs.Contract.{WorkWithin}
-use Rattle.field_work.specs.Contract.{WorksTo, JobWorked, FieldDone}
-use Rattle.finish.specs.Finish.{FinishesTo}
-use Rattle.finish.specs.Contents.{FieldBuffers, FieldContents, WorkLengths, after_finish}
+use Rattle.compute_spec.specs.of_mesh.declared.Meshed.{Meshed}
+use Rattle.compute_spec.specs.of_mesh.Topology.{MeshBuffers, mesh_buffers}
+use Rattle.compute_spec.specs.of_mesh.Answer.{counts_in, mesh_refusal, Answered}
+use Rattle.compute_spec.specs.of_cut_lists.Buffers.{Cuts}
+use Rattle.finish_work.specs.of_trim.Buffers.{Slices}
+use Rattle.finish_work.proofs.laws_of_live_windows.Stored.{length_wins}
+use Rattle.compute_spec.specs.of_cut_slots.Slots.{cut_count, cut_to}
+use Rattle.compute_spec.specs.of_face_entries.Buffers.{EntryBuffers}
+use Rattle.compute_spec.specs.of_piece_ends.Table.{piece_words_of}
+use Rattle.compute_spec.specs.of_piece_ends.Directions.{piece_reals_of}
+use Rattle.compute_spec.specs.of_begin.Begin.{WorkSlices, work_slices}
+use Rattle.compute_spec.specs.of_insertion.declared.InsertCounts.{InsertCounts}
+use Rattle.compute_spec.specs.of_run_steps.declared.FieldWork.{FieldWork}
+use Rattle.compute_spec.specs.of_run_steps.declared.FieldWork.TheVariants.{Refused, Done}
+use Rattle.compute_spec.specs.of_run_steps.Run.{refused, field}
+use Rattle.compute_spec.specs.of_run_steps.Contract.{WorkWithin}
+use Rattle.compute_spec.specs.of_field_work.Contract.{WorksTo, JobWorked, FieldDone}
+use Rattle.compute_spec.specs.of_finish.Finish.{FinishesTo}
+use Rattle.compute_spec.specs.of_finish.Contents.{FieldBuffers, FieldContents, WorkLengths, after_finish}
 use Rattle.finish_work.specs.FinishWork.{FinishesWork}
-use Rattle.offers.specs.Walks.{edge_data}
+use Rattle.compute_spec.specs.of_offers.Walks.{edge_data}
 use Rattle.compute_spec.specs.Compute.{other_counts, field_buffers, LeavesByHeap}
 use Rattle.compute_spec.proofs.Refusals.{built_is}
 use Rattle.compute_spec.proofs.Contents.{after_work, field_left, computed}

@@ -4,18 +4,18 @@ use Rattle.layout.specs.Layout.{words_per_piece, words_per_edge}
 use Rattle.buffers.specs.Slots.{slots_of}
 use Rattle.job_checks.specs.Job.{Job, job}
 use Rattle.topology.specs.Edges.{edges}
-use Rattle.mesh.specs.declared.Meshed.{Meshed}
-use Rattle.mesh.specs.Topology.{MeshBuffers}
-use Rattle.mesh.specs.Answer.{counts_in, mesh_refusal, Answered}
-use Rattle.cut_lists.specs.Buffers.{Cuts}
-use Rattle.begin.specs.Begin.{WorkSlices}
-use Rattle.zero_buffers.specs.ZeroIf.{zero_words}
-use Rattle.insertion.specs.declared.InsertCounts.{InsertCounts}
-use Rattle.insertion.specs.Insertion.{Inserted}
-use Rattle.run_steps.specs.declared.FieldWork.{FieldWork}
-use Rattle.run_steps.specs.declared.FieldWork.TheVariants.{Refused, Done}
-use Rattle.run_steps.specs.Run.{refused, field}
-use Rattle.finish.specs.Contents.{FieldBuffers}
+use Rattle.compute_spec.specs.of_mesh.declared.Meshed.{Meshed}
+use Rattle.compute_spec.specs.of_mesh.Topology.{MeshBuffers}
+use Rattle.compute_spec.specs.of_mesh.Answer.{counts_in, mesh_refusal, Answered}
+use Rattle.compute_spec.specs.of_cut_lists.Buffers.{Cuts}
+use Rattle.compute_spec.specs.of_begin.Begin.{WorkSlices}
+use Rattle.compute_spec.specs.of_zero_buffers.ZeroIf.{zero_words}
+use Rattle.compute_spec.specs.of_insertion.declared.InsertCounts.{InsertCounts}
+use Rattle.compute_spec.specs.of_insertion.Insertion.{Inserted}
+use Rattle.compute_spec.specs.of_run_steps.declared.FieldWork.{FieldWork}
+use Rattle.compute_spec.specs.of_run_steps.declared.FieldWork.TheVariants.{Refused, Done}
+use Rattle.compute_spec.specs.of_run_steps.Run.{refused, field}
+use Rattle.compute_spec.specs.of_finish.Contents.{FieldBuffers}
 use Rattle.compute_spec.specs.Compute.{other_counts, field_buffers, compute_by_heap, LeavesByHeap}
 
 -- where the mesh was not refused, the lengths are those of a job within its bounds, and so many edges have slots

@@ -1,11 +1,13 @@
 // A job whose mesh was answered: its work, over as many slots as all four cut buffers have, and the finish of its field. After a refusal nothing is done.
 ghost use Rattle.buffers.specs.Lent.{given, left};
-ghost use Rattle.cut_lists.specs.Buffers.{cuts_before, cuts_after};
-ghost use Rattle.mesh.specs.Topology.{mesh_buffers};
-ghost use Rattle.begin.specs.Begin.{work_before, work_after};
+ghost use Rattle.compute_spec.specs.of_cut_lists.Buffers.{cuts_before, cuts_after};
+ghost use Rattle.compute_spec.specs.of_mesh.Topology.{mesh_buffers};
+ghost use Rattle.compute_spec.specs.of_begin.Begin.{work_before, work_after};
 ghost use Rattle.make_field.specs.Contract.{WorkFits, MakesField};
 
-use run_steps::FieldWork;
+pub use finish_work::of_run_steps as of_run_steps;
+use finish_work::of_run_steps::FieldWork;
+use work_parts::of_cut_slots as cut_slots;
 
 // `number` is the refusal of the mesh, or 0 where it has so many edges.
 pub fn make_field(

@@ -1,3 +1,4 @@
+pub use Rattle.frames.specs as of_frames
 pub mod Topology
 pub mod Answer
 pub mod Held

@@ -9,6 +9,7 @@ ghost use Rattle.mesh.specs.Answer.{meshed_number, counts_of, Answered};
 
 use buffers::{zero_f64, zero_u32};
 use edge_table::Table;
+pub use frames as of_frames;
 use job_checks::{BufferCounts, Checked};
 use layout::{
     REALS_PER_EDGE, REALS_PER_TRIANGLE, WORDS_PER_EDGE, WORDS_PER_ROUND, WORDS_PER_TRIANGLE,

@@ -13,9 +13,9 @@ use Rattle.windows.specs.declared.Edge.{Edge}
 use Rattle.windows.specs.declared.NewWindow.{NewWindow}
 use Rattle.windows.specs.Windows.{capacity_of}
 use Rattle.mesh_readers.specs.Readers.{trim_edge_at}
-use Rattle.cut_lists.specs.Buffers.{Cuts}
-use Rattle.trim_split.specs.declared.Counts.{Counts}
-use Rattle.trim_split.specs.Running.{Ready}
+use Rattle.trim.specs.of_cut_lists.Buffers.{Cuts}
+use Rattle.trim.specs.of_trim_split.declared.Counts.{Counts}
+use Rattle.trim.specs.of_trim_split.Running.{Ready}
 use Rattle.trim.specs.Buffers.{Slices}
 use Rattle.trim.specs.Adding.{snapshot_at, added_end_in, AddsTo}
 use Rattle.trim.specs.declared.Added.{Added}

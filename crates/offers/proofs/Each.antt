@@ -4,8 +4,8 @@ use native.Mathlib.Nat.{mul-zero, mul-suc}
 use native.Mathlib.Omega.{arith}
 use mathlib.Core.List.{List, ◌++◌, append-nil, append_assoc}
 use mathlib.Core.Path.{◌≡◌, refl, sym, ap, ◌∙◌}
-use Rattle.better.specs.Claim.{All}
-use Rattle.trim_model.proofs.Lists.{all_append}
+use Rattle.trim.specs.of_better.Claim.{All}
+use Rattle.trim.proofs.laws_of_trim_model.Lists.{all_append}
 use Rattle.offers.specs.Each.{each_of}
 
 module _ {A : Type 0} where

@@ -9,11 +9,11 @@ use lib.ListN.{length}
 use lib.Ieee.{Float}
 use Rattle.buffers.specs.Lack.{lack_number}
 use Rattle.buffers.specs.declared.Lack.{Lack}
-use Rattle.cut_lists.specs.Buffers.{Cuts}
-use Rattle.trim_model.specs.Model.{Candidate}
-use Rattle.trim_split.specs.declared.Counts.{Counts}
-use Rattle.trim_split.specs.Running as running
-use Rattle.trim_split.specs.Running.{Snapshot, End}
+use Rattle.trim.specs.of_cut_lists.Buffers.{Cuts}
+use Rattle.trim.specs.of_trim_model.Model.{Candidate}
+use Rattle.trim.specs.of_trim_split.declared.Counts.{Counts}
+use Rattle.trim.specs.of_trim_split.Running as running
+use Rattle.trim.specs.of_trim_split.Running.{Snapshot, End}
 use Rattle.trim.specs.Buffers.{Slices}
 use Rattle.trim.specs.Adding.{snapshot_at, added_end_in}
 use Rattle.trim.specs.declared.Added.{Added}

@@ -5,15 +5,15 @@ use mathlib.Core.Path.{◌≡◌, refl, sym, ap, ◌∙◌, subst}
 use lib.Ieee.{Float}
 use Rattle.windows.specs.declared.Edge.{Edge}
 use Rattle.windows.specs.declared.NewWindow.{NewWindow}
-use Rattle.trim_model.specs.Model.{Candidate}
-use Rattle.trim_model.specs.Claim.{AdmittedProper}
-use Rattle.trim_model.proofs.Lists.{all_left, all_right}
-use Rattle.trim_state.specs.State.{State, Result, stopped, went, EdgeData, edge_in, add_of}
-use Rattle.trim_state.specs.Follows.{Follows}
-use Rattle.trim_state.proofs.Made.{follows_step}
-use Rattle.trim_split.specs.Running as running
-use Rattle.trim_split.specs.Running.{Snapshot, stock_of, End, Untouched}
-use Rattle.trim_split.proofs.Untouched.{untouched_same, untouched_then, untouched_wider}
+use Rattle.trim.specs.of_trim_model.Model.{Candidate}
+use Rattle.trim.specs.of_trim_model.Claim.{AdmittedProper}
+use Rattle.trim.proofs.laws_of_trim_model.Lists.{all_left, all_right}
+use Rattle.trim.specs.of_trim_state.State.{State, Result, stopped, went, EdgeData, edge_in, add_of}
+use Rattle.trim.specs.of_trim_state.Follows.{Follows}
+use Rattle.trim.proofs.laws_of_trim_state.Made.{follows_step}
+use Rattle.trim.specs.of_trim_split.Running as running
+use Rattle.trim.specs.of_trim_split.Running.{Snapshot, stock_of, End, Untouched}
+use Rattle.trim.proofs.laws_of_trim_split.Untouched.{untouched_same, untouched_then, untouched_wider}
 use Rattle.trim.specs.Adding.{candidate_of, Given, AddsFrom}
 use Rattle.offers.specs.Offers.{and_next, add_all, StandsFor, Offers}
 

@@ -13,9 +13,9 @@ use Rattle.windows.specs.Windows.{capacity_of}
 use Rattle.mesh_readers.specs.Readers.{trim_edge_at}
 use Rattle.mesh_readers.proofs.Held.{trim_edge_held}
 use Rattle.mesh_readers.proofs.Mesh.{mesh_stays}
-use Rattle.cut_lists.specs.Buffers.{Cuts}
-use Rattle.cut_lists.specs.Cut.{Sizes}
-use Rattle.trim_state.specs.State.{edge_in}
+use Rattle.trim.specs.of_cut_lists.Buffers.{Cuts}
+use Rattle.trim.specs.of_cut_lists.Cut.{Sizes}
+use Rattle.trim.specs.of_trim_state.State.{edge_in}
 use Rattle.trim.specs.Buffers.{Slices}
 use Rattle.offers.specs.Walks.{MeshIn, edge_data}
 

@@ -4,19 +4,19 @@ use Rattle.std.specs.Prelude.{ℕ, ◌≤◌, ◌<◌, not, ◌⊎◌, T, ◌≡
 use mathlib.Core.List.{List, [], ◌∷◌, ◌++◌}
 use Rattle.layout.specs.Layout.{words_per_edge}
 use Rattle.buffers.specs.Slots.{slots_of}
-use Rattle.better.specs.Claim.{All}
-use Rattle.frames.specs.Stored.{length_at}
-use Rattle.trim_model.specs.Model.{Candidate, admits}
-use Rattle.trim_model.specs.Claim.{AdmittedProper}
-use Rattle.trim_state.specs.State.{State, Result, stopped, went, EdgeData, edge_in, add_of}
-use Rattle.trim_state.specs.Follows.{Follows}
-use Rattle.live_windows.specs.Live.{HoldsWindows}
-use Rattle.trim_split.specs.Running as running
-use Rattle.trim_split.specs.Running.{Snapshot, stock_of, End, Untouched}
-use Rattle.trim_split.specs.declared.Counts.{Counts}
+use Rattle.trim.specs.of_better.Claim.{All}
+use Rattle.mesh_readers.specs.of_frames.Stored.{length_at}
+use Rattle.trim.specs.of_trim_model.Model.{Candidate, admits}
+use Rattle.trim.specs.of_trim_model.Claim.{AdmittedProper}
+use Rattle.trim.specs.of_trim_state.State.{State, Result, stopped, went, EdgeData, edge_in, add_of}
+use Rattle.trim.specs.of_trim_state.Follows.{Follows}
+use Rattle.trim.specs.of_live_windows.Live.{HoldsWindows}
+use Rattle.trim.specs.of_trim_split.Running as running
+use Rattle.trim.specs.of_trim_split.Running.{Snapshot, stock_of, End, Untouched}
+use Rattle.trim.specs.of_trim_split.declared.Counts.{Counts}
 use Rattle.windows.specs.Windows.{capacity_of}
 use Rattle.mesh_readers.specs.Readers.{trim_edge_at}
-use Rattle.cut_lists.specs.Buffers.{Cuts}
+use Rattle.trim.specs.of_cut_lists.Buffers.{Cuts}
 use Rattle.trim.specs.Buffers.{Slices}
 use Rattle.trim.specs.Adding.{candidate_of, AddedWithin, snapshot_at, added_end_in, Unchanged}
 use Rattle.trim.specs.declared.Added.{Added}

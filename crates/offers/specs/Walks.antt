@@ -6,10 +6,10 @@ use Rattle.topology.specs.Edges.{edges, no_edge}
 use Rattle.topology.specs.Frames.{len}
 use Rattle.mesh_readers.specs.Held.{HoldsMesh}
 use Rattle.windows.specs.Windows.{capacity_of}
-use Rattle.cut_lists.specs.Buffers.{Cuts}
-use Rattle.trim_model.specs.Model.{Candidate}
-use Rattle.trim_state.specs.State.{EdgeData}
-use Rattle.trim_split.specs.declared.Counts.{Counts}
+use Rattle.trim.specs.of_cut_lists.Buffers.{Cuts}
+use Rattle.trim.specs.of_trim_model.Model.{Candidate}
+use Rattle.trim.specs.of_trim_state.State.{EdgeData}
+use Rattle.trim.specs.of_trim_split.declared.Counts.{Counts}
 use Rattle.trim.specs.Buffers.{Slices}
 use Rattle.trim.specs.Adding.{AddedWithin, snapshot_at, added_end_in}
 use Rattle.trim.specs.declared.Added.{Added}

@@ -1,18 +1,21 @@
 // A candidate is offered to an edge of the mesh, whose length and ends are read from the mesh's buffers.
 ghost use Rattle.std.specs.Prelude.{◌≤◌, length};
 ghost use Rattle.buffers.specs.Lent.{given};
-ghost use Rattle.cut_lists.specs.Buffers.{cuts_before, cuts_after};
-ghost use Rattle.cut_lists.specs.Cut.{Sizes};
+ghost use Rattle.trim.specs.of_cut_lists.Buffers.{cuts_before, cuts_after};
+ghost use Rattle.trim.specs.of_cut_lists.Cut.{Sizes};
 ghost use Rattle.mesh_readers.specs.Readers.{trim_edge_at};
-ghost use Rattle.trim_split.specs.Running.{Ready};
+ghost use Rattle.trim.specs.of_trim_split.Running.{Ready};
 ghost use Rattle.trim.specs.Adding.{AddsTo};
 ghost use Rattle.trim.specs.Buffers.{before, after};
 ghost use Rattle.windows.specs.Windows.{capacity_of};
 ghost use Rattle.offers.specs.Offers.{OffersTo};
 
 use buffers::EdgeId;
+pub use mesh_readers as of_mesh_readers;
+pub use trim as of_trim;
 use trim::Added;
-use trim_split::Counts;
+pub use trim::of_trim_split as of_trim_split;
+use trim::of_trim_split::Counts;
 use windows::NewWindow;
 
 // What is offered: nothing, or a window to an edge.

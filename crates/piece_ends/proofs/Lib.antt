@@ -1,3 +1,4 @@
+pub use Rattle.edge_table.proofs as laws_of_edge_table
 pub mod Passing
 pub mod Following
 pub mod Building

@@ -17,19 +17,19 @@ use Rattle.topology.proofs.Find.{either}
 use Rattle.topology.proofs.Edges.{tri_edge_there}
 use Rattle.topology.proofs.Checked.{inside}
 use Rattle.topology.proofs.Sides.{local_below}
-use Rattle.frames.specs.Stored.{length_at, unit_at, origin_at}
-use Rattle.frames.proofs.Held.{origin_held}
-use Rattle.mesh_readers.specs.Held.{HoldsMesh}
-use Rattle.mesh_readers.specs.Readers.{side_in, normal_in, local_at}
-use Rattle.mesh_readers.specs.Sides.{has_face, side_to}
-use Rattle.mesh_readers.proofs.Held.{side_held, local_held, normal_held}
-use Rattle.mesh_readers.proofs.Sides.{side_to_held}
-use Rattle.source_windows.specs.Wedge.{whole_of, wedge_of}
+use Rattle.segments_behind.specs.of_frames.Stored.{length_at, unit_at, origin_at}
+use Rattle.segments_behind.proofs.laws_of_frames.Held.{origin_held}
+use Rattle.carriers.specs.of_mesh_readers.Held.{HoldsMesh}
+use Rattle.carriers.specs.of_mesh_readers.Readers.{side_in, normal_in, local_at}
+use Rattle.carriers.specs.of_mesh_readers.Sides.{has_face, side_to}
+use Rattle.carriers.proofs.laws_of_mesh_readers.Held.{side_held, local_held, normal_held}
+use Rattle.carriers.proofs.laws_of_mesh_readers.Sides.{side_to_held}
+use Rattle.carriers.specs.of_source_windows.Wedge.{whole_of, wedge_of}
 use Rattle.carriers.specs.Carrier.{other_carrier}
-use Rattle.piece_ends.specs.Ends.{ends_with_bits}
-use Rattle.piece_ends.specs.Table.{link_to}
-use Rattle.piece_ends.specs.Walk.{HoldsTable}
-use Rattle.piece_ends.specs.Directions.{piece_reals_of}
+use Rattle.segments_behind.specs.of_piece_ends.Ends.{ends_with_bits}
+use Rattle.segments_behind.specs.of_piece_ends.Table.{link_to}
+use Rattle.segments_behind.specs.of_piece_ends.Walk.{HoldsTable}
+use Rattle.segments_behind.specs.of_piece_ends.Directions.{piece_reals_of}
 use Rattle.segments_behind.specs.Behind.{behind_in}
 use Rattle.segments_behind.proofs.Held.{behind_held}
 use Rattle.point_wedge.specs.declared.Plane.{Plane}

@@ -10,12 +10,12 @@ use lib.Ieee.{Float}
 use Rattle.vec3.specs.declared.Vec3.{Vec3}
 use Rattle.buffers.specs.declared.EdgeId.{EdgeId}
 use Rattle.job_checks.specs.Edge.{vertex_at}
-use Rattle.frames.specs.Stored.{unit_at, length_at, origin_at}
-use Rattle.mesh_readers.specs.declared.EdgeEnds.{EdgeEnds}
-use Rattle.mesh_readers.specs.Readers.{ends_at, side_in, normal_in, local_at, side_to_at}
-use Rattle.source_windows.specs.declared.Bounds.{Bounds}
-use Rattle.source_windows.specs.Wedge.{whole_of, behind_of, wedge_of}
-use Rattle.piece_ends.specs.Walk.{follow}
+use Rattle.segments_behind.specs.of_frames.Stored.{unit_at, length_at, origin_at}
+use Rattle.carriers.specs.of_mesh_readers.declared.EdgeEnds.{EdgeEnds}
+use Rattle.carriers.specs.of_mesh_readers.Readers.{ends_at, side_in, normal_in, local_at, side_to_at}
+use Rattle.carriers.specs.of_source_windows.declared.Bounds.{Bounds}
+use Rattle.carriers.specs.of_source_windows.Wedge.{whole_of, behind_of, wedge_of}
+use Rattle.segments_behind.specs.of_piece_ends.Walk.{follow}
 use Rattle.segments_behind.specs.Behind.{first_behind_at, next_behind_at, leaving_at}
 use Rattle.point_wedge.specs.declared.Plane.{Plane}
 use Rattle.point_wedge.specs.declared.Plane.TheVariants.{Own, Across}

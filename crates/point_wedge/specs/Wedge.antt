@@ -4,13 +4,13 @@ use Rattle.std.specs.Prelude.{ℕ, ◌+◌, ◌*◌, cond, List, [], ◌∷◌, 
 use Rattle.vec3.specs.declared.Vec3.{Vec3}
 use Rattle.topology.specs.Edges.{tri_edge, local}
 use Rattle.topology.specs.Frames.{origin, len, xhat, yhat}
-use Rattle.frames.specs.Stored.{length_at, unit_at, origin_at}
-use Rattle.mesh_readers.specs.Readers.{side_in, normal_in, local_at, side_to_at}
-use Rattle.mesh_readers.specs.Sides.{side_to}
-use Rattle.source_windows.specs.declared.Bounds.{Bounds}
-use Rattle.source_windows.specs.Wedge.{unfolded_of, whole_of, wedge_of}
+use Rattle.segments_behind.specs.of_frames.Stored.{length_at, unit_at, origin_at}
+use Rattle.carriers.specs.of_mesh_readers.Readers.{side_in, normal_in, local_at, side_to_at}
+use Rattle.carriers.specs.of_mesh_readers.Sides.{side_to}
+use Rattle.carriers.specs.of_source_windows.declared.Bounds.{Bounds}
+use Rattle.carriers.specs.of_source_windows.Wedge.{unfolded_of, whole_of, wedge_of}
 use Rattle.carriers.specs.Carrier.{other_carrier}
-use Rattle.piece_ends.specs.Walk.{follow}
+use Rattle.segments_behind.specs.of_piece_ends.Walk.{follow}
 use Rattle.segments_behind.specs.Behind.{behind_in, first_behind_at, next_behind_at, leaving_at}
 use Rattle.point_wedge.specs.declared.Plane.{Plane}
 use Rattle.point_wedge.specs.declared.Plane.TheVariants.{Own, Across}

@@ -2,13 +2,14 @@
 // the buffers hold; where they hold a mesh's topology and the table of its pieces' ends, the part is the Rust's (proofs/Held.antt).
 ghost use Rattle.std.specs.Prelude.{◌≡◌, map};
 ghost use Rattle.segments_behind.specs.Behind.{leaving_at};
-ghost use Rattle.source_windows.specs.Wedge.{behind_of, wedge_of};
+ghost use Rattle.carriers.specs.of_source_windows.Wedge.{behind_of, wedge_of};
 ghost use Rattle.point_wedge.specs.Wedge.{laid_of, behind_at, across_at, pair_at, directions_at, bounds_at};
 
 use buffers::{EdgeId, FaceId};
-use mesh_readers::{ends, length, local, normal, side, side_to, unit, vertex};
+use carriers::of_mesh_readers::{ends, length, local, normal, side, side_to, unit, vertex};
+use carriers::of_source_windows as source_windows;
+use carriers::of_source_windows::{Bounds, unfolded, whole_edge};
 use segments_behind::{first_behind, leaving, next_behind};
-use source_windows::{Bounds, unfolded, whole_edge};
 use vec3::Vec3;
 
 // The plane that directions are laid into: their own face's, or that of a face across an edge along xh; yg goes from the edge into that face, yh into their own.

@@ -8,6 +8,7 @@ ghost use Rattle.propagation.specs.Propagate.{xc_of, part_of, image_of_point, im
 
 use buffers::VertexId;
 use source::Src;
+pub use source_windows as of_source_windows;
 use source_windows::{Bounds, CandidateRange};
 
 #[derive(Clone, Copy)]

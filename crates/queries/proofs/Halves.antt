@@ -14,7 +14,7 @@ use Rattle.windows.specs.Windows.{link_of, window_at, win_at}
 use Rattle.chains.specs.Chains.{links, head_of, link_in, link_at}
 use Rattle.job_checks.specs.Any.{any_below}
 use Rattle.job_checks.proofs.Any.{none_below}
-use Rattle.last_pass.specs.Buffers.{from_link, chain_behind, wins_on}
+use Rattle.edge_query.specs.of_last_pass.Buffers.{from_link, chain_behind, wins_on}
 use Rattle.computed.specs.declared.Field.{Field}
 use Rattle.edge_query.specs.EdgeDistance.{partition_point}
 use Rattle.edge_query.specs.Halves.{by_halves, starts_by, Rising}

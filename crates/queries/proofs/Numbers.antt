@@ -10,8 +10,8 @@ use lib.Ieee.{Float}
 use Rattle.vec3.specs.declared.Vec3.{Vec3}
 use Rattle.chains.specs.Chains.{links}
 use Rattle.job_checks.specs.Any.{first_of}
-use Rattle.frames.specs.Stored.{length_at}
-use Rattle.last_pass.specs.Buffers.{chain_behind}
+use Rattle.field_check.specs.of_frames.Stored.{length_at}
+use Rattle.edge_query.specs.of_last_pass.Buffers.{chain_behind}
 use Rattle.computed.specs.declared.Computed.TheVariants.{Refused, Field as isField}
 use Rattle.computed.specs.declared.Field.{Field}
 use Rattle.field_check.specs.FieldCheck.{JobSlices, FieldSlices, field_unsound}

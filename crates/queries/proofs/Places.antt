@@ -8,8 +8,8 @@ use lib.Ieee.{Float}
 use Rattle.windows.specs.Windows.{window_at}
 use Rattle.windows.specs.declared.WindowRecord.{WindowRecord}
 use Rattle.chains.specs.Chains.{Links, link_in, link_at}
-use Rattle.last_pass.specs.Buffers.{chain_behind}
-use Rattle.last_pass.proofs.Chains.{chain_end, chain_next, chain_out}
+use Rattle.edge_query.specs.of_last_pass.Buffers.{chain_behind}
+use Rattle.edge_query.proofs.laws_of_last_pass.Chains.{chain_end, chain_next, chain_out}
 use Rattle.queries.specs.declared.WindowAnswer.TheVariants.{PastEnd, Window}
 use Rattle.queries.specs.Queries.{place_link, linked_window}
 

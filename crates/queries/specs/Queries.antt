@@ -9,9 +9,9 @@ use Rattle.windows.specs.Windows.{window_at}
 use Rattle.chains.specs.Chains.{links}
 use Rattle.actions.specs.Actions.{distance_of}
 use Rattle.job_checks.specs.Refusals.{out_of_range}
-use Rattle.frames.specs.Stored.{length_at}
-use Rattle.mesh_readers.specs.Readers.{trim_edge_at}
-use Rattle.last_pass.specs.Buffers.{chain_behind}
+use Rattle.field_check.specs.of_frames.Stored.{length_at}
+use Rattle.field_check.specs.of_mesh_readers.Readers.{trim_edge_at}
+use Rattle.edge_query.specs.of_last_pass.Buffers.{chain_behind}
 use Rattle.computed.specs.declared.Computed.{Computed}
 use Rattle.computed.specs.declared.Computed.TheVariants.{Refused, Field as isField}
 use Rattle.computed.specs.declared.Field.{Field}

@@ -9,7 +9,7 @@ ghost use Rattle.buffers.specs.Lent.{given};
 ghost use Rattle.windows.specs.Windows.{capacity_of};
 ghost use Rattle.chains.specs.Chains.{links};
 ghost use Rattle.job_checks.specs.Refusals.{out_of_range};
-ghost use Rattle.last_pass.specs.Buffers.{chain_behind};
+ghost use Rattle.edge_query.specs.of_last_pass.Buffers.{chain_behind};
 ghost use Rattle.edge_query.specs.Resume.{Resumes};
 ghost use Rattle.field_check.specs.FieldCheck.{job_slices, field_slices};
 ghost use Rattle.queries.specs.Answers.{face_answer_number, edge_answer_number, vertex_answer_number, window_answer_number, face_value, edge_value, vertex_value};
@@ -18,7 +18,11 @@ ghost use Rattle.queries.specs.Told.{told_field, told_answer};
 
 use buffers::{EdgeId, FaceId, VertexId, WindowId, read_u32};
 use computed::{Computed, Field};
+pub use edge_query as of_edge_query;
 use edge_query::Cursor;
+pub use field_check as of_field_check;
+pub use field_check::of_mesh_readers as of_mesh_readers;
+use field_check::of_mesh_readers as mesh_readers;
 use vec3::Vec3;
 use windows::WindowRecord;
 

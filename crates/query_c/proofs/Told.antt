@@ -4,9 +4,9 @@ use mathlib.Core.List.{List}
 use mathlib.Core.Path.{◌≡◌, ◌∙◌}
 use lib.Ieee.{Float}
 use Rattle.computed.specs.declared.Computed.{Computed}
-use Rattle.query_rows.specs.declared.RowAnswer.{RowAnswer}
-use Rattle.field_check.specs.FieldCheck.{JobSlices, FieldSlices}
-use Rattle.query_rows.specs.Rows.{RowResult, row_result, row_number, face_row, edge_row, vertex_row}
+use Rattle.window_rows.specs.of_query_rows.declared.RowAnswer.{RowAnswer}
+use Rattle.window_rows.specs.of_field_check.FieldCheck.{JobSlices, FieldSlices}
+use Rattle.window_rows.specs.of_query_rows.Rows.{RowResult, row_result, row_number, face_row, edge_row, vertex_row}
 use Rattle.window_rows.specs.WindowRows.{window_result, window_row}
 use Rattle.query_c.specs.Exports.{told_row, told_windows}
 

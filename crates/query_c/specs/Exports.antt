@@ -1,6 +1,6 @@
 -- What a caller in C or Rust is told of a row. Definitions only.
 use Rattle.std.specs.Prelude.{ℕ, List, Float}
-use Rattle.query_rows.specs.Rows.{RowResult, row_number}
+use Rattle.window_rows.specs.of_query_rows.Rows.{RowResult, row_number}
 use Rattle.window_rows.specs.WindowRows.{WindowResult}
 
 -- the number that is answered, and the row's slices

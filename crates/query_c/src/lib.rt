@@ -1,14 +1,15 @@
 // Rows of questions to a field, for programs in C and Rust. `refusal` and `told` are what the whole job answered: 0 and the field's counts, or a refusal's number.
 ghost use Rattle.std.specs.Prelude.{◌≡◌};
 ghost use Rattle.buffers.specs.Lent.{given, left};
-ghost use Rattle.field_check.specs.FieldCheck.{job_slices, field_slices};
-ghost use Rattle.queries.specs.Told.{told_answer};
-ghost use Rattle.query_rows.specs.Rows.{row_number, face_row, edge_row, vertex_row};
+ghost use Rattle.window_rows.specs.of_field_check.FieldCheck.{job_slices, field_slices};
+ghost use Rattle.window_rows.specs.of_queries.Told.{told_answer};
+ghost use Rattle.window_rows.specs.of_query_rows.Rows.{row_number, face_row, edge_row, vertex_row};
 ghost use Rattle.window_rows.specs.WindowRows.{window_row};
 ghost use Rattle.query_c.specs.Exports.{told_row, told_windows};
 
-use queries::told_answer;
-use query_rows::RowAnswer;
+use window_rows::of_queries::told_answer;
+use window_rows::of_query_rows as query_rows;
+use window_rows::of_query_rows::RowAnswer;
 
 fn row_number(answer: RowAnswer) -> u32
     ensures { result ≡ row_number answer }

@@ -14,10 +14,10 @@ use Rattle.buffers.specs.Slots.{slots_of}
 use Rattle.job_checks.specs.Edge.{vertex_at}
 use Rattle.computed.specs.declared.Computed.{Computed}
 use Rattle.computed.specs.declared.Computed.TheVariants.{Refused, Field as isField}
-use Rattle.field_check.specs.FieldCheck.{JobSlices, FieldSlices, field_unsound}
-use Rattle.queries.specs.Answers.{face_answer_number, edge_answer_number, vertex_answer_number, face_value, edge_value, vertex_value}
-use Rattle.queries.specs.Queries.{face_query, edge_query, vertex_query}
-use Rattle.queries.proofs.Checked.{left_none, right_none}
+use Rattle.face_rows.specs.of_field_check.FieldCheck.{JobSlices, FieldSlices, field_unsound}
+use Rattle.face_rows.specs.of_queries.Answers.{face_answer_number, edge_answer_number, vertex_answer_number, face_value, edge_value, vertex_value}
+use Rattle.face_rows.specs.of_queries.Queries.{face_query, edge_query, vertex_query}
+use Rattle.face_rows.proofs.laws_of_queries.Checked.{left_none, right_none}
 use Rattle.query_rows.specs.declared.RowAnswer.{RowAnswer}
 use Rattle.query_rows.specs.declared.RowAnswer.TheVariants.{NoField, ShortRow, Answered}
 use Rattle.query_rows.specs.Rows.{RowResult, row_number, row_result, elements, short_for, face_row, edge_row, vertex_row, vertex_numbers, vertex_values}

@@ -7,10 +7,10 @@ use Rattle.float64.specs.Notation.{if◌then◌else◌}
 use Rattle.computed.specs.declared.Computed.{Computed}
 use Rattle.computed.specs.declared.Computed.TheVariants.{Refused, Field as isField}
 use Rattle.computed.specs.declared.Field.{Field}
-use Rattle.field_check.specs.FieldCheck.{JobSlices, FieldSlices, field_unsound}
-use Rattle.queries.specs.declared.VertexDistance.{VertexDistance}
-use Rattle.queries.specs.Answers.{vertex_answer_number, vertex_value}
-use Rattle.queries.specs.Queries.{vertex_answer}
+use Rattle.face_rows.specs.of_field_check.FieldCheck.{JobSlices, FieldSlices, field_unsound}
+use Rattle.face_rows.specs.of_queries.declared.VertexDistance.{VertexDistance}
+use Rattle.face_rows.specs.of_queries.Answers.{vertex_answer_number, vertex_value}
+use Rattle.face_rows.specs.of_queries.Queries.{vertex_answer}
 use Rattle.open_rows.specs.Written.{written_row}
 use Rattle.face_rows.specs.FaceAnswers.{face_numbers, face_values}
 use Rattle.edge_rows.specs.EdgeAnswers.{edge_numbers, edge_values}

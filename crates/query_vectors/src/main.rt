@@ -4,14 +4,15 @@ ghost use Rattle.std.specs.Prelude.{◌≤◌, length};
 
 use buffers::{write_f64, write_u32};
 use computed::{Computed, Field};
-use query_rows::RowAnswer;
+use std::io;
+use std::rt::Files;
 use stored_numbers::{
     at_most, count, double, number, read_bytes, read_doubles, read_numbers, record_size,
 };
 use stored_slots::{SummedWalk, compare_or_sum, start_at, visit_f64, visit_u32};
 use vectors::Tally;
-use std::io;
-use std::rt::Files;
+use window_rows::of_query_rows as query_rows;
+use window_rows::of_query_rows::RowAnswer;
 
 // Of the record at number k: where list i stands, and how many elements it has, no more than most.
 fn place(s: &[u8], k: usize, i: usize) -> usize

@@ -13,7 +13,7 @@ use Rattle.nat_laws.specs.Lists.{All, Pairs}
 use Rattle.nat_laws.proofs.Lists.{all_map, all_append}
 use Rattle.nat_laws.proofs.Tests.{by_cases}
 use Rattle.job_checks.proofs.Any.{none_all}
-use Rattle.field_check.specs.Chains.{links_from, any_bad, chain_of, link_total, chains_unsound}
+use Rattle.queries.specs.of_field_check.Chains.{links_from, any_bad, chain_of, link_total, chains_unsound}
 
 -- ---- numbers below n that all differ are at most n
 abbrev pub Differ : List ℕ → Type 0

@@ -14,16 +14,16 @@ use Rattle.nat_laws.specs.Lists.{All, Pairs}
 use Rattle.nat_laws.proofs.Lists.{all_of, all_map, all_map2}
 use Rattle.windows.specs.Windows.{window_at, win_at, edge_stored, link_of}
 use Rattle.chains.specs.Chains.{head_of, Path, Belongs}
-use Rattle.trim_model.specs.Windows.{Window}
-use Rattle.live_windows.specs.Live.{nums, Alive}
-use Rattle.face_entries.specs.declared.Part.{Part}
-use Rattle.face_entries.specs.declared.Part.TheVariants.{EndA, EndB, Whole}
-use Rattle.face_entries.specs.Buffers.{part_number, entry_capacity, first_entry_of, next_entry_of}
-use Rattle.face_entries.specs.Entries.{FaceEntry, numbers_of, EntryChain, StoredFrom}
-use Rattle.face_entries.proofs.Numbers.{face_from, Numbered, each_numbered}
+use Rattle.queries.specs.of_trim_model.Windows.{Window}
+use Rattle.queries.specs.of_live_windows.Live.{nums, Alive}
+use Rattle.queries.specs.of_face_entries.declared.Part.{Part}
+use Rattle.queries.specs.of_face_entries.declared.Part.TheVariants.{EndA, EndB, Whole}
+use Rattle.queries.specs.of_face_entries.Buffers.{part_number, entry_capacity, first_entry_of, next_entry_of}
+use Rattle.queries.specs.of_face_entries.Entries.{FaceEntry, numbers_of, EntryChain, StoredFrom}
+use Rattle.queries.proofs.laws_of_face_entries.Numbers.{face_from, Numbered, each_numbered}
 use Rattle.computed.specs.declared.Field.{Field}
-use Rattle.field_check.specs.Chains.{any_bad}
-use Rattle.field_check.specs.FieldCheck.{FieldSlices, window_start, not_rising, window_unsound, windows_unsound, entry_outside, entries_unsound}
+use Rattle.queries.specs.of_field_check.Chains.{any_bad}
+use Rattle.queries.specs.of_field_check.FieldCheck.{FieldSlices, window_start, not_rising, window_unsound, windows_unsound, entry_outside, entries_unsound}
 use Rattle.returned_fields.specs.Held.{HeldWindows, HeldEntries}
 use Rattle.returned_fields.proofs.Counting.{Run, chains_sound}
 

@@ -16,15 +16,15 @@ use Rattle.chains.specs.Chains.{head_of}
 use Rattle.job_checks.specs.Refusals.{above_one}
 use Rattle.job_checks.proofs.Any.{none_all}
 use Rattle.job_checks.proofs.Tests.{not_above_one}
-use Rattle.frames.specs.Stored.{low_at, high_at, face_at}
-use Rattle.mesh_readers.specs.Readers.{side_in}
-use Rattle.trim_model.specs.Windows.{Window}
-use Rattle.face_entries.specs.Buffers.{entry_capacity, first_entry_of, last_entry_of}
-use Rattle.face_entries.specs.Entries.{FaceEntry}
+use Rattle.queries.specs.of_frames.Stored.{low_at, high_at, face_at}
+use Rattle.queries.specs.of_mesh_readers.Readers.{side_in}
+use Rattle.queries.specs.of_trim_model.Windows.{Window}
+use Rattle.queries.specs.of_face_entries.Buffers.{entry_capacity, first_entry_of, last_entry_of}
+use Rattle.queries.specs.of_face_entries.Entries.{FaceEntry}
 use Rattle.computed.specs.declared.Computed.TheVariants.{Field as isField}
 use Rattle.computed.specs.declared.Field.{Field}
-use Rattle.field_check.specs.FieldCheck.{JobSlices, FieldSlices, too_few_slots, records_differ, counts_differ, meets_refusal, face_outside, edge_outside, triangle_outside, window_outside, points_outside, lists_unsound, field_unsound, meets20}
-use Rattle.field_check.proofs.Tests.{face_inside, face_none}
+use Rattle.queries.specs.of_field_check.FieldCheck.{JobSlices, FieldSlices, too_few_slots, records_differ, counts_differ, meets_refusal, face_outside, edge_outside, triangle_outside, window_outside, points_outside, lists_unsound, field_unsound, meets20}
+use Rattle.queries.proofs.laws_of_field_check.Tests.{face_inside, face_none}
 use Rattle.returned_fields.specs.Held.{FaceThere, HeldJob, HeldSlots, HeldNumbers, HeldField}
 use Rattle.returned_fields.proofs.Lists.{neither, windows_sound, entries_sound}
 

@@ -15,24 +15,24 @@ use Rattle.nat_laws.specs.Lists.{All}
 use Rattle.windows.specs.Windows.{window_at}
 use Rattle.chains.specs.Chains.{Links, links, link_at, Path}
 use Rattle.actions.specs.Actions.{distance_of}
-use Rattle.frames.specs.Stored.{length_at, low_at, high_at}
-use Rattle.mesh_readers.specs.Readers.{side_in, coords_at}
-use Rattle.mesh_readers.specs.declared.FrameCoords.{FrameCoords}
-use Rattle.trim_model.specs.Windows.{Window}
-use Rattle.trim_state.specs.Trace.{win_of}
-use Rattle.live_windows.specs.Live.{nums, Alive, Stands}
-use Rattle.live_windows.proofs.Places.{head_path, short}
-use Rattle.last_pass.specs.Buffers.{chain_behind, wins_on}
-use Rattle.last_pass.proofs.Chains.{chain_is, stands_chain}
-use Rattle.face_entries.specs.Buffers.{entry_capacity}
-use Rattle.face_entries.specs.Entries.{FaceEntry}
-use Rattle.face_entries.proofs.Walking.{walk_entries}
-use Rattle.face_distance.specs.Entries.{through_window}
-use Rattle.edge_query.specs.EdgeDistance.{edge_distance}
-use Rattle.face_query.specs.FaceDistance.{through_windows, records_on, to_entries, through_vertices, through_side, through_sides, to_pieces, face_distance_in}
+use Rattle.queries.specs.of_frames.Stored.{length_at, low_at, high_at}
+use Rattle.queries.specs.of_mesh_readers.Readers.{side_in, coords_at}
+use Rattle.queries.specs.of_mesh_readers.declared.FrameCoords.{FrameCoords}
+use Rattle.queries.specs.of_trim_model.Windows.{Window}
+use Rattle.queries.specs.of_trim_state.Trace.{win_of}
+use Rattle.queries.specs.of_live_windows.Live.{nums, Alive, Stands}
+use Rattle.queries.proofs.laws_of_live_windows.Places.{head_path, short}
+use Rattle.queries.specs.of_last_pass.Buffers.{chain_behind, wins_on}
+use Rattle.queries.proofs.laws_of_last_pass.Chains.{chain_is, stands_chain}
+use Rattle.queries.specs.of_face_entries.Buffers.{entry_capacity}
+use Rattle.queries.specs.of_face_entries.Entries.{FaceEntry}
+use Rattle.queries.proofs.laws_of_face_entries.Walking.{walk_entries}
+use Rattle.queries.specs.of_face_distance.Entries.{through_window}
+use Rattle.queries.specs.of_edge_query.EdgeDistance.{edge_distance}
+use Rattle.queries.specs.of_face_query.FaceDistance.{through_windows, records_on, to_entries, through_vertices, through_side, through_sides, to_pieces, face_distance_in}
 use Rattle.computed.specs.declared.Computed.TheVariants.{Field as isField}
 use Rattle.computed.specs.declared.Field.{Field}
-use Rattle.field_check.specs.FieldCheck.{JobSlices, FieldSlices, field_unsound}
+use Rattle.queries.specs.of_field_check.FieldCheck.{JobSlices, FieldSlices, field_unsound}
 use Rattle.queries.specs.declared.FaceDistance.TheVariants as face
 use Rattle.queries.specs.declared.EdgeDistance.TheVariants as edge
 use Rattle.queries.specs.declared.VertexDistance.TheVariants as vertex

@@ -12,7 +12,7 @@ use Rattle.layout.specs.Layout.{words_per_edge, reals_per_edge, words_per_triang
 use Rattle.nat_laws.specs.Lists.{Pairs}
 use Rattle.nat_laws.proofs.Lists.{all_map}
 use Rattle.buffers.specs.Slots.{slots_of}
-use Rattle.better.specs.Claim.{Point}
+use Rattle.queries.specs.of_better.Claim.{Point}
 use Rattle.windows.specs.Windows.{edge_stored, into_of}
 use Rattle.chains.specs.Chains.{links}
 use Rattle.job_checks.specs.Any.{first_of}
@@ -24,21 +24,21 @@ use Rattle.job_checks.proofs.Any.{both_passed, passed_here, passed_on, first_aft
 use Rattle.job_checks.proofs.Sound.{refusals_numbered, sound}
 use Rattle.topology.specs.Edges.{no_face, edges, shared_by_three}
 use Rattle.topology.proofs.Edges.{edge_count_held}
-use Rattle.mesh.specs.Answer.{counts_in, mesh_refusals}
-use Rattle.mesh_readers.specs.Readers.{side_in}
-use Rattle.trim_model.specs.Windows.{Window}
-use Rattle.live_windows.specs.Live.{Stands}
-use Rattle.windows_there.specs.There.{GoesInto}
-use Rattle.windows_there.proofs.Sides.{face_there}
-use Rattle.face_entries.specs.Buffers.{entry_capacity}
-use Rattle.finish.specs.Contents.{FieldBuffers}
+use Rattle.queries.specs.of_mesh.Answer.{counts_in, mesh_refusals}
+use Rattle.queries.specs.of_mesh_readers.Readers.{side_in}
+use Rattle.queries.specs.of_trim_model.Windows.{Window}
+use Rattle.queries.specs.of_live_windows.Live.{Stands}
+use Rattle.field_laws.specs.of_windows_there.There.{GoesInto}
+use Rattle.field_laws.proofs.laws_of_windows_there.Sides.{face_there}
+use Rattle.queries.specs.of_face_entries.Buffers.{entry_capacity}
+use Rattle.field_laws.specs.of_finish.Contents.{FieldBuffers}
 use Rattle.computed.specs.declared.Computed.TheVariants.{Field as isField}
 use Rattle.computed.specs.declared.Field.{Field}
-use Rattle.compute_spec.specs.Compute.{other_counts}
-use Rattle.field_model.specs.Queue.{queue_in_order}
-use Rattle.field_model.specs.Job.{Finished}
-use Rattle.field_model.specs.Lent.{ComputesOver}
-use Rattle.field_check.specs.FieldCheck.{meets20}
+use Rattle.field_laws.specs.of_compute_spec.Compute.{other_counts}
+use Rattle.field_laws.specs.of_field_model.Queue.{queue_in_order}
+use Rattle.field_laws.specs.of_field_model.Job.{Finished}
+use Rattle.field_laws.specs.of_field_model.Lent.{ComputesOver}
+use Rattle.queries.specs.of_field_check.FieldCheck.{meets20}
 use Rattle.field_laws.specs.Demands.{FieldLaws}
 use Rattle.field_laws.proofs.Job.{entries_fit}
 use Rattle.field_laws.proofs.Demands.{field_for, returned}

@@ -5,18 +5,18 @@ use Rattle.float64.specs.Notation.{if◌then◌else◌}
 use Rattle.vec3.specs.declared.Vec3.{Vec3}
 use Rattle.source.specs.declared.Win.{Win}
 use Rattle.actions.specs.Actions.{distance_of}
-use Rattle.frames.specs.Stored.{length_at, low_at, high_at}
-use Rattle.mesh_readers.specs.Readers.{side_in, coords_at}
-use Rattle.mesh_readers.specs.declared.FrameCoords.{FrameCoords}
-use Rattle.trim_model.specs.Windows.{Window}
-use Rattle.trim_state.specs.Trace.{win_of}
-use Rattle.live_windows.specs.Live.{nums}
-use Rattle.face_entries.specs.Entries.{FaceEntry, entries_of}
-use Rattle.face_distance.specs.Entries.{through_window}
-use Rattle.edge_query.specs.EdgeDistance.{edge_distance}
-use Rattle.face_query.specs.FaceDistance.{to_entries, through_vertices}
+use Rattle.queries.specs.of_frames.Stored.{length_at, low_at, high_at}
+use Rattle.queries.specs.of_mesh_readers.Readers.{side_in, coords_at}
+use Rattle.queries.specs.of_mesh_readers.declared.FrameCoords.{FrameCoords}
+use Rattle.queries.specs.of_trim_model.Windows.{Window}
+use Rattle.queries.specs.of_trim_state.Trace.{win_of}
+use Rattle.queries.specs.of_live_windows.Live.{nums}
+use Rattle.queries.specs.of_face_entries.Entries.{FaceEntry, entries_of}
+use Rattle.queries.specs.of_face_distance.Entries.{through_window}
+use Rattle.queries.specs.of_edge_query.EdgeDistance.{edge_distance}
+use Rattle.queries.specs.of_face_query.FaceDistance.{to_entries, through_vertices}
 use Rattle.computed.specs.declared.Field.{Field}
-use Rattle.field_check.specs.FieldCheck.{JobSlices, FieldSlices}
+use Rattle.queries.specs.of_field_check.FieldCheck.{JobSlices, FieldSlices}
 use Rattle.queries.specs.declared.FaceDistance.{FaceDistance}
 use Rattle.queries.specs.declared.FaceDistance.TheVariants as face
 use Rattle.queries.specs.declared.EdgeDistance.{EdgeDistance}

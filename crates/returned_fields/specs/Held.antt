@@ -10,15 +10,15 @@ use Rattle.job_checks.specs.Any.{first_of}
 use Rattle.job_checks.specs.Job.{Job, vertex_count, triangle_count, piece_count}
 use Rattle.job_checks.specs.Refusals.{mesh_tests, degenerate_triangle, piece_tests}
 use Rattle.topology.specs.Edges.{no_face, edges}
-use Rattle.frames.specs.Stored.{low_at, high_at, face_at}
-use Rattle.mesh_readers.specs.Readers.{side_in}
-use Rattle.trim_model.specs.Windows.{Window}
-use Rattle.live_windows.specs.Live.{Stands}
-use Rattle.face_entries.specs.Buffers.{entry_capacity, first_entry_of, last_entry_of, next_entry_of}
-use Rattle.face_entries.specs.Entries.{FaceEntry, HoldsEntries}
-use Rattle.finish.specs.Contents.{FieldBuffers}
+use Rattle.queries.specs.of_frames.Stored.{low_at, high_at, face_at}
+use Rattle.queries.specs.of_mesh_readers.Readers.{side_in}
+use Rattle.queries.specs.of_trim_model.Windows.{Window}
+use Rattle.queries.specs.of_live_windows.Live.{Stands}
+use Rattle.queries.specs.of_face_entries.Buffers.{entry_capacity, first_entry_of, last_entry_of, next_entry_of}
+use Rattle.queries.specs.of_face_entries.Entries.{FaceEntry, HoldsEntries}
+use Rattle.field_laws.specs.of_finish.Contents.{FieldBuffers}
 use Rattle.computed.specs.declared.Field.{Field}
-use Rattle.field_check.specs.FieldCheck.{JobSlices, FieldSlices, job_slices, field_slices}
+use Rattle.queries.specs.of_field_check.FieldCheck.{JobSlices, FieldSlices, job_slices, field_slices}
 
 -- one of so many faces, or none
 abbrev pub FaceThere : ℕ → ℕ → Type 0

@@ -17,13 +17,13 @@ use Rattle.windows.specs.declared.Edge.{Edge}
 use Rattle.windows.specs.declared.NewWindow.{NewWindow}
 use Rattle.heap.specs.Queue.{queue}
 use Rattle.chains.specs.Chains.{links}
-use Rattle.trim_model.specs.Model.{Candidate}
-use Rattle.trim_state.specs.State.{State, Result, stopped, add_of}
-use Rattle.trim_state.specs.Follows.{Follows}
-use Rattle.cut_lists.specs.Cut.{Sizes}
-use Rattle.trim_split.proofs.Untouched.{untouched_wider}
-use Rattle.trim_split.specs.Running.{Ready as Running-as-Ready}
-use Rattle.trim_split.specs.declared.Counts.{Counts}
+use Rattle.trim.specs.of_trim_model.Model.{Candidate}
+use Rattle.trim.specs.of_trim_state.State.{State, Result, stopped, add_of}
+use Rattle.trim.specs.of_trim_state.Follows.{Follows}
+use Rattle.trim.specs.of_cut_lists.Cut.{Sizes}
+use Rattle.trim.proofs.laws_of_trim_split.Untouched.{untouched_wider}
+use Rattle.trim.specs.of_trim_split.Running.{Ready as Running-as-Ready}
+use Rattle.trim.specs.of_trim_split.declared.Counts.{Counts}
 use Rattle.trim.specs.declared.Added.{Added}
 use Rattle.trim.specs.declared.Added.TheVariants.{Stopped as Added-as-Stopped, Went as Added-as-Went}
 use Rattle.trim.specs.Adding.{Given, AddsFrom, AddedWithin, added_end}
@@ -34,7 +34,7 @@ use Rattle.trim_operations.proofs.Follow.{proper}
 use Rattle.run_operations.specs.declared.Step.TheVariants.{Stopped, Went}
 use Rattle.run_operations.specs.Lists.{Setting, setting_of, ReadyToRun, StandsIn, snapshot_in, Operated}
 use Rattle.trim.specs.Buffers.{Slices}
-use Rattle.cut_lists.specs.Buffers.{Cuts}
+use Rattle.trim.specs.of_cut_lists.Buffers.{Cuts}
 
 -- ---- by the answers of two tests
 refused : (a b : Bool) (n : ℕ) (r : Result) → n ≡ cond a (cond b 0 72) 71 → n ≢ 0 → cond a (cond b r (stopped 72)) (stopped 71) ≡ stopped n

@@ -10,13 +10,13 @@ use Rattle.windows.specs.Windows.{capacity_of}
 use Rattle.buffers.specs.Slots.{slots_of}
 use Rattle.chains.specs.Chains.{links, head_of}
 use Rattle.heap.specs.Queue.{queue}
-use Rattle.trim_model.specs.Model.{Candidate}
-use Rattle.trim_state.specs.State.{State, Result, went, stopped}
-use Rattle.trim_state.specs.Follows.{Follows}
-use Rattle.trim_state.proofs.Follows.{follows_empty}
-use Rattle.live_windows.proofs.Standing.{no_live}
-use Rattle.trim_split.specs.Running.{Snapshot, Untouched}
-use Rattle.trim_split.proofs.Untouched.{untouched_same, untouched_then}
+use Rattle.trim.specs.of_trim_model.Model.{Candidate}
+use Rattle.trim.specs.of_trim_state.State.{State, Result, went, stopped}
+use Rattle.trim.specs.of_trim_state.Follows.{Follows}
+use Rattle.trim.proofs.laws_of_trim_state.Follows.{follows_empty}
+use Rattle.contents.proofs.laws_of_live_windows.Standing.{no_live}
+use Rattle.trim.specs.of_trim_split.Running.{Snapshot, Untouched}
+use Rattle.trim.proofs.laws_of_trim_split.Untouched.{untouched_same, untouched_then}
 use Rattle.trim_operations.specs.declared.Op.{Op}
 use Rattle.trim_operations.specs.Operations.{Operation, operation_at, operations, candidates_of, candidates, as_operation, DoublesOf}
 use Rattle.trim_operations.specs.Run.{operate, Run, then_run, run_from, start_state}
@@ -29,7 +29,7 @@ use Rattle.run_operations.specs.declared.Step.TheVariants.{Stopped, Went}
 use Rattle.run_operations.specs.declared.Ran.TheVariants.{Done, Ended}
 use Rattle.run_operations.specs.Lists.{mesh_of, Setting, setting_of, ReadyToRun, StandsIn, Goes, Operated, run_of, Finishes, Ends, Runs, snapshot_in}
 use Rattle.trim.specs.Buffers.{Slices}
-use Rattle.cut_lists.specs.Buffers.{Cuts}
+use Rattle.trim.specs.of_cut_lists.Buffers.{Cuts}
 
 -- ---- lists of operations
 candidates_last : (os : List Operation) (o : Operation) → candidates (os ++ (o ∷ [])) ≡ candidates os ++ candidates_of o

@@ -14,13 +14,13 @@ use Rattle.heap.specs.Queue.{Queue, queue, popping}
 use Rattle.chains.specs.Chains.{links}
 use Rattle.actions.specs.Actions as actions
 use Rattle.actions.specs.Actions.{Stock}
-use Rattle.trim_state.specs.State.{State}
-use Rattle.live_windows.specs.Live.{HoldsWindows}
-use Rattle.pop.specs.declared.Taken.TheVariants.{Empty as Taken-as-Empty, First as Taken-as-First}
-use Rattle.pop.specs.Words.{taken_of, words_after}
-use Rattle.pop.specs.State.{wins_claimed, live_claimed, after_pop}
-use Rattle.pop.proofs.Claimed.{item_holds, item_words}
-use Rattle.pop.proofs.Answers.{taken_none, taken_one, empty_queue}
+use Rattle.trim.specs.of_trim_state.State.{State}
+use Rattle.trim.specs.of_live_windows.Live.{HoldsWindows}
+use Rattle.trim_operations.specs.of_pop.declared.Taken.TheVariants.{Empty as Taken-as-Empty, First as Taken-as-First}
+use Rattle.trim_operations.specs.of_pop.Words.{taken_of, words_after}
+use Rattle.trim_operations.specs.of_pop.State.{wins_claimed, live_claimed, after_pop}
+use Rattle.trim_operations.proofs.laws_of_pop.Claimed.{item_holds, item_words}
+use Rattle.trim_operations.proofs.laws_of_pop.Answers.{taken_none, taken_one, empty_queue}
 use Rattle.trim_operations.specs.Represents.{Represents}
 use Rattle.run_operations.specs.Lists.{left_of, PopsFirst}
 

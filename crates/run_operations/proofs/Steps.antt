@@ -14,11 +14,11 @@ use Rattle.heap.specs.declared.Pushed.TheVariants.{Full, Queued}
 use Rattle.heap.specs.Queue.{queue, popping}
 use Rattle.actions.specs.Actions as actions
 use Rattle.actions.specs.Actions.{queueing, act}
-use Rattle.trim_state.specs.State.{finish}
-use Rattle.trim_split.proofs.Untouched.{untouched_same}
+use Rattle.trim.specs.of_trim_state.State.{finish}
+use Rattle.trim.proofs.laws_of_trim_split.Untouched.{untouched_same}
 use Rattle.trim_operations.specs.declared.Op.{Op}
 use Rattle.trim_operations.specs.Operations.{touch, pop, unknown, as_operation}
-use Rattle.pop.specs.State.{after_pop}
+use Rattle.trim_operations.specs.of_pop.State.{after_pop}
 use Rattle.trim_operations.specs.Run.{operate}
 use Rattle.run_operations.specs.declared.Step.{Step}
 use Rattle.run_operations.specs.declared.Step.TheVariants.{Stopped, Went}

@@ -11,7 +11,7 @@ use Rattle.windows.specs.Windows.{capacity_of}
 use Rattle.buffers.specs.Slots.{slots_of}
 use Rattle.buffers.proofs.Zeroing.{zero_at}
 use Rattle.chains.specs.Chains.{head_of}
-use Rattle.trim_split.specs.Running.{Snapshot}
+use Rattle.trim.specs.of_trim_split.Running.{Snapshot}
 use Rattle.contents.specs.Contents.{heads_in, words_of, reals_of_all, forgotten}
 use Rattle.contents.proofs.Held.{drop_zeros, words_are, reals_are_all}
 use Rattle.contents.proofs.Forgotten.{heads_only}
@@ -19,7 +19,7 @@ use Rattle.run_operations.specs.declared.Ran.{Ran}
 use Rattle.run_operations.specs.declared.Ran.TheVariants.{Done, Ended}
 use Rattle.run_operations.specs.Lists.{mesh_of, Setting, setting_of, ReadyToRun, Finishes, Ends, Runs, snapshot_in, edge_count, operation_count, lent_setting, cleared, ZeroSlices, ZeroCuts, RunWhole}
 use Rattle.trim.specs.Buffers.{Slices, slices}
-use Rattle.cut_lists.specs.Buffers.{Cuts}
+use Rattle.trim.specs.of_cut_lists.Buffers.{Cuts}
 use Rattle.cut_slots.specs.Slots.{cut_count, cut_to}
 use Rattle.cut_slots.proofs.Parts.{pts_length, parts_sizes}
 use Rattle.run_operations.proofs.Loop.{SameLengths, SameCuts}

@@ -1,1 +1,3 @@
+pub use Rattle.trim.specs.of_cut_lists as of_cut_lists
+pub use Rattle.trim.specs as of_trim
 pub mod Lists

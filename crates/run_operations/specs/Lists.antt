@@ -8,15 +8,15 @@ use Rattle.windows.specs.Windows.{capacity_of}
 use Rattle.heap.specs.declared.Popped.{Popped}
 use Rattle.heap.specs.declared.Popped.TheVariants.{Empty, First}
 use Rattle.heap.specs.Queue.{queue, popping}
-use Rattle.pop.specs.Words.{words_after}
-use Rattle.trim_model.specs.Model.{Candidate}
+use Rattle.trim_operations.specs.of_pop.Words.{words_after}
+use Rattle.trim.specs.of_trim_model.Model.{Candidate}
 use Rattle.chains.specs.Chains.{links}
 use Rattle.actions.specs.Actions as actions
-use Rattle.trim_state.specs.State.{State, Result, stopped, went, EdgeData}
-use Rattle.trim_state.specs.Follows.{Follows}
-use Rattle.trim_split.specs.Running.{Snapshot, snapshot, Untouched}
+use Rattle.trim.specs.of_trim_state.State.{State, Result, stopped, went, EdgeData}
+use Rattle.trim.specs.of_trim_state.Follows.{Follows}
+use Rattle.trim.specs.of_trim_split.Running.{Snapshot, snapshot, Untouched}
 use Rattle.trim.specs.Buffers.{Slices, slices}
-use Rattle.cut_lists.specs.Buffers.{Cuts}
+use Rattle.trim.specs.of_cut_lists.Buffers.{Cuts}
 use Rattle.cut_slots.specs.Slots.{cut_count}
 use Rattle.trim_operations.specs.Operations.{Operation, touch, operations, candidates, DoublesOf}
 use Rattle.trim_operations.specs.Run.{operate, Run, ran, ended, run_from, start_state}

@@ -6,7 +6,7 @@ ghost use Rattle.trim_operations.specs.Operations.{add as Operations·add};
 ghost use Rattle.run_operations.specs.Lists.{setting_of, ReadyToRun, Operated, Runs, snapshot_in, Touches, PopsFirst, edge_count, operation_count, lent_setting, ZeroSlices, ZeroCuts, RunWhole};
 ghost use Rattle.buffers.specs.Lent.{given, left};
 ghost use Rattle.trim.specs.Buffers.{slices, before, after};
-ghost use Rattle.cut_lists.specs.Buffers.{cut_buffers, cuts_before, cuts_after};
+ghost use Rattle.trim.specs.of_cut_lists.Buffers.{cut_buffers, cuts_before, cuts_after};
 ghost use Rattle.cut_slots.specs.Slots.{cut_count};
 
 use buffers::{EdgeId, VertexId, read_f64, read_u32};
@@ -15,10 +15,10 @@ use layout::{
     ENDS_HIGH, ENDS_LOW, REALS_PER_LEN, REALS_PER_OPERATION, REALS_PER_VERTEX, WORDS_PER_EDGE,
     WORDS_PER_ENDS, WORDS_PER_OPERATION,
 };
-use pop::Taken;
 use trim::Added;
-use trim_operations::Op;
-use trim_split::Counts;
+use trim::of_trim_split::Counts;
+use trim_operations::of_pop::Taken;
+use trim_operations::{Op, of_pop as pop};
 use windows::{Edge, NewWindow};
 
 // An operation is refused by its number; or so many windows are made and so many events queued.

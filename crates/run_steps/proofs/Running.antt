@@ -14,19 +14,19 @@ use Rattle.heap.specs.declared.Popped.{Popped}
 use Rattle.heap.specs.Queue.{Queue, at, slots, popped, popping}
 use Rattle.heap.proofs.Turns.{pop_empty, pop_past, pop_done}
 use Rattle.actions.specs.Actions.{Stock}
-use Rattle.trim_model.specs.Model.{Candidate}
-use Rattle.trim_state.specs.State.{State, went}
-use Rattle.cut_lists.specs.Buffers.{Cuts}
-use Rattle.trim_split.specs.declared.Counts.{Counts}
-use Rattle.trim.specs.Buffers.{Slices}
-use Rattle.trim.specs.Adding.{snapshot_at}
-use Rattle.face_entries.specs.Entries.{FaceEntry}
-use Rattle.insertion.specs.declared.InsertCounts.{InsertCounts}
+use Rattle.advance.specs.of_trim_model.Model.{Candidate}
+use Rattle.advance.specs.of_trim_state.State.{State, went}
+use Rattle.advance.specs.of_cut_lists.Buffers.{Cuts}
+use Rattle.advance.specs.of_trim_split.declared.Counts.{Counts}
+use Rattle.insert_job.specs.of_trim.Buffers.{Slices}
+use Rattle.insert_job.specs.of_trim.Adding.{snapshot_at}
+use Rattle.advance.specs.of_face_entries.Entries.{FaceEntry}
+use Rattle.insert_job.specs.of_insertion.declared.InsertCounts.{InsertCounts}
 use Rattle.insert_job.specs.declared.InsertedJob.{InsertedJob}
 use Rattle.insert_job.specs.declared.InsertedJob.TheVariants as job
 use Rattle.insert_job.specs.Job.{JobWithin}
-use Rattle.field_step.specs.Step.{is_empty, idle_of}
-use Rattle.field_step.specs.Contract.{FieldStands}
+use Rattle.advance.specs.of_field_step.Step.{is_empty, idle_of}
+use Rattle.advance.specs.of_field_step.Contract.{FieldStands}
 use Rattle.advance.specs.declared.Advanced.{Advanced}
 use Rattle.advance.specs.declared.Advanced.TheVariants as advanced
 use Rattle.advance.specs.Advance.{steps_of}

@@ -3,18 +3,18 @@ use Rattle.std.specs.Prelude.{ℕ, ◌≤◌, ◌<◌, Bool, cond, List, ◌++�
 use Rattle.buffers.specs.Lack.{lack_number}
 use Rattle.windows.specs.Windows.{capacity_of}
 use Rattle.heap.specs.Queue.{queue, popping}
-use Rattle.trim_model.specs.Model.{Candidate}
-use Rattle.trim_state.specs.State.{State}
-use Rattle.cut_lists.specs.Buffers.{Cuts}
-use Rattle.trim_split.specs.Running.{Snapshot, Untouched}
-use Rattle.trim.specs.Buffers.{Slices}
-use Rattle.trim.specs.Adding.{snapshot_at}
-use Rattle.face_entries.specs.Entries.{FaceEntry}
-use Rattle.insertion.specs.declared.InsertCounts.{InsertCounts}
+use Rattle.advance.specs.of_trim_model.Model.{Candidate}
+use Rattle.advance.specs.of_trim_state.State.{State}
+use Rattle.advance.specs.of_cut_lists.Buffers.{Cuts}
+use Rattle.advance.specs.of_trim_split.Running.{Snapshot, Untouched}
+use Rattle.insert_job.specs.of_trim.Buffers.{Slices}
+use Rattle.insert_job.specs.of_trim.Adding.{snapshot_at}
+use Rattle.advance.specs.of_face_entries.Entries.{FaceEntry}
+use Rattle.insert_job.specs.of_insertion.declared.InsertCounts.{InsertCounts}
 use Rattle.insert_job.specs.declared.InsertedJob.{InsertedJob}
 use Rattle.insert_job.specs.declared.InsertedJob.TheVariants as job
-use Rattle.field_step.specs.Step.{is_empty}
-use Rattle.field_step.specs.Contract.{FieldMesh, FieldStands}
+use Rattle.advance.specs.of_field_step.Step.{is_empty}
+use Rattle.advance.specs.of_field_step.Contract.{FieldMesh, FieldStands}
 use Rattle.advance.specs.declared.Advanced.{Advanced}
 use Rattle.advance.specs.declared.Advanced.TheVariants as advanced
 use Rattle.advance.specs.Advance.{advance_candidates}

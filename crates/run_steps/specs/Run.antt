@@ -1,10 +1,10 @@
 -- The Rust's main loop within a step budget, over the state. Definitions only.
 use Rattle.std.specs.Prelude.{ℕ, List, Float}
 use Rattle.float64.specs.Notation.{if◌then◌else◌}
-use Rattle.trim_state.specs.State.{Result, stopped, went}
-use Rattle.face_entries.specs.Entries.{FaceEntry}
-use Rattle.insertion.specs.Insertion.{Inserted}
-use Rattle.field_step.specs.Step.{idle_of}
+use Rattle.advance.specs.of_trim_state.State.{Result, stopped, went}
+use Rattle.advance.specs.of_face_entries.Entries.{FaceEntry}
+use Rattle.insert_job.specs.of_insertion.Insertion.{Inserted}
+use Rattle.advance.specs.of_field_step.Step.{idle_of}
 use Rattle.advance.specs.Advance.{advance_of, steps_of}
 
 -- a refusal by its number in 01, or the state and the entries of faces after so many steps

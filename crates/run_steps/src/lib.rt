@@ -2,16 +2,17 @@
 ghost use Rattle.std.specs.Prelude.{◌≡◌, length};
 ghost use Rattle.buffers.specs.Lent.{given};
 ghost use Rattle.windows.specs.Windows.{capacity_of};
-ghost use Rattle.cut_lists.specs.Buffers.{cuts_before};
-ghost use Rattle.cut_lists.specs.Cut.{Sizes};
-ghost use Rattle.trim.specs.Buffers.{before, after};
+ghost use Rattle.advance.specs.of_cut_lists.Buffers.{cuts_before};
+ghost use Rattle.advance.specs.of_cut_lists.Cut.{Sizes};
+ghost use Rattle.insert_job.specs.of_trim.Buffers.{before, after};
 ghost use Rattle.insert_job.specs.Job.{JobWithin};
 ghost use Rattle.run_steps.specs.Contract.{none_waits, work_answer, RunsTo};
 
 use advance::Advanced;
+use advance::of_insertion::InsertCounts;
 use buffers::{count, lack_number};
+pub use insert_job as of_insert_job;
 use insert_job::InsertedJob;
-use insertion::InsertCounts;
 use layout::WORDS_PER_EVENT;
 
 // The job is refused by this number; or so many windows, events and entries there are after so many steps, and no event waits.

@@ -8,6 +8,7 @@ ghost use Rattle.segments_behind.specs.Round.{has_vertex, is_round, any_round_at
 use buffers::{FaceId, VertexId, read_u32};
 use frames::vector_from;
 use layout::REALS_PER_PIECE;
+pub use piece_ends as of_piece_ends;
 use piece_ends::{first_at, is_long, next_at};
 use vec3::Vec3;
 

@@ -8,9 +8,9 @@ use lib.ListN.{length, get_or, replicate}
 use Rattle.layout.specs.Layout.{words_per_window, window_flags, alive_flag}
 use Rattle.windows.specs.declared.WindowRecord.{WindowRecord}
 use Rattle.windows.specs.Windows.{is_line, flags_of, has_flag}
-use Rattle.trim_model.specs.Windows.{Window}
-use Rattle.live_windows.specs.Live.{nums}
-use Rattle.contents.specs.Contents.{link_after, words_from, words_of}
+use Rattle.compute.specs.of_trim_model.Windows.{Window}
+use Rattle.compute.specs.of_live_windows.Live.{nums}
+use Rattle.compute.specs.of_contents.Contents.{link_after, words_from, words_of}
 use Rattle.print_out.specs.PrintOut.{is_live, live_count}
 use Rattle.slip_program.specs.Program.{alive_count}
 

@@ -9,18 +9,18 @@ use Rattle.float64.specs.Scalar.{zero64}
 use Rattle.buffers.specs.Slots.{slots_of}
 use Rattle.windows.specs.Windows.{capacity_of}
 use Rattle.job_checks.specs.Job.{Job}
-use Rattle.mesh.specs.Topology.{mesh_buffers}
-use Rattle.mesh.specs.Answer.{counts_of, counts_in}
-use Rattle.cut_lists.specs.Buffers.{cut_buffers}
-use Rattle.begin.specs.Begin.{work_slices}
-use Rattle.face_entries.specs.Buffers.{entry_capacity}
-use Rattle.finish.specs.Contents.{FieldBuffers}
+use Rattle.compute.specs.of_mesh.Topology.{mesh_buffers}
+use Rattle.compute.specs.of_mesh.Answer.{counts_of, counts_in}
+use Rattle.compute.specs.of_cut_lists.Buffers.{cut_buffers}
+use Rattle.compute.specs.of_begin.Begin.{work_slices}
+use Rattle.compute.specs.of_face_entries.Buffers.{entry_capacity}
+use Rattle.compute.specs.of_finish.Contents.{FieldBuffers}
 use Rattle.computed.specs.declared.Computed.{Computed}
-use Rattle.compute_spec.specs.Compute.{other_counts, field_buffers}
-use Rattle.field_model.specs.Queue.{queue_in_order}
-use Rattle.field_model.specs.Field.{Reply, refused, gives}
-use Rattle.field_model.specs.Job.{Finished, job_of}
-use Rattle.field_model.specs.Lent.{slots_in, compute_over, answer_over, LeavesOver, ComputesOver}
+use Rattle.compute.specs.of_compute_spec.Compute.{other_counts, field_buffers}
+use Rattle.compute.specs.of_field_model.Queue.{queue_in_order}
+use Rattle.compute.specs.of_field_model.Field.{Reply, refused, gives}
+use Rattle.compute.specs.of_field_model.Job.{Finished, job_of}
+use Rattle.compute.specs.of_field_model.Lent.{slots_in, compute_over, answer_over, LeavesOver, ComputesOver}
 use Rattle.text_out.specs.Text.{Puts}
 use Rattle.print_out.specs.PrintOut.{live_count, text_of}
 use Rattle.slip_program.specs.Program.{max_steps, program_counts, program_slots, alive_count, reply_text, job_text}

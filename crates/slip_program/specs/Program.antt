@@ -4,12 +4,12 @@ use Rattle.windows.specs.declared.WindowRecord.{WindowRecord}
 use Rattle.job_checks.specs.Job.{Job}
 use Rattle.job_checks.specs.declared.BufferCounts.{BufferCounts}
 use Rattle.topology.specs.Edges.{edges}
-use Rattle.offers.specs.Walks.{edge_data}
-use Rattle.last_pass.specs.Lowered.{lowered_all}
-use Rattle.field_model.specs.Queue.{queue_in_order}
-use Rattle.field_model.specs.Field.{Reply, refused, gives, Slots}
-use Rattle.field_model.specs.Job.{Finished, job_of}
-use Rattle.field_model.specs.Lent.{answer_over}
+use Rattle.compute.specs.of_offers.Walks.{edge_data}
+use Rattle.compute.specs.of_last_pass.Lowered.{lowered_all}
+use Rattle.compute.specs.of_field_model.Queue.{queue_in_order}
+use Rattle.compute.specs.of_field_model.Field.{Reply, refused, gives, Slots}
+use Rattle.compute.specs.of_field_model.Job.{Finished, job_of}
+use Rattle.compute.specs.of_field_model.Lent.{answer_over}
 use Rattle.slip.specs.declared.Slip.{Slip}
 use Rattle.slip.specs.declared.Slip.TheVariants.{TooShort, LeftOver, UnknownKind, TooMany}
 use Rattle.slip.specs.declared.Slip.TheVariants as slip

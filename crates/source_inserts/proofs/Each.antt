@@ -11,19 +11,19 @@ use Rattle.nat_laws.specs.Lists.{All}
 use Rattle.vec3.specs.declared.Vec3.{Vec3}
 use Rattle.job_checks.specs.Sound.{ValidTriangles}
 use Rattle.topology.specs.Edges.{no_face}
-use Rattle.source_windows.specs.declared.Normal.{Normal}
-use Rattle.source_windows.specs.declared.Normal.TheVariants.{Left, Right}
+use Rattle.wedge_refusal.specs.of_source_windows.declared.Normal.{Normal}
+use Rattle.wedge_refusal.specs.of_source_windows.declared.Normal.TheVariants.{Left, Right}
 use Rattle.source_offers.specs.Offering.{segment_offer, point_offer}
-use Rattle.carriers.specs.Carrier.{carrier_of}
-use Rattle.carriers.proofs.Faces.{carrier_faces}
+use Rattle.wedge_refusal.specs.of_carriers.Carrier.{carrier_of}
+use Rattle.wedge_refusal.proofs.laws_of_carriers.Faces.{carrier_faces}
 use Rattle.face_entries.specs.declared.Part.{Part}
 use Rattle.face_entries.specs.declared.Part.TheVariants.{EndA, EndB, Whole}
-use Rattle.piece_ends.specs.Ends.{end_point, first_of_bits}
+use Rattle.wedge_refusal.specs.of_piece_ends.Ends.{end_point, first_of_bits}
 use Rattle.point_wedge.specs.Wedge.{bounds_in}
 use Rattle.source_inserts.specs.declared.Insert.{Insert}
 use Rattle.source_inserts.specs.declared.Insert.TheVariants.{Offer}
 use Rattle.source_inserts.specs.Inserts.{entry_of, carrier_inserts, point_inserts, segment_inserts, end_inserts, whole_inserts, part_inserts, job_inserts, source_inserts}
-use Rattle.offers.proofs.Each.{each_all}
+use Rattle.source_offers.proofs.laws_of_offers.Each.{each_all}
 use Rattle.source_inserts.proofs.Job.{job_inserts_lem}
 
 module _ (P : Insert → Type 0) (v : List Float) (triangles : List ℕ) (n : ℕ) (valid : ValidTriangles triangles n) (kinds faces : List ℕ) (coords : List Float)

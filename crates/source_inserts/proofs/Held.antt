@@ -14,23 +14,23 @@ use Rattle.layout.specs.Layout.{reals_per_piece}
 use Rattle.vec3.specs.declared.Vec3.{Vec3}
 use Rattle.buffers.specs.declared.FaceId.{FaceId}
 use Rattle.topology.specs.Edges.{no_face}
-use Rattle.mesh_readers.specs.Held.{HoldsMesh}
-use Rattle.source_windows.specs.declared.Normal.TheVariants.{Left, Right}
+use Rattle.source_offers.specs.of_mesh_readers.Held.{HoldsMesh}
+use Rattle.wedge_refusal.specs.of_source_windows.declared.Normal.TheVariants.{Left, Right}
 use Rattle.source_offers.specs.Offering.{point_offer}
 use Rattle.source_offers.proofs.Held.{segment_held, point_held}
-use Rattle.carriers.specs.declared.CarrierSimplex.{CarrierSimplex}
-use Rattle.carriers.specs.Carrier.{carrier_of, faces_of, InMesh, carrier_count_at, carrier_face_at, other_carrier}
-use Rattle.carriers.proofs.Held.{carrier_held, carrier_there, count_is}
-use Rattle.carriers.proofs.Faces.{carrier_faces, is_other, face_is, other_is, faces_few}
+use Rattle.wedge_refusal.specs.of_carriers.declared.CarrierSimplex.{CarrierSimplex}
+use Rattle.wedge_refusal.specs.of_carriers.Carrier.{carrier_of, faces_of, InMesh, carrier_count_at, carrier_face_at, other_carrier}
+use Rattle.wedge_refusal.proofs.laws_of_carriers.Held.{carrier_held, carrier_there, count_is}
+use Rattle.wedge_refusal.proofs.laws_of_carriers.Faces.{carrier_faces, is_other, face_is, other_is, faces_few}
 use Rattle.face_entries.specs.declared.Part.{Part}
 use Rattle.face_entries.specs.declared.Part.TheVariants.{EndA, EndB, Whole}
 use Rattle.face_entries.specs.Buffers.{part_of_number}
-use Rattle.piece_ends.specs.Ends.{end_point, is_end, first_of_bits, ends_with_bits}
-use Rattle.piece_ends.specs.Table.{link_to}
-use Rattle.piece_ends.specs.Walk.{HoldsTable, first_link_at, follows_at, is_first_at, leads_at}
-use Rattle.piece_ends.specs.Directions.{piece_reals_of}
-use Rattle.piece_ends.proofs.Held.{is_first_held, first_held}
-use Rattle.piece_ends.proofs.Passing.{both}
+use Rattle.wedge_refusal.specs.of_piece_ends.Ends.{end_point, is_end, first_of_bits, ends_with_bits}
+use Rattle.wedge_refusal.specs.of_piece_ends.Table.{link_to}
+use Rattle.wedge_refusal.specs.of_piece_ends.Walk.{HoldsTable, first_link_at, follows_at, is_first_at, leads_at}
+use Rattle.wedge_refusal.specs.of_piece_ends.Directions.{piece_reals_of}
+use Rattle.wedge_refusal.proofs.laws_of_piece_ends.Held.{is_first_held, first_held}
+use Rattle.wedge_refusal.proofs.laws_of_piece_ends.Passing.{both}
 use Rattle.wedge_refusal.specs.Held.{HoldsJob}
 use Rattle.point_wedge.specs.Wedge.{bounds_in, bounds_at}
 use Rattle.point_wedge.proofs.Held.{bounds_held}
@@ -40,8 +40,8 @@ use Rattle.source_inserts.specs.declared.Source.{Source}
 use Rattle.source_inserts.specs.declared.Source.TheVariants.{Absent, Point, Segment}
 use Rattle.source_inserts.specs.Inserts.{entry_of, carrier_inserts, point_inserts, segment_inserts, end_inserts, whole_inserts, part_inserts, source_inserts, SourceMakes, IsSource}
 use Rattle.source_inserts.specs.Read.{segment_source_at, normal_of_number, end_source_at, job_source_at, segment_insert_at, point_side_at, point_insert_at, insert_at, insert_count_at}
-use Rattle.offers.specs.Each.{each_of}
-use Rattle.offers.proofs.Each.{each_same, by_blocks}
+use Rattle.source_offers.specs.of_offers.Each.{each_of}
+use Rattle.source_offers.proofs.laws_of_offers.Each.{each_same, by_blocks}
 
 -- a piece has a second end where it is no point
 second_end_lem : (kinds : List ℕ) (i : ℕ) → i < length kinds → is_end kinds (2 * i + 1) ≡ not (eqb (get_or kinds i 0) 0)

@@ -6,8 +6,8 @@ use native.Mathlib.Omega.{arith}
 use lib.Ieee.{Float}
 use lib.ListN.{length}
 use Rattle.face_entries.specs.declared.Part.TheVariants.{EndA, EndB}
-use Rattle.offers.specs.Each.{each_of}
-use Rattle.offers.proofs.Each.{each_same, by_blocks}
+use Rattle.source_offers.specs.of_offers.Each.{each_of}
+use Rattle.source_offers.proofs.laws_of_offers.Each.{each_same, by_blocks}
 use Rattle.source_inserts.specs.Inserts.{end_inserts, whole_inserts, part_inserts, piece_inserts, job_inserts, source_inserts}
 
 module _ (v : List Float) (triangles kinds faces : List ℕ) (coords : List Float) where

@@ -11,13 +11,13 @@ use Rattle.topology.specs.Edges.{edges, tri_edge}
 use Rattle.topology.specs.Frames.{origin, len, xhat}
 use Rattle.topology.proofs.Edges.{tri_edge_there}
 use Rattle.topology.proofs.Checked.{inside}
-use Rattle.mesh_laws.specs.Bounds.{EdgeLength}
-use Rattle.source_windows.specs.declared.Normal.{Normal}
-use Rattle.source_windows.specs.Wedge.{whole_of}
-use Rattle.source_windows.proofs.Ends.{On, whole_on, wedge_on}
-use Rattle.better.specs.Claim.{All}
-use Rattle.trim_model.specs.Model.{Candidate}
-use Rattle.trim_model.specs.Claim.{AdmittedProper}
+use Rattle.source_offers.specs.of_mesh_laws.Bounds.{EdgeLength}
+use Rattle.wedge_refusal.specs.of_source_windows.declared.Normal.{Normal}
+use Rattle.wedge_refusal.specs.of_source_windows.Wedge.{whole_of}
+use Rattle.wedge_refusal.proofs.laws_of_source_windows.Ends.{On, whole_on, wedge_on}
+use Rattle.source_offers.specs.of_better.Claim.{All}
+use Rattle.source_offers.specs.of_trim_model.Model.{Candidate}
+use Rattle.source_offers.specs.of_trim_model.Claim.{AdmittedProper}
 use Rattle.source_offers.specs.Offering.{segment_offer, point_offer}
 use Rattle.source_offers.proofs.Proper.{from_zero, segment_proper, point_proper}
 use Rattle.point_wedge.specs.Wedge.{directions_in, bounds_in}

@@ -9,17 +9,17 @@ use lib.Ieee.{Float}
 use lib.ListN.{get_or}
 use Rattle.vec3.specs.declared.Vec3.{Vec3}
 use Rattle.buffers.specs.declared.FaceId.{FaceId}
-use Rattle.source_windows.specs.declared.Bounds.{Bounds}
-use Rattle.source_windows.specs.declared.Normal.{Normal}
-use Rattle.offers.specs.declared.Offered.{Offered}
+use Rattle.wedge_refusal.specs.of_source_windows.declared.Bounds.{Bounds}
+use Rattle.wedge_refusal.specs.of_source_windows.declared.Normal.{Normal}
+use Rattle.source_offers.specs.of_offers.declared.Offered.{Offered}
 use Rattle.source_offers.specs.Offering.{segment_offer_at, point_offer_at}
-use Rattle.carriers.specs.declared.CarrierSimplex.{CarrierSimplex}
-use Rattle.carriers.specs.Carrier.{carrier_at, carrier_count_at, carrier_face_at, other_carrier}
+use Rattle.wedge_refusal.specs.of_carriers.declared.CarrierSimplex.{CarrierSimplex}
+use Rattle.wedge_refusal.specs.of_carriers.Carrier.{carrier_at, carrier_count_at, carrier_face_at, other_carrier}
 use Rattle.face_entries.specs.declared.Part.{Part}
 use Rattle.face_entries.specs.declared.Part.TheVariants.{Whole}
 use Rattle.face_entries.specs.Buffers.{part_of_number}
-use Rattle.piece_ends.specs.Ends.{end_point, is_end}
-use Rattle.piece_ends.specs.Walk.{is_first_at}
+use Rattle.wedge_refusal.specs.of_piece_ends.Ends.{end_point, is_end}
+use Rattle.wedge_refusal.specs.of_piece_ends.Walk.{is_first_at}
 use Rattle.point_wedge.specs.Wedge.{bounds_at}
 use Rattle.source_inserts.specs.declared.Insert.TheVariants.{Entry, Offer}
 use Rattle.source_inserts.specs.declared.Source.{Source}

@@ -12,12 +12,12 @@ use Rattle.topology.specs.Edges.{no_face, edges, tri_edge, other}
 use Rattle.topology.specs.Frames.{len, coords_x, coords_y}
 use Rattle.topology.proofs.Edges.{tri_edge_there}
 use Rattle.topology.proofs.Checked.{inside}
-use Rattle.source_windows.specs.declared.Bounds.{Bounds}
-use Rattle.source_windows.specs.declared.Normal.{Normal}
-use Rattle.source_windows.specs.declared.CandidateRange.{CandidateRange}
-use Rattle.source_windows.specs.declared.CandidateRange.TheVariants.{Nothing as NoRange, Window as Range}
-use Rattle.source_windows.specs.Wedge.{lies_on, point_window_of}
-use Rattle.source_windows.specs.Segment.{in_frame_of, segment_window_of}
+use Rattle.wedge_refusal.specs.of_source_windows.declared.Bounds.{Bounds}
+use Rattle.wedge_refusal.specs.of_source_windows.declared.Normal.{Normal}
+use Rattle.wedge_refusal.specs.of_source_windows.declared.CandidateRange.{CandidateRange}
+use Rattle.wedge_refusal.specs.of_source_windows.declared.CandidateRange.TheVariants.{Nothing as NoRange, Window as Range}
+use Rattle.wedge_refusal.specs.of_source_windows.Wedge.{lies_on, point_window_of}
+use Rattle.wedge_refusal.specs.of_source_windows.Segment.{in_frame_of, segment_window_of}
 use Rattle.source_offers.specs.Offering.{offered, segment_on, point_on, segment_offer, point_offer}
 use Rattle.point_wedge.specs.Wedge.{bounds_in}
 use Rattle.source_inserts.specs.Inserts.{job_inserts, source_inserts, OfferThere, There}

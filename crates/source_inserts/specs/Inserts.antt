@@ -4,18 +4,18 @@ use Rattle.std.specs.Prelude.{ℕ, zero, suc, ◌+◌, ◌*◌, ◌/◌, ◌%◌
 use Rattle.float64.specs.Notation.{if◌then◌else◌}
 use Rattle.vec3.specs.declared.Vec3.{Vec3}
 use Rattle.topology.specs.Edges.{no_face, edges}
-use Rattle.source_windows.specs.declared.Normal.TheVariants.{Left, Right}
-use Rattle.trim_model.specs.Model.{Candidate}
-use Rattle.offers.specs.declared.Offered.{Offered}
-use Rattle.offers.specs.declared.Offered.TheVariants.{Nothing, Window}
-use Rattle.offers.specs.Each.{each_of}
-use Rattle.offers.specs.Offers.{offer_list}
+use Rattle.wedge_refusal.specs.of_source_windows.declared.Normal.TheVariants.{Left, Right}
+use Rattle.source_offers.specs.of_trim_model.Model.{Candidate}
+use Rattle.source_offers.specs.of_offers.declared.Offered.{Offered}
+use Rattle.source_offers.specs.of_offers.declared.Offered.TheVariants.{Nothing, Window}
+use Rattle.source_offers.specs.of_offers.Each.{each_of}
+use Rattle.source_offers.specs.of_offers.Offers.{offer_list}
 use Rattle.source_offers.specs.Offering.{segment_offer, point_offer}
-use Rattle.carriers.specs.Carrier.{carrier_of, faces_of, InMesh}
+use Rattle.wedge_refusal.specs.of_carriers.Carrier.{carrier_of, faces_of, InMesh}
 use Rattle.face_entries.specs.declared.Part.{Part}
 use Rattle.face_entries.specs.declared.Part.TheVariants.{EndA, EndB, Whole}
-use Rattle.piece_ends.specs.Ends.{end_point, first_of_bits, ends_with_bits}
-use Rattle.piece_ends.specs.Table.{link_to}
+use Rattle.wedge_refusal.specs.of_piece_ends.Ends.{end_point, first_of_bits, ends_with_bits}
+use Rattle.wedge_refusal.specs.of_piece_ends.Table.{link_to}
 use Rattle.point_wedge.specs.Wedge.{bounds_in}
 use Rattle.source_inserts.specs.declared.Insert.{Insert}
 use Rattle.source_inserts.specs.declared.Insert.TheVariants.{Entry, Offer}

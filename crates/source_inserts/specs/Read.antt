@@ -1,18 +1,18 @@
 -- What the sources of a job do, as the buffers are read. Definitions only: `source_is` and `source_inserts_held` in proofs/Held.antt say that it is the Rust's where they hold a job.
 use Rattle.std.specs.Prelude.{ℕ, ◌+◌, ◌-◌, ◌*◌, ◌/◌, ◌%◌, min, cond, List, eqb, Float, get_or}
 use Rattle.vec3.specs.declared.Vec3.{Vec3}
-use Rattle.source_windows.specs.declared.Normal.{Normal}
-use Rattle.source_windows.specs.declared.Normal.TheVariants.{Left, Right}
-use Rattle.offers.specs.declared.Offered.{Offered}
-use Rattle.offers.specs.declared.Offered.TheVariants.{Nothing}
+use Rattle.wedge_refusal.specs.of_source_windows.declared.Normal.{Normal}
+use Rattle.wedge_refusal.specs.of_source_windows.declared.Normal.TheVariants.{Left, Right}
+use Rattle.source_offers.specs.of_offers.declared.Offered.{Offered}
+use Rattle.source_offers.specs.of_offers.declared.Offered.TheVariants.{Nothing}
 use Rattle.source_offers.specs.Offering.{segment_offer_at, point_offer_at}
-use Rattle.carriers.specs.declared.CarrierSimplex.{CarrierSimplex}
-use Rattle.carriers.specs.Carrier.{carrier_at, carrier_count_at, carrier_face_at, other_carrier}
+use Rattle.wedge_refusal.specs.of_carriers.declared.CarrierSimplex.{CarrierSimplex}
+use Rattle.wedge_refusal.specs.of_carriers.Carrier.{carrier_at, carrier_count_at, carrier_face_at, other_carrier}
 use Rattle.face_entries.specs.declared.Part.{Part}
 use Rattle.face_entries.specs.declared.Part.TheVariants.{Whole}
 use Rattle.face_entries.specs.Buffers.{part_of_number}
-use Rattle.piece_ends.specs.Ends.{end_point, is_end}
-use Rattle.piece_ends.specs.Walk.{is_first_at}
+use Rattle.wedge_refusal.specs.of_piece_ends.Ends.{end_point, is_end}
+use Rattle.wedge_refusal.specs.of_piece_ends.Walk.{is_first_at}
 use Rattle.point_wedge.specs.Wedge.{bounds_at}
 use Rattle.source_inserts.specs.declared.Insert.{Insert}
 use Rattle.source_inserts.specs.declared.Insert.TheVariants.{Offer}

@@ -4,14 +4,23 @@ ghost use Rattle.std.specs.Prelude.{◌≡◌, ◌<◌};
 ghost use Rattle.source_inserts.specs.Read.{end_source_at, segment_source_at, job_source_at, insert_count_at, point_side_at, point_insert_at, segment_insert_at, normal_of_number, insert_at};
 
 use buffers::FaceId;
-use carriers::{CarrierSimplex, carrier, carrier_count, carrier_face, other_carrier};
+pub use face_entries as of_face_entries;
+pub use face_entries::of_mesh as of_mesh;
 use face_entries::{Part, PiecePart, part_of};
-use offers::Offered;
-use piece_ends::{end_point, is_end, is_first};
-use segments_behind::face_of;
+use source_offers::of_offers::Offered;
+pub use source_offers::{
+    of_offers as of_offers, of_trim as of_trim, of_trim_split as of_trim_split,
+};
 use source_offers::{point_offer, segment_offer};
-use source_windows::Normal;
 use vec3::Vec3;
+pub use wedge_refusal as of_wedge_refusal;
+use wedge_refusal::of_carriers::{
+    CarrierSimplex, carrier, carrier_count, carrier_face, other_carrier,
+};
+pub use wedge_refusal::of_piece_ends as of_piece_ends;
+use wedge_refusal::of_piece_ends::{end_point, is_end, is_first};
+use wedge_refusal::of_segments_behind::face_of;
+use wedge_refusal::of_source_windows::Normal;
 
 // A part of a piece is entered in a face, or a window is offered to an edge.
 #[derive(Clone, Copy)]

@@ -11,15 +11,15 @@ use Rattle.topology.specs.Edges.{edges, tri_edge}
 use Rattle.topology.specs.Frames.{coords_x, coords_y}
 use Rattle.topology.proofs.Edges.{tri_edge_there}
 use Rattle.topology.proofs.Checked.{inside}
-use Rattle.frames.specs.Stored.{length_at}
-use Rattle.mesh_readers.specs.Held.{HoldsMesh}
-use Rattle.mesh_readers.specs.declared.FrameCoords.{FrameCoords}
-use Rattle.mesh_readers.specs.Readers.{side_in, other_at, coords_at}
-use Rattle.mesh_readers.proofs.Held.{side_held, other_held, coords_held}
-use Rattle.source_windows.specs.declared.Bounds.{Bounds}
-use Rattle.source_windows.specs.declared.Normal.{Normal}
-use Rattle.source_windows.specs.declared.CandidateRange.{CandidateRange}
-use Rattle.source_windows.specs.declared.CandidateRange.TheVariants.{Nothing as NoRange, Window as Range}
+use Rattle.offers.specs.of_frames.Stored.{length_at}
+use Rattle.offers.specs.of_mesh_readers.Held.{HoldsMesh}
+use Rattle.offers.specs.of_mesh_readers.declared.FrameCoords.{FrameCoords}
+use Rattle.offers.specs.of_mesh_readers.Readers.{side_in, other_at, coords_at}
+use Rattle.offers.proofs.laws_of_mesh_readers.Held.{side_held, other_held, coords_held}
+use Rattle.candidate_laws.specs.of_source_windows.declared.Bounds.{Bounds}
+use Rattle.candidate_laws.specs.of_source_windows.declared.Normal.{Normal}
+use Rattle.candidate_laws.specs.of_source_windows.declared.CandidateRange.{CandidateRange}
+use Rattle.candidate_laws.specs.of_source_windows.declared.CandidateRange.TheVariants.{Nothing as NoRange, Window as Range}
 use Rattle.offers.specs.Offers.{EdgeThere}
 use Rattle.offers.specs.Walks.{MeshIn, edge_data}
 use Rattle.offers.proofs.Walks.{edge_there}

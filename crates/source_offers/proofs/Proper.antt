@@ -10,17 +10,17 @@ use Rattle.float_laws.proofs.Order.{lt_le}
 use Rattle.vec3.specs.declared.Vec3.{Vec3}
 use Rattle.topology.specs.Edges.{no_face, tri_edge, other}
 use Rattle.topology.specs.Frames.{len, coords_x, coords_y}
-use Rattle.mesh_laws.specs.Bounds.{EdgeLength}
-use Rattle.source_windows.specs.declared.Bounds.{Bounds}
-use Rattle.source_windows.specs.declared.Normal.{Normal}
-use Rattle.source_windows.specs.declared.CandidateRange.{CandidateRange}
-use Rattle.source_windows.specs.declared.CandidateRange.TheVariants.{Nothing as NoRange, Window as Range}
-use Rattle.source_windows.specs.Wedge.{lies_on, point_window_of}
-use Rattle.source_windows.specs.Segment.{in_frame_of, segment_window_of}
-use Rattle.source_windows.specs.Ends.{EndsOn}
-use Rattle.source_windows.proofs.Ends.{On, segment_window_on, point_window_on}
-use Rattle.better.specs.Claim.{All}
-use Rattle.trim_model.specs.Claim.{AdmittedProper}
+use Rattle.candidate_laws.specs.of_mesh_laws.Bounds.{EdgeLength}
+use Rattle.candidate_laws.specs.of_source_windows.declared.Bounds.{Bounds}
+use Rattle.candidate_laws.specs.of_source_windows.declared.Normal.{Normal}
+use Rattle.candidate_laws.specs.of_source_windows.declared.CandidateRange.{CandidateRange}
+use Rattle.candidate_laws.specs.of_source_windows.declared.CandidateRange.TheVariants.{Nothing as NoRange, Window as Range}
+use Rattle.candidate_laws.specs.of_source_windows.Wedge.{lies_on, point_window_of}
+use Rattle.candidate_laws.specs.of_source_windows.Segment.{in_frame_of, segment_window_of}
+use Rattle.candidate_laws.specs.of_source_windows.Ends.{EndsOn}
+use Rattle.candidate_laws.proofs.laws_of_source_windows.Ends.{On, segment_window_on, point_window_on}
+use Rattle.candidate_laws.specs.of_better.Claim.{All}
+use Rattle.candidate_laws.specs.of_trim_model.Claim.{AdmittedProper}
 use Rattle.candidate_laws.proofs.Admitted.{length_point, offered_proper}
 use Rattle.offers.specs.Offers.{offer_list}
 use Rattle.source_offers.specs.Offering.{offered, segment_on, point_on, segment_offer, point_offer}

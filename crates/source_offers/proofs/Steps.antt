@@ -10,18 +10,18 @@ use Rattle.buffers.specs.declared.EdgeId.{EdgeId}
 use Rattle.buffers.specs.declared.FaceId.{FaceId}
 use Rattle.vec3.specs.declared.Vec3.{Vec3}
 use Rattle.topology.specs.Edges.{no_face}
-use Rattle.frames.specs.Stored.{length_at}
-use Rattle.mesh_readers.specs.declared.FrameCoords.{FrameCoords}
-use Rattle.mesh_readers.specs.Readers.{side_in, other_at, coords_at}
-use Rattle.source_windows.specs.declared.Bounds.{Bounds}
-use Rattle.source_windows.specs.declared.Normal.{Normal}
-use Rattle.source_windows.specs.declared.InFrame.{InFrame}
-use Rattle.source_windows.specs.declared.CandidateRange.{CandidateRange}
-use Rattle.source_windows.specs.Tolerance.{too_narrow}
-use Rattle.source_windows.specs.Back.{goes_back_along}
-use Rattle.source_windows.specs.Wedge.{lies_on, point_window_of}
-use Rattle.source_windows.proofs.Back.{goes_back}
-use Rattle.source_windows.specs.Segment.{in_frame_of, segment_window_of}
+use Rattle.offers.specs.of_frames.Stored.{length_at}
+use Rattle.offers.specs.of_mesh_readers.declared.FrameCoords.{FrameCoords}
+use Rattle.offers.specs.of_mesh_readers.Readers.{side_in, other_at, coords_at}
+use Rattle.candidate_laws.specs.of_source_windows.declared.Bounds.{Bounds}
+use Rattle.candidate_laws.specs.of_source_windows.declared.Normal.{Normal}
+use Rattle.candidate_laws.specs.of_source_windows.declared.InFrame.{InFrame}
+use Rattle.candidate_laws.specs.of_source_windows.declared.CandidateRange.{CandidateRange}
+use Rattle.candidate_laws.specs.of_source_windows.Tolerance.{too_narrow}
+use Rattle.candidate_laws.specs.of_source_windows.Back.{goes_back_along}
+use Rattle.candidate_laws.specs.of_source_windows.Wedge.{lies_on, point_window_of}
+use Rattle.candidate_laws.proofs.laws_of_source_windows.Back.{goes_back}
+use Rattle.candidate_laws.specs.of_source_windows.Segment.{in_frame_of, segment_window_of}
 use Rattle.offers.specs.declared.Offered.{Offered}
 use Rattle.offers.specs.declared.Offered.TheVariants.{Nothing}
 use Rattle.source_offers.specs.Offering.{offered, along_at, segment_on, point_on, segment_offer_at, point_offer_at}

@@ -5,14 +5,14 @@ use Rattle.vec3.specs.declared.Vec3.{Vec3}
 use Rattle.topology.specs.Edges.{no_face, tri_edge, other}
 use Rattle.topology.specs.Frames.{len, coords_x, coords_y}
 use Rattle.vec3.specs.Vec.{sub_of, dot_of}
-use Rattle.frames.specs.Stored.{length_at, unit_at, origin_at}
-use Rattle.mesh_readers.specs.Readers.{side_in, other_at, coords_at}
-use Rattle.source_windows.specs.declared.Bounds.{Bounds}
-use Rattle.source_windows.specs.declared.Normal.{Normal}
-use Rattle.source_windows.specs.declared.CandidateRange.{CandidateRange}
-use Rattle.source_windows.specs.declared.CandidateRange.TheVariants.{Nothing as NoRange, Window as Range}
-use Rattle.source_windows.specs.Wedge.{lies_on, point_window_of}
-use Rattle.source_windows.specs.Segment.{in_frame_of, segment_window_of}
+use Rattle.offers.specs.of_frames.Stored.{length_at, unit_at, origin_at}
+use Rattle.offers.specs.of_mesh_readers.Readers.{side_in, other_at, coords_at}
+use Rattle.candidate_laws.specs.of_source_windows.declared.Bounds.{Bounds}
+use Rattle.candidate_laws.specs.of_source_windows.declared.Normal.{Normal}
+use Rattle.candidate_laws.specs.of_source_windows.declared.CandidateRange.{CandidateRange}
+use Rattle.candidate_laws.specs.of_source_windows.declared.CandidateRange.TheVariants.{Nothing as NoRange, Window as Range}
+use Rattle.candidate_laws.specs.of_source_windows.Wedge.{lies_on, point_window_of}
+use Rattle.candidate_laws.specs.of_source_windows.Segment.{in_frame_of, segment_window_of}
 use Rattle.offers.specs.declared.Offered.{Offered}
 use Rattle.offers.specs.declared.Offered.TheVariants.{Nothing, Window}
 

@@ -5,10 +5,15 @@ ghost use Rattle.source_offers.specs.Offering.{along_at, segment_offer_at, point
 ghost use Rattle.source_offers.specs.Offering.{offered as offeredOf};
 
 use buffers::{EdgeId, FaceId, no_face};
-use mesh_readers::{coords, ends, length, other, side, unit, vertex};
-use offers::Offered;
-use source_windows::{
+use candidate_laws::of_source_windows as source_windows;
+use candidate_laws::of_source_windows::{
     Bounds, CandidateRange, Normal, goes_back, lies_on, point_window, segment_window, too_narrow,
+};
+pub use offers as of_offers;
+use offers::Offered;
+use offers::of_mesh_readers::{coords, ends, length, other, side, unit, vertex};
+pub use offers::{
+    of_mesh_readers as of_mesh_readers, of_trim as of_trim, of_trim_split as of_trim_split,
 };
 use vec3::Vec3;
 use windows::{Carried, NewWindow};

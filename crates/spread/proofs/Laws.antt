@@ -3,13 +3,13 @@ use Prim.Native.Nat.{ℕ}
 use mathlib.Core.List.{List}
 use mathlib.Core.Path.{◌≡◌, ◌∙◌, subst}
 use lib.Ieee.{Float}
-use Rattle.cut_lists.specs.Buffers.{Cuts}
-use Rattle.trim_split.specs.declared.Counts.{Counts}
-use Rattle.trim.specs.Buffers.{Slices}
-use Rattle.trim.specs.declared.Added.{Added}
-use Rattle.offers.specs.declared.Offered.{Offered}
-use Rattle.offers.specs.Walks.{MeshIn, AddsCandidates}
-use Rattle.offers.proofs.Loop.{ReadsOffers}
+use Rattle.spread_offers.specs.of_cut_lists.Buffers.{Cuts}
+use Rattle.spread_offers.specs.of_trim_split.declared.Counts.{Counts}
+use Rattle.spread_offers.specs.of_trim.Buffers.{Slices}
+use Rattle.spread_offers.specs.of_trim.declared.Added.{Added}
+use Rattle.spread_offers.specs.of_offers.declared.Offered.{Offered}
+use Rattle.spread_offers.specs.of_offers.Walks.{MeshIn, AddsCandidates}
+use Rattle.spread_offers.proofs.laws_of_offers.Loop.{ReadsOffers}
 use Rattle.spread_offers.specs.declared.Opposite.{Opposite}
 use Rattle.spread_offers.specs.declared.Spread.{Spread}
 use Rattle.spread_offers.specs.Spreading.{spread_candidates, spread_count_at, opposite_at, spread_offer_at}

@@ -1,6 +1,6 @@
 -- What is asked of a mesh in its buffers for a window to be propagated in it, or for a vertex to pass its distance on. Definitions only.
 use Rattle.std.specs.Prelude.{ℕ, List, ◌≡◌}
-use Rattle.mesh_readers.specs.Held.{HoldsRound}
+use Rattle.spread_offers.specs.of_mesh_readers.Held.{HoldsRound}
 use Rattle.spread_offers.specs.declared.Spread.{Spread}
 use Rattle.spread_offers.specs.Spreading.{SpreadOf}
 

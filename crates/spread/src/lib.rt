@@ -2,16 +2,18 @@
 ghost use Rattle.std.specs.Prelude.{◌≤◌, length};
 ghost use Rattle.buffers.specs.Lent.{given};
 ghost use Rattle.windows.specs.Windows.{capacity_of};
-ghost use Rattle.cut_lists.specs.Buffers.{cuts_before};
-ghost use Rattle.cut_lists.specs.Cut.{Sizes};
-ghost use Rattle.trim.specs.Buffers.{before, after};
-ghost use Rattle.offers.specs.Walks.{AddsCandidates};
+ghost use Rattle.spread_offers.specs.of_cut_lists.Buffers.{cuts_before};
+ghost use Rattle.spread_offers.specs.of_cut_lists.Cut.{Sizes};
+ghost use Rattle.spread_offers.specs.of_trim.Buffers.{before, after};
+ghost use Rattle.spread_offers.specs.of_offers.Walks.{AddsCandidates};
 ghost use Rattle.spread_offers.specs.Spreading.{spread_candidates};
 ghost use Rattle.spread.specs.Walk.{SpreadIn};
 
-use spread_offers::Spread;
-use trim::Added;
-use trim_split::Counts;
+pub use spread_offers as of_spread_offers;
+use spread_offers::of_trim::Added;
+use spread_offers::of_trim_split::Counts;
+pub use spread_offers::{of_trim as of_trim, of_trim_split as of_trim_split};
+use spread_offers::{Spread, of_offers as offers};
 
 // All candidates of a window or of a vertex, one after the other. What both candidates of a window ask for is read once: no addition changes it.
 pub fn spread(

@@ -17,19 +17,19 @@ use Rattle.topology.specs.Edges.{no_edge, joins, edges, tri_edge, other, third, 
 use Rattle.topology.specs.Frames.{len, coords_x, coords_y}
 use Rattle.topology.proofs.Edges.{tri_edge_there}
 use Rattle.topology.proofs.Checked.{inside}
-use Rattle.frames.specs.Stored.{length_at}
-use Rattle.mesh_readers.specs.Held.{HoldsMesh}
-use Rattle.mesh_readers.specs.Readers.{edge_at, other_at, side_in, third_at, edge_between_at, coords_at}
-use Rattle.mesh_readers.proofs.Held.{edge_held, other_held, side_held, third_held, between_held, coords_held}
+use Rattle.source_offers.specs.of_frames.Stored.{length_at}
+use Rattle.source_offers.specs.of_mesh_readers.Held.{HoldsMesh}
+use Rattle.source_offers.specs.of_mesh_readers.Readers.{edge_at, other_at, side_in, third_at, edge_between_at, coords_at}
+use Rattle.source_offers.proofs.laws_of_mesh_readers.Held.{edge_held, other_held, side_held, third_held, between_held, coords_held}
 use Rattle.source.specs.declared.Src.{Src}
-use Rattle.source_windows.specs.declared.Bounds.{Bounds}
+use Rattle.propagation.specs.of_source_windows.declared.Bounds.{Bounds}
 use Rattle.propagation.specs.declared.Side.{Side}
 use Rattle.propagation.specs.declared.FaceAhead.{FaceAhead}
 use Rattle.propagation.specs.Propagate.{propagate_of, emit_of}
-use Rattle.offers.specs.declared.Offered.{Offered}
-use Rattle.offers.specs.declared.Offered.TheVariants.{Nothing}
-use Rattle.offers.specs.Offers.{EdgeThere}
-use Rattle.offers.specs.Walks.{MeshIn, edge_data}
+use Rattle.source_offers.specs.of_offers.declared.Offered.{Offered}
+use Rattle.source_offers.specs.of_offers.declared.Offered.TheVariants.{Nothing}
+use Rattle.source_offers.specs.of_offers.Offers.{EdgeThere}
+use Rattle.source_offers.specs.of_offers.Walks.{MeshIn, edge_data}
 use Rattle.source_offers.specs.Offering.{offered}
 use Rattle.source_offers.proofs.Held.{offered_there}
 use Rattle.spread_offers.specs.Offering.{side_number, side_end, next_edge_of, at_end, propagate_offer, emit_offer, ahead_at, next_edge_at, propagate_offer_at, emit_offer_at}

@@ -10,16 +10,16 @@ use lib.Ieee.{Float}
 use Rattle.float64.specs.Scalar.{zero64}
 use Rattle.job_checks.specs.Sound.{ValidTriangles}
 use Rattle.topology.specs.Edges.{vertex_faces}
-use Rattle.mesh_readers.specs.Held.{HoldsMesh, HoldsRound}
-use Rattle.mesh_readers.specs.Readers.{range_at, degree_at, round_at}
-use Rattle.mesh_readers.proofs.Held.{range_held, degree_held, round_held}
-use Rattle.mesh_readers.proofs.Round.{few_round, round_there}
-use Rattle.trim_model.specs.Model.{Candidate}
-use Rattle.offers.specs.declared.Offered.{Offered}
-use Rattle.offers.specs.Offers.{offer_list, EdgeThere}
-use Rattle.offers.specs.Each.{each_of}
-use Rattle.offers.specs.Walks.{MeshIn, edge_data}
-use Rattle.offers.proofs.Each.{each_same, by_blocks}
+use Rattle.source_offers.specs.of_mesh_readers.Held.{HoldsMesh, HoldsRound}
+use Rattle.source_offers.specs.of_mesh_readers.Readers.{range_at, degree_at, round_at}
+use Rattle.source_offers.proofs.laws_of_mesh_readers.Held.{range_held, degree_held, round_held}
+use Rattle.source_offers.proofs.laws_of_mesh_readers.Round.{few_round, round_there}
+use Rattle.source_offers.specs.of_trim_model.Model.{Candidate}
+use Rattle.source_offers.specs.of_offers.declared.Offered.{Offered}
+use Rattle.source_offers.specs.of_offers.Offers.{offer_list, EdgeThere}
+use Rattle.source_offers.specs.of_offers.Each.{each_of}
+use Rattle.source_offers.specs.of_offers.Walks.{MeshIn, edge_data}
+use Rattle.source_offers.proofs.laws_of_offers.Each.{each_same, by_blocks}
 use Rattle.spread_offers.specs.declared.Opposite.{Opposite}
 use Rattle.spread_offers.specs.declared.Spread.{Spread}
 use Rattle.spread_offers.specs.declared.Spread.TheVariants.{Window, Vertex}

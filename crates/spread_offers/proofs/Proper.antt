@@ -9,21 +9,21 @@ use Rattle.job_checks.specs.Edge.{vertex_at}
 use Rattle.job_checks.specs.Sound.{ValidTriangles}
 use Rattle.topology.specs.Edges.{no_edge, edges, tri_edge, other, third, edge_between, vertex_faces}
 use Rattle.topology.specs.Frames.{len, coords_x, coords_y}
-use Rattle.mesh_laws.specs.Bounds.{EdgeLength}
-use Rattle.mesh_readers.proofs.Round.{round_there}
+use Rattle.source_offers.specs.of_mesh_laws.Bounds.{EdgeLength}
+use Rattle.source_offers.proofs.laws_of_mesh_readers.Round.{round_there}
 use Rattle.source.specs.declared.Src.{Src}
 use Rattle.propagation.specs.declared.FaceAhead.{FaceAhead}
 use Rattle.propagation.specs.declared.NextEdge.{NextEdge}
 use Rattle.propagation.specs.Propagate.{propagate_of, emit_of}
 use Rattle.propagation.proofs.Ends.{propagate_on, emit_on}
-use Rattle.better.specs.Claim.{All}
-use Rattle.trim_model.specs.Model.{Candidate}
-use Rattle.trim_model.specs.Claim.{AdmittedProper}
-use Rattle.offers.specs.declared.Offered.{Offered}
-use Rattle.offers.specs.declared.Offered.TheVariants.{Nothing}
-use Rattle.offers.specs.Offers.{offer_list}
-use Rattle.offers.specs.Each.{each_of}
-use Rattle.offers.proofs.Each.{each_all}
+use Rattle.source_offers.specs.of_better.Claim.{All}
+use Rattle.source_offers.specs.of_trim_model.Model.{Candidate}
+use Rattle.source_offers.specs.of_trim_model.Claim.{AdmittedProper}
+use Rattle.source_offers.specs.of_offers.declared.Offered.{Offered}
+use Rattle.source_offers.specs.of_offers.declared.Offered.TheVariants.{Nothing}
+use Rattle.source_offers.specs.of_offers.Offers.{offer_list}
+use Rattle.source_offers.specs.of_offers.Each.{each_of}
+use Rattle.source_offers.proofs.laws_of_offers.Each.{each_all}
 use Rattle.source_offers.specs.Offering.{offered}
 use Rattle.source_offers.proofs.Proper.{range_proper}
 use Rattle.spread_offers.specs.declared.Spread.{Spread}

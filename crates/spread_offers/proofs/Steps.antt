@@ -11,14 +11,14 @@ use Rattle.buffers.specs.declared.FaceId.{FaceId}
 use Rattle.buffers.specs.declared.VertexId.{VertexId}
 use Rattle.vec3.specs.declared.Vec3.{Vec3}
 use Rattle.job_checks.specs.Edge.{vertex_at}
-use Rattle.frames.specs.Stored.{low_at, high_at, length_at}
-use Rattle.mesh_readers.specs.declared.EdgeEnds.{EdgeEnds}
-use Rattle.mesh_readers.specs.declared.FrameCoords.{FrameCoords}
-use Rattle.mesh_readers.specs.declared.RoundRange.{RoundRange}
-use Rattle.mesh_readers.specs.Readers.{edge_at, ends_at, other_at, side_in, third_at, edge_between_at, coords_at, range_at, degree_at, round_at}
+use Rattle.source_offers.specs.of_frames.Stored.{low_at, high_at, length_at}
+use Rattle.source_offers.specs.of_mesh_readers.declared.EdgeEnds.{EdgeEnds}
+use Rattle.source_offers.specs.of_mesh_readers.declared.FrameCoords.{FrameCoords}
+use Rattle.source_offers.specs.of_mesh_readers.declared.RoundRange.{RoundRange}
+use Rattle.source_offers.specs.of_mesh_readers.Readers.{edge_at, ends_at, other_at, side_in, third_at, edge_between_at, coords_at, range_at, degree_at, round_at}
 use Rattle.source.specs.declared.Src.{Src}
-use Rattle.source_windows.specs.declared.Bounds.{Bounds}
-use Rattle.source_windows.specs.declared.CandidateRange.{CandidateRange}
+use Rattle.propagation.specs.of_source_windows.declared.Bounds.{Bounds}
+use Rattle.propagation.specs.of_source_windows.declared.CandidateRange.{CandidateRange}
 use Rattle.propagation.specs.declared.Side.{Side}
 use Rattle.propagation.specs.declared.Side.TheVariants.{First, Second}
 use Rattle.propagation.specs.declared.FaceVertex.{FaceVertex}
@@ -26,8 +26,8 @@ use Rattle.propagation.specs.declared.FaceAhead.{FaceAhead}
 use Rattle.propagation.specs.declared.NextEdge.{NextEdge}
 use Rattle.propagation.specs.Plane.{vertex_of}
 use Rattle.propagation.specs.Propagate.{propagate_of, emit_of}
-use Rattle.offers.specs.declared.Offered.{Offered}
-use Rattle.offers.specs.declared.Offered.TheVariants.{Nothing}
+use Rattle.source_offers.specs.of_offers.declared.Offered.{Offered}
+use Rattle.source_offers.specs.of_offers.declared.Offered.TheVariants.{Nothing}
 use Rattle.source_offers.specs.Offering.{offered}
 use Rattle.spread_offers.specs.Offering.{side_number, side_end, next_edge_of, at_end, ahead_at, next_edge_at, propagate_offer_at, emit_offer_at}
 use Rattle.spread_offers.specs.declared.Spread.TheVariants.{Window}

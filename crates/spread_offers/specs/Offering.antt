@@ -7,8 +7,8 @@ use Rattle.float64.specs.Notation.{if◌then◌else◌}
 use Rattle.job_checks.specs.Edge.{vertex_at}
 use Rattle.topology.specs.Edges.{EndPair, no_edge, edges, tri_edge, other, third, edge_between}
 use Rattle.topology.specs.Frames.{len, coords_x, coords_y}
-use Rattle.frames.specs.Stored.{length_at}
-use Rattle.mesh_readers.specs.Readers.{edge_at, other_at, side_in, edge_between_at, coords_at}
+use Rattle.source_offers.specs.of_frames.Stored.{length_at}
+use Rattle.source_offers.specs.of_mesh_readers.Readers.{edge_at, other_at, side_in, edge_between_at, coords_at}
 use Rattle.source.specs.declared.Src.{Src}
 use Rattle.propagation.specs.declared.Side.{Side}
 use Rattle.propagation.specs.declared.Side.TheVariants.{First, Second}
@@ -16,8 +16,8 @@ use Rattle.propagation.specs.declared.FaceAhead.{FaceAhead}
 use Rattle.propagation.specs.declared.NextEdge.{NextEdge}
 use Rattle.propagation.specs.Plane.{vertex_of}
 use Rattle.propagation.specs.Propagate.{propagate_of, emit_of}
-use Rattle.offers.specs.declared.Offered.{Offered}
-use Rattle.offers.specs.declared.Offered.TheVariants.{Nothing}
+use Rattle.source_offers.specs.of_offers.declared.Offered.{Offered}
+use Rattle.source_offers.specs.of_offers.declared.Offered.TheVariants.{Nothing}
 use Rattle.source_offers.specs.Offering.{offered}
 use Rattle.spread_offers.specs.declared.Opposite.{Opposite}
 

@@ -3,13 +3,13 @@ use Rattle.std.specs.Prelude.{ℕ, ◌+◌, ◌*◌, ◌/◌, ◌%◌, ◌<◌, 
 use Rattle.float64.specs.Scalar.{zero64}
 use Rattle.float64.specs.Notation.{if◌then◌else◌}
 use Rattle.topology.specs.Edges.{edges, vertex_faces}
-use Rattle.mesh_readers.specs.Readers.{third_at, degree_at, range_at, round_at}
+use Rattle.source_offers.specs.of_mesh_readers.Readers.{third_at, degree_at, range_at, round_at}
 use Rattle.source.specs.declared.Src.{Src}
-use Rattle.trim_model.specs.Model.{Candidate}
-use Rattle.offers.specs.declared.Offered.{Offered}
-use Rattle.offers.specs.declared.Offered.TheVariants.{Nothing}
-use Rattle.offers.specs.Offers.{offer_list}
-use Rattle.offers.specs.Each.{each_of}
+use Rattle.source_offers.specs.of_trim_model.Model.{Candidate}
+use Rattle.source_offers.specs.of_offers.declared.Offered.{Offered}
+use Rattle.source_offers.specs.of_offers.declared.Offered.TheVariants.{Nothing}
+use Rattle.source_offers.specs.of_offers.Offers.{offer_list}
+use Rattle.source_offers.specs.of_offers.Each.{each_of}
 use Rattle.spread_offers.specs.declared.Spread.{Spread}
 use Rattle.spread_offers.specs.declared.Spread.TheVariants.{Window, Vertex}
 use Rattle.spread_offers.specs.declared.Opposite.{Opposite}

@@ -2,20 +2,23 @@
 // read from a mesh's buffers. Nothing is asked of what the buffers hold; where they hold a mesh's topology, it is what the Rust adds (proofs/Held.antt).
 ghost use Rattle.std.specs.Prelude.{◌≡◌};
 ghost use Rattle.buffers.specs.Lent.{given};
-ghost use Rattle.mesh_readers.specs.Readers.{edge_at};
+ghost use Rattle.source_offers.specs.of_mesh_readers.Readers.{edge_at};
 ghost use Rattle.spread_offers.specs.Offering.{side_number, side_end, ahead_at, next_edge_at, at_end, propagate_offer_at, emit_offer_at};
 ghost use Rattle.spread_offers.specs.Spreading.{spread_count_at, round_offer_at, opposite_at, spread_offer_at};
 
 use buffers::{EdgeId, FaceId, VertexId};
-use mesh_readers::{
+use propagation::of_source_windows::Bounds;
+use propagation::{FaceAhead, NextEdge, Side, vertex_of};
+use source::Src;
+use source_offers::of_mesh_readers::{
     coords, edge_between, ends, face_round, faces_round, length, local, normal, other, side, third,
     unit, vertex, vertex_degree,
 };
-use offers::Offered;
-use propagation::{FaceAhead, NextEdge, Side, vertex_of};
-use source::Src;
+use source_offers::of_offers::Offered;
 use source_offers::offered;
-use source_windows::Bounds;
+pub use source_offers::{
+    of_offers as of_offers, of_trim as of_trim, of_trim_split as of_trim_split,
+};
 
 // What passes distances on: a window of an edge into a face, or a vertex at distance d.
 #[derive(Clone, Copy)]

@@ -9,8 +9,8 @@ use borrow.Author.Tests.{le-leb, lt-leb}
 use Rattle.buffers.specs.declared.Lack.{Lack}
 use Rattle.buffers.specs.Lack.{lack_number}
 use Rattle.float64.specs.Notation.{◌⊕◌}
-use Rattle.better.specs.Stretches.{Interval, interval, better_of}
-use Rattle.better.specs.Buffers.{pairs}
+use Rattle.trim_visit.specs.of_better.Stretches.{Interval, interval, better_of}
+use Rattle.trim_visit.specs.of_better.Buffers.{pairs}
 use Rattle.heap.specs.Queue.{Queue}
 use Rattle.chains.specs.Chains.{Links, head_of}
 use Rattle.actions.specs.Actions as actions
@@ -18,26 +18,26 @@ use Rattle.windows.specs.declared.Edge.{Edge}
 use Rattle.windows.specs.declared.WindowRecord.{WindowRecord}
 use Rattle.actions.specs.Actions.{Action, list, wins_after, Stock, Outcome, act, play}
 use Rattle.actions.proofs.Play.{wins_append, play_go, play_stop, play_go_append, play_stop_append}
-use Rattle.trim_model.specs.Intervals.{tiny_of, wide_of}
-use Rattle.trim_model.specs.Windows.{Window, fresh, take_while}
-use Rattle.trim_model.specs.Add.{Walk, starts_before, passes, start, visits, add_to}
-use Rattle.trim_model.proofs.Ranks.{Nonneg}
-use Rattle.trim_model.proofs.Windows.{Wide}
-use Rattle.trim_model.proofs.Lists.{take_drop}
-use Rattle.trim_model.proofs.Order.{Tidy}
-use Rattle.trim_model.proofs.Turns.{run_is}
-use Rattle.trim_model.specs.Seat.{seat_all}
-use Rattle.trim_state.specs.State as state
-use Rattle.trim_state.specs.State.{Result, put, finish}
-use Rattle.trim_state.specs.Trace.{visitings, keeping, adding}
-use Rattle.trim_state.proofs.Turns.{adding_is}
-use Rattle.trim_state.proofs.Seated.{passed, reached, beyond, walked, walk_seated}
-use Rattle.live_windows.specs.Live.{HoldsWindows, nums, last_link}
-use Rattle.live_windows.proofs.Places.{short}
-use Rattle.trim_split.specs.Running.{Snapshot, snapshot, stock_of, End, stopped, at, Performed, Untouched}
-use Rattle.trim_split.specs.declared.Counts.{Counts}
-use Rattle.trim_split.proofs.Edges.{holds_put, holds_equal}
-use Rattle.trim_split.proofs.Untouched.{untouched_then}
+use Rattle.trim_visit.specs.of_trim_model.Intervals.{tiny_of, wide_of}
+use Rattle.trim_visit.specs.of_trim_model.Windows.{Window, fresh, take_while}
+use Rattle.trim_visit.specs.of_trim_model.Add.{Walk, starts_before, passes, start, visits, add_to}
+use Rattle.trim_visit.proofs.laws_of_trim_model.Ranks.{Nonneg}
+use Rattle.trim_visit.proofs.laws_of_trim_model.Windows.{Wide}
+use Rattle.trim_visit.proofs.laws_of_trim_model.Lists.{take_drop}
+use Rattle.trim_visit.proofs.laws_of_trim_model.Order.{Tidy}
+use Rattle.trim_visit.proofs.laws_of_trim_model.Turns.{run_is}
+use Rattle.trim_visit.specs.of_trim_model.Seat.{seat_all}
+use Rattle.trim_visit.specs.of_trim_state.State as state
+use Rattle.trim_visit.specs.of_trim_state.State.{Result, put, finish}
+use Rattle.trim_visit.specs.of_trim_state.Trace.{visitings, keeping, adding}
+use Rattle.trim_visit.proofs.laws_of_trim_state.Turns.{adding_is}
+use Rattle.trim_visit.proofs.laws_of_trim_state.Seated.{passed, reached, beyond, walked, walk_seated}
+use Rattle.trim_visit.specs.of_live_windows.Live.{HoldsWindows, nums, last_link}
+use Rattle.trim_visit.proofs.laws_of_live_windows.Places.{short}
+use Rattle.trim_visit.specs.of_trim_split.Running.{Snapshot, snapshot, stock_of, End, stopped, at, Performed, Untouched}
+use Rattle.trim_visit.specs.of_trim_split.declared.Counts.{Counts}
+use Rattle.trim_visit.proofs.laws_of_trim_split.Edges.{holds_put, holds_equal}
+use Rattle.trim_visit.proofs.laws_of_trim_split.Untouched.{untouched_then}
 use Rattle.trim_visit.specs.declared.Visited.TheVariants.{Stopped, Went}
 use Rattle.trim_visit.specs.Visiting.{VisitsAll, Kept}
 use Rattle.trim_keep.specs.Keeping.{Seats, SeatsAmong}

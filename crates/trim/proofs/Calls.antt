@@ -14,33 +14,33 @@ use Rattle.layout.specs.Layout.{words_per_edge, edge_scratch}
 use Rattle.buffers.specs.declared.Lack.{Lack}
 use Rattle.buffers.specs.Lack.{lack_number}
 use Rattle.source.specs.Distance.{lowest_of}
-use Rattle.better.specs.Stretches.{Interval, interval, better_of}
-use Rattle.better.specs.Buffers.{pairs}
+use Rattle.trim_visit.specs.of_better.Stretches.{Interval, interval, better_of}
+use Rattle.trim_visit.specs.of_better.Buffers.{pairs}
 use Rattle.heap.specs.Queue.{queue}
 use Rattle.chains.specs.Chains.{links}
 use Rattle.windows.specs.declared.Edge.{Edge}
 use Rattle.windows.specs.declared.NewWindow.{NewWindow}
 use Rattle.windows.specs.declared.WindowRecord.{WindowRecord}
 use Rattle.actions.specs.Actions.{wins_after, Stock, play}
-use Rattle.trim_model.specs.Intervals.{width, tiny_of, wide_of}
-use Rattle.trim_model.specs.Windows.{Window, take_while}
-use Rattle.trim_model.specs.Add.{passes, add_to}
-use Rattle.trim_model.specs.Model.{Candidate, as_window, admits}
-use Rattle.trim_model.proofs.Ranks.{Nonneg}
-use Rattle.trim_model.proofs.Windows.{Wide}
-use Rattle.trim_model.proofs.Order.{Tidy}
-use Rattle.trim_state.specs.State as state
-use Rattle.trim_state.specs.State.{State, Result, EdgeData, edge_in, put, finish, admit_of, add_of}
-use Rattle.trim_state.specs.Trace.{adding}
-use Rattle.trim_state.proofs.Follows.{follows_tidy}
-use Rattle.trim_state.proofs.Seated.{proper_nonneg, admitted_wide}
-use Rattle.live_windows.specs.Live.{HoldsWindows, Fronted, live_of, last_link}
-use Rattle.trim_split.specs.Running.{Snapshot, stock_of, End, stopped, at, Untouched}
-use Rattle.trim_split.specs.declared.Counts.{Counts}
-use Rattle.trim_split.specs.declared.Made.{Made}
-use Rattle.cut_lists.specs.Cut.{Sizes}
-use Rattle.trim_split.proofs.Untouched.{untouched_same, untouched_then}
-use Rattle.trim_split.proofs.Loops.{WindowSlices, window_slices, SameWindowSlices, same_windows, windows_of, snapshot_of, ReadyIn, ready_same}
+use Rattle.trim_visit.specs.of_trim_model.Intervals.{width, tiny_of, wide_of}
+use Rattle.trim_visit.specs.of_trim_model.Windows.{Window, take_while}
+use Rattle.trim_visit.specs.of_trim_model.Add.{passes, add_to}
+use Rattle.trim_visit.specs.of_trim_model.Model.{Candidate, as_window, admits}
+use Rattle.trim_visit.proofs.laws_of_trim_model.Ranks.{Nonneg}
+use Rattle.trim_visit.proofs.laws_of_trim_model.Windows.{Wide}
+use Rattle.trim_visit.proofs.laws_of_trim_model.Order.{Tidy}
+use Rattle.trim_visit.specs.of_trim_state.State as state
+use Rattle.trim_visit.specs.of_trim_state.State.{State, Result, EdgeData, edge_in, put, finish, admit_of, add_of}
+use Rattle.trim_visit.specs.of_trim_state.Trace.{adding}
+use Rattle.trim_visit.proofs.laws_of_trim_state.Follows.{follows_tidy}
+use Rattle.trim_visit.proofs.laws_of_trim_state.Seated.{proper_nonneg, admitted_wide}
+use Rattle.trim_visit.specs.of_live_windows.Live.{HoldsWindows, Fronted, live_of, last_link}
+use Rattle.trim_visit.specs.of_trim_split.Running.{Snapshot, stock_of, End, stopped, at, Untouched}
+use Rattle.trim_visit.specs.of_trim_split.declared.Counts.{Counts}
+use Rattle.trim_visit.specs.of_trim_split.declared.Made.{Made}
+use Rattle.trim_visit.specs.of_cut_lists.Cut.{Sizes}
+use Rattle.trim_visit.proofs.laws_of_trim_split.Untouched.{untouched_same, untouched_then}
+use Rattle.trim_visit.proofs.laws_of_trim_split.Loops.{WindowSlices, window_slices, SameWindowSlices, same_windows, windows_of, snapshot_of, ReadyIn, ready_same}
 use Rattle.trim_visit.specs.declared.Visited.TheVariants.{Stopped, Went}
 use Rattle.trim_visit.specs.Visiting.{VisitsAll}
 use Rattle.trim_keep.specs.Keeping.{Seats, MadeWithin}
@@ -48,7 +48,7 @@ use Rattle.trim.specs.declared.Added.{Added}
 use Rattle.trim.specs.declared.Added.TheVariants.{Went as Went₁}
 use Rattle.trim.specs.Adding.{candidate_of, new_of, Given, SaysResult, Admits, AddsFrom, Unchanged}
 use Rattle.trim.specs.Buffers.{Slices as Slices₁}
-use Rattle.cut_lists.specs.Buffers.{Cuts}
+use Rattle.trim_visit.specs.of_cut_lists.Buffers.{Cuts}
 use Rattle.trim.proofs.Front.{tidy_leads}
 use Rattle.trim.proofs.Adding.{no_cuts, visit_stopped, all_seated}
 

@@ -7,14 +7,14 @@ use lib.Dec.{T}
 use lib.Ieee.{Float, lt}
 use Rattle.float64.specs.Notation.{◌⊖◌}
 use Rattle.float_laws.proofs.Order.{lt_trans}
-use Rattle.better.specs.Claim.{All}
-use Rattle.trim_model.specs.Windows.{Window}
-use Rattle.trim_model.specs.Add.{passes}
-use Rattle.trim_model.proofs.Ranks.{rank, rank_lt}
-use Rattle.trim_model.proofs.Windows.{Ordered, ordered_cross, Wide}
-use Rattle.trim_model.proofs.Lists.{all_left, all_right, all_map2}
-use Rattle.trim_model.proofs.Order.{Tidy}
-use Rattle.live_windows.specs.Live.{Leads}
+use Rattle.trim_visit.specs.of_better.Claim.{All}
+use Rattle.trim_visit.specs.of_trim_model.Windows.{Window}
+use Rattle.trim_visit.specs.of_trim_model.Add.{passes}
+use Rattle.trim_visit.proofs.laws_of_trim_model.Ranks.{rank, rank_lt}
+use Rattle.trim_visit.proofs.laws_of_trim_model.Windows.{Ordered, ordered_cross, Wide}
+use Rattle.trim_visit.proofs.laws_of_trim_model.Lists.{all_left, all_right, all_map2}
+use Rattle.trim_visit.proofs.laws_of_trim_model.Order.{Tidy}
+use Rattle.trim_visit.specs.of_live_windows.Live.{Leads}
 
 both : (a b : Bool) → (a && not b) ≡ true → T a × (T b → ⊥)
 both true false h = (tt, λ z. z)

@@ -7,17 +7,17 @@ use Rattle.windows.specs.declared.NewWindow.{NewWindow}
 use Rattle.windows.specs.declared.WindowRecord.{WindowRecord}
 use Rattle.windows.specs.Windows.{capacity_of}
 use Rattle.chains.specs.Chains.{Links, links}
-use Rattle.trim_model.specs.Windows.{Window}
-use Rattle.trim_model.specs.Model.{Candidate, admits}
-use Rattle.trim_model.specs.Claim.{AdmittedProper}
-use Rattle.trim_state.specs.State as state
-use Rattle.trim_state.specs.State.{State, Result, EdgeData, edge_in, admit_of, add_of}
-use Rattle.trim_state.specs.Follows.{Follows}
-use Rattle.live_windows.specs.Live.{HoldsWindows}
-use Rattle.trim_split.specs.Running.{Snapshot, snapshot, stock_of, End, stopped, at, Untouched}
-use Rattle.trim_split.specs.declared.Counts.{Counts}
+use Rattle.trim_visit.specs.of_trim_model.Windows.{Window}
+use Rattle.trim_visit.specs.of_trim_model.Model.{Candidate, admits}
+use Rattle.trim_visit.specs.of_trim_model.Claim.{AdmittedProper}
+use Rattle.trim_visit.specs.of_trim_state.State as state
+use Rattle.trim_visit.specs.of_trim_state.State.{State, Result, EdgeData, edge_in, admit_of, add_of}
+use Rattle.trim_visit.specs.of_trim_state.Follows.{Follows}
+use Rattle.trim_visit.specs.of_live_windows.Live.{HoldsWindows}
+use Rattle.trim_visit.specs.of_trim_split.Running.{Snapshot, snapshot, stock_of, End, stopped, at, Untouched}
+use Rattle.trim_visit.specs.of_trim_split.declared.Counts.{Counts}
 use Rattle.trim.specs.Buffers.{Slices}
-use Rattle.cut_lists.specs.Buffers.{Cuts}
+use Rattle.trim_visit.specs.of_cut_lists.Buffers.{Cuts}
 use Rattle.trim.specs.declared.Added.{Added}
 use Rattle.trim.specs.declared.Added.TheVariants.{Stopped, Went}
 

@@ -1,21 +1,22 @@
 // Window trimming: a candidate window is added to its edge.
 ghost use Rattle.std.specs.Prelude.{◌≤◌, ◌≡◌, [], ◌∷◌, length};
 ghost use Rattle.source.specs.Distance.{lowest_of};
-ghost use Rattle.better.specs.Stretches.{interval};
-ghost use Rattle.better.specs.Buffers.{pairs};
-ghost use Rattle.trim_model.specs.Intervals.{tiny_of};
-ghost use Rattle.cut_lists.specs.Cut.{Sizes};
-ghost use Rattle.trim_split.specs.Running.{Ready, room_for, snapshot_before, end_after, made_end};
+ghost use Rattle.trim_visit.specs.of_better.Stretches.{interval};
+ghost use Rattle.trim_visit.specs.of_better.Buffers.{pairs};
+ghost use Rattle.trim_visit.specs.of_trim_model.Intervals.{tiny_of};
+ghost use Rattle.trim_visit.specs.of_cut_lists.Cut.{Sizes};
+ghost use Rattle.trim_visit.specs.of_trim_split.Running.{Ready, room_for, snapshot_before, end_after, made_end};
 ghost use Rattle.trim_keep.specs.Keeping.{MadeWithin};
 ghost use Rattle.trim.specs.Adding.{new_of, Admits, AddsTo};
 ghost use Rattle.trim.specs.Buffers.{before, after};
-ghost use Rattle.cut_lists.specs.Buffers.{cuts_before, cuts_after};
+ghost use Rattle.trim_visit.specs.of_cut_lists.Buffers.{cuts_before, cuts_after};
 ghost use Rattle.buffers.specs.Lent.{given, left};
 
 use buffers::Lack;
 use source::Win;
-use trim_split::{Counts, Made};
-use trim_visit::Visited;
+pub use trim_visit::of_trim_split as of_trim_split;
+use trim_visit::of_trim_split::{Counts, Made};
+use trim_visit::{Visited, of_live_windows as live_windows};
 use windows::{Edge, NewWindow, WindowRecord};
 
 // What there is no slot for; or how many windows and events there are now.

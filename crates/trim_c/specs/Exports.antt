@@ -3,8 +3,8 @@ use Rattle.std.specs.Prelude.{ℕ, List, ◌≡◌, set, Float}
 use Rattle.run_operations.specs.declared.Ran.{Ran}
 use Rattle.run_operations.specs.declared.Ran.TheVariants.{Done, Ended}
 use Rattle.run_operations.specs.Lists.{RunWhole}
-use Rattle.trim.specs.Buffers.{Slices}
-use Rattle.cut_lists.specs.Buffers.{Cuts}
+use Rattle.run_operations.specs.of_trim.Buffers.{Slices}
+use Rattle.run_operations.specs.of_cut_lists.Buffers.{Cuts}
 
 -- the number that is answered, and what two numbers then hold, as far as they are lent
 unfoldable pub told_run : Ran → List ℕ → ℕ × List ℕ

@@ -1,7 +1,7 @@
 // The function that runs a list, for programs in C and Rust, in buffers that they lend.
 ghost use Rattle.buffers.specs.Lent.{given, left};
-ghost use Rattle.trim.specs.Buffers.{before, after};
-ghost use Rattle.cut_lists.specs.Buffers.{cuts_before, cuts_after};
+ghost use Rattle.run_operations.specs.of_trim.Buffers.{before, after};
+ghost use Rattle.run_operations.specs.of_cut_lists.Buffers.{cuts_before, cuts_after};
 ghost use Rattle.std.specs.Prelude.{◌≡◌};
 ghost use Rattle.trim_c.specs.Exports.{told_run, AnsweredList};
 

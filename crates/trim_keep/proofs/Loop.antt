@@ -8,12 +8,12 @@ use lib.ListN.{length, drop}
 use lib.Ieee.{Float, le}
 use Rattle.layout.specs.Layout.{words_per_edge}
 use Rattle.buffers.specs.Slots.{slots_of}
-use Rattle.better.specs.Stretches.{Interval}
+use Rattle.trim_split.specs.of_better.Stretches.{Interval}
 use Rattle.windows.specs.declared.Edge.{Edge}
 use Rattle.windows.specs.declared.WindowRecord.{WindowRecord}
-use Rattle.trim_model.specs.Intervals.{width, wide_of}
-use Rattle.trim_state.proofs.Turns.{wide_yes}
-use Rattle.live_windows.specs.Live.{live_of}
+use Rattle.trim_split.specs.of_trim_model.Intervals.{width, wide_of}
+use Rattle.trim_split.proofs.laws_of_trim_state.Turns.{wide_yes}
+use Rattle.trim_split.specs.of_live_windows.Live.{live_of}
 use Rattle.trim_split.specs.Running.{End, stopped, at}
 use Rattle.trim_split.proofs.Loops.{WindowSlices, SameWindowSlices, same_refl, same_trans, same_windows, windows_of, snapshot_of, ReadyIn, ready_same}
 use Rattle.trim_keep.specs.Keeping.{Seats, KeptOne}

@@ -4,7 +4,7 @@ use mathlib.Core.Bool.{Bool, true, false}
 use mathlib.Core.List.{List, [], ◌∷◌, ◌++◌, append_assoc}
 use mathlib.Core.Path.{◌≡◌, refl, sym, ap, ◌∙◌, subst}
 use lib.Ieee.{Float, le}
-use Rattle.better.specs.Stretches.{Interval}
+use Rattle.trim_split.specs.of_better.Stretches.{Interval}
 use Rattle.heap.specs.Queue.{Queue}
 use Rattle.actions.specs.Actions as actions
 use Rattle.float64.specs.Scalar.{zero64}
@@ -14,17 +14,17 @@ use Rattle.windows.specs.declared.Edge.{Edge}
 use Rattle.windows.specs.declared.WindowRecord.{WindowRecord}
 use Rattle.actions.specs.Actions.{Action, touch, wins_with, wins_after, play}
 use Rattle.actions.proofs.Play.{wins_none, wins_append, play_nil, play_stop_append, play_go_append}
-use Rattle.trim_model.specs.Intervals.{width, push_if, wide_of}
-use Rattle.trim_model.specs.Windows.{Window, part, fresh, take_while, drop_while}
-use Rattle.trim_model.specs.Seat.{starts_under, seat_front, seat_rest, seat_all}
-use Rattle.trim_model.proofs.Seat.{seat_all_nil, seat_all_next}
-use Rattle.trim_state.specs.State.{put}
-use Rattle.trim_state.specs.Trace.{near, win_of, making, touching, keeping}
-use Rattle.trim_state.proofs.Turns.{wide_skip, wide_end, keeping_none, keeping_some}
-use Rattle.live_windows.specs.Live.{HoldsWindows, last_link, sorts_before, Walked}
-use Rattle.live_windows.proofs.Seats.{seat_split}
+use Rattle.trim_split.specs.of_trim_model.Intervals.{width, push_if, wide_of}
+use Rattle.trim_split.specs.of_trim_model.Windows.{Window, part, fresh, take_while, drop_while}
+use Rattle.trim_split.specs.of_trim_model.Seat.{starts_under, seat_front, seat_rest, seat_all}
+use Rattle.trim_split.proofs.laws_of_trim_model.Seat.{seat_all_nil, seat_all_next}
+use Rattle.trim_split.specs.of_trim_state.State.{put}
+use Rattle.trim_split.specs.of_trim_state.Trace.{near, win_of, making, touching, keeping}
+use Rattle.trim_split.proofs.laws_of_trim_state.Turns.{wide_skip, wide_end, keeping_none, keeping_some}
+use Rattle.trim_split.specs.of_live_windows.Live.{HoldsWindows, last_link, sorts_before, Walked}
+use Rattle.trim_split.proofs.laws_of_live_windows.Seats.{seat_split}
 use Rattle.trim_split.specs.Running.{Snapshot, snapshot, stock_of, End, stopped, at, Performed, Untouched}
-use Rattle.live_windows.proofs.Lists.{put_here}
+use Rattle.trim_split.proofs.laws_of_live_windows.Lists.{put_here}
 use Rattle.trim_split.proofs.Edges.{holds_equal}
 use Rattle.trim_split.proofs.Untouched.{untouched_same, untouched_then}
 use Rattle.trim_keep.specs.Keeping.{Seats}

@@ -20,10 +20,10 @@ use Rattle.heap.specs.Queue.{Queue}
 use Rattle.actions.specs.Actions as actions
 use Rattle.actions.specs.Actions.{Action, touch, Stock, stock, act, and_then, play, queueing, distance_of}
 use Rattle.actions.proofs.Play.{play_nil, play_stop_append, play_go_append}
-use Rattle.trim_model.specs.Intervals.{push_if}
-use Rattle.trim_model.specs.Windows.{part}
-use Rattle.trim_state.specs.Trace.{near, touching}
-use Rattle.live_windows.specs.Live.{live_of}
+use Rattle.trim_split.specs.of_trim_model.Intervals.{push_if}
+use Rattle.trim_split.specs.of_trim_model.Windows.{part}
+use Rattle.trim_split.specs.of_trim_state.Trace.{near, touching}
+use Rattle.trim_split.specs.of_live_windows.Live.{live_of}
 
 -- what a queue answers, at the end
 pub queue_full : (made : ℕ) (vertex : List Float) (q : Queue) → queueing made vertex (Full, q) ≡ actions.stopped 13

@@ -1,15 +1,15 @@
 -- The loop of `add` over the intervals that the new window keeps: those that are wide become windows, each seated by its start. Definitions only.
 use Rattle.std.specs.Prelude.{ℕ, ◌≤◌, List, ◌∷◌, ◌++◌, ◌≡◌, Float}
-use Rattle.better.specs.Stretches.{Interval}
+use Rattle.trim_split.specs.of_better.Stretches.{Interval}
 use Rattle.windows.specs.declared.Edge.{Edge}
 use Rattle.windows.specs.declared.WindowRecord.{WindowRecord}
 use Rattle.actions.specs.Actions as actions
 use Rattle.actions.specs.Actions.{wins_after, play}
-use Rattle.trim_model.specs.Windows.{Window, fresh}
-use Rattle.trim_model.specs.Seat.{seat_all}
-use Rattle.trim_state.specs.State.{put}
-use Rattle.trim_state.specs.Trace.{keeping}
-use Rattle.live_windows.specs.Live.{HoldsWindows, last_link}
+use Rattle.trim_split.specs.of_trim_model.Windows.{Window, fresh}
+use Rattle.trim_split.specs.of_trim_model.Seat.{seat_all}
+use Rattle.trim_split.specs.of_trim_state.State.{put}
+use Rattle.trim_split.specs.of_trim_state.Trace.{keeping}
+use Rattle.trim_split.specs.of_live_windows.Live.{HoldsWindows, last_link}
 use Rattle.trim_split.specs.declared.Made.{Made}
 use Rattle.trim_split.specs.declared.Made.TheVariants.{Stopped, Went}
 use Rattle.trim_split.specs.Running.{Snapshot, stock_of, End, stopped, at, Untouched}

@@ -3,21 +3,21 @@ ghost use Rattle.buffers.specs.Lent.{given, left};
 ghost use Rattle.std.specs.Prelude.{◌≡◌, List, [], ◌∷◌, ℕ, ◌+◌, ◌≤◌, ◌<◌, length};
 ghost use Rattle.float64.specs.Scalar.{zero64};
 ghost use Rattle.source.specs.Distance.{eval_of, lowest_of};
-ghost use Rattle.better.specs.Stretches.{interval};
-ghost use Rattle.better.specs.Buffers.{pairs};
+ghost use Rattle.trim_split.specs.of_better.Stretches.{interval};
+ghost use Rattle.trim_split.specs.of_better.Buffers.{pairs};
 ghost use Rattle.heap.specs.Queue.{queue};
 ghost use Rattle.actions.specs.Actions.{touch, stock, play, queueing};
-ghost use Rattle.trim_model.specs.Intervals.{push_if, wide_of};
-ghost use Rattle.trim_model.specs.Windows.{part};
-ghost use Rattle.trim_state.specs.Trace.{touching};
-ghost use Rattle.live_windows.specs.Live.{live_of};
+ghost use Rattle.trim_split.specs.of_trim_model.Intervals.{push_if, wide_of};
+ghost use Rattle.trim_split.specs.of_trim_model.Windows.{part};
+ghost use Rattle.trim_split.specs.of_trim_state.Trace.{touching};
+ghost use Rattle.trim_split.specs.of_live_windows.Live.{live_of};
 ghost use Rattle.trim_split.specs.Running.{Ready, room_for, snapshot_before, end_after, made_end};
 ghost use Rattle.trim_keep.specs.Keeping.{MadeWithin, Seats, KeptOne};
 
 use buffers::{Lack, VertexId};
 use heap::Pushed;
 use source::Win;
-use trim_split::{Counts, Made};
+use trim_split::{Counts, Made, of_cut_lists as cut_lists, of_live_windows as live_windows};
 use windows::{Edge, WindowRecord};
 
 // The end v of an edge, which is at x along it, is touched by a window that reaches it. Most values are told to be no less than the vertex's distance without a root.

@@ -15,16 +15,16 @@ use Rattle.heap.specs.declared.Popped.TheVariants.{Empty, First}
 use Rattle.heap.specs.Queue.{Queue, popping}
 use Rattle.actions.specs.Actions as actions
 use Rattle.actions.specs.Actions.{act}
-use Rattle.better.specs.Claim.{Point}
-use Rattle.trim_model.specs.Windows.{Window}
-use Rattle.trim_model.specs.Model.{Candidate}
-use Rattle.trim_model.specs.Claim.{Proper}
-use Rattle.trim_model.proofs.Ranks.{by_cases}
-use Rattle.trim_state.specs.State as state
-use Rattle.trim_state.specs.State.{State, Result, finish, EdgeData}
-use Rattle.trim_state.specs.Follows.{Follows}
-use Rattle.trim_state.proofs.Follows.{follows_unqueue, follows_demand3}
-use Rattle.trim_state.proofs.Made.{Made, act_made, After, finish_after, add_after}
+use Rattle.pop.specs.of_better.Claim.{Point}
+use Rattle.pop.specs.of_trim_model.Windows.{Window}
+use Rattle.pop.specs.of_trim_model.Model.{Candidate}
+use Rattle.pop.specs.of_trim_model.Claim.{Proper}
+use Rattle.pop.proofs.laws_of_trim_model.Ranks.{by_cases}
+use Rattle.pop.specs.of_trim_state.State as state
+use Rattle.pop.specs.of_trim_state.State.{State, Result, finish, EdgeData}
+use Rattle.pop.specs.of_trim_state.Follows.{Follows}
+use Rattle.pop.proofs.laws_of_trim_state.Follows.{follows_unqueue, follows_demand3}
+use Rattle.pop.proofs.laws_of_trim_state.Made.{Made, act_made, After, finish_after, add_after}
 use Rattle.pop.specs.State.{wins_claimed, live_claimed, after_pop}
 use Rattle.pop.proofs.Answers.{live_claimed_lem}
 use Rattle.trim_operations.specs.Operations.{Operation, add, pop, touch, unknown, candidates_of, Doubles, DoublesOf}

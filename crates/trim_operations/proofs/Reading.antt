@@ -10,7 +10,7 @@ use lib.Ieee.{Float}
 use Rattle.layout.specs.Layout.{operation_kind, operation_number, operation_b0}
 use Rattle.source.specs.declared.Src.{Src}
 use Rattle.windows.specs.declared.NewWindow.{NewWindow}
-use Rattle.trim_model.specs.Model.{Candidate}
+use Rattle.pop.specs.of_trim_model.Model.{Candidate}
 use Rattle.trim_operations.specs.Operations.{add, pop, touch, unknown, operation_word, real_at, as_candidate, new_window_at, candidate_at, source_at, operation_at}
 
 -- an edge and a window that were read

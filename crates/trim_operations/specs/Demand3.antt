@@ -1,10 +1,10 @@
 -- Demand 3 about the windows that a list of operations leaves. Definitions only.
 use Rattle.std.specs.Prelude.{ℕ, List, map, ◌≡◌, Float}
-use Rattle.better.specs.Stretches.{better_of}
-use Rattle.trim_model.specs.Intervals.{tiny_of}
-use Rattle.trim_model.specs.Windows.{Window, unqueued}
-use Rattle.trim_model.specs.Model.{Candidate, EdgeState, empty, steps, steps_bound}
-use Rattle.trim_model.specs.Claim.{Trimmed}
+use Rattle.pop.specs.of_better.Stretches.{better_of}
+use Rattle.pop.specs.of_trim_model.Intervals.{tiny_of}
+use Rattle.pop.specs.of_trim_model.Windows.{Window, unqueued}
+use Rattle.pop.specs.of_trim_model.Model.{Candidate, EdgeState, empty, steps, steps_bound}
+use Rattle.pop.specs.of_trim_model.Claim.{Trimmed}
 
 -- 01's book of edge e, after the candidates (01's offers) of the list in their order
 abbrev pub model_of : Float → (ℕ → Float) → List Candidate → ℕ → EdgeState

@@ -1,3 +1,4 @@
+pub use Rattle.pop.specs as of_pop
 pub mod Operations
 pub mod Run
 pub mod Demand3

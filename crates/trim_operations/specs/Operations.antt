@@ -10,7 +10,7 @@ use Rattle.layout.specs.Layout.{words_per_operation, operation_kind, operation_n
 use Rattle.source.specs.declared.Src.{Src}
 use Rattle.source.specs.declared.Src.TheVariants.{Point, Line}
 use Rattle.windows.specs.Windows.{src_of}
-use Rattle.trim_model.specs.Model.{Candidate}
+use Rattle.pop.specs.of_trim_model.Model.{Candidate}
 use Rattle.windows.specs.declared.NewWindow.{NewWindow}
 use Rattle.trim_operations.specs.declared.Op.{Op}
 use Rattle.trim_operations.specs.declared.Op.TheVariants.{Add, Pop, Touch, Unknown}

@@ -5,8 +5,8 @@ use Rattle.std.specs.Float.Ieee.{fits}
 use Rattle.heap.specs.Queue.{queue}
 use Rattle.chains.specs.Chains.{links}
 use Rattle.actions.specs.Actions as actions
-use Rattle.trim_state.specs.State.{State}
-use Rattle.live_windows.specs.Live.{HoldsWindows}
+use Rattle.pop.specs.of_trim_state.State.{State}
+use Rattle.pop.specs.of_live_windows.Live.{HoldsWindows}
 use Rattle.trim_operations.specs.Run.{operation_refusal}
 
 -- so many windows are made and so many events queued; all windows made and the live windows of every edge stand in the window buffer and its chains, and the queue and the vertex distances are the lists

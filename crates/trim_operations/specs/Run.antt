@@ -8,8 +8,8 @@ use Rattle.float64.specs.Scalar.{zero64}
 use Rattle.heap.specs.Queue.{Queue, popping}
 use Rattle.actions.specs.Actions as actions
 use Rattle.actions.specs.Actions.{stock, act}
-use Rattle.trim_model.specs.Model.{Candidate}
-use Rattle.trim_state.specs.State.{State, Result, stopped, went, finish, EdgeData, add_of}
+use Rattle.pop.specs.of_trim_model.Model.{Candidate}
+use Rattle.pop.specs.of_trim_state.State.{State, Result, stopped, went, finish, EdgeData, add_of}
 use Rattle.pop.specs.State.{after_pop}
 use Rattle.trim_operations.specs.Operations.{Operation, add, pop, touch, unknown}
 

@@ -5,8 +5,8 @@ use mathlib.Core.Path.{◌≡◌, sym, subst}
 use lib.Ieee.{Float}
 use Rattle.windows.specs.declared.WindowRecord.{WindowRecord}
 use Rattle.chains.specs.Chains.{Links}
-use Rattle.trim_model.specs.Windows.{Window}
-use Rattle.trim_state.specs.State.{put}
+use Rattle.cut_lists.specs.of_trim_model.Windows.{Window}
+use Rattle.live_windows.specs.of_trim_state.State.{put}
 use Rattle.live_windows.specs.Live.{HoldsWindows}
 use Rattle.live_windows.proofs.Lists.{put_twice, put_same}
 

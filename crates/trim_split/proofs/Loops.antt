@@ -9,14 +9,14 @@ use lib.Ieee.{Float}
 use Rattle.layout.specs.Layout.{words_per_edge}
 use Rattle.buffers.specs.Slots.{slots_of}
 use Rattle.source.specs.Distance.{lowest_of}
-use Rattle.better.specs.Stretches.{Interval}
-use Rattle.better.specs.Buffers.{pairs}
+use Rattle.cut_lists.specs.of_better.Stretches.{Interval}
+use Rattle.cut_lists.specs.of_better.Buffers.{pairs}
 use Rattle.heap.specs.Queue.{queue}
 use Rattle.windows.specs.declared.WindowRecord.{WindowRecord}
 use Rattle.windows.specs.Windows.{capacity_of}
 use Rattle.chains.specs.Chains.{links}
-use Rattle.trim_model.specs.Windows.{part, fresh, split}
-use Rattle.trim_state.specs.Trace.{making, makings, splitting}
+use Rattle.cut_lists.specs.of_trim_model.Windows.{part, fresh, split}
+use Rattle.live_windows.specs.of_trim_state.Trace.{making, makings, splitting}
 use Rattle.live_windows.specs.Live.{live_of, Kills, Trims}
 use Rattle.trim_split.specs.declared.Made.{Made}
 use Rattle.trim_split.specs.Running.{Snapshot, snapshot, End, stopped, at, Counted, Ready, Does}

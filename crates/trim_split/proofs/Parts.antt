@@ -8,7 +8,7 @@ use lib.Ieee.{Float}
 use borrow.Author.Tests.{lt-ltb, le-ltb}
 use Rattle.buffers.specs.declared.EdgeId.{EdgeId}
 use Rattle.source.specs.Distance.{lowest_of}
-use Rattle.better.specs.Stretches.{Interval, interval}
+use Rattle.cut_lists.specs.of_better.Stretches.{Interval, interval}
 use Rattle.heap.specs.declared.Event.{Event}
 use Rattle.heap.specs.declared.Pushed.TheVariants.{Full, Queued}
 use Rattle.heap.specs.Queue.{Queue, pushing}
@@ -19,10 +19,10 @@ use Rattle.actions.specs.Actions as actions
 use Rattle.actions.specs.Actions.{Action, make, trim, kill, push, wins_after, stock, act, play, queueing}
 use Rattle.actions.proofs.Play.{play_nil, play_stop, play_go, play_stop_append}
 use Rattle.actions.proofs.Queueing.{push_is}
-use Rattle.trim_model.specs.Intervals.{push_if}
-use Rattle.trim_model.specs.Windows.{Window, part, fresh, split}
-use Rattle.trim_state.specs.State.{put}
-use Rattle.trim_state.specs.Trace.{window_event, record_of, making, makings, splitting}
+use Rattle.cut_lists.specs.of_trim_model.Intervals.{push_if}
+use Rattle.cut_lists.specs.of_trim_model.Windows.{Window, part, fresh, split}
+use Rattle.live_windows.specs.of_trim_state.State.{put}
+use Rattle.live_windows.specs.of_trim_state.Trace.{window_event, record_of, making, makings, splitting}
 use Rattle.live_windows.specs.Live.{HoldsWindows, last_link, live_of, window_of, ranged, Makes, Trims, Kills}
 use Rattle.trim_split.specs.Running.{Snapshot, snapshot, stock_of, End, stopped, at, Performed, Does}
 use Rattle.live_windows.proofs.Lists.{put_here, last_snoc}

@@ -6,8 +6,8 @@ use lib.Ieee.{Float}
 use Rattle.windows.specs.declared.WindowRecord.{WindowRecord}
 use Rattle.actions.specs.Actions.{Action, wins_after}
 use Rattle.actions.proofs.Play.{wins_none, wins_append, play_nil, play_go_append}
-use Rattle.trim_model.specs.Windows.{Window}
-use Rattle.trim_state.specs.State.{put}
+use Rattle.cut_lists.specs.of_trim_model.Windows.{Window}
+use Rattle.live_windows.specs.of_trim_state.State.{put}
 use Rattle.live_windows.specs.Live.{HoldsWindows, last_link}
 use Rattle.trim_split.specs.Running.{Snapshot, stock_of, End, stopped, at, Performed, Does}
 use Rattle.trim_split.proofs.Edges.{holds_equal}

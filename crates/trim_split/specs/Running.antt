@@ -10,8 +10,8 @@ use Rattle.heap.specs.Queue.{Queue, queue}
 use Rattle.chains.specs.Chains.{Links, links}
 use Rattle.actions.specs.Actions as actions
 use Rattle.actions.specs.Actions.{Action, Stock, wins_after, play}
-use Rattle.trim_model.specs.Windows.{Window}
-use Rattle.trim_state.specs.State.{put}
+use Rattle.cut_lists.specs.of_trim_model.Windows.{Window}
+use Rattle.live_windows.specs.of_trim_state.State.{put}
 use Rattle.live_windows.specs.Live.{HoldsWindows, last_link}
 use Rattle.trim_split.specs.declared.Made.{Made}
 use Rattle.trim_split.specs.declared.Made.TheVariants.{Stopped, Went}

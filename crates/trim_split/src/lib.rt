@@ -3,16 +3,18 @@ ghost use Rattle.buffers.specs.Lent.{given};
 ghost use Rattle.std.specs.Prelude.{ℕ, suc, ◌+◌, ◌≤◌, ◌<◌, pred, List, [], ◌∷◌, ◌≡◌, length, drop, Float};
 ghost use Rattle.buffers.specs.Slots.{slots_of};
 ghost use Rattle.source.specs.Distance.{lowest_of};
-ghost use Rattle.better.specs.Stretches.{interval};
-ghost use Rattle.better.specs.Buffers.{pairs};
-ghost use Rattle.trim_model.specs.Windows.{part, fresh, split};
-ghost use Rattle.trim_state.specs.Trace.{making, makings, splitting};
+ghost use Rattle.cut_lists.specs.of_better.Stretches.{interval};
+ghost use Rattle.cut_lists.specs.of_better.Buffers.{pairs};
+ghost use Rattle.cut_lists.specs.of_trim_model.Windows.{part, fresh, split};
+ghost use Rattle.live_windows.specs.of_trim_state.Trace.{making, makings, splitting};
 ghost use Rattle.live_windows.specs.Live.{live_of};
 ghost use Rattle.trim_split.specs.Trimmed.{trimmed_to};
 ghost use Rattle.trim_split.specs.Running.{Ready, Counted, room_for, snapshot_before, end_after, made_end, Does};
 
 use buffers::{EdgeId, Lack, WindowId};
+pub use cut_lists as of_cut_lists;
 use heap::Pushed;
+pub use live_windows as of_live_windows;
 use source::Win;
 use windows::WindowRecord;
 

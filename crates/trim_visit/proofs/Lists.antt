@@ -10,26 +10,26 @@ use native.Mathlib.Omega.{arith}
 use lib.ListN.{length}
 use lib.Ieee.{Float, le}
 use borrow.Author.Tests.{le-leb, lt-leb}
-use Rattle.better.specs.Points.{pts_of, walk_of}
-use Rattle.better.specs.Stretches.{Interval, better_of}
-use Rattle.better.specs.Buffers.{pairs}
-use Rattle.better.specs.Claim.{All}
+use Rattle.trim_split.specs.of_better.Points.{pts_of, walk_of}
+use Rattle.trim_split.specs.of_better.Stretches.{Interval, better_of}
+use Rattle.trim_split.specs.of_better.Buffers.{pairs}
+use Rattle.trim_split.specs.of_better.Claim.{All}
 use Rattle.actions.specs.Actions as actions
 use Rattle.windows.specs.declared.WindowRecord.{WindowRecord}
 use Rattle.actions.specs.Actions.{Action, list, wins_after, Stock, act, play}
 use Rattle.actions.proofs.Play.{wins_none, play_nil, play_stop, play_go}
-use Rattle.trim_model.specs.Intervals.{width, next, pieces}
-use Rattle.trim_model.specs.Windows.{Window, split}
-use Rattle.trim_model.specs.Add.{Walk, shared_lo, shared_hi, meet, visit}
-use Rattle.trim_model.specs.Claim.{Any}
-use Rattle.trim_model.proofs.Turns.{visit_untouched, visit_meet, meet_none, meet_some}
-use Rattle.trim_state.specs.State.{put}
-use Rattle.trim_state.specs.Trace.{splitting, losing, visiting}
-use Rattle.trim_state.proofs.Turns.{visiting_untouched, visiting_met, losing_none, losing_some}
-use Rattle.live_windows.specs.Live.{HoldsWindows, last_link}
-use Rattle.cut_lists.specs.Cut.{loss_lengths, lengths}
+use Rattle.trim_split.specs.of_trim_model.Intervals.{width, next, pieces}
+use Rattle.trim_split.specs.of_trim_model.Windows.{Window, split}
+use Rattle.trim_split.specs.of_trim_model.Add.{Walk, shared_lo, shared_hi, meet, visit}
+use Rattle.trim_split.specs.of_trim_model.Claim.{Any}
+use Rattle.trim_split.proofs.laws_of_trim_model.Turns.{visit_untouched, visit_meet, meet_none, meet_some}
+use Rattle.trim_split.specs.of_trim_state.State.{put}
+use Rattle.trim_split.specs.of_trim_state.Trace.{splitting, losing, visiting}
+use Rattle.trim_split.proofs.laws_of_trim_state.Turns.{visiting_untouched, visiting_met, losing_none, losing_some}
+use Rattle.trim_split.specs.of_live_windows.Live.{HoldsWindows, last_link}
+use Rattle.trim_split.specs.of_cut_lists.Cut.{loss_lengths, lengths}
 use Rattle.trim_split.specs.Running.{Snapshot, stock_of, End, stopped, at, Performed, Does}
-use Rattle.live_windows.proofs.Lists.{last_snoc}
+use Rattle.trim_split.proofs.laws_of_live_windows.Lists.{last_snoc}
 use Rattle.trim_split.proofs.Untouched.{untouched_same}
 use Rattle.trim_visit.specs.Visiting.{from, Kept}
 

@@ -12,15 +12,15 @@ use Rattle.buffers.specs.declared.Lack.{Lack}
 use Rattle.buffers.specs.Lack.{lack_number}
 use Rattle.buffers.specs.Slots.{slots_of}
 use Rattle.float64.specs.Notation.{◌⊕◌}
-use Rattle.better.specs.Stretches.{better_of}
-use Rattle.better.specs.Buffers.{pairs}
+use Rattle.trim_split.specs.of_better.Stretches.{better_of}
+use Rattle.trim_split.specs.of_better.Buffers.{pairs}
 use Rattle.windows.specs.declared.WindowRecord.{WindowRecord}
 use Rattle.chains.specs.Chains.{links}
-use Rattle.trim_model.specs.Windows.{Window}
-use Rattle.trim_model.specs.Add.{visit}
-use Rattle.live_windows.specs.Live.{live_of, LinkFollows, Loads}
-use Rattle.cut_lists.specs.Cut.{Sizes}
-use Rattle.cut_lists.specs.Buffers.{Cuts}
+use Rattle.trim_split.specs.of_trim_model.Windows.{Window}
+use Rattle.trim_split.specs.of_trim_model.Add.{visit}
+use Rattle.trim_split.specs.of_live_windows.Live.{live_of, LinkFollows, Loads}
+use Rattle.trim_split.specs.of_cut_lists.Cut.{Sizes}
+use Rattle.trim_split.specs.of_cut_lists.Buffers.{Cuts}
 use Rattle.trim_split.specs.declared.Counts.{Counts}
 use Rattle.trim_split.specs.Running.{End, stopped, at}
 use Rattle.trim_split.proofs.Loops.{WindowSlices, SameWindowSlices, same_refl, same_trans, same_windows, windows_of, snapshot_of, ReadyIn, ready_same}

@@ -7,20 +7,20 @@ use native.Mathlib.Omega.{arith}
 use lib.ListN.{length}
 use lib.Ieee.{Float, le}
 use Rattle.float64.specs.Notation.{◌⊖◌}
-use Rattle.better.specs.Stretches.{Interval, better_of}
-use Rattle.better.specs.Buffers.{pairs}
+use Rattle.trim_split.specs.of_better.Stretches.{Interval, better_of}
+use Rattle.trim_split.specs.of_better.Buffers.{pairs}
 use Rattle.windows.specs.declared.WindowRecord.{WindowRecord}
-use Rattle.trim_model.specs.Windows.{Window, split}
-use Rattle.trim_model.specs.Add.{shared_lo, shared_hi, visit}
-use Rattle.trim_model.specs.Claim.{Any}
-use Rattle.trim_state.specs.Trace.{splitting}
-use Rattle.live_windows.specs.Live.{live_of}
-use Rattle.cut_lists.specs.Cut.{lengths, LeavesLists}
+use Rattle.trim_split.specs.of_trim_model.Windows.{Window, split}
+use Rattle.trim_split.specs.of_trim_model.Add.{shared_lo, shared_hi, visit}
+use Rattle.trim_split.specs.of_trim_model.Claim.{Any}
+use Rattle.trim_split.specs.of_trim_state.Trace.{splitting}
+use Rattle.trim_split.specs.of_live_windows.Live.{live_of}
+use Rattle.trim_split.specs.of_cut_lists.Cut.{lengths, LeavesLists}
 use Rattle.trim_split.specs.Running.{End, stopped, at, Does}
 use Rattle.trim_split.proofs.Loops.{WindowSlices, windows_of, snapshot_of}
 use Rattle.trim_visit.specs.Visiting.{from, Kept, Visits1}
 use Rattle.trim_visit.proofs.Lists.{turn_untouched, kept_untouched, turn_full, turn_none, kept_none, turn_split, kept_split}
-use Rattle.cut_lists.specs.Buffers.{Cuts}
+use Rattle.trim_split.specs.of_cut_lists.Buffers.{Cuts}
 
 module _ (e : ℕ) (t : Float) (w x : WindowRecord) (id made queued last k : ℕ) (s : WindowSlices) (c : Cuts) (fits : made ≤ windows_of s) (inside : id < made) where
   abbrev new : Window

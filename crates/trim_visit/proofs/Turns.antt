@@ -9,21 +9,21 @@ use lib.Ieee.{Float}
 use Rattle.buffers.specs.declared.Lack.{Lack}
 use Rattle.buffers.specs.Lack.{lack_number}
 use Rattle.float64.specs.Notation.{◌⊕◌}
-use Rattle.better.specs.Stretches.{Interval, better_of}
-use Rattle.better.specs.Buffers.{pairs}
+use Rattle.trim_split.specs.of_better.Stretches.{Interval, better_of}
+use Rattle.trim_split.specs.of_better.Buffers.{pairs}
 use Rattle.windows.specs.declared.WindowRecord.{WindowRecord}
 use Rattle.chains.specs.Chains.{first_link}
 use Rattle.actions.specs.Actions.{Action, wins_after, play}
 use Rattle.actions.proofs.Play.{play_stop_append}
-use Rattle.trim_model.specs.Windows.{Window}
-use Rattle.trim_model.specs.Add.{Walk, starts_before, visit, visits}
-use Rattle.trim_model.proofs.Turns.{take_yes, take_no, take_nil}
-use Rattle.trim_state.specs.State.{put}
-use Rattle.trim_state.specs.Trace.{visiting, visitings}
-use Rattle.live_windows.specs.Live.{HoldsWindows, nums, last_link, live_of, LinkFollows, Loads}
+use Rattle.trim_split.specs.of_trim_model.Windows.{Window}
+use Rattle.trim_split.specs.of_trim_model.Add.{Walk, starts_before, visit, visits}
+use Rattle.trim_split.proofs.laws_of_trim_model.Turns.{take_yes, take_no, take_nil}
+use Rattle.trim_split.specs.of_trim_state.State.{put}
+use Rattle.trim_split.specs.of_trim_state.Trace.{visiting, visitings}
+use Rattle.trim_split.specs.of_live_windows.Live.{HoldsWindows, nums, last_link, live_of, LinkFollows, Loads}
 use Rattle.trim_split.specs.declared.Counts.{Counts}
 use Rattle.trim_split.specs.Running.{Snapshot, stock_of, End, stopped, at, Performed, Does}
-use Rattle.live_windows.proofs.Lists.{put_here}
+use Rattle.trim_split.proofs.laws_of_live_windows.Lists.{put_here}
 use Rattle.trim_split.proofs.Edges.{holds_equal}
 use Rattle.trim_split.proofs.Running.{ran_none, does_then, does_as}
 use Rattle.trim_visit.specs.declared.Visited.{Visited}

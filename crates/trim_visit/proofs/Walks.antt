@@ -4,13 +4,13 @@ use mathlib.Core.Bool.{Bool, cond}
 use mathlib.Core.List.{List, [], ◌∷◌, ◌++◌, append_assoc, append-nil}
 use mathlib.Core.Path.{◌≡◌, refl, sym, ap, ◌∙◌}
 use lib.Ieee.{Float, le}
-use Rattle.better.specs.Stretches.{Interval, better_of}
+use Rattle.trim_split.specs.of_better.Stretches.{Interval, better_of}
 use Rattle.actions.specs.Actions.{Action}
-use Rattle.trim_model.specs.Intervals.{width, next, pieces, piece_slivers}
-use Rattle.trim_model.specs.Windows.{Window, split}
-use Rattle.trim_model.specs.Add.{Walk, shared_lo, shared_hi, untouched, meet, visit, visits}
-use Rattle.trim_model.proofs.Ranks.{by_cases}
-use Rattle.trim_state.specs.Trace.{visiting, visitings}
+use Rattle.trim_split.specs.of_trim_model.Intervals.{width, next, pieces, piece_slivers}
+use Rattle.trim_split.specs.of_trim_model.Windows.{Window, split}
+use Rattle.trim_split.specs.of_trim_model.Add.{Walk, shared_lo, shared_hi, untouched, meet, visit, visits}
+use Rattle.trim_split.proofs.laws_of_trim_model.Ranks.{by_cases}
+use Rattle.trim_split.specs.of_trim_state.Trace.{visiting, visitings}
 use Rattle.trim_visit.specs.Visiting.{from}
 
 -- with windows and slivers in front

@@ -2,16 +2,16 @@
 use Rattle.std.specs.Prelude.{ℕ, ◌≤◌, List, [], ◌∷◌, ◌++◌, ◌≡◌, Float}
 use Rattle.buffers.specs.Lack.{lack_number}
 use Rattle.float64.specs.Notation.{◌⊕◌}
-use Rattle.better.specs.Stretches.{Interval, better_of}
-use Rattle.better.specs.Buffers.{pairs}
+use Rattle.trim_split.specs.of_better.Stretches.{Interval, better_of}
+use Rattle.trim_split.specs.of_better.Buffers.{pairs}
 use Rattle.heap.specs.Queue.{Queue}
 use Rattle.windows.specs.declared.WindowRecord.{WindowRecord}
 use Rattle.chains.specs.Chains.{Links}
-use Rattle.trim_model.specs.Windows.{Window, take_while}
-use Rattle.trim_model.specs.Add.{Walk, starts_before, visit, visits}
-use Rattle.trim_state.specs.State.{put}
-use Rattle.trim_state.specs.Trace.{visiting, visitings}
-use Rattle.live_windows.specs.Live.{HoldsWindows, last_link}
+use Rattle.trim_split.specs.of_trim_model.Windows.{Window, take_while}
+use Rattle.trim_split.specs.of_trim_model.Add.{Walk, starts_before, visit, visits}
+use Rattle.trim_split.specs.of_trim_state.State.{put}
+use Rattle.trim_split.specs.of_trim_state.Trace.{visiting, visitings}
+use Rattle.trim_split.specs.of_live_windows.Live.{HoldsWindows, last_link}
 use Rattle.trim_split.specs.Running.{Snapshot, snapshot, End, stopped, at, Does}
 use Rattle.trim_visit.specs.declared.Visited.{Visited}
 use Rattle.trim_visit.specs.declared.Visited.TheVariants.{Stopped, Went}

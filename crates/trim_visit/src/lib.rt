@@ -1,18 +1,20 @@
 // The windows that a new one meets, visited one after the other along the chain of their edge.
 ghost use Rattle.buffers.specs.Lent.{given, left};
 ghost use Rattle.std.specs.Prelude.{ℕ, ◌≤◌, ◌<◌, List, length, Float};
-ghost use Rattle.better.specs.Stretches.{better_of};
-ghost use Rattle.better.specs.Buffers.{pairs};
-ghost use Rattle.trim_model.specs.Windows.{Window};
-ghost use Rattle.trim_model.specs.Add.{visit as Add·visit};
-ghost use Rattle.live_windows.specs.Live.{live_of};
-ghost use Rattle.cut_lists.specs.Cut.{Sizes};
+ghost use Rattle.trim_split.specs.of_better.Stretches.{better_of};
+ghost use Rattle.trim_split.specs.of_better.Buffers.{pairs};
+ghost use Rattle.trim_split.specs.of_trim_model.Windows.{Window};
+ghost use Rattle.trim_split.specs.of_trim_model.Add.{visit as Add·visit};
+ghost use Rattle.trim_split.specs.of_live_windows.Live.{live_of};
+ghost use Rattle.trim_split.specs.of_cut_lists.Cut.{Sizes};
 ghost use Rattle.trim_split.specs.Running.{Ready, room_for, snapshot_before, end_after};
 ghost use Rattle.trim_visit.specs.Visiting.{from, visited_end, Keeps, VisitedWithin, Visits1, VisitsAll};
 
 use buffers::{EdgeId, Lack, WindowId};
-use cut_lists::Met;
-use trim_split::{Counts, Made};
+pub use trim_split as of_trim_split;
+use trim_split::of_cut_lists::Met;
+pub use trim_split::of_live_windows as of_live_windows;
+use trim_split::{Counts, Made, of_cut_lists as cut_lists, of_live_windows as live_windows};
 use windows::WindowRecord;
 
 // What there is no slot for; or how many windows and events there are now, the link of the last window that survived, and how many intervals the new

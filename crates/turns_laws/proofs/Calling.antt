@@ -10,16 +10,16 @@ use lib.Ieee.{Float}
 use Rattle.buffers.specs.declared.Lack.{Lack}
 use Rattle.buffers.specs.Lack.{lack_number}
 use Rattle.windows.specs.Windows.{capacity_of}
-use Rattle.cut_lists.specs.Buffers.{Cuts}
-use Rattle.trim_split.specs.declared.Counts.{Counts}
-use Rattle.trim.specs.Buffers.{Slices}
-use Rattle.trim.specs.Adding.{snapshot_at}
-use Rattle.field_step.specs.Contract.{FieldEnds}
-use Rattle.advance.specs.declared.Advanced.{Advanced}
-use Rattle.advance.specs.declared.Advanced.TheVariants.{Stopped, Went}
-use Rattle.advance.specs.Advance.{advance_of, steps_of, advance_candidates}
-use Rattle.advance.specs.Contract.{advanced_end, StepsTold, AdvancesTo}
-use Rattle.run_steps.proofs.Running.{lack_above}
+use Rattle.compute.specs.of_cut_lists.Buffers.{Cuts}
+use Rattle.advance_c.specs.of_trim_split.declared.Counts.{Counts}
+use Rattle.advance_c.specs.of_trim.Buffers.{Slices}
+use Rattle.advance_c.specs.of_trim.Adding.{snapshot_at}
+use Rattle.advance_c.specs.of_field_step.Contract.{FieldEnds}
+use Rattle.advance_c.specs.of_advance.declared.Advanced.{Advanced}
+use Rattle.advance_c.specs.of_advance.declared.Advanced.TheVariants.{Stopped, Went}
+use Rattle.advance_c.specs.of_advance.Advance.{advance_of, steps_of, advance_candidates}
+use Rattle.advance_c.specs.of_advance.Contract.{advanced_end, StepsTold, AdvancesTo}
+use Rattle.compute.proofs.laws_of_run_steps.Running.{lack_above}
 use Rattle.advance_c.specs.Turns.{told_counts, turns_told, turns_fit_in, Turned}
 use Rattle.turns_laws.specs.InTurns.{Call, AsLong, turns_asked, steps_of_calls, last_counts, last_left, Called, CalledAll}
 use Rattle.turns_laws.proofs.Then.{advances_then, advances_not}

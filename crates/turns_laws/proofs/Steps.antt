@@ -5,12 +5,12 @@ use mathlib.Core.Bool.{Bool, true, false}
 use mathlib.Core.List.{List, [], ◌++◌}
 use mathlib.Core.Path.{◌≡◌, refl, sym, ap, subst, ◌∙◌}
 use lib.Ieee.{Float}
-use Rattle.trim_model.specs.Model.{Candidate}
-use Rattle.trim_state.specs.State.{State, Result, stopped, went}
-use Rattle.offers.specs.Offers.{and_next}
-use Rattle.field_step.specs.Step.{step_of, idle_of, step_candidates}
-use Rattle.advance.specs.Advance.{of_state, advance_of, steps_of, advance_candidates}
-use Rattle.advance.proofs.More.{advance_idle, candidates_idle, steps_idle, advance_more, candidates_more, steps_more}
+use Rattle.compute.specs.of_trim_model.Model.{Candidate}
+use Rattle.advance_c.specs.of_trim_state.State.{State, Result, stopped, went}
+use Rattle.compute.specs.of_offers.Offers.{and_next}
+use Rattle.advance_c.specs.of_field_step.Step.{step_of, idle_of, step_candidates}
+use Rattle.advance_c.specs.of_advance.Advance.{of_state, advance_of, steps_of, advance_candidates}
+use Rattle.advance_c.proofs.laws_of_advance.More.{advance_idle, candidates_idle, steps_idle, advance_more, candidates_more, steps_more}
 
 module _ (cuts windows : ℕ) (limit : Float) (flags : List ℕ) (v : List Float) (triangles : List ℕ) where
   abbrev step : State → Result

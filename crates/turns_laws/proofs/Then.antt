@@ -10,22 +10,22 @@ use Rattle.buffers.specs.declared.Lack.{Lack}
 use Rattle.windows.specs.Windows.{capacity_of}
 use Rattle.heap.specs.Queue.{queue, popping}
 use Rattle.actions.specs.Actions.{Stock}
-use Rattle.cut_lists.specs.Buffers.{Cuts}
-use Rattle.trim_model.specs.Model.{Candidate}
-use Rattle.trim_state.specs.State.{State, went}
-use Rattle.trim_split.specs.declared.Counts.{Counts}
-use Rattle.trim_split.proofs.Untouched.{untouched_same, untouched_then}
-use Rattle.trim.specs.Buffers.{Slices}
-use Rattle.trim.specs.Adding.{snapshot_at}
-use Rattle.offers.proofs.Walks.{mesh_kept}
-use Rattle.field_step.specs.Step.{is_empty, idle_of}
-use Rattle.field_step.specs.Contract.{FieldMesh, FieldStands, FieldEnds}
-use Rattle.advance.specs.declared.Advanced.{Advanced}
-use Rattle.advance.specs.declared.Advanced.TheVariants.{Stopped, Went}
-use Rattle.advance.specs.Advance.{advance_of, steps_of, advance_candidates}
-use Rattle.advance.specs.Contract.{advanced_end, StepsTold, AdvancesTo}
-use Rattle.advance.proofs.More.{advance_idle, candidates_idle, steps_idle}
-use Rattle.run_steps.specs.Contract.{none_waits}
+use Rattle.compute.specs.of_cut_lists.Buffers.{Cuts}
+use Rattle.compute.specs.of_trim_model.Model.{Candidate}
+use Rattle.advance_c.specs.of_trim_state.State.{State, went}
+use Rattle.advance_c.specs.of_trim_split.declared.Counts.{Counts}
+use Rattle.advance_c.proofs.laws_of_trim_split.Untouched.{untouched_same, untouched_then}
+use Rattle.advance_c.specs.of_trim.Buffers.{Slices}
+use Rattle.advance_c.specs.of_trim.Adding.{snapshot_at}
+use Rattle.advance_c.proofs.laws_of_offers.Walks.{mesh_kept}
+use Rattle.advance_c.specs.of_field_step.Step.{is_empty, idle_of}
+use Rattle.advance_c.specs.of_field_step.Contract.{FieldMesh, FieldStands, FieldEnds}
+use Rattle.advance_c.specs.of_advance.declared.Advanced.{Advanced}
+use Rattle.advance_c.specs.of_advance.declared.Advanced.TheVariants.{Stopped, Went}
+use Rattle.advance_c.specs.of_advance.Advance.{advance_of, steps_of, advance_candidates}
+use Rattle.advance_c.specs.of_advance.Contract.{advanced_end, StepsTold, AdvancesTo}
+use Rattle.advance_c.proofs.laws_of_advance.More.{advance_idle, candidates_idle, steps_idle}
+use Rattle.compute.specs.of_run_steps.Contract.{none_waits}
 use Rattle.turns_laws.specs.InTurns.{AsLong}
 use Rattle.turns_laws.proofs.Steps.{advance_then, candidates_then, steps_then, stopped_more, Enough, steps_enough}
 

@@ -14,49 +14,49 @@ use Rattle.windows.specs.Windows.{capacity_of}
 use Rattle.heap.specs.Queue.{queue, slots}
 use Rattle.job_checks.specs.Job.{Job, vertex_count, triangle_count, piece_count}
 use Rattle.topology.specs.Edges.{edges}
-use Rattle.edge_table.specs.Table.{edge_words}
-use Rattle.edge_table.proofs.Holding.{length_words}
-use Rattle.mesh.specs.declared.OtherCounts.{OtherCounts}
-use Rattle.mesh.specs.Topology.{MeshBuffers, mesh_buffers, filled}
-use Rattle.mesh.specs.Answer.{counts_in, mesh_refusal, Answered}
-use Rattle.cut_lists.specs.Buffers.{Cuts}
-use Rattle.cut_slots.specs.Slots.{cut_count, cut_to}
-use Rattle.cut_slots.proofs.Parts.{pts_fit}
-use Rattle.trim_split.specs.declared.Counts.{Counts}
-use Rattle.trim.specs.Buffers.{Slices}
-use Rattle.begin.specs.Begin.{WorkSlices, work_slices}
-use Rattle.insertion.specs.declared.InsertCounts.{InsertCounts}
-use Rattle.insert_job.specs.declared.InsertedJob.{InsertedJob}
-use Rattle.insert_job.specs.declared.InsertedJob.TheVariants as job
-use Rattle.insert_job.specs.Field.{entry_slices}
-use Rattle.insert_job.specs.Job.{JobWithin}
-use Rattle.insert_job.proofs.Begun.{checked}
-use Rattle.advance.specs.declared.Advanced.{Advanced}
-use Rattle.advance.specs.declared.Advanced.TheVariants.{Stopped, Went}
-use Rattle.advance.specs.Contract.{AdvancesTo}
-use Rattle.run_steps.specs.declared.FieldWork.{FieldWork}
-use Rattle.run_steps.specs.declared.FieldWork.TheVariants.{Refused, Done}
-use Rattle.run_steps.specs.Run as run
-use Rattle.run_steps.specs.Run.{WorkResult}
-use Rattle.run_steps.specs.Contract.{none_waits, work_answer, RunsTo}
-use Rattle.run_steps.proofs.Running.{none_waits_lem, one_waits, lack_above, run_answer, after_done, after_spent}
-use Rattle.field_work.specs.Contract.{WorksTo}
-use Rattle.field_work.proofs.Working.{works_to}
-use Rattle.zero_buffers.specs.ZeroIf.{zero_words}
-use Rattle.finish.specs.Finish.{FinishesTo}
-use Rattle.finish.specs.Contents.{FieldBuffers}
-use Rattle.finish.specs.Refused.{FieldLengths}
+use Rattle.advance_c.specs.of_edge_table.Table.{edge_words}
+use Rattle.advance_c.proofs.laws_of_edge_table.Holding.{length_words}
+use Rattle.compute.specs.of_mesh.declared.OtherCounts.{OtherCounts}
+use Rattle.compute.specs.of_mesh.Topology.{MeshBuffers, mesh_buffers, filled}
+use Rattle.compute.specs.of_mesh.Answer.{counts_in, mesh_refusal, Answered}
+use Rattle.compute.specs.of_cut_lists.Buffers.{Cuts}
+use Rattle.insert_c.specs.of_cut_slots.Slots.{cut_count, cut_to}
+use Rattle.insert_c.proofs.laws_of_cut_slots.Parts.{pts_fit}
+use Rattle.advance_c.specs.of_trim_split.declared.Counts.{Counts}
+use Rattle.advance_c.specs.of_trim.Buffers.{Slices}
+use Rattle.compute.specs.of_begin.Begin.{WorkSlices, work_slices}
+use Rattle.advance_c.specs.of_insertion.declared.InsertCounts.{InsertCounts}
+use Rattle.insert_c.specs.of_insert_job.declared.InsertedJob.{InsertedJob}
+use Rattle.insert_c.specs.of_insert_job.declared.InsertedJob.TheVariants as job
+use Rattle.insert_c.specs.of_insert_job.Field.{entry_slices}
+use Rattle.insert_c.specs.of_insert_job.Job.{JobWithin}
+use Rattle.insert_c.proofs.laws_of_insert_job.Begun.{checked}
+use Rattle.advance_c.specs.of_advance.declared.Advanced.{Advanced}
+use Rattle.advance_c.specs.of_advance.declared.Advanced.TheVariants.{Stopped, Went}
+use Rattle.advance_c.specs.of_advance.Contract.{AdvancesTo}
+use Rattle.compute.specs.of_run_steps.declared.FieldWork.{FieldWork}
+use Rattle.compute.specs.of_run_steps.declared.FieldWork.TheVariants.{Refused, Done}
+use Rattle.compute.specs.of_run_steps.Run as run
+use Rattle.compute.specs.of_run_steps.Run.{WorkResult}
+use Rattle.compute.specs.of_run_steps.Contract.{none_waits, work_answer, RunsTo}
+use Rattle.compute.proofs.laws_of_run_steps.Running.{none_waits_lem, one_waits, lack_above, run_answer, after_done, after_spent}
+use Rattle.compute.specs.of_field_work.Contract.{WorksTo}
+use Rattle.compute.proofs.laws_of_field_work.Working.{works_to}
+use Rattle.advance_c.specs.of_zero_buffers.ZeroIf.{zero_words}
+use Rattle.compute.specs.of_finish.Finish.{FinishesTo}
+use Rattle.compute.specs.of_finish.Contents.{FieldBuffers}
+use Rattle.compute.specs.of_finish.Refused.{FieldLengths}
 use Rattle.computed.specs.declared.Computed.TheVariants.{Field}
-use Rattle.compute_spec.specs.Compute.{other_counts, field_buffers, work_slices_in, compute_by_heap}
-use Rattle.compute_spec.proofs.Refusals.{compute_refused, built_is}
-use Rattle.compute_spec.proofs.Contents.{computed}
-use Rattle.field_model.specs.Queue.{queue_in_order}
-use Rattle.field_model.specs.Field.{refused}
-use Rattle.field_model.specs.Lent.{compute_over, ComputesOver, finished_of}
-use Rattle.field_model.proofs.Lawful.{in_order}
-use Rattle.field_model.proofs.Whole.{job_same}
-use Rattle.make_field.specs.Contract.{MakesField}
-use Rattle.make_field.proofs.Making.{makes_field}
+use Rattle.compute.specs.of_compute_spec.Compute.{other_counts, field_buffers, work_slices_in, compute_by_heap}
+use Rattle.compute.proofs.laws_of_compute_spec.Refusals.{compute_refused, built_is}
+use Rattle.compute.proofs.laws_of_compute_spec.Contents.{computed}
+use Rattle.compute.specs.of_field_model.Queue.{queue_in_order}
+use Rattle.compute.specs.of_field_model.Field.{refused}
+use Rattle.compute.specs.of_field_model.Lent.{compute_over, ComputesOver, finished_of}
+use Rattle.compute.proofs.laws_of_field_model.Lawful.{in_order}
+use Rattle.compute.proofs.laws_of_field_model.Whole.{job_same}
+use Rattle.compute.specs.of_make_field.Contract.{MakesField}
+use Rattle.compute.proofs.laws_of_make_field.Making.{makes_field}
 use Rattle.compute.specs.Answers.{edges_answered, told}
 use Rattle.compute.proofs.Computing.{computes}
 use Rattle.insert_c.specs.Exports.{lent_in, insert_told, InsertedIn}

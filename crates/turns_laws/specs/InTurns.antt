@@ -4,16 +4,16 @@ use Rattle.std.specs.Prelude.{ℕ, ◌+◌, ◌≤◌, List, [], ◌∷◌, ◌�
 use Rattle.buffers.specs.Slots.{slots_of}
 use Rattle.windows.specs.Windows.{capacity_of}
 use Rattle.job_checks.specs.Job.{Job, vertex_count, triangle_count, piece_count}
-use Rattle.mesh.specs.Topology.{MeshBuffers, mesh_buffers}
-use Rattle.cut_lists.specs.Buffers.{Cuts}
-use Rattle.cut_slots.specs.Slots.{cut_count}
-use Rattle.trim_split.specs.declared.Counts.{Counts}
-use Rattle.trim.specs.Buffers.{Slices}
-use Rattle.begin.specs.Begin.{WorkSlices, work_slices}
-use Rattle.insert_job.specs.Field.{trim_slices}
-use Rattle.finish.specs.Contents.{FieldBuffers}
-use Rattle.finish.specs.Refused.{FieldLengths}
-use Rattle.compute_spec.specs.Compute.{field_buffers, work_slices_in}
+use Rattle.compute.specs.of_mesh.Topology.{MeshBuffers, mesh_buffers}
+use Rattle.compute.specs.of_cut_lists.Buffers.{Cuts}
+use Rattle.insert_c.specs.of_cut_slots.Slots.{cut_count}
+use Rattle.advance_c.specs.of_trim_split.declared.Counts.{Counts}
+use Rattle.advance_c.specs.of_trim.Buffers.{Slices}
+use Rattle.compute.specs.of_begin.Begin.{WorkSlices, work_slices}
+use Rattle.insert_c.specs.of_insert_job.Field.{trim_slices}
+use Rattle.compute.specs.of_finish.Contents.{FieldBuffers}
+use Rattle.compute.specs.of_finish.Refused.{FieldLengths}
+use Rattle.compute.specs.of_compute_spec.Compute.{field_buffers, work_slices_in}
 use Rattle.computed.specs.declared.Computed.{Computed}
 use Rattle.computed.specs.declared.Computed.TheVariants.{Field}
 use Rattle.insert_c.specs.Exports.{InsertAnswers}

@@ -13,8 +13,8 @@ use Rattle.buffers.specs.declared.VertexId.{VertexId}
 use Rattle.carriers.specs.declared.CarrierSimplex.{CarrierSimplex}
 use Rattle.carriers.specs.Carrier.{carrier_at, carrier_count_at}
 use Rattle.carriers.specs.Nearest.{nearest_at}
-use Rattle.piece_ends.specs.Ends.{end_point}
-use Rattle.piece_ends.specs.Walk.{is_first_at}
+use Rattle.segments_behind.specs.of_piece_ends.Ends.{end_point}
+use Rattle.segments_behind.specs.of_piece_ends.Walk.{is_first_at}
 use Rattle.segments_behind.specs.Round.{any_round_at}
 use Rattle.wedge_refusal.specs.Wedge.{over_two_at, wedge_at}
 

@@ -12,8 +12,8 @@ use Rattle.job_checks.specs.Any.{any_below}
 use Rattle.carriers.specs.Carrier.{carrier_of}
 use Rattle.carriers.specs.Nearest.{nearest_at}
 use Rattle.carriers.proofs.Held.{count_held}
-use Rattle.piece_ends.specs.Ends.{end_point}
-use Rattle.piece_ends.proofs.Held.{is_first_held}
+use Rattle.segments_behind.specs.of_piece_ends.Ends.{end_point}
+use Rattle.segments_behind.proofs.laws_of_piece_ends.Held.{is_first_held}
 use Rattle.segments_behind.proofs.Held.{any_round_held}
 use Rattle.wedge_refusal.specs.Held.{HoldsJob}
 use Rattle.wedge_refusal.specs.Wedge.{wedge_met, any_wedge, over_two_at, wedge_at, any_wedge_at}

@@ -5,8 +5,8 @@ use Rattle.vec3.specs.declared.Vec3.{Vec3}
 use Rattle.job_checks.specs.Any.{any_below}
 use Rattle.carriers.specs.Carrier.{carrier_of, carrier_at, carrier_count_at}
 use Rattle.carriers.specs.Nearest.{nearest_at}
-use Rattle.piece_ends.specs.Ends.{end_point, first_of_bits}
-use Rattle.piece_ends.specs.Walk.{is_first_at}
+use Rattle.segments_behind.specs.of_piece_ends.Ends.{end_point, first_of_bits}
+use Rattle.segments_behind.specs.of_piece_ends.Walk.{is_first_at}
 use Rattle.segments_behind.specs.Round.{any_round, any_round_at}
 
 -- ---- over the topology

@@ -4,8 +4,12 @@ ghost use Rattle.std.specs.Prelude.{◌≡◌, ◌≤◌, length};
 ghost use Rattle.wedge_refusal.specs.Wedge.{over_two_at, wedge_at, any_wedge_at};
 
 use buffers::FaceId;
+pub use carriers as of_carriers;
+pub use carriers::of_source_windows as of_source_windows;
 use carriers::{carrier, carrier_count, nearest_vertex};
-use piece_ends::{end_point, is_first};
+pub use segments_behind as of_segments_behind;
+pub use segments_behind::of_piece_ends as of_piece_ends;
+use segments_behind::of_piece_ends::{end_point, is_first};
 use segments_behind::{any_round, face_of};
 use vec3::Vec3;
 

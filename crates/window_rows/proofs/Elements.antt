@@ -17,11 +17,11 @@ use Rattle.windows.proofs.WindowList.{counted, load_same, load_other}
 use Rattle.computed.specs.declared.Computed.{Computed}
 use Rattle.computed.specs.declared.Computed.TheVariants.{Refused, Field as isField}
 use Rattle.computed.specs.declared.Field.{Field}
-use Rattle.field_check.specs.FieldCheck.{JobSlices, FieldSlices, field_unsound}
-use Rattle.queries.specs.declared.WindowAnswer.{WindowAnswer}
-use Rattle.queries.specs.declared.WindowAnswer.TheVariants as window
-use Rattle.queries.specs.Answers.{window_answer_number}
-use Rattle.queries.specs.Queries.{window_query}
+use Rattle.query_rows.specs.of_field_check.FieldCheck.{JobSlices, FieldSlices, field_unsound}
+use Rattle.query_rows.specs.of_queries.declared.WindowAnswer.{WindowAnswer}
+use Rattle.query_rows.specs.of_queries.declared.WindowAnswer.TheVariants as window
+use Rattle.query_rows.specs.of_queries.Answers.{window_answer_number}
+use Rattle.query_rows.specs.of_queries.Queries.{window_query}
 use Rattle.query_rows.specs.declared.RowAnswer.TheVariants.{NoField, ShortRow, Answered}
 use Rattle.query_rows.specs.Rows.{row_number, elements, short_for}
 use Rattle.open_rows.specs.Written.{written_row}

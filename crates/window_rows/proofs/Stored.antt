@@ -10,9 +10,9 @@ use Rattle.layout.specs.Layout.{words_per_window, reals_per_window}
 use Rattle.buffers.proofs.Strides.{length_fill}
 use Rattle.windows.specs.Windows.{capacity_of, words_with, reals_with}
 use Rattle.computed.specs.declared.Field.{Field}
-use Rattle.field_check.specs.FieldCheck.{FieldSlices}
-use Rattle.queries.specs.declared.WindowAnswer.{WindowAnswer}
-use Rattle.queries.specs.declared.WindowAnswer.TheVariants as window
+use Rattle.query_rows.specs.of_field_check.FieldCheck.{FieldSlices}
+use Rattle.query_rows.specs.of_queries.declared.WindowAnswer.{WindowAnswer}
+use Rattle.query_rows.specs.of_queries.declared.WindowAnswer.TheVariants as window
 use Rattle.query_rows.specs.declared.RowAnswer.{RowAnswer}
 use Rattle.window_rows.specs.WindowRows.{words_put, reals_put, stored_row, window_asked, window_words_of, window_reals_of, window_result}
 

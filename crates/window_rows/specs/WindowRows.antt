@@ -7,11 +7,11 @@ use Rattle.windows.specs.Windows.{capacity_of, words_with, reals_with}
 use Rattle.computed.specs.declared.Computed.{Computed}
 use Rattle.computed.specs.declared.Computed.TheVariants.{Refused, Field as isField}
 use Rattle.computed.specs.declared.Field.{Field}
-use Rattle.field_check.specs.FieldCheck.{JobSlices, FieldSlices, field_unsound}
-use Rattle.queries.specs.declared.WindowAnswer.{WindowAnswer}
-use Rattle.queries.specs.declared.WindowAnswer.TheVariants as window
-use Rattle.queries.specs.Answers.{window_answer_number}
-use Rattle.queries.specs.Queries.{window_answer}
+use Rattle.query_rows.specs.of_field_check.FieldCheck.{JobSlices, FieldSlices, field_unsound}
+use Rattle.query_rows.specs.of_queries.declared.WindowAnswer.{WindowAnswer}
+use Rattle.query_rows.specs.of_queries.declared.WindowAnswer.TheVariants as window
+use Rattle.query_rows.specs.of_queries.Answers.{window_answer_number}
+use Rattle.query_rows.specs.of_queries.Queries.{window_answer}
 use Rattle.query_rows.specs.declared.RowAnswer.{RowAnswer}
 use Rattle.query_rows.specs.declared.RowAnswer.TheVariants.{NoField, ShortRow, Answered}
 use Rattle.query_rows.specs.Rows.{elements, short_for}

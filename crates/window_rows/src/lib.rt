@@ -6,15 +6,17 @@ ghost use Rattle.layout.specs.Layout.{words_per_edge};
 ghost use Rattle.buffers.specs.Slots.{slots_of};
 ghost use Rattle.buffers.specs.Lent.{given, left};
 ghost use Rattle.windows.specs.Windows.{capacity_of};
-ghost use Rattle.field_check.specs.FieldCheck.{job_slices, field_slices};
+ghost use Rattle.query_rows.specs.of_field_check.FieldCheck.{job_slices, field_slices};
 ghost use Rattle.open_rows.specs.Written.{written_row};
 ghost use Rattle.window_rows.specs.WindowRows.{window_id, words_put, reals_put, stored_row, window_numbers, window_ids, window_words_of, window_reals_of, window_result, window_row};
 
 use buffers::{EdgeId, WindowId, read_u32, slots, write_u32};
 use computed::{Computed, Field};
 use layout::{REALS_PER_WINDOW, WORDS_PER_WINDOW};
-use queries::WindowAnswer;
-use query_rows::RowAnswer;
+pub use query_rows as of_query_rows;
+pub use query_rows::of_queries as of_queries;
+use query_rows::of_queries::WindowAnswer;
+use query_rows::{RowAnswer, of_field_check as field_check, of_queries as queries};
 
 fn window_id(answer: WindowAnswer) -> u32
     ensures { result ≡ window_id answer }

@@ -8,18 +8,18 @@ use lib.Ieee.{Float, le}
 use Rattle.float64.specs.Scalar.{zero64}
 use Rattle.float64.specs.Notation.{◌⊖◌, ◌⊗◌}
 use Rattle.source.specs.Distance.{lowest_of, eval_of}
-use Rattle.better.specs.Claim.{All}
-use Rattle.better.specs.Points.{pts_of, walk_of}
-use Rattle.better.specs.Stretches.{Interval, better_of}
+use Rattle.pop.specs.of_better.Claim.{All}
+use Rattle.pop.specs.of_better.Points.{pts_of, walk_of}
+use Rattle.pop.specs.of_better.Stretches.{Interval, better_of}
 use Rattle.windows.specs.declared.Edge.{Edge}
 use Rattle.actions.specs.Actions.{Action, list, make, trim, kill, push, touch}
-use Rattle.trim_model.specs.Intervals.{width, tiny_of, push_if, next, pieces, wide_of}
-use Rattle.trim_model.specs.Windows.{Window, part, fresh, split, sorted}
-use Rattle.trim_model.specs.Add.{Walk, before, run, behind, shared_lo, shared_hi, start, untouched, meet, visit, visits, add_to}
-use Rattle.trim_model.proofs.Ranks.{by_cases}
-use Rattle.trim_model.proofs.Lists.{all_append, all_left, all_right}
-use Rattle.trim_model.proofs.Windows.{parted, sorted_all}
-use Rattle.trim_state.specs.Trace.{window_event, win_of, making, makings, splitting, losing, visiting, visitings, near, touching, keeping, adding}
+use Rattle.pop.specs.of_trim_model.Intervals.{width, tiny_of, push_if, next, pieces, wide_of}
+use Rattle.pop.specs.of_trim_model.Windows.{Window, part, fresh, split, sorted}
+use Rattle.pop.specs.of_trim_model.Add.{Walk, before, run, behind, shared_lo, shared_hi, start, untouched, meet, visit, visits, add_to}
+use Rattle.pop.proofs.laws_of_trim_model.Ranks.{by_cases}
+use Rattle.pop.proofs.laws_of_trim_model.Lists.{all_append, all_left, all_right}
+use Rattle.pop.proofs.laws_of_trim_model.Windows.{parted, sorted_all}
+use Rattle.pop.specs.of_trim_state.Trace.{window_event, win_of, making, makings, splitting, losing, visiting, visitings, near, touching, keeping, adding}
 use Rattle.windows_there.specs.There.{RecordThere, LiveThere, ItemThere}
 
 -- ---- those that are left

@@ -18,22 +18,22 @@ use Rattle.heap.specs.Queue.{Queue, at, slots, pushed, popped, pushing, popping}
 use Rattle.heap.specs.Model.{weight_of}
 use Rattle.heap.proofs.HeapOrder.{pop_weight}
 use Rattle.heap.proofs.SameAnswers.{has_slots, push_adds}
-use Rattle.better.specs.Claim.{All}
-use Rattle.better.specs.Stretches.{better_of}
+use Rattle.pop.specs.of_better.Claim.{All}
+use Rattle.pop.specs.of_better.Stretches.{better_of}
 use Rattle.actions.specs.Actions as actions
 use Rattle.actions.specs.Actions.{Action, list, make, trim, kill, push, touch, Stock, stock, Outcome, distance_of, with_distance, queueing, and_then, act, play, wins_after}
 use Rattle.windows.specs.declared.WindowRecord.{WindowRecord}
-use Rattle.trim_model.specs.Intervals.{tiny_of}
-use Rattle.trim_model.specs.Windows.{Window}
-use Rattle.trim_model.specs.Add.{add_to}
-use Rattle.trim_model.specs.Model.{Candidate, as_window, admits}
-use Rattle.trim_model.proofs.Ranks.{by_cases}
-use Rattle.trim_state.specs.Trace.{adding}
-use Rattle.trim_state.specs.State as state
-use Rattle.trim_state.specs.State.{State, Result, EdgeData, edge_in, put, finish, admit_of, add_of}
-use Rattle.trim_state.proofs.Made.{After}
+use Rattle.pop.specs.of_trim_model.Intervals.{tiny_of}
+use Rattle.pop.specs.of_trim_model.Windows.{Window}
+use Rattle.pop.specs.of_trim_model.Add.{add_to}
+use Rattle.pop.specs.of_trim_model.Model.{Candidate, as_window, admits}
+use Rattle.pop.proofs.laws_of_trim_model.Ranks.{by_cases}
+use Rattle.pop.specs.of_trim_state.Trace.{adding}
+use Rattle.pop.specs.of_trim_state.State as state
+use Rattle.pop.specs.of_trim_state.State.{State, Result, EdgeData, edge_in, put, finish, admit_of, add_of}
+use Rattle.pop.proofs.laws_of_trim_state.Made.{After}
 use Rattle.pop.specs.State.{after_pop}
-use Rattle.offers.specs.Offers.{and_next, add_all}
+use Rattle.spread_offers.specs.of_offers.Offers.{and_next, add_all}
 use Rattle.windows_there.specs.There.{LiveThere, EndsThere, ItemThere, past_item, past_vertex, EventsThere}
 use Rattle.windows_there.proofs.Added.{MakesThere, adding_there}
 

@@ -13,14 +13,14 @@ use Rattle.topology.specs.Edges.{no_face, edges, tri_edge, other}
 use Rattle.topology.specs.Frames.{len, coords_x, coords_y}
 use Rattle.topology.proofs.Edges.{tri_edge_there}
 use Rattle.topology.proofs.Checked.{inside}
-use Rattle.better.specs.Claim.{All}
-use Rattle.source_windows.specs.declared.Bounds.{Bounds}
-use Rattle.source_windows.specs.declared.Normal.{Normal}
-use Rattle.source_windows.specs.Wedge.{lies_on, point_window_of}
-use Rattle.source_windows.specs.Segment.{in_frame_of, segment_window_of}
-use Rattle.offers.specs.Offers.{offer_list}
-use Rattle.source_offers.specs.Offering.{segment_on, point_on, segment_offer, point_offer}
-use Rattle.point_wedge.specs.Wedge.{bounds_in}
+use Rattle.pop.specs.of_better.Claim.{All}
+use Rattle.spread_offers.specs.of_source_windows.declared.Bounds.{Bounds}
+use Rattle.spread_offers.specs.of_source_windows.declared.Normal.{Normal}
+use Rattle.spread_offers.specs.of_source_windows.Wedge.{lies_on, point_window_of}
+use Rattle.spread_offers.specs.of_source_windows.Segment.{in_frame_of, segment_window_of}
+use Rattle.spread_offers.specs.of_offers.Offers.{offer_list}
+use Rattle.spread_offers.specs.of_source_offers.Offering.{segment_on, point_on, segment_offer, point_offer}
+use Rattle.source_inserts.specs.of_point_wedge.Wedge.{bounds_in}
 use Rattle.source_inserts.specs.declared.Insert.{Insert}
 use Rattle.source_inserts.specs.Inserts.{candidates_at, candidates_in, job_inserts, source_inserts}
 use Rattle.source_inserts.proofs.Each.{source_all, job_all}

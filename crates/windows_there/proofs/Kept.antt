@@ -8,8 +8,8 @@ use borrow.Author.Tests.{eqb-true}
 use lib.Dec.{eqb}
 use lib.ListN.{length, get_or}
 use lib.Ieee.{Float}
-use Rattle.better.specs.Claim.{All}
-use Rattle.better.specs.Stretches.{better_of}
+use Rattle.pop.specs.of_better.Claim.{All}
+use Rattle.pop.specs.of_better.Stretches.{better_of}
 use Rattle.heap.specs.declared.Item.{Item}
 use Rattle.heap.specs.declared.Item.TheVariants.{Window as Item-as-Window, Vertex}
 use Rattle.heap.specs.declared.Popped.{Popped}
@@ -19,19 +19,19 @@ use Rattle.windows.specs.declared.WindowRecord.{WindowRecord}
 use Rattle.windows.specs.Windows.{trimmed, reflagged, relinked, dead, unqueued_record, adjust}
 use Rattle.actions.specs.Actions as actions
 use Rattle.actions.specs.Actions.{Action, list, make, trim, kill, push, touch, wins_with, wins_after, Stock, stock, Outcome, play}
-use Rattle.trim_model.specs.Intervals.{tiny_of}
-use Rattle.trim_model.specs.Windows.{Window, unqueued}
-use Rattle.trim_model.specs.Add.{add_to}
-use Rattle.trim_model.specs.Model.{Candidate, as_window, admits}
-use Rattle.trim_model.proofs.Ranks.{by_cases}
-use Rattle.trim_model.proofs.Lists.{all_append}
-use Rattle.trim_state.specs.Trace.{adding}
-use Rattle.trim_state.specs.State as state
-use Rattle.trim_state.specs.State.{State, Result, EdgeData, edge_in, put, finish, admit_of, add_of}
-use Rattle.trim_state.proofs.Made.{After}
-use Rattle.live_windows.specs.Live.{unqueued_in}
+use Rattle.pop.specs.of_trim_model.Intervals.{tiny_of}
+use Rattle.pop.specs.of_trim_model.Windows.{Window, unqueued}
+use Rattle.pop.specs.of_trim_model.Add.{add_to}
+use Rattle.pop.specs.of_trim_model.Model.{Candidate, as_window, admits}
+use Rattle.pop.proofs.laws_of_trim_model.Ranks.{by_cases}
+use Rattle.pop.proofs.laws_of_trim_model.Lists.{all_append}
+use Rattle.pop.specs.of_trim_state.Trace.{adding}
+use Rattle.pop.specs.of_trim_state.State as state
+use Rattle.pop.specs.of_trim_state.State.{State, Result, EdgeData, edge_in, put, finish, admit_of, add_of}
+use Rattle.pop.proofs.laws_of_trim_state.Made.{After}
+use Rattle.pop.specs.of_live_windows.Live.{unqueued_in}
 use Rattle.pop.specs.State.{claimed_win, wins_claimed, live_claimed, after_pop}
-use Rattle.offers.specs.Offers.{and_next, add_all}
+use Rattle.spread_offers.specs.of_offers.Offers.{and_next, add_all}
 use Rattle.windows_there.specs.There.{RecordThere, LiveThere, CandidateThere, WindowsThere}
 use Rattle.windows_there.proofs.Added.{MakesThere, left_there, adding_there}
 

@@ -8,18 +8,18 @@ use Rattle.job_checks.specs.Edge.{vertex_at}
 use Rattle.job_checks.specs.Sound.{ValidTriangles}
 use Rattle.topology.specs.Edges.{no_edge, edges, tri_edge, other, third, edge_between, vertex_faces}
 use Rattle.topology.specs.Frames.{len, coords_x, coords_y}
-use Rattle.mesh_readers.proofs.Round.{round_there}
+use Rattle.source_inserts.proofs.laws_of_mesh_readers.Round.{round_there}
 use Rattle.source.specs.declared.Src.{Src}
-use Rattle.propagation.specs.declared.FaceAhead.{FaceAhead}
-use Rattle.propagation.specs.declared.NextEdge.{NextEdge}
-use Rattle.propagation.specs.Propagate.{propagate_of, emit_of}
-use Rattle.better.specs.Claim.{All}
-use Rattle.offers.specs.declared.Offered.{Offered}
-use Rattle.offers.specs.declared.Offered.TheVariants.{Nothing}
-use Rattle.offers.specs.Offers.{offer_list}
-use Rattle.offers.specs.Each.{each_of}
-use Rattle.offers.proofs.Each.{each_all}
-use Rattle.source_offers.specs.Offering.{offered}
+use Rattle.spread_offers.specs.of_propagation.declared.FaceAhead.{FaceAhead}
+use Rattle.spread_offers.specs.of_propagation.declared.NextEdge.{NextEdge}
+use Rattle.spread_offers.specs.of_propagation.Propagate.{propagate_of, emit_of}
+use Rattle.pop.specs.of_better.Claim.{All}
+use Rattle.spread_offers.specs.of_offers.declared.Offered.{Offered}
+use Rattle.spread_offers.specs.of_offers.declared.Offered.TheVariants.{Nothing}
+use Rattle.spread_offers.specs.of_offers.Offers.{offer_list}
+use Rattle.spread_offers.specs.of_offers.Each.{each_of}
+use Rattle.spread_offers.proofs.laws_of_offers.Each.{each_all}
+use Rattle.spread_offers.specs.of_source_offers.Offering.{offered}
 use Rattle.spread_offers.specs.declared.Spread.{Spread}
 use Rattle.spread_offers.specs.declared.Spread.TheVariants.{Window, Vertex}
 use Rattle.spread_offers.specs.Offering.{side_number, side_end, next_edge_of, at_end, propagate_offer, emit_offer}

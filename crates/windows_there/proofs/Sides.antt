@@ -10,13 +10,13 @@ use Rattle.topology.specs.Edges.{edges, other}
 use Rattle.topology.proofs.Checked.{edge_ends}
 use Rattle.topology.proofs.Faces.{face_in_range}
 use Rattle.topology.proofs.Other.{other_listed}
-use Rattle.better.specs.Claim.{All}
-use Rattle.source_windows.specs.declared.CandidateRange.{CandidateRange}
-use Rattle.source_windows.specs.declared.CandidateRange.TheVariants.{Nothing as NoRange, Window as Range}
-use Rattle.trim_model.specs.Model.{Candidate}
-use Rattle.offers.specs.Offers.{offer_list}
-use Rattle.offers.specs.Walks.{edge_data}
-use Rattle.source_offers.specs.Offering.{offered}
+use Rattle.pop.specs.of_better.Claim.{All}
+use Rattle.spread_offers.specs.of_source_windows.declared.CandidateRange.{CandidateRange}
+use Rattle.spread_offers.specs.of_source_windows.declared.CandidateRange.TheVariants.{Nothing as NoRange, Window as Range}
+use Rattle.pop.specs.of_trim_model.Model.{Candidate}
+use Rattle.spread_offers.specs.of_offers.Offers.{offer_list}
+use Rattle.spread_offers.specs.of_offers.Walks.{edge_data}
+use Rattle.spread_offers.specs.of_source_offers.Offering.{offered}
 use Rattle.windows_there.specs.There.{FaceOf, GoesInto, CandidateThere, EndsThere}
 
 module _ (triangles : List ℕ) (n : ℕ) (valid : ValidTriangles triangles n) (e : ℕ) (l : e < length (edges triangles)) where

@@ -2,15 +2,15 @@
 -- names one of the mesh's. Definitions only.
 use Rattle.std.specs.Prelude.{ℕ, ◌<◌, cond, List, ◌⊎◌, ◌≡◌, ltb, length, get_or}
 use Rattle.topology.specs.Edges.{no_face, edges, edge_faces}
-use Rattle.better.specs.Claim.{All}
+use Rattle.pop.specs.of_better.Claim.{All}
 use Rattle.heap.specs.declared.Event.{Event}
 use Rattle.heap.specs.declared.Item.{Item}
 use Rattle.heap.specs.declared.Item.TheVariants.{Window as Item-as-Window, Vertex as Item-as-Vertex}
 use Rattle.heap.specs.Model.{weight_of}
 use Rattle.windows.specs.declared.WindowRecord.{WindowRecord}
-use Rattle.trim_model.specs.Windows.{Window}
-use Rattle.trim_model.specs.Model.{Candidate}
-use Rattle.trim_state.specs.State.{State, EdgeData}
+use Rattle.pop.specs.of_trim_model.Windows.{Window}
+use Rattle.pop.specs.of_trim_model.Model.{Candidate}
+use Rattle.pop.specs.of_trim_state.State.{State, EdgeData}
 
 -- face g is one of those of edge e
 abbrev pub FaceOf : List ℕ → ℕ → ℕ → Type 0

@@ -1,1 +1,3 @@
-// The windows of a field are the mesh's: definitions and laws, no code.
+/
+pub use pop as of_pop;
+/ The windows of a field are the mesh's: definitions and laws, no code.

@@ -12,9 +12,9 @@ use lib.Ieee.{Float, le}
 use Rattle.float64.specs.Scalar.{zero64}
 use Rattle.float64.specs.Notation.{◌⊖◌, ◌⊗◌}
 use Rattle.source.specs.Distance.{lowest_of, eval_of}
-use Rattle.better.specs.Claim.{All}
-use Rattle.better.specs.Points.{pts_of, walk_of}
-use Rattle.better.specs.Stretches.{Interval, better_of}
+use Rattle.last_pass.specs.of_better.Claim.{All}
+use Rattle.last_pass.specs.of_better.Points.{pts_of, walk_of}
+use Rattle.last_pass.specs.of_better.Stretches.{Interval, better_of}
 use Rattle.heap.specs.declared.Item.{Item}
 use Rattle.heap.specs.declared.Item.TheVariants.{Window as Item-as-Window, Vertex as Item-as-Vertex}
 use Rattle.heap.specs.declared.Popped.{Popped}
@@ -28,23 +28,23 @@ use Rattle.windows.specs.declared.WindowRecord.{WindowRecord}
 use Rattle.windows.specs.Windows.{trimmed, reflagged, relinked, dead, unqueued_record, adjust}
 use Rattle.actions.specs.Actions as actions
 use Rattle.actions.specs.Actions.{Action, list, make, trim, kill, push, touch, wins_with, wins_after, Stock, stock, Outcome, play}
-use Rattle.trim_model.specs.Intervals.{width, tiny_of, push_if, next, pieces, wide_of}
-use Rattle.trim_model.specs.Windows.{Window, part, fresh, sorted, unqueued}
-use Rattle.trim_model.specs.Add.{Walk, before, run, behind, shared_lo, shared_hi, start, visit, visits, add_to}
-use Rattle.trim_model.specs.Model.{Candidate, as_window, admits}
-use Rattle.trim_model.proofs.Ranks.{by_cases}
-use Rattle.trim_model.proofs.Lists.{all_map, all_map2, all_append, all_left, all_right}
-use Rattle.trim_model.proofs.Windows.{parted}
-use Rattle.trim_state.specs.Trace.{window_event, win_of, record_of, making, makings, splitting, losing, visiting, visitings, near, touching, keeping, adding}
-use Rattle.trim_state.specs.State as state
-use Rattle.trim_state.specs.State.{State, EdgeData, edge_in, put, finish, admit_of, add_of}
-use Rattle.trim_state.specs.Follows.{Follows}
-use Rattle.trim_state.proofs.Follows.{follows_differ, follows_apart}
+use Rattle.last_pass.specs.of_trim_model.Intervals.{width, tiny_of, push_if, next, pieces, wide_of}
+use Rattle.last_pass.specs.of_trim_model.Windows.{Window, part, fresh, sorted, unqueued}
+use Rattle.last_pass.specs.of_trim_model.Add.{Walk, before, run, behind, shared_lo, shared_hi, start, visit, visits, add_to}
+use Rattle.last_pass.specs.of_trim_model.Model.{Candidate, as_window, admits}
+use Rattle.last_pass.proofs.laws_of_trim_model.Ranks.{by_cases}
+use Rattle.last_pass.proofs.laws_of_trim_model.Lists.{all_map, all_map2, all_append, all_left, all_right}
+use Rattle.last_pass.proofs.laws_of_trim_model.Windows.{parted}
+use Rattle.last_pass.specs.of_trim_state.Trace.{window_event, win_of, record_of, making, makings, splitting, losing, visiting, visitings, near, touching, keeping, adding}
+use Rattle.last_pass.specs.of_trim_state.State as state
+use Rattle.last_pass.specs.of_trim_state.State.{State, EdgeData, edge_in, put, finish, admit_of, add_of}
+use Rattle.last_pass.specs.of_trim_state.Follows.{Follows}
+use Rattle.last_pass.proofs.laws_of_trim_state.Follows.{follows_differ, follows_apart}
 use Rattle.chains.specs.Chains.{Out}
-use Rattle.live_windows.specs.Live.{nums, Among, unqueued_in}
-use Rattle.live_windows.proofs.Fronts.{Found, find}
-use Rattle.live_windows.proofs.Lists.{put_here}
-use Rattle.pop.specs.State.{claimed_win, wins_claimed, live_claimed, after_pop}
+use Rattle.last_pass.specs.of_live_windows.Live.{nums, Among, unqueued_in}
+use Rattle.last_pass.proofs.laws_of_live_windows.Fronts.{Found, find}
+use Rattle.last_pass.proofs.laws_of_live_windows.Lists.{put_here}
+use Rattle.last_pass.specs.of_pop.State.{claimed_win, wins_claimed, live_claimed, after_pop}
 use Rattle.work_laws.specs.Kept.{EndsIn}
 use Rattle.work_laws.specs.Account.{names_item, names, waiting, OnRecord, Accounted}
 use Rattle.work_laws.proofs.Recorded.{events_after, Waits, play_waits, after_spared, length_adjust, adjust_here, adjust_other, more_events, other_on, add_on}

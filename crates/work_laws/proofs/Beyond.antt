@@ -12,8 +12,8 @@ use Rattle.layout.specs.Layout.{reals_per_vertex}
 use Rattle.float64.specs.Scalar.{zero64, min_of}
 use Rattle.source.specs.declared.Win.{Win}
 use Rattle.source.specs.Distance.{eval_of}
-use Rattle.better.specs.Claim.{All}
-use Rattle.better.specs.Stretches.{better_of}
+use Rattle.last_pass.specs.of_better.Claim.{All}
+use Rattle.last_pass.specs.of_better.Stretches.{better_of}
 use Rattle.heap.specs.declared.Event.{Event}
 use Rattle.heap.specs.declared.Item.TheVariants.{Vertex as Item-as-Vertex}
 use Rattle.heap.specs.declared.Pushed.{Pushed}
@@ -23,20 +23,20 @@ use Rattle.windows.specs.declared.Edge.{Edge}
 use Rattle.windows.specs.declared.WindowRecord.{WindowRecord}
 use Rattle.actions.specs.Actions as actions
 use Rattle.actions.specs.Actions.{Action, list, make, trim, kill, push, touch, wins_after, Stock, stock, Outcome, distance_of, with_distance, queueing, and_then, act, play}
-use Rattle.trim_model.specs.Intervals.{tiny_of}
-use Rattle.trim_model.specs.Windows.{Window}
-use Rattle.trim_model.specs.Add.{add_to}
-use Rattle.trim_model.specs.Model.{Candidate, as_window, admits}
-use Rattle.trim_model.proofs.Ranks.{by_cases}
-use Rattle.trim_state.specs.Trace.{win_of, adding}
-use Rattle.trim_state.specs.State as state
-use Rattle.trim_state.specs.State.{State, EdgeData, edge_in, put, finish, admit_of, add_of}
-use Rattle.spread_offers.specs.declared.Spread.{Spread}
-use Rattle.spread_offers.specs.declared.Spread.TheVariants.{Window as Spread-as-Window, Vertex as Spread-as-Vertex}
-use Rattle.spread_offers.specs.Spreading.{SpreadOf}
-use Rattle.windows_there.specs.There.{LiveThere, EndsThere}
-use Rattle.windows_there.proofs.Added.{MakesThere, adding_there}
-use Rattle.field_step.specs.Step.{marked_vertex}
+use Rattle.last_pass.specs.of_trim_model.Intervals.{tiny_of}
+use Rattle.last_pass.specs.of_trim_model.Windows.{Window}
+use Rattle.last_pass.specs.of_trim_model.Add.{add_to}
+use Rattle.last_pass.specs.of_trim_model.Model.{Candidate, as_window, admits}
+use Rattle.last_pass.proofs.laws_of_trim_model.Ranks.{by_cases}
+use Rattle.last_pass.specs.of_trim_state.Trace.{win_of, adding}
+use Rattle.last_pass.specs.of_trim_state.State as state
+use Rattle.last_pass.specs.of_trim_state.State.{State, EdgeData, edge_in, put, finish, admit_of, add_of}
+use Rattle.field_work.specs.of_spread_offers.declared.Spread.{Spread}
+use Rattle.field_work.specs.of_spread_offers.declared.Spread.TheVariants.{Window as Spread-as-Window, Vertex as Spread-as-Vertex}
+use Rattle.field_work.specs.of_spread_offers.Spreading.{SpreadOf}
+use Rattle.field_work.specs.of_windows_there.There.{LiveThere, EndsThere}
+use Rattle.field_work.proofs.laws_of_windows_there.Added.{MakesThere, adding_there}
+use Rattle.field_work.specs.of_field_step.Step.{marked_vertex}
 use Rattle.last_pass.specs.Lowered.{lowered, lowered_by, lowered_edge, lowered_all}
 use Rattle.work_laws.specs.Kept.{EndsIn}
 

@@ -12,19 +12,19 @@ use lib.Ieee.{Float, le}
 use Rattle.source.specs.Distance.{lowest_of}
 use Rattle.nat_laws.specs.Lists.{insert_by, sort_by}
 use Rattle.float64.specs.TotalOrder.{total_less}
-use Rattle.better.specs.Claim.{All}
-use Rattle.better.specs.Points.{pts_of, walk_of}
-use Rattle.better.specs.Stretches.{Interval, better_of}
+use Rattle.last_pass.specs.of_better.Claim.{All}
+use Rattle.last_pass.specs.of_better.Points.{pts_of, walk_of}
+use Rattle.last_pass.specs.of_better.Stretches.{Interval, better_of}
 use Rattle.windows.specs.declared.Edge.{Edge}
 use Rattle.windows.specs.declared.WindowRecord.{WindowRecord}
 use Rattle.windows.specs.Windows.{trimmed, reflagged, relinked, dead, adjust}
 use Rattle.actions.specs.Actions.{Action, list, trim, kill, wins_with, wins_after}
-use Rattle.trim_model.specs.Intervals.{width, tiny_of, next, pieces, wide_of}
-use Rattle.trim_model.specs.Windows.{Window, part, fresh, split, insert, sorted}
-use Rattle.trim_model.specs.Add.{Walk, run, shared_lo, shared_hi, start, untouched, meet, visit, visits}
-use Rattle.trim_model.proofs.Ranks.{by_cases}
-use Rattle.trim_model.proofs.Lists.{all_append, all_left, all_right}
-use Rattle.trim_state.specs.Trace.{record_of, making, makings, splitting, losing, visiting, visitings, touching, keeping, adding}
+use Rattle.last_pass.specs.of_trim_model.Intervals.{width, tiny_of, next, pieces, wide_of}
+use Rattle.last_pass.specs.of_trim_model.Windows.{Window, part, fresh, split, insert, sorted}
+use Rattle.last_pass.specs.of_trim_model.Add.{Walk, run, shared_lo, shared_hi, start, untouched, meet, visit, visits}
+use Rattle.last_pass.proofs.laws_of_trim_model.Ranks.{by_cases}
+use Rattle.last_pass.proofs.laws_of_trim_model.Lists.{all_append, all_left, all_right}
+use Rattle.last_pass.specs.of_trim_state.Trace.{record_of, making, makings, splitting, losing, visiting, visitings, touching, keeping, adding}
 use Rattle.work_laws.proofs.Recorded.{Spares, after_append, after_spared, length_adjust, adjust_here, making_wins, making_spares, makings_length, touching_wins, touching_spares}
 
 -- no window of the list has number i; not none of them has it

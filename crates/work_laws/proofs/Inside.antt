@@ -6,8 +6,8 @@ use mathlib.Core.Path.{◌≡◌, refl, sym, subst}
 use borrow.Author.Tests.{eqb-true}
 use lib.Dec.{T, eqb}
 use lib.Ieee.{Float}
-use Rattle.better.specs.Claim.{All}
-use Rattle.better.specs.Stretches.{better_of}
+use Rattle.last_pass.specs.of_better.Claim.{All}
+use Rattle.last_pass.specs.of_better.Stretches.{better_of}
 use Rattle.heap.specs.declared.Item.{Item}
 use Rattle.heap.specs.declared.Item.TheVariants.{Window as Item-as-Window, Vertex as Item-as-Vertex}
 use Rattle.heap.specs.declared.Popped.{Popped}
@@ -16,19 +16,19 @@ use Rattle.heap.specs.Queue.{Queue}
 use Rattle.windows.specs.declared.WindowRecord.{WindowRecord}
 use Rattle.actions.specs.Actions as actions
 use Rattle.actions.specs.Actions.{wins_after, Outcome, play}
-use Rattle.trim_model.specs.Intervals.{tiny_of}
-use Rattle.trim_model.specs.Windows.{Window, unqueued}
-use Rattle.trim_model.specs.Add.{add_to}
-use Rattle.trim_model.specs.Model.{Candidate, as_window, admits}
-use Rattle.trim_model.specs.Claim.{AdmittedProper}
-use Rattle.trim_model.proofs.Ranks.{by_cases}
-use Rattle.trim_state.specs.Trace.{adding}
-use Rattle.trim_state.specs.State as state
-use Rattle.trim_state.specs.State.{State, EdgeData, edge_in, put, finish, admit_of, add_of}
-use Rattle.trim_state.specs.Follows.{Follows}
-use Rattle.trim_state.proofs.Follows.{follows_tidy}
-use Rattle.live_windows.specs.Live.{unqueued_in}
-use Rattle.pop.specs.State.{live_claimed, after_pop}
+use Rattle.last_pass.specs.of_trim_model.Intervals.{tiny_of}
+use Rattle.last_pass.specs.of_trim_model.Windows.{Window, unqueued}
+use Rattle.last_pass.specs.of_trim_model.Add.{add_to}
+use Rattle.last_pass.specs.of_trim_model.Model.{Candidate, as_window, admits}
+use Rattle.last_pass.specs.of_trim_model.Claim.{AdmittedProper}
+use Rattle.last_pass.proofs.laws_of_trim_model.Ranks.{by_cases}
+use Rattle.last_pass.specs.of_trim_state.Trace.{adding}
+use Rattle.last_pass.specs.of_trim_state.State as state
+use Rattle.last_pass.specs.of_trim_state.State.{State, EdgeData, edge_in, put, finish, admit_of, add_of}
+use Rattle.last_pass.specs.of_trim_state.Follows.{Follows}
+use Rattle.last_pass.proofs.laws_of_trim_state.Follows.{follows_tidy}
+use Rattle.last_pass.specs.of_live_windows.Live.{unqueued_in}
+use Rattle.last_pass.specs.of_pop.State.{live_claimed, after_pop}
 use Rattle.inside_edges.specs.Inside.{AdmittedInside, OnLength}
 use Rattle.inside_edges.proofs.Live.{added_on}
 use Rattle.work_laws.specs.Kept.{EndsIn}

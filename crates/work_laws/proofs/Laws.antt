@@ -8,7 +8,7 @@ use lib.ListN.{length, get_or, length-set}
 use lib.Ieee.{Float}
 use Rattle.layout.specs.Layout.{reals_per_vertex}
 use Rattle.float64.specs.Scalar.{zero64}
-use Rattle.better.specs.Claim.{All}
+use Rattle.last_pass.specs.of_better.Claim.{All}
 use Rattle.heap.specs.declared.Popped.{Popped}
 use Rattle.heap.specs.declared.Popped.TheVariants.{Empty, First}
 use Rattle.heap.specs.Queue.{Queue, popping}
@@ -17,33 +17,33 @@ use Rattle.job_checks.specs.Job.{Job, vertex_count}
 use Rattle.job_checks.specs.Sound.{ValidTriangles}
 use Rattle.topology.specs.Edges.{edges}
 use Rattle.topology.specs.Frames.{len}
-use Rattle.mesh_laws.specs.Bounds.{EdgeLength}
-use Rattle.trim_model.specs.Model.{Candidate}
-use Rattle.trim_state.specs.State as state
-use Rattle.trim_state.specs.State.{State, Result, add_of}
-use Rattle.trim_state.specs.Follows.{Follows}
-use Rattle.trim_state.proofs.Follows.{follows_empty, follows_unqueue}
-use Rattle.trim_state.proofs.Made.{follows_step}
-use Rattle.cut_lists.specs.Buffers.{Cuts}
-use Rattle.pop.specs.State.{live_claimed, after_pop}
-use Rattle.pop.proofs.Answers.{live_claimed_lem}
-use Rattle.offers.specs.Walks.{edge_data}
-use Rattle.face_entries.specs.Buffers.{entry_capacity}
-use Rattle.source_inserts.specs.Inserts.{candidates_in}
-use Rattle.insertion.specs.Insertion.{Inserted, entries_in}
-use Rattle.spread_offers.specs.Spreading.{SpreadOf}
-use Rattle.spread_offers.specs.declared.Spread.{Spread}
-use Rattle.spread_offers.specs.declared.Spread.TheVariants.{Window, Vertex}
-use Rattle.windows_there.specs.There.{GoesInto}
-use Rattle.windows_there.proofs.Sides.{into_ends}
-use Rattle.windows_there.proofs.Kept.{there_none, there_stock, there_add, there_pop}
-use Rattle.windows_there.proofs.Events.{events_none, events_add, events_pop}
-use Rattle.field_step.specs.Step.{marked_vertex, marked, idle_of}
+use Rattle.inside_edges.specs.of_mesh_laws.Bounds.{EdgeLength}
+use Rattle.last_pass.specs.of_trim_model.Model.{Candidate}
+use Rattle.last_pass.specs.of_trim_state.State as state
+use Rattle.last_pass.specs.of_trim_state.State.{State, Result, add_of}
+use Rattle.last_pass.specs.of_trim_state.Follows.{Follows}
+use Rattle.last_pass.proofs.laws_of_trim_state.Follows.{follows_empty, follows_unqueue}
+use Rattle.last_pass.proofs.laws_of_trim_state.Made.{follows_step}
+use Rattle.inside_edges.specs.of_cut_lists.Buffers.{Cuts}
+use Rattle.last_pass.specs.of_pop.State.{live_claimed, after_pop}
+use Rattle.last_pass.proofs.laws_of_pop.Answers.{live_claimed_lem}
+use Rattle.inside_edges.specs.of_offers.Walks.{edge_data}
+use Rattle.inside_edges.specs.of_face_entries.Buffers.{entry_capacity}
+use Rattle.field_work.specs.of_source_inserts.Inserts.{candidates_in}
+use Rattle.field_work.specs.of_insertion.Insertion.{Inserted, entries_in}
+use Rattle.field_work.specs.of_spread_offers.Spreading.{SpreadOf}
+use Rattle.field_work.specs.of_spread_offers.declared.Spread.{Spread}
+use Rattle.field_work.specs.of_spread_offers.declared.Spread.TheVariants.{Window, Vertex}
+use Rattle.field_work.specs.of_windows_there.There.{GoesInto}
+use Rattle.field_work.proofs.laws_of_windows_there.Sides.{into_ends}
+use Rattle.field_work.proofs.laws_of_windows_there.Kept.{there_none, there_stock, there_add, there_pop}
+use Rattle.field_work.proofs.laws_of_windows_there.Events.{events_none, events_add, events_pop}
+use Rattle.field_work.specs.of_field_step.Step.{marked_vertex, marked, idle_of}
 use Rattle.last_pass.proofs.Recorded.{recorded_none, recorded_stock, recorded_add, recorded_pop}
 use Rattle.actions.specs.Actions.{stock}
-use Rattle.begin.specs.Begin.{WorkSlices, unreached, vertex_reals}
-use Rattle.insert_job.specs.Field.{begun_job, empty_field, inserts_of}
-use Rattle.run_steps.specs.Run.{field}
+use Rattle.field_work.specs.of_begin.Begin.{WorkSlices, unreached, vertex_reals}
+use Rattle.field_work.specs.of_insert_job.Field.{begun_job, empty_field, inserts_of}
+use Rattle.field_work.specs.of_run_steps.Run.{field}
 use Rattle.field_work.specs.Work.{work_of, work_candidates}
 use Rattle.work_laws.specs.Kept.{EndsIn, SoundCandidate, WorkKeeps}
 use Rattle.work_laws.specs.Laws.{StateLaws}

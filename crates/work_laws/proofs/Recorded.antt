@@ -13,9 +13,9 @@ use lib.Ieee.{Float, lt, le}
 use Rattle.float64.specs.Scalar.{zero64}
 use Rattle.float64.specs.Notation.{◌⊖◌, ◌⊗◌}
 use Rattle.source.specs.Distance.{lowest_of, eval_of}
-use Rattle.better.specs.Claim.{All, Pairs}
-use Rattle.better.specs.Points.{pts_of, walk_of}
-use Rattle.better.specs.Stretches.{Interval, better_of}
+use Rattle.last_pass.specs.of_better.Claim.{All, Pairs}
+use Rattle.last_pass.specs.of_better.Points.{pts_of, walk_of}
+use Rattle.last_pass.specs.of_better.Stretches.{Interval, better_of}
 use Rattle.heap.specs.declared.Event.{Event}
 use Rattle.heap.specs.declared.Item.TheVariants.{Vertex as Item-as-Vertex}
 use Rattle.heap.specs.declared.Pushed.TheVariants.{Full, Queued}
@@ -25,13 +25,13 @@ use Rattle.windows.specs.declared.Edge.{Edge}
 use Rattle.windows.specs.declared.WindowRecord.{WindowRecord}
 use Rattle.windows.specs.Windows.{trimmed, trimmed_win, dead, adjust}
 use Rattle.actions.specs.Actions.{Action, list, make, trim, kill, push, touch, wins_with, wins_after, Stock, stock, Outcome, stopped, went, distance_of, with_distance, queueing, and_then, act, play}
-use Rattle.trim_model.specs.Intervals.{width, tiny_of, push_if, next, pieces, wide_of}
-use Rattle.trim_model.specs.Windows.{Window, part, fresh, split, sorted}
-use Rattle.trim_model.specs.Add.{Walk, before, run, behind, shared_lo, shared_hi, start, untouched, meet, visit, visits, add_to}
-use Rattle.trim_model.proofs.Ranks.{by_cases}
-use Rattle.trim_model.proofs.Lists.{all_map, all_map2, all_append, all_left, all_right}
-use Rattle.trim_model.proofs.Windows.{parted, sorted_all}
-use Rattle.trim_state.specs.Trace.{window_event, win_of, record_of, making, makings, splitting, losing, visiting, visitings, near, touching, keeping, adding}
+use Rattle.last_pass.specs.of_trim_model.Intervals.{width, tiny_of, push_if, next, pieces, wide_of}
+use Rattle.last_pass.specs.of_trim_model.Windows.{Window, part, fresh, split, sorted}
+use Rattle.last_pass.specs.of_trim_model.Add.{Walk, before, run, behind, shared_lo, shared_hi, start, untouched, meet, visit, visits, add_to}
+use Rattle.last_pass.proofs.laws_of_trim_model.Ranks.{by_cases}
+use Rattle.last_pass.proofs.laws_of_trim_model.Lists.{all_map, all_map2, all_append, all_left, all_right}
+use Rattle.last_pass.proofs.laws_of_trim_model.Windows.{parted, sorted_all}
+use Rattle.last_pass.specs.of_trim_state.Trace.{window_event, win_of, record_of, making, makings, splitting, losing, visiting, visitings, near, touching, keeping, adding}
 use Rattle.work_laws.specs.Account.{names_item, names, waiting, OnRecord}
 
 -- ---- events

@@ -8,7 +8,7 @@ use borrow.Author.Tests.{ltb-true, leb-true}
 use lib.Dec.{eqb, leb, ltb}
 use lib.ListN.{length, get_or, length-set}
 use lib.Ieee.{Float, lt, le}
-use Rattle.better.specs.Stretches.{better_of}
+use Rattle.last_pass.specs.of_better.Stretches.{better_of}
 use Rattle.heap.specs.declared.Item.TheVariants.{Vertex as Item-as-Vertex}
 use Rattle.heap.specs.declared.Pushed.TheVariants.{Full, Queued}
 use Rattle.heap.specs.declared.Event.{Event}
@@ -18,15 +18,15 @@ use Rattle.heap.specs.Queue.{Queue, at, slots, pushed, popped, pushing, popping}
 use Rattle.heap.proofs.SameAnswers.{push_slots, pop_slots}
 use Rattle.windows.specs.declared.WindowRecord.{WindowRecord}
 use Rattle.actions.specs.Actions.{Action, list, make, trim, kill, push, touch, wins_after, Stock, stock, Outcome, stopped, went, distance_of, with_distance, queueing, and_then, act, play}
-use Rattle.trim_model.specs.Intervals.{tiny_of}
-use Rattle.trim_model.specs.Windows.{Window}
-use Rattle.trim_model.specs.Add.{add_to}
-use Rattle.trim_model.specs.Model.{Candidate, as_window, admits}
-use Rattle.trim_model.proofs.Ranks.{by_cases}
-use Rattle.trim_state.specs.Trace.{adding}
-use Rattle.trim_state.specs.State as state
-use Rattle.trim_state.specs.State.{State, EdgeData, edge_in, put, finish, admit_of, add_of}
-use Rattle.pop.specs.State.{after_pop}
+use Rattle.last_pass.specs.of_trim_model.Intervals.{tiny_of}
+use Rattle.last_pass.specs.of_trim_model.Windows.{Window}
+use Rattle.last_pass.specs.of_trim_model.Add.{add_to}
+use Rattle.last_pass.specs.of_trim_model.Model.{Candidate, as_window, admits}
+use Rattle.last_pass.proofs.laws_of_trim_model.Ranks.{by_cases}
+use Rattle.last_pass.specs.of_trim_state.Trace.{adding}
+use Rattle.last_pass.specs.of_trim_state.State as state
+use Rattle.last_pass.specs.of_trim_state.State.{State, EdgeData, edge_in, put, finish, admit_of, add_of}
+use Rattle.last_pass.specs.of_pop.State.{after_pop}
 use Rattle.work_laws.specs.Kept.{EndsIn}
 
 module _ (cuts windows : ℕ) (limit : Float) (flags : List ℕ) (reals : ℕ) where

@@ -8,7 +8,7 @@ use mathlib.Core.Path.{◌≡◌, refl}
 use lib.Dec.{eqb, leb, ltb}
 use lib.ListN.{length, get_or}
 use lib.Ieee.{Float, lt, le}
-use Rattle.better.specs.Stretches.{better_of}
+use Rattle.last_pass.specs.of_better.Stretches.{better_of}
 use Rattle.heap.specs.declared.Event.{Event}
 use Rattle.heap.specs.declared.Item.TheVariants.{Vertex as Item-as-Vertex}
 use Rattle.heap.specs.declared.Popped.{Popped}
@@ -21,32 +21,32 @@ use Rattle.windows.specs.Windows.{capacity_of}
 use Rattle.actions.specs.Actions as actions
 use Rattle.actions.specs.Actions.{Action, list, make, trim, kill, push, touch, wins_after, Stock, stock, Outcome, distance_of, with_distance, queueing, and_then, act, play}
 use Rattle.job_checks.specs.Job.{Job}
-use Rattle.trim_model.specs.Intervals.{tiny_of}
-use Rattle.trim_model.specs.Windows.{Window}
-use Rattle.trim_model.specs.Add.{add_to}
-use Rattle.trim_model.specs.Model.{Candidate, as_window, admits}
-use Rattle.trim_model.proofs.Ranks.{by_cases}
-use Rattle.trim_state.specs.Trace.{adding}
-use Rattle.trim_state.specs.State as state
-use Rattle.trim_state.specs.State.{State, Result, EdgeData, edge_in, put, finish, admit_of, add_of}
-use Rattle.cut_lists.specs.Buffers.{Cuts}
-use Rattle.offers.specs.Offers.{and_next, add_all, offer_list}
-use Rattle.offers.specs.Walks.{edge_data}
-use Rattle.face_entries.specs.Entries.{FaceEntry}
-use Rattle.face_entries.specs.Buffers.{entry_capacity}
-use Rattle.source_inserts.specs.declared.Insert.{Insert}
-use Rattle.source_inserts.specs.declared.Insert.TheVariants.{Entry, Offer}
-use Rattle.insertion.specs.Insertion.{Inserted, InsertResult, stopped, went, and_insert, with_entries, insert_one, insert_each}
-use Rattle.spread_offers.specs.Spreading.{spread_candidates}
-use Rattle.field_step.specs.declared.Turn.{Turn}
-use Rattle.field_step.specs.declared.Turn.TheVariants.{Skip, Pass}
-use Rattle.field_step.specs.Step.{turn_of, marked, after_turn, step_with, step_of, idle_of}
-use Rattle.pop.specs.State.{after_pop}
-use Rattle.advance.specs.Advance.{of_state, advance_of, steps_of}
-use Rattle.begin.specs.Begin.{WorkSlices}
-use Rattle.insert_job.specs.Field.{begun_job, empty_field, inserts_of, inserted_field}
-use Rattle.insert_job.specs.Job.{wedge_in}
-use Rattle.run_steps.specs.Run.{WorkResult, refused, field, budgeted, loop_of}
+use Rattle.last_pass.specs.of_trim_model.Intervals.{tiny_of}
+use Rattle.last_pass.specs.of_trim_model.Windows.{Window}
+use Rattle.last_pass.specs.of_trim_model.Add.{add_to}
+use Rattle.last_pass.specs.of_trim_model.Model.{Candidate, as_window, admits}
+use Rattle.last_pass.proofs.laws_of_trim_model.Ranks.{by_cases}
+use Rattle.last_pass.specs.of_trim_state.Trace.{adding}
+use Rattle.last_pass.specs.of_trim_state.State as state
+use Rattle.last_pass.specs.of_trim_state.State.{State, Result, EdgeData, edge_in, put, finish, admit_of, add_of}
+use Rattle.inside_edges.specs.of_cut_lists.Buffers.{Cuts}
+use Rattle.inside_edges.specs.of_offers.Offers.{and_next, add_all, offer_list}
+use Rattle.inside_edges.specs.of_offers.Walks.{edge_data}
+use Rattle.inside_edges.specs.of_face_entries.Entries.{FaceEntry}
+use Rattle.inside_edges.specs.of_face_entries.Buffers.{entry_capacity}
+use Rattle.field_work.specs.of_source_inserts.declared.Insert.{Insert}
+use Rattle.field_work.specs.of_source_inserts.declared.Insert.TheVariants.{Entry, Offer}
+use Rattle.field_work.specs.of_insertion.Insertion.{Inserted, InsertResult, stopped, went, and_insert, with_entries, insert_one, insert_each}
+use Rattle.field_work.specs.of_spread_offers.Spreading.{spread_candidates}
+use Rattle.field_work.specs.of_field_step.declared.Turn.{Turn}
+use Rattle.field_work.specs.of_field_step.declared.Turn.TheVariants.{Skip, Pass}
+use Rattle.field_work.specs.of_field_step.Step.{turn_of, marked, after_turn, step_with, step_of, idle_of}
+use Rattle.last_pass.specs.of_pop.State.{after_pop}
+use Rattle.field_work.specs.of_advance.Advance.{of_state, advance_of, steps_of}
+use Rattle.field_work.specs.of_begin.Begin.{WorkSlices}
+use Rattle.field_work.specs.of_insert_job.Field.{begun_job, empty_field, inserts_of, inserted_field}
+use Rattle.field_work.specs.of_insert_job.Job.{wedge_in}
+use Rattle.field_work.specs.of_run_steps.Run.{WorkResult, refused, field, budgeted, loop_of}
 use Rattle.field_work.specs.Work.{and_loop, work_of}
 
 -- a number of a lack: 12, 13, 14 or 17

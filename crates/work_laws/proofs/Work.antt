@@ -10,7 +10,7 @@ use lib.ListN.{length, length-append}
 use lib.Ieee.{Float}
 use Rattle.buffers.specs.Lack.{lack_number}
 use Rattle.buffers.specs.declared.Lack.TheVariants.{Entries}
-use Rattle.better.specs.Claim.{All}
+use Rattle.last_pass.specs.of_better.Claim.{All}
 use Rattle.heap.specs.declared.Popped.TheVariants.{Empty, First}
 use Rattle.heap.specs.declared.Popped.{Popped}
 use Rattle.heap.specs.Queue.{Queue, popping}
@@ -18,40 +18,40 @@ use Rattle.job_checks.specs.Job.{Job}
 use Rattle.job_checks.specs.Sound.{ValidTriangles}
 use Rattle.topology.specs.Edges.{edges}
 use Rattle.topology.specs.Frames.{len}
-use Rattle.mesh_laws.specs.Bounds.{EdgeLength}
+use Rattle.inside_edges.specs.of_mesh_laws.Bounds.{EdgeLength}
 use Rattle.windows.specs.Windows.{capacity_of}
-use Rattle.trim_model.specs.Model.{Candidate}
-use Rattle.trim_model.specs.Claim.{AdmittedProper}
-use Rattle.trim_model.proofs.Lists.{all_left, all_right}
-use Rattle.trim_state.specs.State as state
-use Rattle.trim_state.specs.State.{State, Result, add_of}
-use Rattle.cut_lists.specs.Buffers.{Cuts}
-use Rattle.pop.specs.State.{after_pop}
-use Rattle.offers.specs.Offers.{and_next, add_all, offer_list}
-use Rattle.offers.specs.Walks.{edge_data}
-use Rattle.face_entries.specs.Entries.{FaceEntry}
-use Rattle.face_entries.specs.Buffers.{entry_capacity}
-use Rattle.source_inserts.specs.declared.Insert.{Insert}
-use Rattle.source_inserts.specs.declared.Insert.TheVariants.{Entry, Offer}
-use Rattle.source_inserts.specs.Inserts.{candidates_at, candidates_in}
-use Rattle.insertion.specs.Insertion.{Inserted, InsertResult, stopped, went, and_insert, with_entries, entries_in, insert_one, insert_each}
-use Rattle.spread_offers.specs.declared.Spread.{Spread}
-use Rattle.spread_offers.specs.Spreading.{spread_candidates, SpreadOf}
-use Rattle.spread_offers.proofs.Proper.{spread_proper}
+use Rattle.last_pass.specs.of_trim_model.Model.{Candidate}
+use Rattle.last_pass.specs.of_trim_model.Claim.{AdmittedProper}
+use Rattle.last_pass.proofs.laws_of_trim_model.Lists.{all_left, all_right}
+use Rattle.last_pass.specs.of_trim_state.State as state
+use Rattle.last_pass.specs.of_trim_state.State.{State, Result, add_of}
+use Rattle.inside_edges.specs.of_cut_lists.Buffers.{Cuts}
+use Rattle.last_pass.specs.of_pop.State.{after_pop}
+use Rattle.inside_edges.specs.of_offers.Offers.{and_next, add_all, offer_list}
+use Rattle.inside_edges.specs.of_offers.Walks.{edge_data}
+use Rattle.inside_edges.specs.of_face_entries.Entries.{FaceEntry}
+use Rattle.inside_edges.specs.of_face_entries.Buffers.{entry_capacity}
+use Rattle.field_work.specs.of_source_inserts.declared.Insert.{Insert}
+use Rattle.field_work.specs.of_source_inserts.declared.Insert.TheVariants.{Entry, Offer}
+use Rattle.field_work.specs.of_source_inserts.Inserts.{candidates_at, candidates_in}
+use Rattle.field_work.specs.of_insertion.Insertion.{Inserted, InsertResult, stopped, went, and_insert, with_entries, entries_in, insert_one, insert_each}
+use Rattle.field_work.specs.of_spread_offers.declared.Spread.{Spread}
+use Rattle.field_work.specs.of_spread_offers.Spreading.{spread_candidates, SpreadOf}
+use Rattle.inside_edges.proofs.laws_of_spread_offers.Proper.{spread_proper}
 use Rattle.inside_edges.specs.Inside.{AdmittedInside}
 use Rattle.inside_edges.proofs.Spread.{spread_inside}
-use Rattle.windows_there.specs.There.{GoesInto, CandidateThere}
-use Rattle.windows_there.proofs.Passed.{spread_into}
-use Rattle.windows_there.proofs.Events.{popped_there}
-use Rattle.field_step.specs.declared.Turn.{Turn}
-use Rattle.field_step.specs.declared.Turn.TheVariants.{Skip, Pass}
-use Rattle.field_step.specs.Step.{turn_of, marked, after_turn, step_with, step_of, idle_of, turn_candidates, candidates_with, step_candidates}
-use Rattle.field_step.proofs.Turns.{turn_there}
-use Rattle.advance.specs.Advance.{of_state, advance_of, steps_of, advance_candidates}
-use Rattle.begin.specs.Begin.{WorkSlices}
-use Rattle.insert_job.specs.Field.{begun_job, empty_field, inserts_of, inserted_field}
-use Rattle.insert_job.specs.Job.{wedge_in}
-use Rattle.run_steps.specs.Run.{WorkResult, refused, field, budgeted, loop_of}
+use Rattle.field_work.specs.of_windows_there.There.{GoesInto, CandidateThere}
+use Rattle.field_work.proofs.laws_of_windows_there.Passed.{spread_into}
+use Rattle.field_work.proofs.laws_of_windows_there.Events.{popped_there}
+use Rattle.field_work.specs.of_field_step.declared.Turn.{Turn}
+use Rattle.field_work.specs.of_field_step.declared.Turn.TheVariants.{Skip, Pass}
+use Rattle.field_work.specs.of_field_step.Step.{turn_of, marked, after_turn, step_with, step_of, idle_of, turn_candidates, candidates_with, step_candidates}
+use Rattle.field_work.proofs.laws_of_field_step.Turns.{turn_there}
+use Rattle.field_work.specs.of_advance.Advance.{of_state, advance_of, steps_of, advance_candidates}
+use Rattle.field_work.specs.of_begin.Begin.{WorkSlices}
+use Rattle.field_work.specs.of_insert_job.Field.{begun_job, empty_field, inserts_of, inserted_field}
+use Rattle.field_work.specs.of_insert_job.Job.{wedge_in}
+use Rattle.field_work.specs.of_run_steps.Run.{WorkResult, refused, field, budgeted, loop_of}
 use Rattle.field_work.specs.Work.{and_loop, then_offered, work_of, work_candidates}
 use Rattle.work_laws.specs.Kept.{EndsIn, SoundCandidate, WorkKeeps}
 

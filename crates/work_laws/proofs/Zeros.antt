@@ -7,7 +7,7 @@ use lib.ListN.{length, get_or, drop, replicate}
 use lib.Ieee.{Float}
 use Rattle.float64.specs.Scalar.{zero64}
 use Rattle.buffers.proofs.Strides.{fill_outside}
-use Rattle.frames.specs.Stored.{with_rows}
+use Rattle.last_pass.specs.of_frames.Stored.{with_rows}
 
 pub zeros_at : {A : Type 0} (z : A) (k p : ℕ) → get_or (replicate k z) p z ≡ z
 zeros_at z zero p = refl

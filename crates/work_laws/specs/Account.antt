@@ -1,16 +1,16 @@
 -- The live windows of every edge in the list of all windows made, and their events in the queue. Definitions only.
 use Rattle.std.specs.Prelude.{ℕ, ◌≤◌, ◌<◌, true, cond, List, ◌≡◌, eqb, length, get_or}
-use Rattle.better.specs.Claim.{All}
+use Rattle.last_pass.specs.of_better.Claim.{All}
 use Rattle.heap.specs.declared.Event.{Event}
 use Rattle.heap.specs.declared.Item.{Item}
 use Rattle.heap.specs.declared.Item.TheVariants.{Window as Item-as-Window, Vertex as Item-as-Vertex}
 use Rattle.heap.specs.Model.{weight_of}
 use Rattle.windows.specs.declared.WindowRecord.{WindowRecord}
 use Rattle.actions.specs.Actions.{Stock}
-use Rattle.trim_model.specs.Windows.{Window}
-use Rattle.trim_state.specs.Trace.{record_of}
-use Rattle.trim_state.specs.State.{State}
-use Rattle.live_windows.specs.Live.{nums, Among}
+use Rattle.last_pass.specs.of_trim_model.Windows.{Window}
+use Rattle.last_pass.specs.of_trim_state.Trace.{record_of}
+use Rattle.last_pass.specs.of_trim_state.State.{State}
+use Rattle.last_pass.specs.of_live_windows.Live.{nums, Among}
 
 -- 1 for an event of window i
 unfoldable pub names_item : ℕ → Item → ℕ

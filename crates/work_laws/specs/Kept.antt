@@ -3,16 +3,16 @@
 use Rattle.std.specs.Prelude.{ℕ, List, [], ◌∷◌, ◌++◌, Float}
 use Rattle.heap.specs.Queue.{popping}
 use Rattle.topology.specs.Frames.{len}
-use Rattle.trim_model.specs.Model.{Candidate}
-use Rattle.trim_model.specs.Claim.{AdmittedProper}
-use Rattle.trim_state.specs.State.{State, Result, stopped, went, add_of}
-use Rattle.pop.specs.State.{after_pop}
-use Rattle.offers.specs.Walks.{edge_data}
-use Rattle.spread_offers.specs.declared.Spread.{Spread}
-use Rattle.spread_offers.specs.Spreading.{SpreadOf}
-use Rattle.windows_there.specs.There.{GoesInto, CandidateThere, WindowsThere, EventsThere}
+use Rattle.last_pass.specs.of_trim_model.Model.{Candidate}
+use Rattle.last_pass.specs.of_trim_model.Claim.{AdmittedProper}
+use Rattle.last_pass.specs.of_trim_state.State.{State, Result, stopped, went, add_of}
+use Rattle.last_pass.specs.of_pop.State.{after_pop}
+use Rattle.inside_edges.specs.of_offers.Walks.{edge_data}
+use Rattle.field_work.specs.of_spread_offers.declared.Spread.{Spread}
+use Rattle.field_work.specs.of_spread_offers.Spreading.{SpreadOf}
+use Rattle.field_work.specs.of_windows_there.There.{GoesInto, CandidateThere, WindowsThere, EventsThere}
 use Rattle.inside_edges.specs.Inside.{AdmittedInside}
-use Rattle.field_step.specs.Step.{marked}
+use Rattle.field_work.specs.of_field_step.Step.{marked}
 
 -- what holds of the state, if there is one
 abbrev pub EndsIn : (State → Type 0) → Result → Type 0

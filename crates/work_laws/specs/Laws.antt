@@ -2,14 +2,14 @@
 use Rattle.std.specs.Prelude.{ℕ, ◌*◌, ◌≤◌, List, ◌≡◌, length, get_or, Float}
 use Rattle.layout.specs.Layout.{reals_per_vertex}
 use Rattle.float64.specs.Scalar.{zero64}
-use Rattle.better.specs.Claim.{All}
+use Rattle.last_pass.specs.of_better.Claim.{All}
 use Rattle.heap.specs.Queue.{slots}
 use Rattle.topology.specs.Frames.{len}
-use Rattle.trim_model.specs.Model.{Candidate}
-use Rattle.trim_state.specs.State.{State}
-use Rattle.trim_state.specs.Follows.{Follows}
+use Rattle.last_pass.specs.of_trim_model.Model.{Candidate}
+use Rattle.last_pass.specs.of_trim_state.State.{State}
+use Rattle.last_pass.specs.of_trim_state.Follows.{Follows}
 use Rattle.inside_edges.specs.Inside.{OnLength}
-use Rattle.windows_there.specs.There.{GoesInto, WindowsThere, EventsThere}
+use Rattle.field_work.specs.of_windows_there.There.{GoesInto, WindowsThere, EventsThere}
 use Rattle.last_pass.specs.Finished.{Recorded}
 use Rattle.work_laws.specs.Account.{Accounted}
 

@@ -2,15 +2,16 @@
 ghost use Rattle.std.specs.Prelude.{◌≡◌, ◌*◌, ◌/◌, ◌≤◌, length};
 ghost use Rattle.layout.specs.Layout.{words_per_piece};
 ghost use Rattle.buffers.specs.Lent.{given, left};
-ghost use Rattle.cut_lists.specs.Buffers.{cut_buffers, cuts_before};
-ghost use Rattle.trim.specs.Buffers.{after};
+ghost use Rattle.cut_slots.specs.of_cut_lists.Buffers.{cut_buffers, cuts_before};
+ghost use Rattle.field_work.specs.of_trim.Buffers.{after};
 ghost use Rattle.cut_slots.specs.Slots.{cut_count, cut_to};
-ghost use Rattle.mesh.specs.Topology.{mesh_buffers};
-ghost use Rattle.insertion.specs.Snapshots.{entries_after};
-ghost use Rattle.begin.specs.Begin.{work_before};
+ghost use Rattle.field_work.specs.of_mesh.Topology.{mesh_buffers};
+ghost use Rattle.field_work.specs.of_insertion.Snapshots.{entries_after};
+ghost use Rattle.field_work.specs.of_begin.Begin.{work_before};
 ghost use Rattle.field_work.specs.Contract.{WorksTo};
 
-use run_steps::FieldWork;
+pub use cut_slots as of_cut_slots;
+use field_work::of_run_steps::FieldWork;
 
 // The work over the first x slots of the cut buffers.
 pub fn work_parts(

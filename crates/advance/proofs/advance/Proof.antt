@@ -2,9 +2,9 @@
 use Prim.Native.Nat.{◌-◌}
 use native.Mathlib.Omega.{arith}
 use mathlib.Core.Path.{◌∙◌}
-use Rattle.cut_lists.specs.Buffers.{cut_buffers}
-use Rattle.trim.specs.Buffers.{slices}
-use Rattle.offers.proofs.Walks.{sizes_same}
+use Rattle.insertion.specs.of_cut_lists.Buffers.{cut_buffers}
+use Rattle.insertion.specs.of_trim.Buffers.{slices}
+use Rattle.insertion.proofs.laws_of_offers.Walks.{sizes_same}
 use Rattle.advance.proofs.Loop.{LoopInv, loop_start, loop_fits, loop_next, loop_stopped, loop_idle, loop_over}
 use borrow.Author.Rules.{rules}
 use Rattle.advance.proofs.advance.Statement.{statement}

@@ -1,9 +1,9 @@
 -- `compute::compute` meets its contract. Assumes nothing.
 use mathlib.Core.Path.{refl, ◌∙◌}
-use Rattle.mesh.specs.Topology.{mesh_buffers}
-use Rattle.cut_lists.specs.Buffers.{cut_buffers}
-use Rattle.begin.specs.Begin.{work_slices}
-use Rattle.compute_spec.specs.Compute.{field_buffers}
+use Rattle.field_model.specs.of_mesh.Topology.{mesh_buffers}
+use Rattle.field_model.specs.of_cut_lists.Buffers.{cut_buffers}
+use Rattle.make_field.specs.of_begin.Begin.{work_slices}
+use Rattle.field_model.specs.of_compute_spec.Compute.{field_buffers}
 use Rattle.compute.proofs.Computing.{zeroed_is, work_fits, computes}
 use borrow.Author.Rules.{rules}
 use Rattle.compute.proofs.compute.Statement.{statement}

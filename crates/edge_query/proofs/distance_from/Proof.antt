@@ -3,7 +3,7 @@ use native.Mathlib.Omega.{arith}
 use Rattle.actions.specs.Actions.{distance_of}
 use Rattle.chains.specs.Chains.{links}
 use Rattle.last_pass.specs.Buffers.{chain_behind}
-use Rattle.face_distance.specs.Entries.{through_ends}
+use Rattle.last_pass.specs.of_face_distance.Entries.{through_ends}
 use Rattle.edge_query.specs.Resume.{from_head}
 use Rattle.edge_query.proofs.Forward.{forward_is}
 use Rattle.edge_query.proofs.Resume.{for_all}

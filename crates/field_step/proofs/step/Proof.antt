@@ -3,8 +3,8 @@ use Prim.Native.Nat.{ℕ, ◌≤◌}
 use mathlib.Core.Path.{sym, subst, ◌∙◌}
 use lib.ListN.{length}
 use Rattle.windows.specs.Windows.{capacity_of}
-use Rattle.cut_lists.specs.Buffers.{cut_buffers}
-use Rattle.trim.specs.Buffers.{slices}
+use Rattle.spread.specs.of_cut_lists.Buffers.{cut_buffers}
+use Rattle.spread.specs.of_trim.Buffers.{slices}
 use Rattle.field_step.specs.declared.Stepped.{Stepped}
 use Rattle.field_step.specs.Contract.{StepsOnce}
 use Rattle.field_step.proofs.Stepping.{pending_slot, step_idle, step_skip, step_pass}

@@ -1,11 +1,11 @@
 -- `field_work::work` meets its contract. Assumes nothing.
 use mathlib.Core.Path.{◌∙◌}
 use lib.ListN.{length}
-use Rattle.cut_lists.specs.Buffers.{cut_buffers}
-use Rattle.trim.specs.Buffers.{slices}
-use Rattle.mesh.specs.Topology.{mesh_buffers}
-use Rattle.face_entries.specs.Buffers.{entry_buffers}
-use Rattle.begin.specs.Begin.{work_slices}
+use Rattle.run_steps.specs.of_cut_lists.Buffers.{cut_buffers}
+use Rattle.run_steps.specs.of_trim.Buffers.{slices}
+use Rattle.run_steps.specs.of_mesh.Topology.{mesh_buffers}
+use Rattle.run_steps.specs.of_face_entries.Buffers.{entry_buffers}
+use Rattle.run_steps.specs.of_begin.Begin.{work_slices}
 use Rattle.field_work.proofs.Working.{sizes_kept, within_kept, works_to}
 use borrow.Author.Rules.{rules}
 use Rattle.field_work.proofs.work.Statement.{statement}

@@ -1,5 +1,5 @@
 use mathlib.Core.Path.{refl}
-use Rattle.cut_lists.specs.Buffers.{cut_buffers}
+use Rattle.offers.specs.of_cut_lists.Buffers.{cut_buffers}
 use borrow.Author.Rules.{rules}
 use Rattle.finish.proofs.finish.Statement.{statement}
 use Rattle.finish.proofs.finish.Tie as tie

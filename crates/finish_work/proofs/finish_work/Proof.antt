@@ -1,8 +1,8 @@
 -- `finish_work::finish_work` meets its contract. Assumes nothing.
 use lib.ListN.{length}
 use Rattle.windows.specs.Windows.{capacity_of}
-use Rattle.cut_lists.specs.Buffers.{cut_buffers}
-use Rattle.trim.specs.Buffers.{slices}
+use Rattle.run_steps.specs.of_cut_lists.Buffers.{cut_buffers}
+use Rattle.finish.specs.of_trim.Buffers.{slices}
 use Rattle.finish_work.proofs.Ending.{end_refused, end_done, done_within}
 use borrow.Author.Rules.{rules}
 use Rattle.finish_work.proofs.finish_work.Statement.{statement}

@@ -2,7 +2,7 @@
 use Prim.Native.Nat.{◌*◌}
 use mathlib.Core.Path.{sym}
 use lib.Seq.{length-take-le}
-use Rattle.cut_lists.specs.Buffers.{cut_buffers}
+use Rattle.cut_slots.specs.of_cut_lists.Buffers.{cut_buffers}
 use Rattle.cut_slots.proofs.Parts.{pts_fit, out_fit, keep_fit, next_fit, parts_sizes}
 use borrow.Author.Rules.{rules}
 use Rattle.insert_c.proofs.insert_parts.Statement.{statement}

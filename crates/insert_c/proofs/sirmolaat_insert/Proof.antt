@@ -1,8 +1,8 @@
 -- `insert_c::sirmolaat_insert` meets its contract. Assumes nothing.
 use mathlib.Core.Path.{refl, ◌∙◌}
-use Rattle.cut_lists.specs.Buffers.{cut_buffers}
-use Rattle.mesh.specs.Topology.{mesh_buffers}
-use Rattle.begin.specs.Begin.{work_slices}
+use Rattle.cut_slots.specs.of_cut_lists.Buffers.{cut_buffers}
+use Rattle.insert_job.specs.of_mesh.Topology.{mesh_buffers}
+use Rattle.insert_job.specs.of_begin.Begin.{work_slices}
 use Rattle.insert_c.proofs.Answers.{parts_fit, says_refused, says_inserted}
 use borrow.Author.Rules.{rules}
 use Rattle.insert_c.proofs.sirmolaat_insert.Statement.{statement}

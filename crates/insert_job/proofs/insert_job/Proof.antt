@@ -1,10 +1,10 @@
 -- `insert_job::insert_job` meets its contract. Assumes nothing.
 use mathlib.Core.Path.{◌∙◌, sym}
 use native.Mathlib.Omega.{arith}
-use Rattle.cut_lists.specs.Buffers.{cut_buffers}
-use Rattle.trim.specs.Buffers.{slices}
-use Rattle.mesh.specs.Topology.{mesh_buffers}
-use Rattle.face_entries.specs.Buffers.{entry_buffers}
+use Rattle.insert_sources.specs.of_cut_lists.Buffers.{cut_buffers}
+use Rattle.insert_sources.specs.of_trim.Buffers.{slices}
+use Rattle.insert_sources.specs.of_mesh.Topology.{mesh_buffers}
+use Rattle.insert_sources.specs.of_face_entries.Buffers.{entry_buffers}
 use Rattle.begin.specs.Begin.{work_slices}
 use Rattle.insert_job.proofs.Answers.{says_wedge, says_answer}
 use borrow.Author.Rules.{rules}

@@ -1,7 +1,7 @@
 -- `insert_sources::insert_number` meets its contract. Assumes nothing.
-use Rattle.cut_lists.specs.Buffers.{cut_buffers}
-use Rattle.trim.specs.Buffers.{slices}
-use Rattle.face_entries.specs.Buffers.{entry_buffers}
+use Rattle.insertion.specs.of_cut_lists.Buffers.{cut_buffers}
+use Rattle.insertion.specs.of_trim.Buffers.{slices}
+use Rattle.insertion.specs.of_face_entries.Buffers.{entry_buffers}
 use Rattle.insertion.proofs.Calls.{inserts_read}
 use borrow.Author.Rules.{rules}
 use Rattle.insert_sources.proofs.insert_number.Statement.{statement}

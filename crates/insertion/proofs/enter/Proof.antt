@@ -1,5 +1,5 @@
 -- `insertion::enter` meets its contract. Assumes nothing.
-use Rattle.face_entries.specs.Buffers.{entry_buffers}
+use Rattle.source_inserts.specs.of_face_entries.Buffers.{entry_buffers}
 use Rattle.insertion.proofs.Calls.{enters_full, enters_count}
 use borrow.Author.Rules.{rules}
 use Rattle.insertion.proofs.enter.Statement.{statement}

@@ -1,7 +1,7 @@
 -- `insertion::insert` meets its contract. Assumes nothing.
-use Rattle.cut_lists.specs.Buffers.{cut_buffers}
-use Rattle.trim.specs.Buffers.{slices}
-use Rattle.face_entries.specs.Buffers.{entry_buffers}
+use Rattle.source_inserts.specs.of_cut_lists.Buffers.{cut_buffers}
+use Rattle.source_inserts.specs.of_trim.Buffers.{slices}
+use Rattle.source_inserts.specs.of_face_entries.Buffers.{entry_buffers}
 use Rattle.insertion.proofs.Calls.{insert_entered, insert_offered}
 use borrow.Author.Rules.{rules}
 use Rattle.insertion.proofs.insert.Statement.{statement}

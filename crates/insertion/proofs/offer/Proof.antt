@@ -1,6 +1,6 @@
 -- `insertion::offer` meets its contract. Assumes nothing.
-use Rattle.cut_lists.specs.Buffers.{cut_buffers}
-use Rattle.trim.specs.Buffers.{slices}
+use Rattle.source_inserts.specs.of_cut_lists.Buffers.{cut_buffers}
+use Rattle.source_inserts.specs.of_trim.Buffers.{slices}
 use Rattle.insertion.proofs.Calls.{offered_stopped, offered_went}
 use borrow.Author.Rules.{rules}
 use Rattle.insertion.proofs.offer.Statement.{statement}

@@ -1,11 +1,11 @@
 -- `make_field::make_field` meets its contract. Assumes nothing.
 use native.Mathlib.Omega.{arith}
 use mathlib.Core.Path.{◌∙◌}
-use Rattle.mesh.specs.Topology.{mesh_buffers}
-use Rattle.cut_lists.specs.Buffers.{cut_buffers}
-use Rattle.trim.specs.Buffers.{slices}
-use Rattle.face_entries.specs.Buffers.{entry_buffers}
-use Rattle.begin.specs.Begin.{work_slices}
+use Rattle.compute_spec.specs.of_mesh.Topology.{mesh_buffers}
+use Rattle.compute_spec.specs.of_cut_lists.Buffers.{cut_buffers}
+use Rattle.finish_work.specs.of_trim.Buffers.{slices}
+use Rattle.compute_spec.specs.of_face_entries.Buffers.{entry_buffers}
+use Rattle.compute_spec.specs.of_begin.Begin.{work_slices}
 use Rattle.make_field.proofs.Making.{makes_field, passes_field, within_left, edges_left}
 use borrow.Author.Rules.{rules}
 use Rattle.make_field.proofs.make_field.Statement.{statement}

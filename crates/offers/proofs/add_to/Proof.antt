@@ -1,5 +1,5 @@
 -- `offers::add_to` meets its contract. Assumes nothing.
-use Rattle.cut_lists.specs.Buffers.{cut_buffers}
+use Rattle.trim.specs.of_cut_lists.Buffers.{cut_buffers}
 use Rattle.trim.specs.Buffers.{slices}
 use Rattle.offers.proofs.Calls.{ready_read, adds_read}
 use borrow.Author.Rules.{rules}

@@ -1,6 +1,6 @@
 -- `offers::offer` meets its contract. Assumes nothing.
 use native.Mathlib.Omega.{arith}
-use Rattle.cut_lists.specs.Buffers.{cut_buffers}
+use Rattle.trim.specs.of_cut_lists.Buffers.{cut_buffers}
 use Rattle.trim.specs.Buffers.{slices}
 use Rattle.offers.proofs.Calls.{offer_nothing, offer_missing, offer_added}
 use borrow.Author.Rules.{rules}

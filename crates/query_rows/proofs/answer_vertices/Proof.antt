@@ -2,9 +2,9 @@ use Prim.Native.Nat.{ℕ, ◌-◌, ◌≤◌}
 use native.Mathlib.Omega.{arith}
 use mathlib.Core.Path.{◌≡◌, ap, ◌∙◌}
 use lib.ListN.{length, get_or}
-use Rattle.field_check.specs.FieldCheck.{field_slices}
-use Rattle.queries.specs.Answers.{vertex_answer_number, vertex_value}
-use Rattle.queries.specs.Queries.{vertex_answer}
+use Rattle.face_rows.specs.of_field_check.FieldCheck.{field_slices}
+use Rattle.face_rows.specs.of_queries.Answers.{vertex_answer_number, vertex_value}
+use Rattle.face_rows.specs.of_queries.Queries.{vertex_answer}
 use Rattle.query_rows.specs.Rows.{vertex_numbers, vertex_values}
 use Rattle.open_rows.specs.Written.{written_row}
 use Rattle.open_rows.proofs.Written.{one_slot, row_start, row_next, row_length, row_count}

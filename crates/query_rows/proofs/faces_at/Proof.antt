@@ -1,6 +1,6 @@
 use mathlib.Core.Path.{sym, ◌∙◌}
 use native.Mathlib.Omega.{arith}
-use Rattle.queries.proofs.Checked.{enough, taken, left}
+use Rattle.face_rows.proofs.laws_of_queries.Checked.{enough, taken, left}
 use Rattle.query_rows.specs.Rows.{short_for, face_row}
 use Rattle.query_rows.proofs.Elements.{both_long}
 use Rattle.open_rows.proofs.Written.{row_count}

@@ -1,6 +1,6 @@
 use mathlib.Core.Path.{sym}
 use borrow.Author.Tests.{lt-ltb, le-ltb}
-use Rattle.field_check.proofs.Tests.{holds, passes}
+use Rattle.face_rows.proofs.laws_of_field_check.Tests.{holds, passes}
 use Rattle.query_rows.specs.Rows.{short_for}
 use Rattle.query_rows.proofs.short_for.Statement.{statement}
 use Rattle.query_rows.proofs.short_for.Tie as tie

@@ -1,6 +1,6 @@
 use mathlib.Core.Path.{sym, ◌∙◌}
 use native.Mathlib.Omega.{arith}
-use Rattle.queries.proofs.Checked.{taken, left}
+use Rattle.face_rows.proofs.laws_of_queries.Checked.{taken, left}
 use Rattle.query_rows.specs.Rows.{short_for, vertex_row}
 use Rattle.open_rows.proofs.Written.{row_count}
 use Rattle.query_rows.proofs.Elements.{row_is}

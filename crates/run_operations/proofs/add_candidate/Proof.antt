@@ -1,6 +1,6 @@
 -- `run_operations::add_candidate` meets its contract. Assumes nothing.
 use Rattle.trim.specs.Buffers.{slices}
-use Rattle.cut_lists.specs.Buffers.{cut_buffers}
+use Rattle.trim.specs.of_cut_lists.Buffers.{cut_buffers}
 use Rattle.run_operations.proofs.Candidates.{candidate_refused, candidate_ready, candidate_sizes, candidate_stopped, candidate_went}
 use borrow.Author.Rules.{rules}
 use Rattle.run_operations.proofs.add_candidate.Statement.{statement}

@@ -4,7 +4,7 @@ use Rattle.trim_operations.specs.declared.Op.TheVariants.{Add, Pop, Touch, Unkno
 use Rattle.run_operations.specs.declared.Step.TheVariants.{Stopped, Went}
 use Rattle.run_operations.specs.Lists.{setting_of}
 use Rattle.trim.specs.Buffers.{slices}
-use Rattle.cut_lists.specs.Buffers.{cut_buffers}
+use Rattle.trim.specs.of_cut_lists.Buffers.{cut_buffers}
 use Rattle.run_operations.proofs.Steps.{of_op, op_unknown, op_pop, op_touch}
 use borrow.Author.Rules.{rules}
 use Rattle.run_operations.proofs.operate.Statement.{statement}

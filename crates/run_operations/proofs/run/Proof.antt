@@ -1,7 +1,7 @@
 -- `run_operations::run` meets its contract. Assumes nothing.
 use mathlib.Core.Path.{◌∙◌}
 use Rattle.trim.specs.Buffers.{slices}
-use Rattle.cut_lists.specs.Buffers.{cut_buffers}
+use Rattle.trim.specs.of_cut_lists.Buffers.{cut_buffers}
 use Rattle.run_operations.proofs.Whole.{edges_same, heads_zero, zeros_stay, whole_done, whole_ended}
 use borrow.Author.Rules.{rules}
 use Rattle.run_operations.proofs.run.Statement.{statement}

@@ -4,7 +4,7 @@ use Prim.Native.Nat.{◌+◌, ◌-◌}
 use mathlib.Core.Path.{◌∙◌}
 use native.Mathlib.Omega.{arith}
 use Rattle.trim.specs.Buffers.{slices}
-use Rattle.cut_lists.specs.Buffers.{cut_buffers}
+use Rattle.trim.specs.of_cut_lists.Buffers.{cut_buffers}
 use Rattle.run_operations.proofs.Loop.{Inv, inv_start, inv_ready, inv_stopped, inv_next, inv_done}
 use borrow.Author.Rules.{rules}
 use Rattle.run_operations.proofs.run_all.Statement.{statement}

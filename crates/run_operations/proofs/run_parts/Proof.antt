@@ -4,7 +4,7 @@ use mathlib.Core.Path.{sym}
 use lib.Seq.{length-take-le}
 use Rattle.run_operations.specs.Lists.{snapshot_in}
 use Rattle.trim.specs.Buffers.{slices}
-use Rattle.cut_lists.specs.Buffers.{cut_buffers}
+use Rattle.trim.specs.of_cut_lists.Buffers.{cut_buffers}
 use Rattle.cut_slots.proofs.Parts.{pts_fit, out_fit, keep_fit, next_fit}
 use Rattle.run_operations.proofs.Whole.{parts_ready, parts_run}
 use borrow.Author.Rules.{rules}

@@ -1,8 +1,8 @@
 -- `run_steps::run_steps` meets its contract. Assumes nothing.
 use Rattle.windows.specs.Windows.{capacity_of}
 use lib.ListN.{length}
-use Rattle.cut_lists.specs.Buffers.{cut_buffers}
-use Rattle.trim.specs.Buffers.{slices}
+use Rattle.advance.specs.of_cut_lists.Buffers.{cut_buffers}
+use Rattle.insert_job.specs.of_trim.Buffers.{slices}
 use Rattle.run_steps.proofs.Running.{run_wedge, run_lack, run_from_lem, counts_within}
 use borrow.Author.Rules.{rules}
 use Rattle.run_steps.proofs.run_steps.Statement.{statement}

@@ -1,9 +1,9 @@
 -- `slip_program::print_job` meets its contract. Assumes nothing.
 use Rattle.job_checks.specs.Job.{job}
-use Rattle.cut_lists.specs.Buffers.{cut_buffers}
-use Rattle.begin.specs.Begin.{work_slices}
-use Rattle.mesh.specs.Topology.{mesh_buffers}
-use Rattle.compute_spec.specs.Compute.{field_buffers}
+use Rattle.compute.specs.of_cut_lists.Buffers.{cut_buffers}
+use Rattle.compute.specs.of_begin.Begin.{work_slices}
+use Rattle.compute.specs.of_mesh.Topology.{mesh_buffers}
+use Rattle.compute.specs.of_compute_spec.Compute.{field_buffers}
 use Rattle.slip_program.proofs.Texts.{puts_same, job_printed}
 use borrow.Author.Rules.{rules}
 use Rattle.slip_program.proofs.print_job.Statement.{statement}

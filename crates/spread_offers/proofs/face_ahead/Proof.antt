@@ -1,5 +1,5 @@
 -- `spread_offers::face_ahead` meets its contract. Assumes nothing.
-use Rattle.mesh_readers.proofs.Steps.{coords_of_lem}
+use Rattle.source_offers.proofs.laws_of_mesh_readers.Steps.{coords_of_lem}
 use Rattle.spread_offers.proofs.Steps.{ahead_is}
 use borrow.Author.Rules.{rules}
 use Rattle.spread_offers.proofs.face_ahead.Statement.{statement}

@@ -2,9 +2,9 @@
 use mathlib.Core.Path.{refl}
 use lib.ListN.{length}
 use Rattle.buffers.specs.Lack.{lack_number}
-use Rattle.trim_split.specs.Running.{stopped, at}
-use Rattle.trim_split.proofs.Loops.{window_slices, windows_of, snapshot_of}
-use Rattle.cut_lists.specs.Buffers.{cut_buffers}
+use Rattle.trim_visit.specs.of_trim_split.Running.{stopped, at}
+use Rattle.trim_visit.proofs.laws_of_trim_split.Loops.{window_slices, windows_of, snapshot_of}
+use Rattle.trim_visit.specs.of_cut_lists.Buffers.{cut_buffers}
 use Rattle.trim.specs.Buffers.{slices as Buffers·slices}
 use Rattle.trim.proofs.Calls.{add_narrow, add_far, add_admitted, add_not_skipped, add_went, unchanged}
 use borrow.Author.Rules.{rules}

@@ -4,8 +4,8 @@ use native.Mathlib.Omega.{arith}
 use lib.ListN.{length}
 use Rattle.heap.specs.Queue.{queue}
 use Rattle.chains.specs.Chains.{links}
-use Rattle.trim_split.specs.Running.{made_end}
-use Rattle.trim_split.proofs.Loops.{window_slices}
+use Rattle.trim_visit.specs.of_trim_split.Running.{made_end}
+use Rattle.trim_visit.proofs.laws_of_trim_split.Loops.{window_slices}
 use Rattle.trim.proofs.Calls.{admit_full, admit_stopped, admit_seated, seat_ready, kept_fit, bounded_in}
 use borrow.Author.Rules.{rules}
 use Rattle.trim.proofs.admit.Statement.{statement}

@@ -1,6 +1,6 @@
 -- `trim::whole` meets its contract. Assumes nothing.
 use native.Mathlib.Omega.{arith}
-use Rattle.better.proofs.Pairs.{pairs_push}
+use Rattle.trim_visit.proofs.laws_of_better.Pairs.{pairs_push}
 use borrow.Author.Rules.{rules}
 use Rattle.trim.proofs.whole.Statement.{statement}
 use Rattle.trim.proofs.whole.Tie as tie

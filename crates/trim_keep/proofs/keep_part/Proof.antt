@@ -1,9 +1,9 @@
 -- `trim_keep::keep_part` meets its contract. Assumes nothing.
 use mathlib.Core.Path.{◌∙◌}
 use Rattle.buffers.specs.Lack.{lack_number}
-use Rattle.better.specs.Stretches.{interval}
+use Rattle.trim_split.specs.of_better.Stretches.{interval}
 use Rattle.heap.specs.Queue.{queue}
-use Rattle.live_windows.specs.Live.{live_of}
+use Rattle.trim_split.specs.of_live_windows.Live.{live_of}
 use Rattle.trim_split.proofs.Loops.{window_slices, snapshot_of, windows_of}
 use Rattle.trim_keep.proofs.Touching.{queue_full, queue_more}
 use Rattle.trim_keep.proofs.Seating.{seats_full, seats_stop, seats_turn}

@@ -5,8 +5,8 @@ use native.Mathlib.Omega.{arith}
 use lib.ListN.{drop, get_or}
 use lib.Ieee.{nan}
 use Rattle.buffers.specs.Lack.{lack_number}
-use Rattle.better.specs.Buffers.{pairs}
-use Rattle.cut_lists.proofs.Entries.{pairs_from, pairs_past}
+use Rattle.trim_split.specs.of_better.Buffers.{pairs}
+use Rattle.trim_split.proofs.laws_of_cut_lists.Entries.{pairs_from, pairs_past}
 use Rattle.trim_split.proofs.Loops.{window_slices, here_is}
 use Rattle.trim_keep.proofs.Loop.{KeepInv, keep_start, keep_ready, keep_over, keep_skip, keep_stopped, keep_next}
 use borrow.Author.Rules.{rules}

@@ -5,7 +5,7 @@ use native.Mathlib.Omega.{arith}
 use lib.ListN.{drop, get_or}
 use lib.Ieee.{nan}
 use Rattle.buffers.specs.Lack.{lack_number}
-use Rattle.better.specs.Buffers.{pairs}
+use Rattle.cut_lists.specs.of_better.Buffers.{pairs}
 use Rattle.cut_lists.proofs.Entries.{pairs_from, pairs_past}
 use Rattle.trim_split.proofs.Loops.{window_slices, PartsInv, parts_start, parts_ready, parts_stopped, parts_next, parts_over, parts_count, here_is}
 use borrow.Author.Rules.{rules}

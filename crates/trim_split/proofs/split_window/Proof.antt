@@ -6,8 +6,8 @@ use native.Mathlib.Numerals.{add-one}
 use lib.ListN.{length, drop, get_or}
 use lib.Ieee.{nan}
 use Rattle.source.specs.declared.Win.{Win}
-use Rattle.better.specs.Buffers.{pairs}
-use Rattle.better.proofs.Pairs.{pairs_length}
+use Rattle.cut_lists.specs.of_better.Buffers.{pairs}
+use Rattle.cut_lists.proofs.laws_of_better.Pairs.{pairs_length}
 use Rattle.chains.specs.Chains.{links}
 use Rattle.heap.specs.Queue.{queue}
 use Rattle.cut_lists.proofs.Entries.{pairs_from}

@@ -8,7 +8,7 @@ use lib.Ieee.{Float, nan}
 use Rattle.buffers.specs.Lack.{lack_number}
 use Rattle.trim_split.specs.Running.{stopped, at}
 use Rattle.trim_split.proofs.Loops.{window_slices, snapshot_of}
-use Rattle.cut_lists.specs.Buffers.{cut_buffers}
+use Rattle.trim_split.specs.of_cut_lists.Buffers.{cut_buffers}
 use Rattle.trim_visit.proofs.Meeting.{visit_passes, keeps_passes, visit_full, visit_none, keeps_none, pieces_fit, visit_split, keeps_split}
 use borrow.Author.Rules.{rules}
 use Rattle.trim_visit.proofs.visit.Statement.{statement}

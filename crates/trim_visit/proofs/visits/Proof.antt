@@ -3,10 +3,10 @@ use Prim.Native.Nat.{◌-◌}
 use mathlib.Core.Path.{refl, ◌∙◌}
 use native.Mathlib.Omega.{arith}
 use lib.Ieee.{nan}
-use Rattle.live_windows.specs.Live.{live_of}
+use Rattle.trim_split.specs.of_live_windows.Live.{live_of}
 use Rattle.trim_split.proofs.Loops.{window_slices}
 use Rattle.trim_visit.proofs.Loop.{VisitsInv, visits_start, visits_ready, visits_sizes, visits_few, visits_inside, visits_spent, visits_end, visits_over, visits_stopped, visits_next}
-use Rattle.cut_lists.specs.Buffers.{cut_buffers}
+use Rattle.trim_split.specs.of_cut_lists.Buffers.{cut_buffers}
 use borrow.Author.Rules.{rules}
 use Rattle.trim_visit.proofs.visits.Statement.{statement}
 use Rattle.trim_visit.proofs.visits.Tie as tie

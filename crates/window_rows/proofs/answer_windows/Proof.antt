@@ -2,10 +2,10 @@ use Prim.Native.Nat.{ℕ, ◌-◌, ◌≤◌}
 use native.Mathlib.Omega.{arith}
 use mathlib.Core.Path.{◌≡◌, ap, ◌∙◌}
 use lib.ListN.{length, get_or}
-use Rattle.field_check.specs.FieldCheck.{field_slices}
-use Rattle.queries.specs.declared.WindowAnswer.{WindowAnswer}
-use Rattle.queries.specs.Answers.{window_answer_number}
-use Rattle.queries.specs.Queries.{window_answer}
+use Rattle.query_rows.specs.of_field_check.FieldCheck.{field_slices}
+use Rattle.query_rows.specs.of_queries.declared.WindowAnswer.{WindowAnswer}
+use Rattle.query_rows.specs.of_queries.Answers.{window_answer_number}
+use Rattle.query_rows.specs.of_queries.Queries.{window_answer}
 use Rattle.open_rows.specs.Written.{written_row}
 use Rattle.open_rows.proofs.Written.{one_slot, row_start, row_next, row_length, row_count}
 use Rattle.window_rows.specs.WindowRows.{window_id, words_put, reals_put, stored_row, window_numbers, window_ids, window_words_of, window_reals_of}

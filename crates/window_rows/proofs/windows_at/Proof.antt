@@ -2,7 +2,7 @@ use mathlib.Core.Path.{sym, ◌∙◌}
 use native.Mathlib.Omega.{arith}
 use borrow.Author.Tests.{lt-ltb, le-ltb}
 use lib.Dec.{ltb}
-use Rattle.queries.proofs.Checked.{enough, taken, left}
+use Rattle.query_rows.proofs.laws_of_queries.Checked.{enough, taken, left}
 use Rattle.query_rows.specs.Rows.{short_for}
 use Rattle.open_rows.proofs.Written.{row_count}
 use Rattle.window_rows.specs.WindowRows.{window_row}
