@@ -1,13 +1,10 @@
 -- `source_vectors::differences` meets its contract. Assumes nothing.
 use mathlib.Core.Path.{◌≡◌, refl, sym, ap, ◌∙◌}
-use mathlib.Core.Logic.{⊎_elim}
-use Prim.Native.Nat.{◌+◌, ◌-◌, ◌*◌, ◌≤◌}
+use Prim.Native.Nat.{◌+◌, ◌*◌, ◌≤◌}
 use native.Mathlib.Nat.{le_trans}
 use native.Mathlib.Omega.{arith}
 use lib.ListN.{length, length-take, length-drop}
-use borrow.Author.Rules.{rules}
-use borrow.Author.Tests.{not-true, not-false}
-use Rattle.source_vectors.specs.Replay.{holds_for, record_at, leaf_records, leaf_differences}
+use Rattle.source_vectors.specs.Replay.{holds_for, record_at, leaf_records}
 use Rattle.vectors.specs.Records.{failing}
 use Rattle.vectors.proofs.Laws.{same_count, one_more}
 use Rattle.nat_laws.proofs.Ring.{run_within}

@@ -1,16 +1,6 @@
-use mathlib.Core.Path.{◌≡◌, refl, sym, ap, ◌∙◌}
-use mathlib.Core.Logic.{⊎_elim}
-use Prim.Native.Nat.{◌+◌, ◌-◌, ◌*◌, ◌≤◌}
-use native.Mathlib.Nat.{le_trans}
-use native.Mathlib.Omega.{arith}
-use lib.ListN.{length, length-take, length-drop}
-use borrow.Author.Rules.{rules}
-use borrow.Author.Tests.{not-true, not-false}
-use Rattle.source_vectors.specs.Replay.{holds_for, record_at, leaf_records, leaf_differences}
-use Rattle.vectors.specs.Records.{failing}
-use Rattle.vectors.proofs.Laws.{same_count, one_more}
-use Rattle.nat_laws.proofs.Ring.{run_within}
-use Rattle.source_vectors.proofs.Laws.{part_is}
+use mathlib.Core.Path.{◌≡◌}
+use Prim.Native.Nat.{◌-◌, ◌≤◌}
+use Rattle.source_vectors.specs.Replay.{leaf_differences}
 use Rattle.source_vectors.proofs.differences.Given as goal
 
 abbrev pub invariant-loop-k : goal.invariant-loop-k

@@ -1,5 +1,4 @@
 -- `source_vectors::eval_hold` meets its contract. Assumes nothing.
-use borrow.Author.Rules.{rules}
 use Rattle.source_vectors.specs.Replay.{holds_for}
 use Rattle.source_vectors.proofs.eval_hold.Goals as goal
 

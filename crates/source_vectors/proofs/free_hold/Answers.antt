@@ -1,5 +1,4 @@
 -- `source_vectors::free_hold` meets its contract. Assumes nothing.
-use borrow.Author.Rules.{rules}
 use Rattle.source_vectors.specs.Replay.{holds_for}
 use Rattle.source_vectors.proofs.free_hold.Goals as goal
 

@@ -1,5 +1,4 @@
 -- `source_vectors::holds` meets its contract. Assumes nothing.
-use borrow.Author.Rules.{rules}
 use Rattle.source_vectors.proofs.holds.Goals as goal
 
 pub roots_hold-requires : goal.roots_hold-requires

@@ -5,7 +5,6 @@ use native.Mathlib.Nat.{mul-div-le}
 use native.Mathlib.Omega.{arith}
 use lib.ListN.{length}
 use Rattle.source_vectors.specs.Replay.{size, leaf_records}
-use borrow.Author.Rules.{rules}
 use Rattle.source_vectors.proofs.Laws.{size_pos}
 use Rattle.source_vectors.proofs.records.Goals as goal
 

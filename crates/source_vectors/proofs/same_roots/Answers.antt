@@ -1,5 +1,4 @@
 -- `source_vectors::same_roots` meets its contract. Assumes nothing.
-use borrow.Author.Rules.{rules}
 use borrow.Author.Tests.{eq-eqb, ne_eqb}
 use Rattle.source_vectors.specs.Replay.{same_roots}
 use Rattle.source_vectors.proofs.same_roots.Goals as goal

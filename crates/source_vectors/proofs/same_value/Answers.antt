@@ -1,5 +1,4 @@
 -- `source_vectors::same_value` meets its contract. Assumes nothing.
-use borrow.Author.Rules.{rules}
 use Rattle.source_vectors.specs.Replay.{same_value}
 use Rattle.source_vectors.proofs.same_value.Goals as goal
 

@@ -1,5 +1,4 @@
 -- `source_vectors::size` meets its contract. Assumes nothing.
-use borrow.Author.Rules.{rules}
 use Rattle.source_vectors.proofs.size.Goals as goal
 
 pub returns-in-Roots : goal.returns-in-Roots

@@ -1,5 +1,4 @@
 -- `source_vectors::ties_hold` meets its contract. Assumes nothing.
-use borrow.Author.Rules.{rules}
 use Rattle.source_vectors.specs.Replay.{holds_for}
 use Rattle.source_vectors.proofs.ties_hold.Goals as goal
 
