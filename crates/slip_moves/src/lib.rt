@@ -1,4 +1,6 @@
 // A slip moved from one form to another: checked and counted first, then written.
+#![tactic(auto)]
+
 ghost use Rattle.std.specs.Prelude.{◌≡◌, [], ◌∷◌, ℕ, ◌+◌, ◌*◌, ◌≤◌, ◌<◌, length, get_or};
 ghost use Rattle.text_out.specs.Text.{Puts};
 ghost use Rattle.groups.specs.Groups.{number_at};

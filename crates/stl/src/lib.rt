@@ -1,4 +1,6 @@
 // Binary STL: a mesh read from the bytes of a file, and the file of a mesh. All is checked before anything is written.
+#![tactic(auto)]
+
 ghost use Rattle.std.specs.Prelude.{◌≡◌, ℕ, ◌+◌, ◌-◌, ◌*◌, ◌/◌, ◌%◌, ◌≤◌, ◌<◌, T, length, get_or};
 ghost use Rattle.std.specs.Float.{nan};
 ghost use Rattle.job_checks.specs.Any.{any_below};

@@ -1,0 +1,25 @@
+-- `slip_moves::read_counts` meets its contract. Assumes nothing.
+use Rattle.slip_moves.proofs.Heads.{refused_small, wider, count_short, count_over, count_is}
+use mathlib.Core.Path.{◌∙◌}
+use native.Mathlib.Omega.{arith}
+use Rattle.slip_moves.specs.Moves.{counts_at}
+use Rattle.slip_moves.proofs.read_counts.Goals as goal
+
+pub second_count-requires : goal.second_count-requires
+second_count-requires c =
+    let near = c.read_number.ensures.small _ _ c.in-Is.is in
+    (omega (arith, near.1, c.requires), near.0)
+
+pub returns-in-Short : goal.returns-in-Short
+unfolding counts_at
+returns-in-Short c = (count_short c.read_number.ensures _ c.in-Short.is, refused_small _ _)
+
+pub returns-in-Over : goal.returns-in-Over
+unfolding counts_at
+returns-in-Over c = (count_over c.read_number.ensures _ c.in-Over.is, refused_small _ _)
+
+pub returns-in-Is : goal.returns-in-Is
+unfolding counts_at
+returns-in-Is c =
+    let near = c.read_number.ensures.small _ _ c.in-Is.is in
+    (c.second_count.ensures.0 ∙ count_is c.read_number.ensures _ c.in-Is.is, wider (omega (arith, near.1, c.requires)) c.second_count.ensures.1)
