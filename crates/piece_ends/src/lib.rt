@@ -1,6 +1,8 @@
 // The ends of a job's pieces, found by their coordinate bits through buckets in the pieces' buffer: as many as there are pieces, each a chain of ends in the order in which
 // the Rust meets them. End 2 i is the first end of piece i, a point's only one, and end 2 i + 1 the second of a segment. A slot has the head of a bucket and the links
 // of its piece's two ends; a link is the number of an end plus one, and 0 is none.
+#![tactic(auto)]
+
 ghost use Rattle.std.specs.Prelude.{◌≡◌, ◌*◌, ◌≤◌, ◌<◌, length};
 ghost use Rattle.std.specs.Float.{binary64};
 ghost use Rattle.std.specs.Float.Ieee.{to_bits};

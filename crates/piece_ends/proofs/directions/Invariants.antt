@@ -1,0 +1,18 @@
+use Prim.Native.Nat.{ℕ, ◌-◌, ◌≤◌}
+use mathlib.Core.Path.{◌≡◌, refl, ◌∙◌}
+use native.Mathlib.Omega.{arith}
+use lib.ListN.{length}
+use borrow.Author.Rules.{rules}
+use Rattle.layout.specs.Layout.{reals_per_piece}
+use Rattle.frames.specs.Stored.{with_rows, row3}
+use Rattle.frames.proofs.Rows.{rows_start, rows_turn, rows_done}
+use Rattle.piece_ends.specs.Directions.{direction_of}
+use Rattle.piece_ends.proofs.Unit.{directions_made}
+use Rattle.piece_ends.proofs.directions.Given as goal
+
+abbrev pub invariant-loop-i : goal.invariant-loop-i
+invariant-loop-i l =
+    (l.i ≤ length l.kinds) × ((length l.reals ≡ length l.initial.reals) × (l.reals ≡ with_rows reals_per_piece (λ (k : ℕ). row3 (direction_of l.kinds l.coords k)) l.i l.initial.reals))
+
+abbrev pub decreases-loop-i : goal.decreases-loop-i
+decreases-loop-i l = length l.kinds - l.i
