@@ -1,6 +1,5 @@
 // The Rust's main loop, up to a number of turns: events are popped and passed on until the queue is empty.
 ghost use Rattle.std.specs.Prelude.{◌≤◌, length};
-ghost use Rattle.buffers.specs.Lent.{given};
 ghost use Rattle.windows.specs.Windows.{capacity_of};
 ghost use Rattle.insertion.specs.of_cut_lists.Buffers.{cuts_before};
 ghost use Rattle.insertion.specs.of_cut_lists.Cut.{Sizes};
@@ -44,7 +43,7 @@ pub fn advance(
     limit: f64,
 ) -> Advanced
     requires { (counts.made ≤ capacity_of (length words.old) (length reals.old)) × Sizes (length pts.old) out.old keep.old next.old }
-    ensures { AdvancesTo limit n most (given vertices) (given triangles) (given vertex_words) (given round) (given edge_reals) (given triangle_words) (given triangle_reals)
+    ensures { AdvancesTo limit n most vertices.now triangles.now vertex_words.now round.now edge_reals.now triangle_words.now triangle_reals.now
         counts (before edge_words words reals keys events vertex) (cuts_before pts out keep next) result (after edge_words words reals keys events vertex) }
 {
     let mut now = counts;

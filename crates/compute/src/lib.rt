@@ -1,6 +1,5 @@
 // The whole job: its mesh, its work, its field or its refusal, in buffers that a caller lends.
 ghost use Rattle.std.specs.Prelude.{◌≡◌};
-ghost use Rattle.buffers.specs.Lent.{given};
 ghost use Rattle.job_checks.specs.Job.{job};
 ghost use Rattle.field_model.specs.of_compute_spec.Compute.{buffers_before, buffers_after};
 ghost use Rattle.field_model.specs.Queue.{queue_in_order};
@@ -119,7 +118,7 @@ pub fn compute(
     scratch: &mut [u32],
     other_scratch: &mut [u32],
 ) -> Computed
-    ensures { ComputesOver queue_in_order (job (given vertices) (given triangles) (given flags) (given kinds) (given faces) (given coords) limit)
+    ensures { ComputesOver queue_in_order (job vertices.now triangles.now flags.now kinds.now faces.now coords.now limit)
         (buffers_before vertex_words edge_words edge_reals round triangle_words triangle_reals
         piece_words piece_reals vertex words reals keys events entry_words pts out keep next scratch other_scratch) max_steps result
         (buffers_after vertex_words edge_words edge_reals round triangle_words triangle_reals

@@ -34,7 +34,7 @@ pub enum Stepped {
 
 // A vertex's event of this key; one past the first n is passed over, and no queue of a mesh of n vertices has such a one.
 fn vertex_turn(vertex: &[f64], k: VertexId, key: f64, n: u32) -> Turn
-    ensures { result ≡ cond (ltb k.0 n) (vertex_turn (given vertex) k.0 key) Skip }
+    ensures { result ≡ cond (ltb k.0 n) (vertex_turn vertex.now k.0 key) Skip }
 {
     if n <= k.0 {
         return Turn::Skip;
@@ -50,7 +50,7 @@ fn vertex_turn(vertex: &[f64], k: VertexId, key: f64, n: u32) -> Turn
 // A window that was alive and queued.
 fn window_turn(words: &[u32], reals: &[f64], id: WindowId, limit: f64) -> Turn
     requires { id.0 < capacity_of (length words.now) (length reals.now) }
-    ensures { result ≡ window_turn limit (window_at (given words) (given reals) id.0) }
+    ensures { result ≡ window_turn limit (window_at words.now reals.now id.0) }
 {
     let x = windows::load(words, reals, id);
     let edge = x.edge;
@@ -80,7 +80,7 @@ fn turn_of(
     limit: f64,
 ) -> Turn
     requires { SlotFor (capacity_of (length words.now) (length reals.now)) x.item pending }
-    ensures { result ≡ turn_at limit n (given words) (given reals) (given vertex) x.item x.key pending }
+    ensures { result ≡ turn_at limit n words.now reals.now vertex.now x.item x.key pending }
 {
     let key = x.key;
     let item = x.item;
@@ -144,7 +144,7 @@ pub fn step(
     limit: f64,
 ) -> Stepped
     requires { (counts.made ≤ capacity_of (length words.old) (length reals.old)) × Sizes (length pts.old) out.old keep.old next.old }
-    ensures { StepsOnce limit n (given vertices) (given triangles) (given vertex_words) (given round) (given edge_reals) (given triangle_words) (given triangle_reals)
+    ensures { StepsOnce limit n vertices.now triangles.now vertex_words.now round.now edge_reals.now triangle_words.now triangle_reals.now
         counts (before edge_words words reals keys events vertex) (cuts_before pts out keep next) result (after edge_words words reals keys events vertex) }
 {
     let made = counts.made;

@@ -42,8 +42,8 @@ pub fn work(
 ) -> FieldWork
     requires { (length vertices.now / 3 ≤ 65535) × ((length kinds.now ≤ 65535) × ((words_per_piece * length kinds.now ≤ length piece_words.old)
         × Sizes (length pts.old) out.old keep.old next.old)) }
-    ensures { WorksTo (given vertices) (given triangles) (given kinds) (given faces) (given coords) limit
-        (mesh_buffers (given vertex_words) (given edge_words) (given edge_reals) (given round) (given triangle_words) (given triangle_reals))
+    ensures { WorksTo vertices.now triangles.now kinds.now faces.now coords.now limit
+        (mesh_buffers vertex_words.now (given edge_words) edge_reals.now round.now (given triangle_words) triangle_reals.now)
         (work_before piece_words piece_reals vertex words reals keys events entry_words) (cuts_before pts out keep next) max_steps
         result (left piece_words) (left piece_reals) (after edge_words words reals keys events vertex) (entries_after triangle_words entry_words) }
 {

@@ -28,9 +28,9 @@ pub fn finish_work(
     edges: u32,
 )
     requires { WorkWithin (capacity_of (length words.now) (length reals.now)) work × (edges ≤ slots_of (length edge_words.old) words_per_edge) }
-    ensures { FinishesWork work edges (given edge_reals)
-        (slices (given edge_words) (given words) (given reals) (given keys) (given events) (given vertex)) (cuts_before pts out keep next)
-        (slices (left edge_words) (given words) (given reals) (left keys) (left events) (left vertex)) (cuts_after pts out keep next) }
+    ensures { FinishesWork work edges edge_reals.now
+        (slices (given edge_words) words.now reals.now (given keys) (given events) (given vertex)) (cuts_before pts out keep next)
+        (slices (left edge_words) words.now reals.now (left keys) (left events) (left vertex)) (cuts_after pts out keep next) }
 {
     match work {
         FieldWork::Refused(_) => {}

@@ -40,10 +40,10 @@ pub fn make_field(
     next: &mut [f64],
 ) -> FieldWork
     requires { WorkFits number edges vertices.now kinds.now piece_words.old edge_words.old }
-    ensures { MakesField number edges (given vertices) (given triangles) (given kinds) (given faces) (given coords) limit
-        (mesh_buffers (given vertex_words) (given edge_words) (given edge_reals) (given round) (given triangle_words) (given triangle_reals))
+    ensures { MakesField number edges vertices.now triangles.now kinds.now faces.now coords.now limit
+        (mesh_buffers vertex_words.now (given edge_words) edge_reals.now round.now (given triangle_words) triangle_reals.now)
         (work_before piece_words piece_reals vertex words reals keys events entry_words) (cuts_before pts out keep next) max_steps result
-        (mesh_buffers (given vertex_words) (left edge_words) (given edge_reals) (given round) (left triangle_words) (given triangle_reals))
+        (mesh_buffers vertex_words.now (left edge_words) edge_reals.now round.now (left triangle_words) triangle_reals.now)
         (work_after piece_words piece_reals vertex words reals keys events entry_words) (cuts_after pts out keep next) }
 {
     if number > 0 {

@@ -1,6 +1,5 @@
 // The main loop of a job's work after the insertion of its pieces, within the step budget: refusal 15.
 ghost use Rattle.std.specs.Prelude.{◌≡◌, length};
-ghost use Rattle.buffers.specs.Lent.{given};
 ghost use Rattle.windows.specs.Windows.{capacity_of};
 ghost use Rattle.advance.specs.of_cut_lists.Buffers.{cuts_before};
 ghost use Rattle.advance.specs.of_cut_lists.Cut.{Sizes};
@@ -24,7 +23,7 @@ pub enum FieldWork {
 
 // Whether a pop of so many events would find none.
 fn none_waits(keys: &[f64], events: &[u32], queued: u32) -> bool
-    ensures { result ≡ none_waits (given keys) (given events) queued }
+    ensures { result ≡ none_waits keys.now events.now queued }
 {
     if queued == 0 {
         return true;
@@ -37,7 +36,7 @@ fn none_waits(keys: &[f64], events: &[u32], queued: u32) -> bool
 
 // Refusal 15: the budget is spent, and an event waits.
 fn after_steps(keys: &[f64], events: &[u32], entries: u32, advanced: Advanced) -> FieldWork
-    ensures { result ≡ work_answer (given keys) (given events) entries advanced }
+    ensures { result ≡ work_answer keys.now events.now entries advanced }
 {
     match advanced {
         Advanced::Stopped(lack) => FieldWork::Refused(lack_number(lack)),
@@ -75,7 +74,7 @@ pub fn run_steps(
     limit: f64,
 ) -> FieldWork
     requires { JobWithin (capacity_of (length words.old) (length reals.old)) from × Sizes (length pts.old) out.old keep.old next.old }
-    ensures { RunsTo limit n most (given vertices) (given triangles) (given vertex_words) (given round) (given edge_reals) (given triangle_words) (given triangle_reals)
+    ensures { RunsTo limit n most vertices.now triangles.now vertex_words.now round.now edge_reals.now triangle_words.now triangle_reals.now
         (before edge_words words reals keys events vertex) (cuts_before pts out keep next) from result (after edge_words words reals keys events vertex) }
 {
     match from {

@@ -1,6 +1,5 @@
 // What a window passes on to the edges ahead, and a vertex to those of the faces round it, is added: the Rust's `propagate` and `emit`.
 ghost use Rattle.std.specs.Prelude.{◌≤◌, length};
-ghost use Rattle.buffers.specs.Lent.{given};
 ghost use Rattle.windows.specs.Windows.{capacity_of};
 ghost use Rattle.spread_offers.specs.of_cut_lists.Buffers.{cuts_before};
 ghost use Rattle.spread_offers.specs.of_cut_lists.Cut.{Sizes};
@@ -39,8 +38,8 @@ pub fn spread(
     limit: f64,
 ) -> Added
     requires { (counts.made ≤ capacity_of (length words.old) (length reals.old)) × Sizes (length pts.old) out.old keep.old next.old }
-    ensures { AddsCandidates limit (given vertex_words) (given vertices) (given edge_reals) (given triangle_words) (given triangle_reals)
-        (SpreadIn (given triangles) (given vertex_words) (given round) s) (λ triangles. spread_candidates (given vertices) triangles s)
+    ensures { AddsCandidates limit vertex_words.now vertices.now edge_reals.now triangle_words.now triangle_reals.now
+        (SpreadIn triangles.now vertex_words.now round.now s) (λ triangles. spread_candidates vertices.now triangles s)
         counts (before edge_words words reals keys events vertex) (cuts_before pts out keep next) result (after edge_words words reals keys events vertex) }
 {
     let o = spread_offers::find_opposite(

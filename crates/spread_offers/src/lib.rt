@@ -1,7 +1,6 @@
 // What a window that is propagated, and a vertex that passes distances on, offer to the edges ahead (the Rust's `propagate` and `emit`): one candidate at a time,
 // read from a mesh's buffers. Nothing is asked of what the buffers hold; where they hold a mesh's topology, it is what the Rust adds (proofs/Held.antt).
 ghost use Rattle.std.specs.Prelude.{◌≡◌};
-ghost use Rattle.buffers.specs.Lent.{given};
 ghost use Rattle.source_offers.specs.of_mesh_readers.Readers.{edge_at};
 ghost use Rattle.spread_offers.specs.Offering.{side_number, side_end, ahead_at, next_edge_at, at_end, propagate_offer_at, emit_offer_at};
 ghost use Rattle.spread_offers.specs.Spreading.{spread_count_at, round_offer_at, opposite_at, spread_offer_at};
@@ -54,7 +53,7 @@ fn face_ahead(
     g: FaceId,
     c: VertexId,
 ) -> FaceAhead
-    ensures { result ≡ ahead_at (given vertices) (given edge_words) (given edge_reals) (given triangle_words) (given triangle_reals) e.0 g.0 c.0 }
+    ensures { result ≡ ahead_at vertices.now edge_words.now edge_reals.now triangle_words.now triangle_reals.now e.0 g.0 c.0 }
 {
     let l = length(edge_reals, e);
     let both = ends(edge_words, e);
@@ -79,7 +78,7 @@ fn side_number(k: u32) -> Side
 
 // The end of edge e that the next edge of a side shares with it.
 fn side_end(edge_words: &[u32], e: EdgeId, side: Side) -> VertexId
-    ensures { result ≡ record { 0 = side_end side (edge_at (given edge_words) e.0) } }
+    ensures { result ≡ record { 0 = side_end side (edge_at edge_words.now e.0) } }
 {
     let both = ends(edge_words, e);
     match side {
@@ -90,7 +89,7 @@ fn side_end(edge_words: &[u32], e: EdgeId, side: Side) -> VertexId
 
 // Edge ne, as the frame of edge e sees it.
 fn next_edge(edge_words: &[u32], edge_reals: &[f64], e: EdgeId, ne: EdgeId) -> NextEdge
-    ensures { result ≡ next_edge_at (given edge_words) (given edge_reals) e.0 ne.0 }
+    ensures { result ≡ next_edge_at edge_words.now edge_reals.now e.0 ne.0 }
 {
     let both = ends(edge_words, e);
     let next = ends(edge_words, ne);
@@ -113,7 +112,7 @@ pub fn propagate_offer(
     src: Src,
     k: u32,
 ) -> Offered
-    ensures { result ≡ propagate_offer_at (given edge_words) (given edge_reals) (given triangle_words) o e.0 g.0 b0 b1 src k }
+    ensures { result ≡ propagate_offer_at edge_words.now edge_reals.now triangle_words.now o e.0 g.0 b0 b1 src k }
 {
     let c = o.c;
     let ahead = o.ahead;
@@ -128,7 +127,7 @@ pub fn propagate_offer(
 
 // Vertex k is an end of edge e.
 fn at_end(edge_words: &[u32], e: EdgeId, k: VertexId) -> bool
-    ensures { result ≡ at_end k.0 (edge_at (given edge_words) e.0) }
+    ensures { result ≡ at_end k.0 (edge_at edge_words.now e.0) }
 {
     let both = ends(edge_words, e);
     if both.a.0 == k.0 {
@@ -152,7 +151,7 @@ pub fn emit_offer(
     vx: VertexId,
     d: f64,
 ) -> Offered
-    ensures { result ≡ emit_offer_at (given vertices) (given edge_words) (given edge_reals) (given triangle_words) (given triangle_reals) g.0 k vx.0 d }
+    ensures { result ≡ emit_offer_at vertices.now edge_words.now edge_reals.now triangle_words.now triangle_reals.now g.0 k vx.0 d }
 {
     let e = side(triangle_words, g, k);
     if at_end(edge_words, e, vx) {
@@ -176,7 +175,7 @@ pub fn emit_offer(
 
 // How many candidates there are, some of them nothing: two of a window, and of a vertex three for each face round it. More than can be counted are not.
 pub fn spread_count(vertex_words: &[u32], s: Spread) -> u32
-    ensures { result ≡ spread_count_at (given vertex_words) s }
+    ensures { result ≡ spread_count_at vertex_words.now s }
 {
     match s {
         Spread::Window {
@@ -209,8 +208,8 @@ fn round_offer(
     d: f64,
     i: u32,
 ) -> Offered
-    ensures { result ≡ round_offer_at (given vertices) (given edge_words) (given edge_reals) (given triangle_words) (given triangle_reals)
-        (given vertex_words) (given round) vx.0 d i }
+    ensures { result ≡ round_offer_at vertices.now edge_words.now edge_reals.now triangle_words.now triangle_reals.now
+        vertex_words.now round.now vx.0 d i }
 {
     let fi = i / 3;
     if vertex_degree(vertex_words, vx) <= fi {
@@ -241,7 +240,7 @@ pub fn find_opposite(
     triangle_reals: &[f64],
     s: Spread,
 ) -> Opposite
-    ensures { result ≡ opposite_at (given vertices) (given triangles) (given edge_words) (given edge_reals) (given triangle_words) (given triangle_reals) s }
+    ensures { result ≡ opposite_at vertices.now triangles.now edge_words.now edge_reals.now triangle_words.now triangle_reals.now s }
 {
     match s {
         Spread::Window {
@@ -288,8 +287,8 @@ pub fn spread_offer(
     s: Spread,
     i: u32,
 ) -> Offered
-    ensures { result ≡ spread_offer_at (given vertices) (given edge_words) (given edge_reals) (given triangle_words) (given triangle_reals)
-        (given vertex_words) (given round) o s i }
+    ensures { result ≡ spread_offer_at vertices.now edge_words.now edge_reals.now triangle_words.now triangle_reals.now
+        vertex_words.now round.now o s i }
 {
     match s {
         Spread::Window {

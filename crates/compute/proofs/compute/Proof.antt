@@ -27,12 +27,12 @@ make-field-requires c κs =
     let a = far.before.before.before.before.before.before.args in
     let counts = c.before.before.before.before.before.before.before.before.before.before.before.before.before.before.before.before.before.before.before.before.before.before.before.before.before.before.before.before.before.before.before.before.before.before.before.before.before.before.before.other-counts in
     let made = c.before.before.before.before.before.before.before.before.before.before.before.before.before.before.before.before.before.before.before.before.before.before.before.before.before.before.before.before.before.before.before.before.build in
-    let edges = c.before.before.before.before.before.before.before.before.before.before.before.before.before.before.before.before.before.before.before.edge_count_held in
+    let edges = c.before.before.before.before.before.before.before.before.before.before.before.before.before.before.before.before.before.before.before.edge_count in
     let number = c.before.before.before.before.before.before.before.before.before.before.before.before.before.before.before.before.before.before.refusal-number in
     work_fits a.vertices.now a.triangles.now a.flags.now a.kinds.now a.faces.now a.coords.now a.limit
     (field_buffers
-    (mesh_buffers a.vertex_words_held.now a.edge_words_held.now a.edge_reals_held.now a.round.now a.triangle_words_held.now a.triangle_reals.now)
-    (work_slices a.piece_words.now a.piece_reals.now a.vertex.now a.words.now a.reals.now a.keys.now a.events.now a.entry_words_held.now)
+    (mesh_buffers a.vertex_words.now a.edge_words.now a.edge_reals.now a.round.now a.triangle_words.now a.triangle_reals.now)
+    (work_slices a.piece_words.now a.piece_reals.now a.vertex.now a.words.now a.reals.now a.keys.now a.events.now a.entry_words.now)
     (cut_buffers a.pts.now a.out.now a.keep.now a.next.now)
     a.scratch.now a.other_scratch.now)
     a.max-steps counts.result counts.ensures made.result
@@ -200,7 +200,7 @@ returns c =
     let a = farther.before.before.before.before.before.before.before.before.before.before.before.before.before.before.before.before.before.before.before.before.before.before.before.before.before.before.before.before.before.before.before.before.before.before.before.before.before.before.before.before.before.before.before.before.before.args in
     let counts = farther.before.before.before.before.before.before.before.before.before.before.before.before.before.before.before.before.before.before.other-counts in
     let made = farther.before.before.before.before.before.before.before.before.before.before.before.build in
-    let edges = far.before.before.before.before.before.before.before.before.before.before.before.before.before.before.before.before.before.before.before.before.before.before.before.before.before.before.before.before.before.before.before.before.before.before.before.before.before.before.before.before.before.before.before.before.before.before.before.before.before.before.before.before.before.before.before.before.before.before.edge_count_held in
+    let edges = far.before.before.before.before.before.before.before.before.before.before.before.before.before.before.before.before.before.before.before.before.before.before.before.before.before.before.before.before.before.before.before.before.before.before.before.before.before.before.before.before.before.before.before.before.before.before.before.before.before.before.before.before.before.before.before.before.before.before.edge_count in
     let number = far.before.before.before.before.before.before.before.before.before.before.before.before.before.before.before.before.before.before.before.before.before.before.before.before.before.before.before.before.before.before.before.before.before.before.before.before.before.before.before.before.before.before.before.before.before.before.before.before.before.before.before.before.before.before.before.before.before.refusal-number in
     let work = far.before.before.before.before.before.before.before.before.before.before.before.before.before.before.before.before.before.before.before.before.before.before.before.before.before.before.before.before.before.before.before.before.before.before.before.before.before.before.make-field in
     let zero = far.before.before.before.before.before.before.before.before.before.is-zeroed in
@@ -214,8 +214,8 @@ returns c =
     let other = c.before.before.before.zero-words-if3 in
     computes a.vertices.now a.triangles.now a.flags.now a.kinds.now a.faces.now a.coords.now a.limit
     (field_buffers
-    (mesh_buffers a.vertex_words_held.now a.edge_words_held.now a.edge_reals_held.now a.round.now a.triangle_words_held.now a.triangle_reals.now)
-    (work_slices a.piece_words.now a.piece_reals.now a.vertex.now a.words.now a.reals.now a.keys.now a.events.now a.entry_words_held.now)
+    (mesh_buffers a.vertex_words.now a.edge_words.now a.edge_reals.now a.round.now a.triangle_words.now a.triangle_reals.now)
+    (work_slices a.piece_words.now a.piece_reals.now a.vertex.now a.words.now a.reals.now a.keys.now a.events.now a.entry_words.now)
     (cut_buffers a.pts.now a.out.now a.keep.now a.next.now)
     a.scratch.now a.other_scratch.now)
     a.max-steps counts.result counts.ensures made.result

@@ -27,8 +27,8 @@ turn-of-requires c κs =
     let a = start.args in
     let q = c.before.before.before.before.before.before.before.before.before.before.before.before.pop in
     let x = c.before.before.before.before.taken.given in
-    pending_slot a.limit a.n a.vertices.now a.triangles.now a.vertex_words_held.now a.round.now a.edge_reals_held.now a.triangle_words_held.now a.triangle_reals.now a.counts
-    (slices a.edge_words_held.now a.words.now a.reals.now a.keys.now a.events.now a.vertex.now) (cut_buffers a.pts.now a.out.now a.keep.now a.next.now)
+    pending_slot a.limit a.n a.vertices.now a.triangles.now a.vertex_words.now a.round.now a.edge_reals.now a.triangle_words.now a.triangle_reals.now a.counts
+    (slices a.edge_words.now a.words.now a.reals.now a.keys.now a.events.now a.vertex.now) (cut_buffers a.pts.now a.out.now a.keep.now a.next.now)
     start.requires.0 q.new.0 q.new.1.0 q.new.1.1.0 q.result q.ensures.0 q.ensures.1.0 q.ensures.1.1 x.0.0 x.0.1.0 x.0.1.1.0 x.1 q.auto.0
 
 enum-told-2 : tie.Need-enum-told-2
@@ -63,8 +63,8 @@ returns c =
     let start = c.before.before.before.before.before.before.before.before.before.before.before.before.before.before.before.before.before.before.before.before.before.before.before.before.before.before.before.before.before in
     let a = start.args in
     let q = c.before.before.before.before.before.before.before.before.pop in
-    step_idle a.limit a.n a.vertices.now a.triangles.now a.vertex_words_held.now a.round.now a.edge_reals_held.now a.triangle_words_held.now a.triangle_reals.now a.counts
-    (slices a.edge_words_held.now a.words.now a.reals.now a.keys.now a.events.now a.vertex.now) (cut_buffers a.pts.now a.out.now a.keep.now a.next.now)
+    step_idle a.limit a.n a.vertices.now a.triangles.now a.vertex_words.now a.round.now a.edge_reals.now a.triangle_words.now a.triangle_reals.now a.counts
+    (slices a.edge_words.now a.words.now a.reals.now a.keys.now a.events.now a.vertex.now) (cut_buffers a.pts.now a.out.now a.keep.now a.next.now)
     start.requires.0 q.new.0 q.new.1.0 q.new.1.1.0 q.result q.ensures.0 q.ensures.1.0 q.ensures.1.1 c.enum_told.given.1
 
 same-length-4 : tie.Need-same-length-4
@@ -95,8 +95,8 @@ returns-2 c =
     let q = c.before.before.before.before.before.before.before.before.before.before.before.before.before.before.before.pop in
     let x = c.before.before.before.before.before.before.before.taken.given in
     let turn = c.before.before.turn-of in
-    step_skip a.limit a.n a.vertices.now a.triangles.now a.vertex_words_held.now a.round.now a.edge_reals_held.now a.triangle_words_held.now a.triangle_reals.now a.counts
-    (slices a.edge_words_held.now a.words.now a.reals.now a.keys.now a.events.now a.vertex.now) (cut_buffers a.pts.now a.out.now a.keep.now a.next.now)
+    step_skip a.limit a.n a.vertices.now a.triangles.now a.vertex_words.now a.round.now a.edge_reals.now a.triangle_words.now a.triangle_reals.now a.counts
+    (slices a.edge_words.now a.words.now a.reals.now a.keys.now a.events.now a.vertex.now) (cut_buffers a.pts.now a.out.now a.keep.now a.next.now)
     start.requires.0 q.new.0 q.new.1.0 q.new.1.1.0 q.result q.ensures.0 q.ensures.1.0 q.ensures.1.1 x.0.0 x.0.1.0 x.0.1.1.0 x.1 turn.result turn.ensures c.enum-told2.given.1
 
 same-length-9 : tie.Need-same-length-9
@@ -161,12 +161,12 @@ returns-3 c =
     let p = c.before.before.before.before.before.before.before.before.before.before.before.before.before.before.before.before.before.before.before.before.before.before.before.before.before.before.before.before.before.before.before.before.before.before.before.before.before.turn.given in
     let m = c.before.before.before.before.before.before.before.before.before.before.before.before.before.before.before.before.before.before.before.before.before.before.before.before.before.before.before.before.before.before.before.before.before.before.mark in
     let r = c.before.before.before.before.before.before.before.before.before.before.before.before.before.before.before.before.before.before.before.before.before.spread in
-    let b = slices a.edge_words_held.now a.words.now a.reals.now a.keys.now a.events.now a.vertex.now in
+    let b = slices a.edge_words.now a.words.now a.reals.now a.keys.now a.events.now a.vertex.now in
     let after = slices r.new.1.1.0 r.new.1.1.1.0 r.new.1.1.1.1.0 r.new.1.1.1.1.1.0 r.new.1.1.1.1.1.1.0 r.new.1.1.1.1.1.1.1.0 in
-    subst (λ (z : Stepped). StepsOnce a.limit a.n a.vertices.now a.triangles.now a.vertex_words_held.now a.round.now a.edge_reals_held.now a.triangle_words_held.now a.triangle_reals.now a.counts b (cut_buffers a.pts.now a.out.now a.keep.now a.next.now) z after)
+    subst (λ (z : Stepped). StepsOnce a.limit a.n a.vertices.now a.triangles.now a.vertex_words.now a.round.now a.edge_reals.now a.triangle_words.now a.triangle_reals.now a.counts b (cut_buffers a.pts.now a.out.now a.keep.now a.next.now) z after)
     (sym c.answer.ensures)
-    (step_pass a.limit a.n a.vertices.now a.triangles.now a.vertex_words_held.now a.round.now a.edge_reals_held.now a.triangle_words_held.now a.triangle_reals.now a.counts
-    (slices a.edge_words_held.now a.words.now a.reals.now a.keys.now a.events.now a.vertex.now) (cut_buffers a.pts.now a.out.now a.keep.now a.next.now)
+    (step_pass a.limit a.n a.vertices.now a.triangles.now a.vertex_words.now a.round.now a.edge_reals.now a.triangle_words.now a.triangle_reals.now a.counts
+    (slices a.edge_words.now a.words.now a.reals.now a.keys.now a.events.now a.vertex.now) (cut_buffers a.pts.now a.out.now a.keep.now a.next.now)
     start.requires.0 q.new.0 q.new.1.0 q.new.1.1.0 q.result q.ensures.0 q.ensures.1.0 q.ensures.1.1 x.0.0 x.0.1.0 x.0.1.1.0 x.1 turn.result turn.ensures
     p.0.0 p.1 m.new.0 m.ensures q.auto.0 r.result after r.ensures)
 

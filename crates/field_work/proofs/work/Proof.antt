@@ -107,8 +107,8 @@ returns c =
     let a = made.before.before.before.before.before.before.before.before.before.before.before.before.before.before.before.before.before.before.before.before.before.before.before.before.before.before.before.before.before.before.before.before.before.before.before.before.before.before.args in
     let i = made.insert-job in
     works_to a.vertices.now a.triangles.now a.kinds.now a.faces.now a.coords.now a.limit
-    (mesh_buffers a.vertex_words_held.now a.edge_words_held.now a.edge_reals_held.now a.round.now a.triangle_words_held.now a.triangle_reals.now)
-    (work_slices a.piece_words.now a.piece_reals.now a.vertex.now a.words.now a.reals.now a.keys.now a.events.now a.entry_words_held.now)
+    (mesh_buffers a.vertex_words.now a.edge_words.now a.edge_reals.now a.round.now a.triangle_words.now a.triangle_reals.now)
+    (work_slices a.piece_words.now a.piece_reals.now a.vertex.now a.words.now a.reals.now a.keys.now a.events.now a.entry_words.now)
     (cut_buffers a.pts.now a.out.now a.keep.now a.next.now) a.max-steps
     (slices i.new.1.1.1.1.1.1.1.0 i.new.1.1.1.1.1.1.1.1.1.1.1.1.1.1.1.0 i.new.1.1.1.1.1.1.1.1.1.1.1.1.1.1.1.1.0 i.new.1.1.1.1.1.1.1.1.1.1.1.1.1.1.1.1.1.0 i.new.1.1.1.1.1.1.1.1.1.1.1.1.1.1.1.1.1.1.0 i.new.1.1.1.1.1.1.1.1.1.1.1.1.1.1.0)
     (entry_buffers i.new.1.1.1.1.1.1.1.1.1.1.0 i.new.1.1.1.1.1.1.1.1.1.1.1.1.1.1.1.1.1.1.1.0)

@@ -25,7 +25,7 @@ returns : tie.Need-returns
 returns c =
     let a = c.before.before.before.before.before.before.before.before.before.before.before.before.before.args in
     let told = c.enum_told.given in
-    end_refused a.work told.0.0 told.1 a.edges a.edge_reals_held.now (slices a.edge_words_held.now a.words.now a.reals.now a.keys.now a.events.now a.vertex.now) (cut_buffers a.pts.now a.out.now a.keep.now a.next.now)
+    end_refused a.work told.0.0 told.1 a.edges a.edge_reals.now (slices a.edge_words.now a.words.now a.reals.now a.keys.now a.events.now a.vertex.now) (cut_buffers a.pts.now a.out.now a.keep.now a.next.now)
 
 same_length : tie.Need-same-length
 same_length c = search rules
@@ -56,7 +56,7 @@ returns-2 c =
     let a = c.before.before.before.before.before.before.before.before.before.before.before.before.before.before.before.before.before.before.before.before.before.before.before.before.before.before.before.before.before.before.before.before.before.before.before.before.before.before.before.args in
     let done = c.before.before.before.before.before.before.before.before.before.before.before.before.before.before.before.before.before.before.before.before.before.before.before.before.before.before.work.given in
     let f = c.before.before.before.before.before.before.before.before.before.before.before.before.before.before.before.before.finish in
-    end_done a.work done.0.0 done.0.1.0 done.1 a.edges a.edge_reals_held.now (slices a.edge_words_held.now a.words.now a.reals.now a.keys.now a.events.now a.vertex.now) (cut_buffers a.pts.now a.out.now a.keep.now a.next.now)
+    end_done a.work done.0.0 done.0.1.0 done.1 a.edges a.edge_reals.now (slices a.edge_words.now a.words.now a.reals.now a.keys.now a.events.now a.vertex.now) (cut_buffers a.pts.now a.out.now a.keep.now a.next.now)
     (slices f.new.0 a.words.now a.reals.now f.new.1.1.1.1.1.0 f.new.1.1.1.1.1.1.0 f.new.1.1.1.1.0) (cut_buffers f.new.1.1.1.1.1.1.1.0 f.new.1.1.1.1.1.1.1.1.0 f.new.1.1.1.1.1.1.1.1.1.0 f.new.1.1.1.1.1.1.1.1.1.1.0) f.ensures
 
 pub finish-work-spec : {M : Type 1} → statement M

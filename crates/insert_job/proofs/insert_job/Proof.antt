@@ -57,7 +57,7 @@ returns c =
     let first = begun.begin-buffers in
     says_wedge a.vertices.now a.triangles.now a.kinds.now a.faces.now a.coords.now a.limit
     (mesh_buffers a.vertex_words.now a.edge_words.now a.edge_reals.now a.round.now a.triangle_words.now a.triangle_reals.now)
-    (work_slices a.piece_words.now a.piece_reals.now a.vertex.now a.words.now a.reals.now a.keys.now a.events.now a.entry_words_held.now)
+    (work_slices a.piece_words.now a.piece_reals.now a.vertex.now a.words.now a.reals.now a.keys.now a.events.now a.entry_words.now)
     (cut_buffers a.pts.now a.out.now a.keep.now a.next.now)
     (work_slices first.new.1.1.1.0 first.new.1.1.1.1.0 first.new.1.1.1.1.1.0 first.new.1.1.1.1.1.1.0 first.new.1.1.1.1.1.1.1.0 first.new.1.1.1.1.1.1.1.1.0
     first.new.1.1.1.1.1.1.1.1.1.0 first.new.1.1.1.1.1.1.1.1.1.1.0)
@@ -145,7 +145,7 @@ returns-2 c =
     let all = made.insert_all in
     says_answer a.vertices.now a.triangles.now a.kinds.now a.faces.now a.coords.now a.limit
     (mesh_buffers a.vertex_words.now a.edge_words.now a.edge_reals.now a.round.now a.triangle_words.now a.triangle_reals.now)
-    (work_slices a.piece_words.now a.piece_reals.now a.vertex.now a.words.now a.reals.now a.keys.now a.events.now a.entry_words_held.now)
+    (work_slices a.piece_words.now a.piece_reals.now a.vertex.now a.words.now a.reals.now a.keys.now a.events.now a.entry_words.now)
     (cut_buffers a.pts.now a.out.now a.keep.now a.next.now)
     (work_slices first.new.1.1.1.0 first.new.1.1.1.1.0 first.new.1.1.1.1.1.0 first.new.1.1.1.1.1.1.0 first.new.1.1.1.1.1.1.1.0 first.new.1.1.1.1.1.1.1.1.0
     first.new.1.1.1.1.1.1.1.1.1.0 first.new.1.1.1.1.1.1.1.1.1.1.0)

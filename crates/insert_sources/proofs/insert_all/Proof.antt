@@ -36,8 +36,8 @@ loop-holds c =
     let a = start.args in
     let k = (insertion_slices a.vertices.now a.vertex_words.now a.edge_reals.now a.triangle_reals.now a.round.now a.kinds.now a.faces.now a.coords.now a.piece_words.now a.piece_reals.now) in
     insert_start a.limit k
-    (source_of a.limit k a.counts (slices a.edge_words.now a.words.now a.reals.now a.keys.now a.events.now a.vertex.now) (entry_buffers a.triangle_words.now a.entry_words_held.now) (cut_buffers a.pts.now a.out.now a.keep.now a.next.now))
-    a.counts (slices a.edge_words.now a.words.now a.reals.now a.keys.now a.events.now a.vertex.now) (entry_buffers a.triangle_words.now a.entry_words_held.now)
+    (source_of a.limit k a.counts (slices a.edge_words.now a.words.now a.reals.now a.keys.now a.events.now a.vertex.now) (entry_buffers a.triangle_words.now a.entry_words.now) (cut_buffers a.pts.now a.out.now a.keep.now a.next.now))
+    a.counts (slices a.edge_words.now a.words.now a.reals.now a.keys.now a.events.now a.vertex.now) (entry_buffers a.triangle_words.now a.entry_words.now)
     (cut_buffers a.pts.now a.out.now a.keep.now a.next.now) (3 * length a.kinds.now) start.requires.0
 
 insert-source-requires : tie.Need-insert-source-requires invariant-loop decreases-loop
@@ -50,14 +50,14 @@ insert-source-requires c κs =
     let k = (insertion_slices a.vertices.now a.vertex_words.now a.edge_reals.now a.triangle_reals.now a.round.now a.kinds.now a.faces.now a.coords.now a.piece_words.now a.piece_reals.now) in
     let q : l.j < 3 * length a.kinds.now = omega (arith, tested.loop-test.true) in (
       insert_fits a.limit k
-          (source_of a.limit k a.counts (slices a.edge_words.now a.words.now a.reals.now a.keys.now a.events.now a.vertex.now) (entry_buffers a.triangle_words.now a.entry_words_held.now) (cut_buffers a.pts.now a.out.now a.keep.now a.next.now))
-          a.counts (slices a.edge_words.now a.words.now a.reals.now a.keys.now a.events.now a.vertex.now) (entry_buffers a.triangle_words.now a.entry_words_held.now)
-          (cut_buffers a.pts.now a.out.now a.keep.now a.next.now) (3 * length a.kinds.now) (slices l.edge_words_held l.words l.reals l.keys l.events l.vertex) (entry_buffers l.triangle_words_held l.entry_words_held) (cut_buffers l.pts l.out l.keep l.next) l.now l.j l.invariant q,
+          (source_of a.limit k a.counts (slices a.edge_words.now a.words.now a.reals.now a.keys.now a.events.now a.vertex.now) (entry_buffers a.triangle_words.now a.entry_words.now) (cut_buffers a.pts.now a.out.now a.keep.now a.next.now))
+          a.counts (slices a.edge_words.now a.words.now a.reals.now a.keys.now a.events.now a.vertex.now) (entry_buffers a.triangle_words.now a.entry_words.now)
+          (cut_buffers a.pts.now a.out.now a.keep.now a.next.now) (3 * length a.kinds.now) (slices l.edge_words l.words l.reals l.keys l.events l.vertex) (entry_buffers l.triangle_words l.entry_words) (cut_buffers l.pts l.out l.keep l.next) l.now l.j l.invariant q,
       (
         insert_sizes a.limit k
-            (source_of a.limit k a.counts (slices a.edge_words.now a.words.now a.reals.now a.keys.now a.events.now a.vertex.now) (entry_buffers a.triangle_words.now a.entry_words_held.now) (cut_buffers a.pts.now a.out.now a.keep.now a.next.now))
-            a.counts (slices a.edge_words.now a.words.now a.reals.now a.keys.now a.events.now a.vertex.now) (entry_buffers a.triangle_words.now a.entry_words_held.now)
-            (cut_buffers a.pts.now a.out.now a.keep.now a.next.now) (3 * length a.kinds.now) (slices l.edge_words_held l.words l.reals l.keys l.events l.vertex) (entry_buffers l.triangle_words_held l.entry_words_held) (cut_buffers l.pts l.out l.keep l.next) l.now l.j l.invariant q
+            (source_of a.limit k a.counts (slices a.edge_words.now a.words.now a.reals.now a.keys.now a.events.now a.vertex.now) (entry_buffers a.triangle_words.now a.entry_words.now) (cut_buffers a.pts.now a.out.now a.keep.now a.next.now))
+            a.counts (slices a.edge_words.now a.words.now a.reals.now a.keys.now a.events.now a.vertex.now) (entry_buffers a.triangle_words.now a.entry_words.now)
+            (cut_buffers a.pts.now a.out.now a.keep.now a.next.now) (3 * length a.kinds.now) (slices l.edge_words l.words l.reals l.keys l.events l.vertex) (entry_buffers l.triangle_words l.entry_words) (cut_buffers l.pts l.out l.keep l.next) l.now l.j l.invariant q
             start.requires.1.0,
         (refl, q),
       ),
@@ -150,9 +150,9 @@ returns c =
     let k = (insertion_slices a.vertices.now a.vertex_words.now a.edge_reals.now a.triangle_reals.now a.round.now a.kinds.now a.faces.now a.coords.now a.piece_words.now a.piece_reals.now) in
     let e = c.before.one.given in
     let q : l.j < 3 * length a.kinds.now = omega (arith, tested.loop-test.true) in
-    job_stopped a.limit k a.counts (slices a.edge_words.now a.words.now a.reals.now a.keys.now a.events.now a.vertex.now) (entry_buffers a.triangle_words.now a.entry_words_held.now)
+    job_stopped a.limit k a.counts (slices a.edge_words.now a.words.now a.reals.now a.keys.now a.events.now a.vertex.now) (entry_buffers a.triangle_words.now a.entry_words.now)
     (cut_buffers a.pts.now a.out.now a.keep.now a.next.now)
-    (slices l.edge_words_held l.words l.reals l.keys l.events l.vertex) (entry_buffers l.triangle_words_held l.entry_words_held) (cut_buffers l.pts l.out l.keep l.next) l.now l.j l.invariant q
+    (slices l.edge_words l.words l.reals l.keys l.events l.vertex) (entry_buffers l.triangle_words l.entry_words) (cut_buffers l.pts l.out l.keep l.next) l.now l.j l.invariant q
     (slices r.new.1.0 r.new.1.1.0 r.new.1.1.1.0 r.new.1.1.1.1.0 r.new.1.1.1.1.1.0 r.new.1.1.1.1.1.1.0) (entry_buffers r.new.1.1.1.1.1.1.1.1.1.1.1.1.1.1.1.1.1.1.1.1.0 r.new.1.1.1.1.1.1.1.1.1.1.1.1.1.1.1.1.1.1.1.1.1.0) e.0.0 (rw e.1 at r.ensures)
 
 enum-known-one-2 : tie.Need-enum-known-one-2 invariant-loop decreases-loop
@@ -181,9 +181,9 @@ loop-again c =
     let k = (insertion_slices a.vertices.now a.vertex_words.now a.edge_reals.now a.triangle_reals.now a.round.now a.kinds.now a.faces.now a.coords.now a.piece_words.now a.piece_reals.now) in
     let e = c.before.one2.given in
     let q : l.j < 3 * length a.kinds.now = omega (arith, tested.loop-test.true) in
-    job_next a.limit k a.counts (slices a.edge_words.now a.words.now a.reals.now a.keys.now a.events.now a.vertex.now) (entry_buffers a.triangle_words.now a.entry_words_held.now)
+    job_next a.limit k a.counts (slices a.edge_words.now a.words.now a.reals.now a.keys.now a.events.now a.vertex.now) (entry_buffers a.triangle_words.now a.entry_words.now)
     (cut_buffers a.pts.now a.out.now a.keep.now a.next.now)
-    (slices l.edge_words_held l.words l.reals l.keys l.events l.vertex) (entry_buffers l.triangle_words_held l.entry_words_held) (cut_buffers l.pts l.out l.keep l.next) l.now l.j l.invariant q
+    (slices l.edge_words l.words l.reals l.keys l.events l.vertex) (entry_buffers l.triangle_words l.entry_words) (cut_buffers l.pts l.out l.keep l.next) l.now l.j l.invariant q
     (slices r.new.1.0 r.new.1.1.0 r.new.1.1.1.0 r.new.1.1.1.1.0 r.new.1.1.1.1.1.0 r.new.1.1.1.1.1.1.0) (entry_buffers r.new.1.1.1.1.1.1.1.1.1.1.1.1.1.1.1.1.1.1.1.1.0 r.new.1.1.1.1.1.1.1.1.1.1.1.1.1.1.1.1.1.1.1.1.1.0) e.0.0
     (cut_buffers r.new.1.1.1.1.1.1.1.1.1.1.1.1.1.1.1.1.0 r.new.1.1.1.1.1.1.1.1.1.1.1.1.1.1.1.1.1.0 r.new.1.1.1.1.1.1.1.1.1.1.1.1.1.1.1.1.1.1.0 r.new.1.1.1.1.1.1.1.1.1.1.1.1.1.1.1.1.1.1.1.0)
     (record {
@@ -246,9 +246,9 @@ returns-2 c =
     let a = start.args in
     let l = loop.loop in
     let k = (insertion_slices a.vertices.now a.vertex_words.now a.edge_reals.now a.triangle_reals.now a.round.now a.kinds.now a.faces.now a.coords.now a.piece_words.now a.piece_reals.now) in
-    job_over a.limit k a.counts (slices a.edge_words.now a.words.now a.reals.now a.keys.now a.events.now a.vertex.now) (entry_buffers a.triangle_words.now a.entry_words_held.now)
+    job_over a.limit k a.counts (slices a.edge_words.now a.words.now a.reals.now a.keys.now a.events.now a.vertex.now) (entry_buffers a.triangle_words.now a.entry_words.now)
     (cut_buffers a.pts.now a.out.now a.keep.now a.next.now)
-    (slices l.edge_words_held l.words l.reals l.keys l.events l.vertex) (entry_buffers l.triangle_words_held l.entry_words_held) (cut_buffers l.pts l.out l.keep l.next) l.now l.j l.invariant (omega (arith, c.loop-test.false))
+    (slices l.edge_words l.words l.reals l.keys l.events l.vertex) (entry_buffers l.triangle_words l.entry_words) (cut_buffers l.pts l.out l.keep l.next) l.now l.j l.invariant (omega (arith, c.loop-test.false))
 
 pub insert-all-spec : {M : Type 1} → statement M
 insert-all-spec =

@@ -33,7 +33,7 @@ loop-holds c =
     let start = c.before.before.before.before.before.before.before.before.before.before.before.before.before.before.before.before.before.before.before.before.before.before.before.before.before.before.before in
     let a = start.args in
     let k = (insertion_slices a.vertices.now a.vertex_words.now a.edge_reals.now a.triangle_reals.now a.round.now a.kinds.now a.faces.now a.coords.now a.piece_words.now a.piece_reals.now) in
-    insert_start a.limit k (one_of k a.j) a.counts (slices a.edge_words.now a.words.now a.reals.now a.keys.now a.events.now a.vertex.now) (entry_buffers a.triangle_words.now a.entry_words_held.now)
+    insert_start a.limit k (one_of k a.j) a.counts (slices a.edge_words.now a.words.now a.reals.now a.keys.now a.events.now a.vertex.now) (entry_buffers a.triangle_words.now a.entry_words.now)
     (cut_buffers a.pts.now a.out.now a.keep.now a.next.now) c.insert_count.result start.requires.0
 
 insert-number-requires : tie.Need-insert-number-requires invariant-loop decreases-loop
@@ -45,10 +45,10 @@ insert-number-requires c κs =
     let l = loop.loop in
     let k = (insertion_slices a.vertices.now a.vertex_words.now a.edge_reals.now a.triangle_reals.now a.round.now a.kinds.now a.faces.now a.coords.now a.piece_words.now a.piece_reals.now) in
     let n = loop.before.insert_count.result in (
-      insert_fits a.limit k (one_of k a.j) a.counts (slices a.edge_words.now a.words.now a.reals.now a.keys.now a.events.now a.vertex.now) (entry_buffers a.triangle_words.now a.entry_words_held.now)
-          (cut_buffers a.pts.now a.out.now a.keep.now a.next.now) n (slices l.edge_words_held l.words l.reals l.keys l.events l.vertex) (entry_buffers l.triangle_words_held l.entry_words_held) (cut_buffers l.pts l.out l.keep l.next) l.now l.i l.invariant tested.loop-test.true,
-      insert_sizes a.limit k (one_of k a.j) a.counts (slices a.edge_words.now a.words.now a.reals.now a.keys.now a.events.now a.vertex.now) (entry_buffers a.triangle_words.now a.entry_words_held.now)
-          (cut_buffers a.pts.now a.out.now a.keep.now a.next.now) n (slices l.edge_words_held l.words l.reals l.keys l.events l.vertex) (entry_buffers l.triangle_words_held l.entry_words_held) (cut_buffers l.pts l.out l.keep l.next) l.now l.i l.invariant tested.loop-test.true
+      insert_fits a.limit k (one_of k a.j) a.counts (slices a.edge_words.now a.words.now a.reals.now a.keys.now a.events.now a.vertex.now) (entry_buffers a.triangle_words.now a.entry_words.now)
+          (cut_buffers a.pts.now a.out.now a.keep.now a.next.now) n (slices l.edge_words l.words l.reals l.keys l.events l.vertex) (entry_buffers l.triangle_words l.entry_words) (cut_buffers l.pts l.out l.keep l.next) l.now l.i l.invariant tested.loop-test.true,
+      insert_sizes a.limit k (one_of k a.j) a.counts (slices a.edge_words.now a.words.now a.reals.now a.keys.now a.events.now a.vertex.now) (entry_buffers a.triangle_words.now a.entry_words.now)
+          (cut_buffers a.pts.now a.out.now a.keep.now a.next.now) n (slices l.edge_words l.words l.reals l.keys l.events l.vertex) (entry_buffers l.triangle_words l.entry_words) (cut_buffers l.pts l.out l.keep l.next) l.now l.i l.invariant tested.loop-test.true
           start.requires.1.0,
     )
 
@@ -140,9 +140,9 @@ returns c =
     let r = made.insert-number in
     let k = (insertion_slices a.vertices.now a.vertex_words.now a.edge_reals.now a.triangle_reals.now a.round.now a.kinds.now a.faces.now a.coords.now a.piece_words.now a.piece_reals.now) in
     let e = c.before.one.given in
-    source_stopped a.limit k a.pieces start.requires.1.1.0 a.j start.requires.1.1.1 a.counts (slices a.edge_words.now a.words.now a.reals.now a.keys.now a.events.now a.vertex.now) (entry_buffers a.triangle_words.now a.entry_words_held.now)
+    source_stopped a.limit k a.pieces start.requires.1.1.0 a.j start.requires.1.1.1 a.counts (slices a.edge_words.now a.words.now a.reals.now a.keys.now a.events.now a.vertex.now) (entry_buffers a.triangle_words.now a.entry_words.now)
     (cut_buffers a.pts.now a.out.now a.keep.now a.next.now) read.job-source.result read.job-source.ensures counted.insert_count.result counted.insert_count.ensures
-    (slices l.edge_words_held l.words l.reals l.keys l.events l.vertex) (entry_buffers l.triangle_words_held l.entry_words_held) (cut_buffers l.pts l.out l.keep l.next) l.now l.i l.invariant tested.loop-test.true
+    (slices l.edge_words l.words l.reals l.keys l.events l.vertex) (entry_buffers l.triangle_words l.entry_words) (cut_buffers l.pts l.out l.keep l.next) l.now l.i l.invariant tested.loop-test.true
     (slices r.new.1.0 r.new.1.1.0 r.new.1.1.1.0 r.new.1.1.1.1.0 r.new.1.1.1.1.1.0 r.new.1.1.1.1.1.1.0) (entry_buffers r.new.1.1.1.1.1.1.1.1.1.1.1.1.1.1.1.1.1.1.1.1.0 r.new.1.1.1.1.1.1.1.1.1.1.1.1.1.1.1.1.1.1.1.1.1.0) e.0.0 (rw e.1 at r.ensures)
 
 enum-known-one-2 : tie.Need-enum-known-one-2 invariant-loop decreases-loop
@@ -171,9 +171,9 @@ loop-again c =
     let r = made.insert-number in
     let k = (insertion_slices a.vertices.now a.vertex_words.now a.edge_reals.now a.triangle_reals.now a.round.now a.kinds.now a.faces.now a.coords.now a.piece_words.now a.piece_reals.now) in
     let e = c.before.one2.given in
-    source_next a.limit k a.pieces start.requires.1.1.0 a.j start.requires.1.1.1 a.counts (slices a.edge_words.now a.words.now a.reals.now a.keys.now a.events.now a.vertex.now) (entry_buffers a.triangle_words.now a.entry_words_held.now)
+    source_next a.limit k a.pieces start.requires.1.1.0 a.j start.requires.1.1.1 a.counts (slices a.edge_words.now a.words.now a.reals.now a.keys.now a.events.now a.vertex.now) (entry_buffers a.triangle_words.now a.entry_words.now)
     (cut_buffers a.pts.now a.out.now a.keep.now a.next.now) read.job-source.result read.job-source.ensures counted.insert_count.result counted.insert_count.ensures
-    (slices l.edge_words_held l.words l.reals l.keys l.events l.vertex) (entry_buffers l.triangle_words_held l.entry_words_held) (cut_buffers l.pts l.out l.keep l.next) l.now l.i l.invariant tested.loop-test.true
+    (slices l.edge_words l.words l.reals l.keys l.events l.vertex) (entry_buffers l.triangle_words l.entry_words) (cut_buffers l.pts l.out l.keep l.next) l.now l.i l.invariant tested.loop-test.true
     (slices r.new.1.0 r.new.1.1.0 r.new.1.1.1.0 r.new.1.1.1.1.0 r.new.1.1.1.1.1.0 r.new.1.1.1.1.1.1.0) (entry_buffers r.new.1.1.1.1.1.1.1.1.1.1.1.1.1.1.1.1.1.1.1.1.0 r.new.1.1.1.1.1.1.1.1.1.1.1.1.1.1.1.1.1.1.1.1.1.0) e.0.0
     (cut_buffers r.new.1.1.1.1.1.1.1.1.1.1.1.1.1.1.1.1.0 r.new.1.1.1.1.1.1.1.1.1.1.1.1.1.1.1.1.1.0 r.new.1.1.1.1.1.1.1.1.1.1.1.1.1.1.1.1.1.1.0 r.new.1.1.1.1.1.1.1.1.1.1.1.1.1.1.1.1.1.1.1.0)
     (record {
@@ -238,9 +238,9 @@ returns-2 c =
     let a = start.args in
     let l = loop.loop in
     let k = (insertion_slices a.vertices.now a.vertex_words.now a.edge_reals.now a.triangle_reals.now a.round.now a.kinds.now a.faces.now a.coords.now a.piece_words.now a.piece_reals.now) in
-    source_over a.limit k a.pieces start.requires.1.1.0 a.j start.requires.1.1.1 a.counts (slices a.edge_words.now a.words.now a.reals.now a.keys.now a.events.now a.vertex.now) (entry_buffers a.triangle_words.now a.entry_words_held.now)
+    source_over a.limit k a.pieces start.requires.1.1.0 a.j start.requires.1.1.1 a.counts (slices a.edge_words.now a.words.now a.reals.now a.keys.now a.events.now a.vertex.now) (entry_buffers a.triangle_words.now a.entry_words.now)
     (cut_buffers a.pts.now a.out.now a.keep.now a.next.now) read.job-source.result read.job-source.ensures counted.insert_count.result counted.insert_count.ensures
-    (slices l.edge_words_held l.words l.reals l.keys l.events l.vertex) (entry_buffers l.triangle_words_held l.entry_words_held) (cut_buffers l.pts l.out l.keep l.next) l.now l.i l.invariant (omega (arith, c.loop-test.false))
+    (slices l.edge_words l.words l.reals l.keys l.events l.vertex) (entry_buffers l.triangle_words l.entry_words) (cut_buffers l.pts l.out l.keep l.next) l.now l.i l.invariant (omega (arith, c.loop-test.false))
 
 pub insert-source-spec : {M : Type 1} → statement M
 insert-source-spec =

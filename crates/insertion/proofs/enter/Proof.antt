@@ -24,7 +24,7 @@ returns : tie.Need-returns
 returns c =
     let a = c.before.before.before.before.before.before.before.before.before.before.before.args in
     let r = c.before.before.before.before.before.before.enter in
-    enters_full a.counts a.face a.x (entry_buffers a.triangle_words.now a.entry_words_held.now) (entry_buffers r.new.0 r.new.1.0) r.result r.ensures.0 c.enum_told.given.1
+    enters_full a.counts a.face a.x (entry_buffers a.triangle_words.now a.entry_words.now) (entry_buffers r.new.0 r.new.1.0) r.result r.ensures.0 c.enum_told.given.1
 
 same-length-3 : tie.Need-same-length-3
 same-length-3 c = c.before.before.before.before.before.before.before.before.enter.auto.0
@@ -37,7 +37,7 @@ returns-2 c =
     let a = c.before.before.before.before.before.before.before.before.before.before.before.before.before.args in
     let r = c.before.before.before.before.before.before.before.before.enter in
     let e = c.before.before.entered.given in
-    enters_count a.counts a.face a.x (entry_buffers a.triangle_words.now a.entry_words_held.now) (entry_buffers r.new.0 r.new.1.0) r.result r.ensures.0 e.0.0 e.1
+    enters_count a.counts a.face a.x (entry_buffers a.triangle_words.now a.entry_words.now) (entry_buffers r.new.0 r.new.1.0) r.result r.ensures.0 e.0.0 e.1
 
 pub enter_spec : {M : Type 1} → statement M
 enter_spec =

@@ -32,7 +32,7 @@ returns c =
     let r = c.before.before.before.before.enter in
     let x = c.before.before.before.before.before.before.before.before.x.given in
     insert_entered a.limit a.vertex_words.now a.edge_reals.now a.x a.counts (slices a.edge_words.now a.words.now a.reals.now a.keys.now a.events.now a.vertex.now)
-    (entry_buffers a.triangle_words.now a.entry_words_held.now) (cut_buffers a.pts.now a.out.now a.keep.now a.next.now)
+    (entry_buffers a.triangle_words.now a.entry_words.now) (cut_buffers a.pts.now a.out.now a.keep.now a.next.now)
     x.0.0 x.0.1.0 x.1 start.requires.0 (entry_buffers r.new.0 r.new.1.0) r.result r.ensures
 
 same-length-3 : tie.Need-same-length-3
@@ -91,7 +91,7 @@ returns-2 c =
     let r = c.before.before.before.before.before.before.before.before.before.before.before.before.before.before.before.before.before.before.before.before.offer in
     let x = c.before.before.before.before.before.before.before.before.before.before.before.before.before.before.before.before.before.before.before.before.before.before.before.before.before.before.before.before.before.before.before.before.x2.given in
     insert_offered a.limit a.vertex_words.now a.edge_reals.now a.x a.counts (slices a.edge_words.now a.words.now a.reals.now a.keys.now a.events.now a.vertex.now)
-    (entry_buffers a.triangle_words.now a.entry_words_held.now) (cut_buffers a.pts.now a.out.now a.keep.now a.next.now)
+    (entry_buffers a.triangle_words.now a.entry_words.now) (cut_buffers a.pts.now a.out.now a.keep.now a.next.now)
     x.0.0 x.1 (slices r.new.0 r.new.1.0 r.new.1.1.0 r.new.1.1.1.0 r.new.1.1.1.1.0 r.new.1.1.1.1.1.0) (cut_buffers r.new.1.1.1.1.1.1.1.1.0 r.new.1.1.1.1.1.1.1.1.1.0 r.new.1.1.1.1.1.1.1.1.1.1.0 r.new.1.1.1.1.1.1.1.1.1.1.1.0) r.result r.ensures
 
 pub insert-spec : {M : Type 1} → statement M

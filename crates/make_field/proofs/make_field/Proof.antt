@@ -15,8 +15,8 @@ returns : tie.Need-returns
 returns c =
     let a = c.before.before.before.before.before.before.before.before.before.before.before.before.before.before.before.before.before.before.before.before.before.before.before.before.args in
     passes_field a.edges a.vertices.now a.triangles.now a.kinds.now a.faces.now a.coords.now a.limit
-    (mesh_buffers a.vertex_words_held.now a.edge_words_held.now a.edge_reals_held.now a.round.now a.triangle_words_held.now a.triangle_reals.now)
-    (work_slices a.piece_words.now a.piece_reals.now a.vertex.now a.words.now a.reals.now a.keys.now a.events.now a.entry_words_held.now)
+    (mesh_buffers a.vertex_words.now a.edge_words.now a.edge_reals.now a.round.now a.triangle_words.now a.triangle_reals.now)
+    (work_slices a.piece_words.now a.piece_reals.now a.vertex.now a.words.now a.reals.now a.keys.now a.events.now a.entry_words.now)
     (cut_buffers a.pts.now a.out.now a.keep.now a.next.now) a.max-steps a.number c.if1.true
 
 cut-count-requires : tie.Need-cut-count-requires
@@ -37,7 +37,7 @@ finish-work-requires c κs =
     let fits = far.before.before.before.before.before.before.before.before.before.before.before.before.before.before.before.before.before.before.before.before.before.before.requires (omega (arith, none)) in
     let worked = c.before.before.before.before.before.before.before.before.before.before.before.before.before.before.before.before.before.before.before.before.before.before.before.before.before.before.before.before.before.before.before.before.before.before.before.before.before.before.work-parts in (
       within_left worked.result a.words.now a.reals.now worked.new.1.1.1.1.1.1.1.1.1.1.1.1.1.1.1.1.1.0 worked.new.1.1.1.1.1.1.1.1.1.1.1.1.1.1.1.1.1.1.0 worked.auto.1.1.1.1.1.1.1.1.1.1.1.1.1.1.1.1.1.0 worked.auto.1.1.1.1.1.1.1.1.1.1.1.1.1.1.1.1.1.1.0 worked.ensures.bounded,
-      edges_left a.edges a.edge_words_held.now worked.new.1.1.1.1.1.1.1.1.1.0 worked.auto.1.1.1.1.1.1.1.1.1.0 fits.1.1.1,
+      edges_left a.edges a.edge_words.now worked.new.1.1.1.1.1.1.1.1.1.0 worked.auto.1.1.1.1.1.1.1.1.1.0 fits.1.1.1,
     )
 
 same_length : tie.Need-same-length
@@ -107,8 +107,8 @@ returns-2 c =
     let worked = c.before.before.before.before.before.before.before.before.before.before.before.before.before.before.before.before.before.before.before.before.before.before.before.before.before.before.before.before.before.before.before.before.before.before.before.before.before.before.before.before.before.before.before.before.before.before.before.before.before.before.before.before.before.before.before.work-parts in
     let ended = c.before.before.before.before.before.before.before.before.before.before.before.before.before.before.before.before.finish-work in
     makes_field a.edges a.vertices.now a.triangles.now a.kinds.now a.faces.now a.coords.now a.limit
-    (mesh_buffers a.vertex_words_held.now a.edge_words_held.now a.edge_reals_held.now a.round.now a.triangle_words_held.now a.triangle_reals.now)
-    (work_slices a.piece_words.now a.piece_reals.now a.vertex.now a.words.now a.reals.now a.keys.now a.events.now a.entry_words_held.now)
+    (mesh_buffers a.vertex_words.now a.edge_words.now a.edge_reals.now a.round.now a.triangle_words.now a.triangle_reals.now)
+    (work_slices a.piece_words.now a.piece_reals.now a.vertex.now a.words.now a.reals.now a.keys.now a.events.now a.entry_words.now)
     (cut_buffers a.pts.now a.out.now a.keep.now a.next.now) a.max-steps a.number none cut.result cut.ensures worked.result
     worked.new.1.1.1.1.1.1.1.1.1.1.1.1.1.1.0 worked.new.1.1.1.1.1.1.1.1.1.1.1.1.1.1.1.0
     (slices worked.new.1.1.1.1.1.1.1.1.1.0 worked.new.1.1.1.1.1.1.1.1.1.1.1.1.1.1.1.1.1.0 worked.new.1.1.1.1.1.1.1.1.1.1.1.1.1.1.1.1.1.1.0 worked.new.1.1.1.1.1.1.1.1.1.1.1.1.1.1.1.1.1.1.1.0 worked.new.1.1.1.1.1.1.1.1.1.1.1.1.1.1.1.1.1.1.1.1.0 worked.new.1.1.1.1.1.1.1.1.1.1.1.1.1.1.1.1.0)

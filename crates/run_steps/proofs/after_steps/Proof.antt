@@ -21,7 +21,7 @@ returns : tie.Need-returns
 returns c =
     let a = c.before.before.before.before.before.before.before.args in
     let went = c.before.before.before.advanced2.given in
-    after_done a.keys.now a.events.now a.entries a.advanced went.0.0 went.0.1.0 went.1 (sym c.before.none_waits_lem.ensures ∙ c.if1.true)
+    after_done a.keys.now a.events.now a.entries a.advanced went.0.0 went.0.1.0 went.1 (sym c.before.none_waits.ensures ∙ c.if1.true)
 
 returns-2 : tie.Need-returns-2
 returns-2 c =
@@ -33,7 +33,7 @@ returns-3 : tie.Need-returns-3
 returns-3 c =
     let a = c.before.before.before.before.before.before.before.args in
     let went = c.before.before.before.advanced2.given in
-    after_spent a.keys.now a.events.now a.entries a.advanced went.0.0 went.0.1.0 went.1 (sym c.before.none_waits_lem.ensures ∙ c.if1.false)
+    after_spent a.keys.now a.events.now a.entries a.advanced went.0.0 went.0.1.0 went.1 (sym c.before.none_waits.ensures ∙ c.if1.false)
 
 pub after-steps-spec : {M : Type 1} → statement M
 after-steps-spec =

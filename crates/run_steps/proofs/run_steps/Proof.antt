@@ -33,17 +33,17 @@ after-steps-requires c κs = search rules
 returns : tie.Need-returns
 returns c =
     let a = c.before.before.before.before.before.before.before.before.before.before.before.before.before.before.before.before.before.before.before.args in
-    run_wedge a.limit a.n a.most a.vertices.now a.triangles.now a.vertex_words_held.now a.round.now a.edge_reals_held.now a.triangle_words_held.now a.triangle_reals.now
-    (slices a.edge_words_held.now a.words.now a.reals.now a.keys.now a.events.now a.vertex.now) (cut_buffers a.pts.now a.out.now a.keep.now a.next.now)
-    a.from c.enum_told.given.1 (slices a.edge_words_held.now a.words.now a.reals.now a.keys.now a.events.now a.vertex.now)
+    run_wedge a.limit a.n a.most a.vertices.now a.triangles.now a.vertex_words.now a.round.now a.edge_reals.now a.triangle_words.now a.triangle_reals.now
+    (slices a.edge_words.now a.words.now a.reals.now a.keys.now a.events.now a.vertex.now) (cut_buffers a.pts.now a.out.now a.keep.now a.next.now)
+    a.from c.enum_told.given.1 (slices a.edge_words.now a.words.now a.reals.now a.keys.now a.events.now a.vertex.now)
 
 returns-2 : tie.Need-returns-2
 returns-2 c =
     let a = c.before.before.before.before.before.before.before.before.before.before.before.before.before.before.before.before.before.before.before.before.before.args in
     let lack = c.before.before.from.given in
-    run_lack a.limit a.n a.most a.vertices.now a.triangles.now a.vertex_words_held.now a.round.now a.edge_reals_held.now a.triangle_words_held.now a.triangle_reals.now
-    (slices a.edge_words_held.now a.words.now a.reals.now a.keys.now a.events.now a.vertex.now) (cut_buffers a.pts.now a.out.now a.keep.now a.next.now)
-    a.from lack.0.0 lack.1 c.lack-number.result c.lack-number.ensures (slices a.edge_words_held.now a.words.now a.reals.now a.keys.now a.events.now a.vertex.now)
+    run_lack a.limit a.n a.most a.vertices.now a.triangles.now a.vertex_words.now a.round.now a.edge_reals.now a.triangle_words.now a.triangle_reals.now
+    (slices a.edge_words.now a.words.now a.reals.now a.keys.now a.events.now a.vertex.now) (cut_buffers a.pts.now a.out.now a.keep.now a.next.now)
+    a.from lack.0.0 lack.1 c.lack-number.result c.lack-number.ensures (slices a.edge_words.now a.words.now a.reals.now a.keys.now a.events.now a.vertex.now)
 
 same_length : tie.Need-same-length
 same_length c = search rules
@@ -80,8 +80,8 @@ returns-3 c =
     let a = c.before.before.before.before.before.before.before.before.before.before.before.before.before.before.before.before.before.before.before.before.before.before.before.before.before.before.before.before.before.before.before.before.before.before.before.before.before.before.before.before.before.before.before.before.before.before.before.before.before.before.before.before.before.before.args in
     let went = c.before.before.before.before.before.before.before.before.before.before.before.before.before.before.before.before.before.before.before.before.before.before.before.before.before.before.before.before.before.before.before.before.before.before.before.from2.given in
     let r = c.before.before.before.before.before.before.before.before.before.before.before.before.before.before.before.before.before.before.before.before.before.before.before.advance in
-    run_from_lem a.limit a.n a.most a.vertices.now a.triangles.now a.vertex_words_held.now a.round.now a.edge_reals_held.now a.triangle_words_held.now a.triangle_reals.now
-    (slices a.edge_words_held.now a.words.now a.reals.now a.keys.now a.events.now a.vertex.now) (cut_buffers a.pts.now a.out.now a.keep.now a.next.now)
+    run_from_lem a.limit a.n a.most a.vertices.now a.triangles.now a.vertex_words.now a.round.now a.edge_reals.now a.triangle_words.now a.triangle_reals.now
+    (slices a.edge_words.now a.words.now a.reals.now a.keys.now a.events.now a.vertex.now) (cut_buffers a.pts.now a.out.now a.keep.now a.next.now)
     a.from went.0.0 went.1 r.result (slices r.new.1.1.0 r.new.1.1.1.0 r.new.1.1.1.1.0 r.new.1.1.1.1.1.0 r.new.1.1.1.1.1.1.0 r.new.1.1.1.1.1.1.1.0) c.after-steps.result c.after-steps.ensures r.ensures
 
 pub run-steps-spec : {M : Type 1} → statement M

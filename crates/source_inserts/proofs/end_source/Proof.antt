@@ -36,7 +36,7 @@ returns-2 c =
     let test = branch.before in
     let a = test.before.before.before.before.before.before.before.before.before.before.args in
     point_is a.vertices.now a.edge_words.now a.edge_reals.now a.triangle_words.now a.triangle_reals.now a.kinds.now a.faces.now a.coords.now a.piece_words.now a.pieces a.e a.part
-    (sym test.is_first.ensures ∙ not-false _ branch.if1.false) face.face-of.result point.end_point_lem.result c.carrier.result face.face-of.ensures point.end_point_lem.ensures c.carrier.ensures
+    (sym test.is_first.ensures ∙ not-false _ branch.if1.false) face.face-of.result point.end_point.result c.carrier.result face.face-of.ensures point.end_point.ensures c.carrier.ensures
 
 pub end-source-spec : {M : Type 1} → statement M
 end-source-spec =

@@ -27,7 +27,7 @@ returns-2 c =
     let branch = normal.before in
     let a = branch.before.before.before.before.before.before.args in
     segment_side a.vertices.now a.edge_words.now a.edge_reals.now a.triangle_words.now a.triangle_reals.now a.f a.a a.b a.piece a.i
-    branch.if1.false normal.normal_of_lem.result normal.normal_of_lem.ensures c.segment-offer.result c.segment-offer.ensures
+    branch.if1.false normal.normal_of.result normal.normal_of.ensures c.segment-offer.result c.segment-offer.ensures
 
 pub segment-insert-spec : {M : Type 1} → statement M
 segment-insert-spec =

@@ -50,7 +50,7 @@ returns-2 c =
     let test = branch.before in
     let a = test.before.before.before.before.args in
     segment_is a.kinds.now a.faces.now a.coords.now a.i (sym test.is-end.ensures ∙ not-false _ branch.if1.false)
-    face.face-of.result first.end_point_lem.result c.end-point2.result face.face-of.ensures first.end_point_lem.ensures c.end-point2.ensures
+    face.face-of.result first.end_point.result c.end-point2.result face.face-of.ensures first.end_point.ensures c.end-point2.ensures
 
 pub segment-source-spec : {M : Type 1} → statement M
 segment-source-spec =

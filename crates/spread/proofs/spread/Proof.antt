@@ -30,8 +30,8 @@ loop-holds c =
     let face = c.before in
     let start = face.before.before.before.before.before.before.before.before.before.before.before.before.before.before.before.before.before.before.before in
     let a = start.args in
-    loop_start a.limit a.vertex_words_held.now (reads_spread a.vertices.now a.triangles.now a.edge_reals_held.now a.triangle_words_held.now a.triangle_reals.now a.vertex_words_held.now a.round.now a.s a.edge_words_held.now face.find-opposite.result) a.counts
-    (slices a.edge_words_held.now a.words.now a.reals.now a.keys.now a.events.now a.vertex.now) (cut_buffers a.pts.now a.out.now a.keep.now a.next.now)
+    loop_start a.limit a.vertex_words.now (reads_spread a.vertices.now a.triangles.now a.edge_reals.now a.triangle_words.now a.triangle_reals.now a.vertex_words.now a.round.now a.s a.edge_words.now face.find-opposite.result) a.counts
+    (slices a.edge_words.now a.words.now a.reals.now a.keys.now a.events.now a.vertex.now) (cut_buffers a.pts.now a.out.now a.keep.now a.next.now)
     start.requires.0
 
 spread-offer-requires : tie.Need-spread-offer-requires invariant-loop decreases-loop
@@ -46,11 +46,11 @@ offer-requires c κs =
     let start = face.before.before.before.before.before.before.before.before.before.before.before.before.before.before.before.before.before.before.before in
     let a = start.args in
     let l = loop.loop in (
-      loop_fits a.limit a.vertex_words_held.now (reads_spread a.vertices.now a.triangles.now a.edge_reals_held.now a.triangle_words_held.now a.triangle_reals.now a.vertex_words_held.now a.round.now a.s a.edge_words_held.now face.find-opposite.result) a.counts
-          (slices a.edge_words_held.now a.words.now a.reals.now a.keys.now a.events.now a.vertex.now) (cut_buffers a.pts.now a.out.now a.keep.now a.next.now)
-          (slices l.edge_words_held l.words l.reals l.keys l.events l.vertex) (cut_buffers l.pts l.out l.keep l.next) l.now l.i l.invariant
+      loop_fits a.limit a.vertex_words.now (reads_spread a.vertices.now a.triangles.now a.edge_reals.now a.triangle_words.now a.triangle_reals.now a.vertex_words.now a.round.now a.s a.edge_words.now face.find-opposite.result) a.counts
+          (slices a.edge_words.now a.words.now a.reals.now a.keys.now a.events.now a.vertex.now) (cut_buffers a.pts.now a.out.now a.keep.now a.next.now)
+          (slices l.edge_words l.words l.reals l.keys l.events l.vertex) (cut_buffers l.pts l.out l.keep l.next) l.now l.i l.invariant
           (omega (arith, tested.loop-test.true, loop.before.spread-count.ensures)),
-      sizes_same (slices a.edge_words_held.now a.words.now a.reals.now a.keys.now a.events.now a.vertex.now) (slices l.edge_words_held l.words l.reals l.keys l.events l.vertex) (cut_buffers a.pts.now a.out.now a.keep.now a.next.now) (cut_buffers l.pts l.out l.keep l.next)
+      sizes_same (slices a.edge_words.now a.words.now a.reals.now a.keys.now a.events.now a.vertex.now) (slices l.edge_words l.words l.reals l.keys l.events l.vertex) (cut_buffers a.pts.now a.out.now a.keep.now a.next.now) (cut_buffers l.pts l.out l.keep l.next)
           l.invariant.same start.requires.1,
     )
 
@@ -97,11 +97,11 @@ returns c =
     let a = face.before.before.before.before.before.before.before.before.before.before.before.before.before.before.before.before.before.before.before.args in
     let l = loop.loop in
     let r = offered.offer in
-    read_first a.vertices.now a.triangles.now a.edge_reals_held.now a.triangle_words_held.now a.triangle_reals.now a.vertex_words_held.now a.round.now a.s a.edge_words_held.now face.find-opposite.result face.find-opposite.ensures a.limit a.counts
-    (slices a.edge_words_held.now a.words.now a.reals.now a.keys.now a.events.now a.vertex.now) refl (cut_buffers a.pts.now a.out.now a.keep.now a.next.now) _ _
-    (loop_stopped a.limit a.vertex_words_held.now (reads_spread a.vertices.now a.triangles.now a.edge_reals_held.now a.triangle_words_held.now a.triangle_reals.now a.vertex_words_held.now a.round.now a.s a.edge_words_held.now face.find-opposite.result) a.counts
-    (slices a.edge_words_held.now a.words.now a.reals.now a.keys.now a.events.now a.vertex.now) (cut_buffers a.pts.now a.out.now a.keep.now a.next.now)
-    (slices l.edge_words_held l.words l.reals l.keys l.events l.vertex) (cut_buffers l.pts l.out l.keep l.next) l.now l.i l.invariant
+    read_first a.vertices.now a.triangles.now a.edge_reals.now a.triangle_words.now a.triangle_reals.now a.vertex_words.now a.round.now a.s a.edge_words.now face.find-opposite.result face.find-opposite.ensures a.limit a.counts
+    (slices a.edge_words.now a.words.now a.reals.now a.keys.now a.events.now a.vertex.now) refl (cut_buffers a.pts.now a.out.now a.keep.now a.next.now) _ _
+    (loop_stopped a.limit a.vertex_words.now (reads_spread a.vertices.now a.triangles.now a.edge_reals.now a.triangle_words.now a.triangle_reals.now a.vertex_words.now a.round.now a.s a.edge_words.now face.find-opposite.result) a.counts
+    (slices a.edge_words.now a.words.now a.reals.now a.keys.now a.events.now a.vertex.now) (cut_buffers a.pts.now a.out.now a.keep.now a.next.now)
+    (slices l.edge_words l.words l.reals l.keys l.events l.vertex) (cut_buffers l.pts l.out l.keep l.next) l.now l.i l.invariant
     (omega (arith, tested.loop-test.true, loop.before.spread-count.ensures)) read.spread-offer.result read.spread-offer.ensures c.before.added.given.0.0 (slices r.new.0 r.new.1.0 r.new.1.1.0 r.new.1.1.1.0 r.new.1.1.1.1.0 r.new.1.1.1.1.1.0)
     (cut_buffers r.new.1.1.1.1.1.1.1.1.0 r.new.1.1.1.1.1.1.1.1.1.0 r.new.1.1.1.1.1.1.1.1.1.1.0 r.new.1.1.1.1.1.1.1.1.1.1.1.0)
     (rw c.before.added.given.1 at r.ensures))
@@ -125,9 +125,9 @@ loop-again c =
     let a = face.before.before.before.before.before.before.before.before.before.before.before.before.before.before.before.before.before.before.before.args in
     let l = loop.loop in
     let r = offered.offer in
-    loop_next a.limit a.vertex_words_held.now (reads_spread a.vertices.now a.triangles.now a.edge_reals_held.now a.triangle_words_held.now a.triangle_reals.now a.vertex_words_held.now a.round.now a.s a.edge_words_held.now face.find-opposite.result) a.counts
-    (slices a.edge_words_held.now a.words.now a.reals.now a.keys.now a.events.now a.vertex.now) (cut_buffers a.pts.now a.out.now a.keep.now a.next.now)
-    (slices l.edge_words_held l.words l.reals l.keys l.events l.vertex) (cut_buffers l.pts l.out l.keep l.next) l.now l.i l.invariant
+    loop_next a.limit a.vertex_words.now (reads_spread a.vertices.now a.triangles.now a.edge_reals.now a.triangle_words.now a.triangle_reals.now a.vertex_words.now a.round.now a.s a.edge_words.now face.find-opposite.result) a.counts
+    (slices a.edge_words.now a.words.now a.reals.now a.keys.now a.events.now a.vertex.now) (cut_buffers a.pts.now a.out.now a.keep.now a.next.now)
+    (slices l.edge_words l.words l.reals l.keys l.events l.vertex) (cut_buffers l.pts l.out l.keep l.next) l.now l.i l.invariant
     (omega (arith, tested.loop-test.true, loop.before.spread-count.ensures)) read.spread-offer.result read.spread-offer.ensures c.before.added2.given.0.0 (slices r.new.0 r.new.1.0 r.new.1.1.0 r.new.1.1.1.0 r.new.1.1.1.1.0 r.new.1.1.1.1.1.0)
     (cut_buffers r.new.1.1.1.1.1.1.1.1.0 r.new.1.1.1.1.1.1.1.1.1.0 r.new.1.1.1.1.1.1.1.1.1.1.0 r.new.1.1.1.1.1.1.1.1.1.1.1.0)
     (record { edges = r.auto.0; words = r.auto.1.0; reals = r.auto.1.1.0; keys = r.auto.1.1.1.0; events = r.auto.1.1.1.1.0; vertex = r.auto.1.1.1.1.1.0; pts = r.auto.1.1.1.1.1.1.1.1.0; out = r.auto.1.1.1.1.1.1.1.1.1.0; keep = r.auto.1.1.1.1.1.1.1.1.1.1.0; next = r.auto.1.1.1.1.1.1.1.1.1.1.1.0 })
@@ -169,11 +169,11 @@ returns-2 c =
     let face = loop.before.before in
     let a = face.before.before.before.before.before.before.before.before.before.before.before.before.before.before.before.before.before.before.before.args in
     let l = loop.loop in
-    read_first a.vertices.now a.triangles.now a.edge_reals_held.now a.triangle_words_held.now a.triangle_reals.now a.vertex_words_held.now a.round.now a.s a.edge_words_held.now face.find-opposite.result face.find-opposite.ensures a.limit a.counts
-    (slices a.edge_words_held.now a.words.now a.reals.now a.keys.now a.events.now a.vertex.now) refl (cut_buffers a.pts.now a.out.now a.keep.now a.next.now) _ _
-    (loop_over a.limit a.vertex_words_held.now (reads_spread a.vertices.now a.triangles.now a.edge_reals_held.now a.triangle_words_held.now a.triangle_reals.now a.vertex_words_held.now a.round.now a.s a.edge_words_held.now face.find-opposite.result) a.counts
-    (slices a.edge_words_held.now a.words.now a.reals.now a.keys.now a.events.now a.vertex.now) (cut_buffers a.pts.now a.out.now a.keep.now a.next.now)
-    (slices l.edge_words_held l.words l.reals l.keys l.events l.vertex) (cut_buffers l.pts l.out l.keep l.next) l.now l.i l.invariant
+    read_first a.vertices.now a.triangles.now a.edge_reals.now a.triangle_words.now a.triangle_reals.now a.vertex_words.now a.round.now a.s a.edge_words.now face.find-opposite.result face.find-opposite.ensures a.limit a.counts
+    (slices a.edge_words.now a.words.now a.reals.now a.keys.now a.events.now a.vertex.now) refl (cut_buffers a.pts.now a.out.now a.keep.now a.next.now) _ _
+    (loop_over a.limit a.vertex_words.now (reads_spread a.vertices.now a.triangles.now a.edge_reals.now a.triangle_words.now a.triangle_reals.now a.vertex_words.now a.round.now a.s a.edge_words.now face.find-opposite.result) a.counts
+    (slices a.edge_words.now a.words.now a.reals.now a.keys.now a.events.now a.vertex.now) (cut_buffers a.pts.now a.out.now a.keep.now a.next.now)
+    (slices l.edge_words l.words l.reals l.keys l.events l.vertex) (cut_buffers l.pts l.out l.keep l.next) l.now l.i l.invariant
     (omega (arith, c.loop-test.false, loop.before.spread-count.ensures)))
 
 pub spread-spec : {M : Type 1} → statement M

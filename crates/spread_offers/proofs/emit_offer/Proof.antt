@@ -15,7 +15,7 @@ returns c =
     let on = c.before in
     let side = on.before in
     let a = side.before.before.before.before.before.before.args in
-    emit_none a.vertices.now a.edge_words_held.now a.edge_reals_held.now a.triangle_words_held.now a.triangle_reals.now a.g.0 a.k a.vx.0 a.d side.side.result side.side.ensures on.at_end_lem.result on.at_end_lem.ensures c.if1.true
+    emit_none a.vertices.now a.edge_words.now a.edge_reals.now a.triangle_words.now a.triangle_reals.now a.g.0 a.k a.vx.0 a.d side.side.result side.side.ensures on.at_end.result on.at_end.ensures c.if1.true
 
 length-requires : tie.Need-length-requires
 length-requires c κs = search rules
@@ -46,7 +46,7 @@ returns-2 c =
     let on = tested.before in
     let side = on.before in
     let a = side.before.before.before.before.before.before.args in
-    emit_is a.vertices.now a.edge_words_held.now a.edge_reals_held.now a.triangle_words_held.now a.triangle_reals.now a.g.0 a.k a.vx.0 a.d side.side.result side.side.ensures on.at_end_lem.result on.at_end_lem.ensures tested.if1.false
+    emit_is a.vertices.now a.edge_words.now a.edge_reals.now a.triangle_words.now a.triangle_reals.now a.g.0 a.k a.vx.0 a.d side.side.result side.side.ensures on.at_end.result on.at_end.ensures tested.if1.false
     long.length.result long.length.ensures point.vertex.result point.vertex.ensures there.coords.result there.coords.ensures emitted.emit.result emitted.emit.ensures
     other.other.result other.other.ensures c.offered.result c.offered.ensures
 

@@ -45,7 +45,7 @@ returns c =
     let both = x.before in
     let long = both.before in
     let a = long.before.before.before.before.before.before.args in
-    ahead_is a.vertices.now a.edge_words_held.now a.edge_reals_held.now a.triangle_words_held.now a.triangle_reals.now a.e.0 a.g.0 a.c.0 long.length.result long.length.ensures x.vertex.result x.vertex.ensures _
+    ahead_is a.vertices.now a.edge_words.now a.edge_reals.now a.triangle_words.now a.triangle_reals.now a.e.0 a.g.0 a.c.0 long.length.result long.length.ensures x.vertex.result x.vertex.ensures _
     (coords_of_lem _ _ _ _ _ _ _ _ _ _ _ _ _ _ _ _ (λ i. (both.ends.ensures i).a.0) o.vertex2.ensures s.sub.ensures u.unit.ensures n.before.local.ensures n.normal.ensures c.before.dot.ensures c.dot2.ensures)
 
 pub face-ahead-spec : {M : Type 1} → statement M

@@ -23,7 +23,7 @@ returns c =
     let which = third.before.before in
     let a = which.before.before.before.before.before.before.before.before.args in
     rw which.s.given.1
-    (opposite_is a.vertices.now a.edge_words_held.now a.edge_reals_held.now a.triangle_words_held.now a.triangle_reals.now a.triangles.now _ _ _ _ _ third.third.result third.third.ensures c.face-ahead.result c.face-ahead.ensures)
+    (opposite_is a.vertices.now a.edge_words.now a.edge_reals.now a.triangle_words.now a.triangle_reals.now a.triangles.now _ _ _ _ _ third.third.result third.third.ensures c.face-ahead.result c.face-ahead.ensures)
 
 returns-2 : tie.Need-returns-2
 unfolding opposite_at

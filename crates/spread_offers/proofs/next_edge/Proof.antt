@@ -26,8 +26,8 @@ returns c =
     let next = first.before in
     let read = next.before in
     let a = read.before.before.before.args in
-    next_edge_is a.edge_words_held.now a.e.0 read.ends.result read.ends.ensures a.edge_reals_held.now a.ne.0 next.ends2.result next.ends2.ensures first.vertex_of_lem.result second.vertex-of2.result
-    first.vertex_of_lem.ensures second.vertex-of2.ensures c.length.result c.length.ensures
+    next_edge_is a.edge_words.now a.e.0 read.ends.result read.ends.ensures a.edge_reals.now a.ne.0 next.ends2.result next.ends2.ensures first.vertex_of.result second.vertex-of2.result
+    first.vertex_of.ensures second.vertex-of2.ensures c.length.result c.length.ensures
 
 pub next-edge-spec : {M : Type 1} → statement M
 next-edge-spec =

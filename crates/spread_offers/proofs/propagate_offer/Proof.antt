@@ -34,7 +34,7 @@ returns c =
     let from = edge.before in
     let side = from.before in
     let a = side.before.before.before.before.before.before.args in
-    propagate_is a.edge_words_held.now a.edge_reals_held.now a.triangle_words_held.now a.o a.e.0 a.g.0 a.b0 a.b1 a.src a.k
+    propagate_is a.edge_words.now a.edge_reals.now a.triangle_words.now a.o a.e.0 a.g.0 a.b0 a.b1 a.src a.k
     side.side-number.result side.side-number.ensures from.side-end.result from.side-end.ensures edge.edge-between.result edge.edge-between.ensures
     next.next_edge.result next.next_edge.ensures passed.propagate.result passed.propagate.ensures other.other.result other.other.ensures c.offered.result c.offered.ensures
 

@@ -13,7 +13,7 @@ returns : tie.Need-returns
 returns c =
     let counted = c.before in
     let a = counted.before.before.before.before.before.before.before.before.args in
-    round_none a.vertices.now a.edge_words_held.now a.edge_reals_held.now a.triangle_words_held.now a.triangle_reals.now a.vertex_words_held.now a.round.now a.vx.0 a.d a.i counted.vertex-degree.result counted.vertex-degree.ensures c.if1.true
+    round_none a.vertices.now a.edge_words.now a.edge_reals.now a.triangle_words.now a.triangle_reals.now a.vertex_words.now a.round.now a.vx.0 a.d a.i counted.vertex-degree.result counted.vertex-degree.ensures c.if1.true
 
 faces-round-requires : tie.Need-faces-round-requires
 faces-round-requires c κs = search rules
@@ -24,7 +24,7 @@ add-face-round c =
     let tested = range.before in
     let counted = tested.before in
     let a = counted.before.before.before.before.before.before.before.before.args in
-    record { fits = omega (arith, round_fits a.vertex_words_held.now a.vx.0 (a.i / 3) counted.vertex-degree.result range.faces_round_held.result counted.vertex-degree.ensures range.faces_round_held.ensures (omega (arith, tested.if1.false)), c.struct_known.given) }
+    record { fits = omega (arith, round_fits a.vertex_words.now a.vx.0 (a.i / 3) counted.vertex-degree.result range.faces_round.result counted.vertex-degree.ensures range.faces_round.ensures (omega (arith, tested.if1.false)), c.struct_known.given) }
 
 face-round-requires : tie.Need-face-round-requires
 face-round-requires c κs = search rules
@@ -39,8 +39,8 @@ returns-2 c =
     let tested = range.before in
     let counted = tested.before in
     let a = counted.before.before.before.before.before.before.before.before.args in
-    round_is a.vertices.now a.edge_words_held.now a.edge_reals_held.now a.triangle_words_held.now a.triangle_reals.now a.vertex_words_held.now a.round.now a.vx.0 a.d a.i counted.vertex-degree.result counted.vertex-degree.ensures (omega (arith, tested.if1.false))
-    range.faces_round_held.result range.faces_round_held.ensures face.face-round.result face.face-round.ensures c.emit-offer.result c.emit-offer.ensures
+    round_is a.vertices.now a.edge_words.now a.edge_reals.now a.triangle_words.now a.triangle_reals.now a.vertex_words.now a.round.now a.vx.0 a.d a.i counted.vertex-degree.result counted.vertex-degree.ensures (omega (arith, tested.if1.false))
+    range.faces_round.result range.faces_round.ensures face.face-round.result face.face-round.ensures c.emit-offer.result c.emit-offer.ensures
 
 pub round-offer-spec : {M : Type 1} → statement M
 round-offer-spec =

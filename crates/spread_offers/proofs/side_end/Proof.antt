@@ -18,14 +18,14 @@ returns c =
     let told = c.before in
     let read = told.before.before in
     let a = read.before.before.args in
-    rw told.enum_told.given.1 (end_first a.edge_words_held.now a.e.0 read.ends.result read.ends.ensures)
+    rw told.enum_told.given.1 (end_first a.edge_words.now a.e.0 read.ends.result read.ends.ensures)
 
 returns-2 : tie.Need-returns-2
 returns-2 c =
     let told = c.before in
     let read = told.before.before in
     let a = read.before.before.args in
-    rw told.enum-told2.given.1 (end_second a.edge_words_held.now a.e.0 read.ends.result read.ends.ensures)
+    rw told.enum-told2.given.1 (end_second a.edge_words.now a.e.0 read.ends.result read.ends.ensures)
 
 pub side-end-spec : {M : Type 1} → statement M
 side-end-spec = tie.close (tie.spec ends-requires enum_told enum-told-2 returns returns-2)
