@@ -1,5 +1,7 @@
 // The segments that end at a point, found by its coordinate bits through the table of `piece_ends`: those of a face, with the direction in which each leaves the point (the
 // Rust's `behind`), and whether one lies in a face round a vertex, which document 01's refusal 11 asks. A link is the number of an end plus one, and 0 is none.
+#![tactic(auto)]
+
 ghost use Rattle.std.specs.Prelude.{◌≡◌, ◌*◌, ◌/◌, get_or};
 ghost use Rattle.piece_ends.specs.Walk.{find_along, next_link_at};
 ghost use Rattle.segments_behind.specs.Behind.{in_face, first_behind_at, next_behind_at, leaving_at};
