@@ -1,5 +1,7 @@
 // A new window meets an existing one of its edge: what it keeps and what it leaves of the other, the Rust's lists `next` and `pieces` of `add`, in lent buffers
 // of two numbers an interval.
+#![tactic(auto)]
+
 ghost use Rattle.std.specs.Prelude.{◌≡◌, cond, [], ◌∷◌, ◌++◌, suc, ◌+◌, ◌≤◌, ◌<◌, length, get_or};
 ghost use Rattle.std.specs.Float.{nan};
 ghost use Rattle.better.specs.Stretches.{interval};
@@ -14,14 +16,14 @@ use source::Src;
 // Where interval i of a buffer starts, and where it ends.
 pub fn from_of(buffer: &[f64], i: usize) -> f64
     requires { i + i < length buffer.now }
-    ensures { result ≡ get_or (given buffer) (i + i) nan }
+    ensures { result ≡ get_or buffer.now (i + i) nan }
 {
     buffer[i + i]
 }
 
 pub fn to_of(buffer: &[f64], i: usize) -> f64
     requires { suc (i + i) < length buffer.now }
-    ensures { result ≡ get_or (given buffer) (suc (i + i)) nan }
+    ensures { result ≡ get_or buffer.now (suc (i + i)) nan }
 {
     buffer[i + i + 1]
 }
@@ -29,7 +31,7 @@ pub fn to_of(buffer: &[f64], i: usize) -> f64
 // The first n intervals of another buffer.
 pub fn copy(from: &[f64], n: usize, to: &mut [f64])
     requires { (n + n ≤ length from.now) × (n + n ≤ length to.old) }
-    ensures { pairs n (left to) ≡ pairs n (given from) }
+    ensures { pairs n (left to) ≡ pairs n from.now }
 {
     let mut i = 0;
     while i < n {
@@ -66,7 +68,7 @@ fn push_if(b: bool, out: &mut [f64], n: usize, x0: f64, x1: f64) -> Listed
 // `better` within [o0, o1], behind the n in front of out.
 fn push_cuts(better: &[f64], m: usize, o0: f64, o1: f64, out: &mut [f64], n: usize) -> Listed
     requires { (m + m ≤ length better.now) × (n + n ≤ length out.old) }
-    ensures { HoldsPairs result (left out) (pairs n (given out) ++ cuts_within o0 o1 (pairs m (given better))) }
+    ensures { HoldsPairs result (left out) (pairs n (given out) ++ cuts_within o0 o1 (pairs m better.now)) }
 {
     let mut k = n;
     let mut i = 0;
@@ -95,7 +97,7 @@ fn push_next(
     n: usize,
 ) -> Listed
     requires { (m + m ≤ length better.now) × (n + n ≤ length out.old) }
-    ensures { HoldsPairs result (left out) (pairs n (given out) ++ next_of lo hi (pairs m (given better)) (interval k0 k1)) }
+    ensures { HoldsPairs result (left out) (pairs n (given out) ++ next_of lo hi (pairs m better.now) (interval k0 k1)) }
 {
     let o0 = float64::max(k0, lo);
     let o1 = float64::min(k1, hi);
@@ -125,8 +127,8 @@ pub fn next_keep(
     out: &mut [f64],
 ) -> Listed
     requires { (k + k ≤ length keep.now) × (m + m ≤ length better.now) }
-    ensures holds_pairs { HoldsPairs result (left out) (next lo hi (pairs m (given better)) (pairs k (given keep))) }
-    ensures result_value { listed_number result ≡ cond (has_entries (next lo hi (pairs m (given better)) (pairs k (given keep))) (given out)) 0 14 }
+    ensures holds_pairs { HoldsPairs result (left out) (next lo hi (pairs m better.now) (pairs k keep.now)) }
+    ensures result_value { listed_number result ≡ cond (has_entries (next lo hi (pairs m better.now) (pairs k keep.now)) (given out)) 0 14 }
 {
     let mut n = 0;
     let mut i = 0;
@@ -145,8 +147,8 @@ pub fn next_keep(
 // out.
 pub fn pieces(better: &[f64], m: usize, b0: f64, b1: f64, tiny: f64, out: &mut [f64]) -> Listed
     requires { m + m ≤ length better.now }
-    ensures holds_pairs { HoldsPairs result (left out) (pieces tiny b0 b1 (pairs m (given better))) }
-    ensures result_value { listed_number result ≡ cond (has_entries (pieces tiny b0 b1 (pairs m (given better))) (given out)) 0 14 }
+    ensures holds_pairs { HoldsPairs result (left out) (pieces tiny b0 b1 (pairs m better.now)) }
+    ensures result_value { listed_number result ≡ cond (has_entries (pieces tiny b0 b1 (pairs m better.now)) (given out)) 0 14 }
 {
     let mut n = 0;
     let mut at = b0;

@@ -1,0 +1,66 @@
+-- `cut_lists::next_keep` meets its contract. The invariant: what the loop comes to from here is what it came to at first. Assumes nothing.
+use Prim.Native.Nat.{◌+◌}
+use mathlib.Core.Path.{refl, sym, ap, ◌∙◌}
+use mathlib.Core.List.{List, ◌++◌}
+use native.Mathlib.Omega.{arith}
+use lib.ListN.{length, drop}
+use Rattle.better.specs.declared.Listed.TheVariants.{Full, Entries}
+use Rattle.better.specs.Stretches.{Interval}
+use Rattle.better.specs.Buffers.{pairs}
+use Rattle.trim_model.specs.Intervals.{next}
+use Rattle.better.proofs.Stored.{numbered}
+use Rattle.cut_lists.proofs.Pushes.{next_turn, next_full, next_done}
+use Rattle.cut_lists.proofs.next_keep.Goals as goal
+
+pub loop-i-init : goal.loop-i-init
+loop-i-init c = (omega arith, omega arith, refl, refl)
+
+pub shape_of-out-in_default : goal.shape_of-out-in_default
+shape_of-out-in_default c =
+    let f = c in
+    f.push_next-pushed.auto.out ∙ f.loop-i.invariant.2
+
+pub returns-in_default : goal.returns-in_default
+returns-in_default c =
+    let f = c in
+    let g = f in
+    let w = g in
+    let i = w in
+    let a = i.args in
+    let gs = pairs i.loop-i.n i.loop-i.out in
+    let better = pairs a.m a.better.now in
+    let h = rw (c.in_default.is, g.to_of.ensures, g.from_of.ensures) at f.push_next-pushed.ensures in
+    let told-all = numbered Full a.out.now f.push_next-pushed.new.out (next a.lo a.hi better (pairs a.k a.keep.now)) (f.push_next-pushed.auto.out ∙ i.loop-i.invariant.2)
+    (rw i.loop-i.invariant.3 (next_full a.keep.now a.k i.loop-i.i gs a.lo a.hi better (length f.push_next-pushed.new.out) w.loop-i-test.true h)) in
+    record { holds_pairs = told-all.0; result_value = told-all.1 }
+
+pub loop-i-preserved : goal.loop-i-preserved
+loop-i-preserved c =
+    let j = c in
+    let f = j in
+    let g = f in
+    let w = g in
+    let i = w in
+    let a = i.args in
+    let gs = pairs i.loop-i.n i.loop-i.out in
+    let better = pairs a.m a.better.now in
+    let h = rw (j.in-Entries.is, g.to_of.ensures, g.from_of.ensures) at f.push_next-pushed.ensures in (
+      omega arith,
+      h.0,
+      f.push_next-pushed.auto.out ∙ i.loop-i.invariant.2,
+      i.loop-i.invariant.3
+          ∙ next_turn a.keep.now a.k i.loop-i.i gs a.lo a.hi better w.loop-i-test.true
+          ∙ ap (λ (hs : List Interval). hs ++ next a.lo a.hi better (drop (i.loop-i.i + 1) (pairs a.k a.keep.now))) (sym h.1),
+    )
+
+pub shape_of-out : goal.shape_of-out
+shape_of-out c = c.loop-i.invariant.2
+
+pub returns : goal.returns
+returns c =
+    let i = c in
+    let a = i.args in
+    let better = pairs a.m a.better.now in
+    let told-all = numbered (Entries i.loop-i.n) a.out.now i.loop-i.out (next a.lo a.hi better (pairs a.k a.keep.now)) i.loop-i.invariant.2
+    (i.loop-i.invariant.1, sym (i.loop-i.invariant.3 ∙ next_done a.keep.now a.k i.loop-i.i (pairs i.loop-i.n i.loop-i.out) a.lo a.hi better c.loop-i-test.false)) in
+    record { holds_pairs = told-all.0; result_value = told-all.1 }
