@@ -1,5 +1,7 @@
 // Where a point of a face lies: inside it, on an edge or on a vertex, and so the faces that enter it as a source (the Rust's `carrier`), counted and read; and the vertex of a
 // face nearest to a point. Nothing is asked of what the buffers hold; where they hold a mesh's topology, the answers are the topology's (proofs/Held.antt).
+#![tactic(auto)]
+
 ghost use Rattle.std.specs.Prelude.{◌≡◌, [], ◌∷◌, ◌+◌, ◌*◌, length as size, get_or};
 ghost use Rattle.layout.specs.Layout.{words_per_vertex, vertex_start};
 ghost use Rattle.topology.specs.Edges.{no_face};

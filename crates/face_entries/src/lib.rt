@@ -1,5 +1,7 @@
 // Entries of source pieces in faces: the Rust's `in_face`, a list of pieces for each face, linked through the buffer of face entries. To `enter` a link past
 // `count` is none, so whatever the buffers hold it writes no entry but the new one and the one that it is put behind.
+#![tactic(auto)]
+
 ghost use Rattle.std.specs.Prelude.{◌≡◌, cond, ltb, length};
 ghost use Rattle.buffers.specs.declared.Lack.TheVariants.{Entries};
 ghost use Rattle.buffers.specs.Lack.{lack_number};

@@ -15,7 +15,7 @@ use Rattle.topology.proofs.Find.{either}
 use Rattle.topology.proofs.Chosen.{Listed}
 use Rattle.topology.proofs.Edges.{tri_edge_there}
 use Rattle.topology.proofs.Faces.{two_faces, first_or_second}
-use Rattle.topology.proofs.Checked.{three_ways, inside}
+use Rattle.topology.proofs.Checked.{three_ways}
 use Rattle.topology.proofs.Sides.{face_there, face_has_side, local_below}
 use Rattle.frames.specs.Held.{HoldsFaces, HoldsSides}
 use Rattle.mesh_readers.specs.Readers.{side_in, face_of, side_to_at}

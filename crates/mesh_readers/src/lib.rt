@@ -1,5 +1,7 @@
 // What a mesh's buffers say of its edges, faces and vertices. Reads past an end give 0 or a NaN, so these functions ask nothing of what the buffers hold; where
 // they hold a mesh's topology, the answers are the topology's (proofs/Held.antt).
+#![tactic(auto)]
+
 ghost use Rattle.std.specs.Prelude.{◌≡◌, ◌+◌, ◌*◌, get_or};
 ghost use Rattle.layout.specs.Layout.{vertices_per_triangle};
 ghost use Rattle.job_checks.specs.Edge.{vertex_at};

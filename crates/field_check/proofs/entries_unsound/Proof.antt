@@ -22,7 +22,7 @@ capacity-requires c κs = search rules
 loop-holds : tie.Need-loop-init invariant-loop decreases-loop
 loop-holds c =
     let a = c.before.before.before.args in
-    (omega arith, rw c.capacity.ensures (sound_start (next_entry_of a.entry_words_held.now) (λ (before i : ℕ). entry_outside a.pieces a.entry_words_held.now i) (first_entry_of a.triangle_words.now) (entry_capacity (length a.entry_words_held.now))))
+    (omega arith, rw c.capacity.ensures (sound_start (next_entry_of a.entry_words.now) (λ (before i : ℕ). entry_outside a.pieces a.entry_words.now i) (first_entry_of a.triangle_words.now) (entry_capacity (length a.entry_words.now))))
 
 read-u32-requires : tie.Need-read-u32-requires invariant-loop decreases-loop
 read-u32-requires c κs = search rules
@@ -38,7 +38,7 @@ returns c =
     let i = head.before.before in
     let l = i.loop in
     let a = i.before.before.before.before.args in
-    sym (unsound_there (next_entry_of a.entry_words_held.now) (λ (before i : ℕ). entry_outside a.pieces a.entry_words_held.now i) (first_entry_of a.triangle_words.now) (entry_capacity (length a.entry_words_held.now)) l.left l.f l.invariant.1 walked.walk_entries.result (walked.walk_entries.ensures ∙ ap (walk_of (next_entry_of a.entry_words_held.now) (λ (before i : ℕ). entry_outside a.pieces a.entry_words_held.now i) l.left 0) head.read_u32.ensures) c.if1.true a.triangles head.before.loop-test.true)
+    sym (unsound_there (next_entry_of a.entry_words.now) (λ (before i : ℕ). entry_outside a.pieces a.entry_words.now i) (first_entry_of a.triangle_words.now) (entry_capacity (length a.entry_words.now)) l.left l.f l.invariant.1 walked.walk_entries.result (walked.walk_entries.ensures ∙ ap (walk_of (next_entry_of a.entry_words.now) (λ (before i : ℕ). entry_outside a.pieces a.entry_words.now i) l.left 0) head.read_u32.ensures) c.if1.true a.triangles head.before.loop-test.true)
 
 add-f : tie.Need-overflow-add-f invariant-loop decreases-loop
 add-f c = search rules
@@ -54,7 +54,7 @@ loop-again c =
     let l = i.loop in
     let a = i.before.before.before.before.args in (
       omega (arith, head.before.loop-test.true),
-      sound_on (next_entry_of a.entry_words_held.now) (λ (before i : ℕ). entry_outside a.pieces a.entry_words_held.now i) (first_entry_of a.triangle_words.now) (entry_capacity (length a.entry_words_held.now)) l.left l.f l.invariant.1 walked.walk_entries.result (walked.walk_entries.ensures ∙ ap (walk_of (next_entry_of a.entry_words_held.now) (λ (before i : ℕ). entry_outside a.pieces a.entry_words_held.now i) l.left 0) head.read_u32.ensures) c.if1.false,
+      sound_on (next_entry_of a.entry_words.now) (λ (before i : ℕ). entry_outside a.pieces a.entry_words.now i) (first_entry_of a.triangle_words.now) (entry_capacity (length a.entry_words.now)) l.left l.f l.invariant.1 walked.walk_entries.result (walked.walk_entries.ensures ∙ ap (walk_of (next_entry_of a.entry_words.now) (λ (before i : ℕ). entry_outside a.pieces a.entry_words.now i) l.left 0) head.read_u32.ensures) c.if1.false,
     )
 
 returns-2 : tie.Need-returns-2 invariant-loop decreases-loop
@@ -63,7 +63,7 @@ returns-2 c =
     let i = c.before in
     let l = i.loop in
     let a = i.before.before.before.before.args in
-    sym (sound_all (next_entry_of a.entry_words_held.now) (λ (before i : ℕ). entry_outside a.pieces a.entry_words_held.now i) (first_entry_of a.triangle_words.now) (entry_capacity (length a.entry_words_held.now)) l.left l.f a.triangles l.invariant.1 l.invariant.0 c.loop-test.false)
+    sym (sound_all (next_entry_of a.entry_words.now) (λ (before i : ℕ). entry_outside a.pieces a.entry_words.now i) (first_entry_of a.triangle_words.now) (entry_capacity (length a.entry_words.now)) l.left l.f a.triangles l.invariant.1 l.invariant.0 c.loop-test.false)
 
 pub entries-unsound-spec : {M : Type 1} → statement M
 entries-unsound-spec =

@@ -25,7 +25,7 @@ returns : tie.Need-returns invariant-loop decreases-loop
 returns c =
     let l = c.before.before.loop in
     let a = c.before.before.before.before.before.args in
-    sym (walk_over (next_entry_of a.entry_words_held.now) (λ (before i : ℕ). entry_outside a.pieces a.entry_words_held.now i) l.left 0 l.at c.if1.true c.before.loop-test.true) ∙ l.invariant
+    sym (walk_over (next_entry_of a.entry_words.now) (λ (before i : ℕ). entry_outside a.pieces a.entry_words.now i) l.left 0 l.at c.if1.true c.before.loop-test.true) ∙ l.invariant
 
 sub-entry-outside : tie.Need-overflow-sub-entry-outside invariant-loop decreases-loop
 sub-entry-outside c = search rules
@@ -38,7 +38,7 @@ returns-2 c =
     let test = c.before in
     let l = test.before.before.before.loop in
     let a = test.before.before.before.before.before.before.args in
-    sym (walk_bad (next_entry_of a.entry_words_held.now) (λ (before i : ℕ). entry_outside a.pieces a.entry_words_held.now i) l.left 0 l.at test.before.before.loop-test.true (sym test.entry-outside.ensures ∙ c.if2.true)) ∙ l.invariant
+    sym (walk_bad (next_entry_of a.entry_words.now) (λ (before i : ℕ). entry_outside a.pieces a.entry_words.now i) l.left 0 l.at test.before.before.loop-test.true (sym test.entry-outside.ensures ∙ c.if2.true)) ∙ l.invariant
 
 sub-read-u32 : tie.Need-overflow-sub-read-u32 invariant-loop decreases-loop
 sub-read-u32 c = search rules
@@ -57,16 +57,16 @@ loop-again c =
     let test = c.before.before in
     let l = test.before.before.before.loop in
     let a = test.before.before.before.before.before.before.args in
-    ap (walk_of (next_entry_of a.entry_words_held.now) (λ (before i : ℕ). entry_outside a.pieces a.entry_words_held.now i) (l.left - 1) 0) c.read_u32.ensures
-    ∙ walk_any (next_entry_of a.entry_words_held.now) (λ (before i : ℕ). entry_outside a.pieces a.entry_words_held.now i) (λ k m i. refl) (l.left - 1) 0 l.at (next_entry_of a.entry_words_held.now (l.at - 1))
-    ∙ walk_on_lem (next_entry_of a.entry_words_held.now) (λ (before i : ℕ). entry_outside a.pieces a.entry_words_held.now i) l.left 0 l.at test.before.if1.false test.before.before.loop-test.true (sym test.entry-outside.ensures ∙ c.before.if2.false)
+    ap (walk_of (next_entry_of a.entry_words.now) (λ (before i : ℕ). entry_outside a.pieces a.entry_words.now i) (l.left - 1) 0) c.read_u32.ensures
+    ∙ walk_any (next_entry_of a.entry_words.now) (λ (before i : ℕ). entry_outside a.pieces a.entry_words.now i) (λ k m i. refl) (l.left - 1) 0 l.at (next_entry_of a.entry_words.now (l.at - 1))
+    ∙ walk_on_lem (next_entry_of a.entry_words.now) (λ (before i : ℕ). entry_outside a.pieces a.entry_words.now i) l.left 0 l.at test.before.if1.false test.before.before.loop-test.true (sym test.entry-outside.ensures ∙ c.before.if2.false)
     ∙ l.invariant
 
 returns-3 : tie.Need-returns-3 invariant-loop decreases-loop
 returns-3 c =
     let l = c.before.loop in
     let a = c.before.before.before.before.args in
-    sym (walk_end (next_entry_of a.entry_words_held.now) (λ (before i : ℕ). entry_outside a.pieces a.entry_words_held.now i) l.left 0 l.at (omega (arith, c.loop-test.false))) ∙ l.invariant
+    sym (walk_end (next_entry_of a.entry_words.now) (λ (before i : ℕ). entry_outside a.pieces a.entry_words.now i) l.left 0 l.at (omega (arith, c.loop-test.false))) ∙ l.invariant
 
 pub walk-entries-spec : {M : Type 1} → statement M
 walk-entries-spec =
