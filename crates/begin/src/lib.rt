@@ -1,5 +1,7 @@
 // What the work on a job starts from once its mesh is made, whatever the slices held before: the table of its pieces, no window, no event, no entry in a face,
 // and every vertex infinitely far. The Rust's `Field { .. }` at the start of `compute`, and its `behind`.
+#![tactic(auto)]
+
 ghost use Rattle.std.specs.Prelude.{◌≡◌, ◌*◌, ◌≤◌, length};
 ghost use Rattle.layout.specs.Layout.{words_per_piece, reals_per_vertex};
 ghost use Rattle.buffers.specs.Lent.{given, left};
@@ -34,8 +36,8 @@ pub fn begin_vertices(vertex: &mut [f64], n: u32)
 
 pub fn begin_pieces(kinds: &[u8], coords: &[f64], piece_words: &mut [u32], piece_reals: &mut [f64])
     requires { (length kinds.now ≤ 65535) × (words_per_piece * length kinds.now ≤ length piece_words.old) }
-    ensures { (left piece_words ≡ piece_words_of (given kinds) (given coords) (length (given piece_words)))
-        × (left piece_reals ≡ piece_reals_of (given kinds) (given coords) (length (given piece_reals))) }
+    ensures { (left piece_words ≡ piece_words_of kinds.now coords.now (length (given piece_words)))
+        × (left piece_reals ≡ piece_reals_of kinds.now coords.now (length (given piece_reals))) }
 {
     piece_ends::build(kinds, coords, piece_words);
     piece_ends::directions(kinds, coords, piece_reals);
@@ -74,7 +76,7 @@ pub fn begin_buffers(
 )
     requires { (length kinds.now ≤ 65535) × (words_per_piece * length kinds.now ≤ length piece_words.old) }
     ensures { work_after piece_words piece_reals vertex words reals keys events entry_words
-        ≡ begun (given kinds) (given coords) n (work_before piece_words piece_reals vertex words reals keys events entry_words) }
+        ≡ begun kinds.now coords.now n (work_before piece_words piece_reals vertex words reals keys events entry_words) }
 {
     begin_pieces(kinds, coords, piece_words, piece_reals);
     begin_vertices(vertex, n);
