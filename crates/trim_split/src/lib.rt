@@ -1,5 +1,6 @@
 // An existing window is split into pieces, which are made windows and queued.
-ghost use Rattle.buffers.specs.Lent.{given};
+#![tactic(auto)]
+
 ghost use Rattle.std.specs.Prelude.{ℕ, suc, ◌+◌, ◌≤◌, ◌<◌, pred, List, [], ◌∷◌, ◌≡◌, length, drop, Float};
 ghost use Rattle.buffers.specs.Slots.{slots_of};
 ghost use Rattle.source.specs.Distance.{lowest_of};
@@ -110,9 +111,9 @@ fn make_parts(
     n: usize,
 ) -> Made
     requires { Ready e.0 counts.made before edges.old words.old reals.old × (n + n ≤ length pieces.now) }
-    ensures { Counted result (counts.made + length (drop 1 (pairs n (given pieces)))) × ((cuts : ℕ) (limit : Float) (flags : List ℕ) (vertex : List Float) (k : ℕ) →
-        Does cuts (room_for words reals) limit flags e.0 (makings e.0 (live_of x k) counts.made (drop 1 (pairs n (given pieces))))
-        [] (fresh (live_of x k) counts.made (drop 1 (pairs n (given pieces))))
+    ensures { Counted result (counts.made + length (drop 1 (pairs n pieces.now))) × ((cuts : ℕ) (limit : Float) (flags : List ℕ) (vertex : List Float) (k : ℕ) →
+        Does cuts (room_for words reals) limit flags e.0 (makings e.0 (live_of x k) counts.made (drop 1 (pairs n pieces.now)))
+        [] (fresh (live_of x k) counts.made (drop 1 (pairs n pieces.now)))
         (snapshot_before edges words reals keys events counts.made counts.queued before vertex)
         (end_after edges words reals keys events (made_end result) vertex)) }
 {
@@ -156,9 +157,9 @@ pub fn split_window(
     n: usize,
 ) -> Made
     requires { Ready e.0 counts.made before edges.old words.old reals.old × ((id.0 < counts.made) × (n + n ≤ length pieces.now)) }
-    ensures { Counted result (counts.made + pred (length (pairs n (given pieces)))) × ((cuts : ℕ) (limit : Float) (flags : List ℕ) (vertex : List Float) →
-        Does cuts (room_for words reals) limit flags e.0 (splitting e.0 (live_of x id.0) counts.made (pairs n (given pieces)))
-        (live_of x id.0 ∷ []) (split (live_of x id.0) counts.made (pairs n (given pieces)))
+    ensures { Counted result (counts.made + pred (length (pairs n pieces.now))) × ((cuts : ℕ) (limit : Float) (flags : List ℕ) (vertex : List Float) →
+        Does cuts (room_for words reals) limit flags e.0 (splitting e.0 (live_of x id.0) counts.made (pairs n pieces.now))
+        (live_of x id.0 ∷ []) (split (live_of x id.0) counts.made (pairs n pieces.now))
         (snapshot_before edges words reals keys events counts.made counts.queued before vertex)
         (end_after edges words reals keys events (made_end result) vertex)) }
 {
