@@ -12,7 +12,7 @@ use finish::of_trim_split::Counts;
 use layout::{REALS_PER_WINDOW, WORDS_PER_EDGE, WORDS_PER_WINDOW};
 
 fn told_counts(told: &[u32]) -> Counts
-    ensures { result ≡ told_counts (given told) }
+    ensures { result ≡ told_counts told.now }
 {
     Counts {
         made: read_u32(told, 3, 0, 0),
@@ -108,7 +108,7 @@ pub extern "C" fn sirmolaat_advance(
     next: &mut [f64],
     told: &mut [u32],
 ) -> u32
-    ensures { TurnsAnswer limit n most (given vertices) (given triangles) (given vertex_words) (given round) (given edge_reals) (given triangle_words) (given triangle_reals)
+    ensures { TurnsAnswer limit n most vertices.now triangles.now vertex_words.now round.now edge_reals.now triangle_words.now triangle_reals.now
         (given told) (before edge_words words reals keys events vertex) (cuts_before pts out keep next)
         result (after edge_words words reals keys events vertex) (cuts_after pts out keep next) (left told) }
 {
@@ -167,9 +167,9 @@ pub extern "C" fn sirmolaat_finish(
     keep: &mut [f64],
     next: &mut [f64],
 ) -> u32
-    ensures { FinishAnswer edges made (given edge_reals)
-        (slices (given edge_words) (given words) (given reals) (given keys) (given events) (given vertex)) (cuts_before pts out keep next)
-        result (slices (left edge_words) (given words) (given reals) (left keys) (left events) (left vertex)) (cuts_after pts out keep next) }
+    ensures { FinishAnswer edges made edge_reals.now
+        (slices (given edge_words) words.now reals.now (given keys) (given events) (given vertex)) (cuts_before pts out keep next)
+        result (slices (left edge_words) words.now reals.now (left keys) (left events) (left vertex)) (cuts_after pts out keep next) }
 {
     if finish_fits(edges, made, edge_words.len(), words.len(), reals.len()) {
         finish::finish(

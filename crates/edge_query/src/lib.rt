@@ -2,7 +2,6 @@
 ghost use Rattle.std.specs.Prelude.{◌≡◌, ◌-◌, ◌≤◌, ◌<◌, length};
 ghost use Rattle.layout.specs.Layout.{words_per_edge};
 ghost use Rattle.buffers.specs.Slots.{slots_of};
-ghost use Rattle.buffers.specs.Lent.{given};
 ghost use Rattle.windows.specs.Windows.{capacity_of};
 ghost use Rattle.chains.specs.Chains.{links};
 ghost use Rattle.edge_query.specs.EdgeDistance.{edge_distance_in};
@@ -41,7 +40,7 @@ pub struct Resumed {
 // The value at x of the window of a link, a NaN of none.
 fn value(words: &[u32], reals: &[f64], link: u32, x: f64) -> f64
     requires { link ≤ capacity_of (length words.now) (length reals.now) }
-    ensures { result ≡ value_of (given words) (given reals) x link }
+    ensures { result ≡ value_of words.now reals.now x link }
 {
     if link == 0 {
         return 0.0 / 0.0;
@@ -53,7 +52,7 @@ fn value(words: &[u32], reals: &[f64], link: u32, x: f64) -> f64
 // The windows passed come to the least of those that reach x and of the last that ends short of it.
 fn value_passed(words: &[u32], reals: &[f64], passed: Passed, x: f64) -> f64
     requires { passed.short ≤ capacity_of (length words.now) (length reals.now) }
-    ensures { result ≡ passed_value (given words) (given reals) x passed }
+    ensures { result ≡ passed_value words.now reals.now x passed }
 {
     float64::min(passed.least, value(words, reals, passed.short, x))
 }
@@ -61,7 +60,7 @@ fn value_passed(words: &[u32], reals: &[f64], passed: Passed, x: f64) -> f64
 // The window of a link is passed.
 fn past(words: &[u32], reals: &[f64], passed: Passed, link: u32, x: f64) -> Passed
     requires { (0 < link) × (link ≤ capacity_of (length words.now) (length reals.now)) }
-    ensures { result ≡ past_of (given words) (given reals) x passed (link - 1) }
+    ensures { result ≡ past_of words.now reals.now x passed (link - 1) }
 {
     if read_f64(reals, REALS_PER_WINDOW, link - 1, WINDOW_B1) < x {
         return Passed {
@@ -78,7 +77,7 @@ fn past(words: &[u32], reals: &[f64], passed: Passed, link: u32, x: f64) -> Pass
 // The window of a link is passed, with so many links left behind it, and none passed starts past the bound.
 fn cursor_past(reals: &[f64], cursor: Cursor, link: u32, left: u32, bound: f64, x: f64) -> Cursor
     requires { 0 < link }
-    ensures { result ≡ cursor_past (given reals) x cursor link left bound }
+    ensures { result ≡ cursor_past reals.now x cursor link left bound }
 {
     let end = read_f64(reals, REALS_PER_WINDOW, link - 1, WINDOW_B1);
     if end < x {
@@ -130,8 +129,8 @@ fn least_on_chain(
 ) -> Resumed
     requires { (made ≤ capacity_of (length words.now) (length reals.now)) × ((from.edge < slots_of (length edge_words.now) words_per_edge)
         × (Resumes made (links edge_words.now words.now) reals.now from × ResumesAt made (links edge_words.now words.now) reals.now from x)) }
-    ensures distance_value { result.distance ≡ from_head made (links (given edge_words) (given words)) (given reals) from.edge x d }
-    ensures resumes { Resumes made (links (given edge_words) (given words)) (given reals) result.cursor }
+    ensures distance_value { result.distance ≡ from_head made (links edge_words.now words.now) reals.now from.edge x d }
+    ensures resumes { Resumes made (links edge_words.now words.now) reals.now result.cursor }
 {
     let mut passed = Passed {
         least: 0.0 / 0.0,
@@ -177,8 +176,8 @@ pub fn distance_from(
 ) -> Resumed
     requires { (made ≤ capacity_of (length words.now) (length reals.now)) × ((e.id.0 < slots_of (length edge_words.now) words_per_edge)
         × Resumes made (links edge_words.now words.now) reals.now cursor) }
-    ensures distance_value { result.distance ≡ edge_distance_in (given vertex) (links (given edge_words) (given words)) (given reals) made e x }
-    ensures resumes { Resumes made (links (given edge_words) (given words)) (given reals) result.cursor }
+    ensures distance_value { result.distance ≡ edge_distance_in vertex.now (links edge_words.now words.now) reals.now made e x }
+    ensures resumes { Resumes made (links edge_words.now words.now) reals.now result.cursor }
 {
     let da = actions::distance(vertex, e.a);
     let db = actions::distance(vertex, e.b);

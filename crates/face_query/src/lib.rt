@@ -2,7 +2,6 @@
 // for more entries than the buffer counts for.
 ghost use Rattle.std.specs.Prelude.{◌≡◌, false, not, cond, ◌||◌, ◌-◌, ◌≤◌, ◌<◌, length};
 ghost use Rattle.std.specs.Float.{inf};
-ghost use Rattle.buffers.specs.Lent.{given};
 ghost use Rattle.windows.specs.Windows.{capacity_of, window_at};
 ghost use Rattle.chains.specs.Chains.{links, link_in, link_at};
 ghost use Rattle.last_pass.specs.Buffers.{chain_behind};
@@ -31,7 +30,7 @@ fn through_face_vertex(
     i: u32,
     d: f64,
 ) -> f64
-    ensures { result ≡ through_face_vertex (given vertices) (given triangles) (given vertex) f.0 p i d }
+    ensures { result ≡ through_face_vertex vertices.now triangles.now vertex.now f.0 p i d }
 {
     let k = mesh_readers::face_vertex(triangles, f, i);
     let v = mesh_readers::vertex(vertices, k);
@@ -40,7 +39,7 @@ fn through_face_vertex(
 }
 
 fn through_vertices(vertices: &[f64], triangles: &[u32], vertex: &[f64], f: FaceId, p: Vec3) -> f64
-    ensures { result ≡ through_vertices (given vertices) (given triangles) (given vertex) f.0 p }
+    ensures { result ≡ through_vertices vertices.now triangles.now vertex.now f.0 p }
 {
     let a = through_face_vertex(vertices, triangles, vertex, f, p, 0, 1.0 / 0.0);
     let b = through_face_vertex(vertices, triangles, vertex, f, p, 1, a);
@@ -49,7 +48,7 @@ fn through_vertices(vertices: &[f64], triangles: &[u32], vertex: &[f64], f: Face
 
 // The link behind `before` on the chain of an edge; behind 0 comes the head.
 fn link_behind(edge_words: &[u32], words: &[u32], made: u32, e: EdgeId, before: u32) -> u32
-    ensures { result ≡ link_in made (link_at (links (given edge_words) (given words)) e.0 before) }
+    ensures { result ≡ link_in made (link_at (links edge_words.now words.now) e.0 before) }
 {
     if before == 0 {
         return chains::within(read_u32(edge_words, WORDS_PER_EDGE, e.0, EDGE_HEAD), made);
@@ -63,7 +62,7 @@ fn link_behind(edge_words: &[u32], words: &[u32], made: u32, e: EdgeId, before: 
 // The lesser of d and of the way through a window. It is loaded only where its least value leaves it a chance.
 fn through_link(words: &[u32], reals: &[f64], i: u32, x: f64, y: f64, d: f64) -> f64
     requires { i < capacity_of (length words.now) (length reals.now) }
-    ensures { result ≡ cond (window_at (given words) (given reals) i).alive (through_window d (window_at (given words) (given reals) i).win x y) d }
+    ensures { result ≡ cond (window_at words.now reals.now i).alive (through_window d (window_at words.now reals.now i).win x y) d }
 {
     if y + read_f64(reals, REALS_PER_WINDOW, i, WINDOW_LOW) < d {
         let window = windows::load(words, reals, WindowId(i));
@@ -86,7 +85,7 @@ fn through_chain(
     far: f64,
 ) -> f64
     requires { made ≤ capacity_of (length words.now) (length reals.now) }
-    ensures { result ≡ through_windows x y far (records_on (given words) (given reals) (chain_behind made (links (given edge_words) (given words)) e.0 made 0)) }
+    ensures { result ≡ through_windows x y far (records_on words.now reals.now (chain_behind made (links edge_words.now words.now) e.0 made 0)) }
 {
     let mut d = far;
     let mut before = 0;
@@ -136,7 +135,7 @@ fn pass_low(
     e: EdgeId,
     s: LowWalk,
 ) -> LowWalk
-    ensures { WalksOn made (links (given edge_words) (given words)) (given reals) e.0 s result }
+    ensures { WalksOn made (links edge_words.now words.now) reals.now e.0 s result }
 {
     if s.more {
         let at = link_behind(edge_words, words, made, e, s.before);
@@ -175,9 +174,9 @@ fn side_lows(
     e1: EdgeId,
     e2: EdgeId,
 ) -> SideLows
-    ensures { (result.first ≡ least_low (given reals) (inf false) (chain_behind made (links (given edge_words) (given words)) e0.0 made 0))
-        × ((result.second ≡ least_low (given reals) (inf false) (chain_behind made (links (given edge_words) (given words)) e1.0 made 0))
-        × (result.third ≡ least_low (given reals) (inf false) (chain_behind made (links (given edge_words) (given words)) e2.0 made 0))) }
+    ensures { (result.first ≡ least_low reals.now (inf false) (chain_behind made (links edge_words.now words.now) e0.0 made 0))
+        × ((result.second ≡ least_low reals.now (inf false) (chain_behind made (links edge_words.now words.now) e1.0 made 0))
+        × (result.third ≡ least_low reals.now (inf false) (chain_behind made (links edge_words.now words.now) e2.0 made 0))) }
 {
     let mut a = LowWalk {
         before: 0,
@@ -224,7 +223,7 @@ fn through_side(
     d: f64,
 ) -> f64
     requires { (made ≤ capacity_of (length words.now) (length reals.now)) × (low ≡ side_low edge_words.now triangle_words.now words.now reals.now made f.0 i) }
-    ensures { result ≡ through_side (given vertices) (given edge_words) (given edge_reals) (given triangle_words) (given triangle_reals) (given words) (given reals) made f.0 p i d }
+    ensures { result ≡ through_side vertices.now edge_words.now edge_reals.now triangle_words.now triangle_reals.now words.now reals.now made f.0 p i d }
 {
     let e = mesh_readers::side(triangle_words, f, i);
     let c = mesh_readers::coords(
@@ -258,7 +257,7 @@ fn through_sides(
     d: f64,
 ) -> f64
     requires { made ≤ capacity_of (length words.now) (length reals.now) }
-    ensures { result ≡ through_sides (given vertices) (given edge_words) (given edge_reals) (given triangle_words) (given triangle_reals) (given words) (given reals) made f.0 p d }
+    ensures { result ≡ through_sides vertices.now edge_words.now edge_reals.now triangle_words.now triangle_reals.now words.now reals.now made f.0 p d }
 {
     let e0 = mesh_readers::side(triangle_words, f, 0);
     let e1 = mesh_readers::side(triangle_words, f, 1);
@@ -313,14 +312,14 @@ fn through_sides(
 
 // From p to the first end of a piece, to the second, and to the segment between them.
 fn to_first(coords: &[f64], p: Vec3, piece: u32) -> f64
-    ensures { result ≡ to_point p (first_end (given coords) piece) }
+    ensures { result ≡ to_point p (first_end coords.now piece) }
 {
     let at = (COORDINATES_PER_PIECE as usize) * (piece as usize);
     face_distance::to_point(p, frames::vector_from(coords, at))
 }
 
 fn to_second(coords: &[f64], p: Vec3, piece: u32) -> f64
-    ensures { result ≡ to_point p (second_end (given coords) piece) }
+    ensures { result ≡ to_point p (second_end coords.now piece) }
 {
     let at = (COORDINATES_PER_PIECE as usize) * (piece as usize)
         + (COORDINATES_PER_VERTEX as usize);
@@ -328,7 +327,7 @@ fn to_second(coords: &[f64], p: Vec3, piece: u32) -> f64
 }
 
 fn to_whole(coords: &[f64], p: Vec3, piece: u32) -> f64
-    ensures { result ≡ to_segment p (first_end (given coords) piece) (second_end (given coords) piece) }
+    ensures { result ≡ to_segment p (first_end coords.now piece) (second_end coords.now piece) }
 {
     let at = (COORDINATES_PER_PIECE as usize) * (piece as usize);
     let a = frames::vector_from(coords, at);
@@ -338,7 +337,7 @@ fn to_whole(coords: &[f64], p: Vec3, piece: u32) -> f64
 
 // From p to what an entry holds.
 fn to_part(coords: &[f64], p: Vec3, piece: u32, part: Part) -> f64
-    ensures { result ≡ to_part (given coords) p piece part }
+    ensures { result ≡ to_part coords.now p piece part }
 {
     match part {
         Part::EndA => to_first(coords, p, piece),
@@ -349,7 +348,7 @@ fn to_part(coords: &[f64], p: Vec3, piece: u32, part: Part) -> f64
 
 // The least of d and of the ways to the entries from a link on.
 fn to_entries(coords: &[f64], entry_words: &[u32], first: u32, p: Vec3, far: f64) -> f64
-    ensures { result ≡ to_entries (given coords) p far (entries_from_link (entry_capacity (length (given entry_words))) (given entry_words) first) }
+    ensures { result ≡ to_entries coords.now p far (entries_from_link (entry_capacity (length entry_words.now)) entry_words.now first) }
 {
     let mut d = far;
     let mut at = first;
@@ -375,7 +374,7 @@ fn to_pieces(
     p: Vec3,
     d: f64,
 ) -> f64
-    ensures { result ≡ to_pieces (given coords) (given triangle_words) (given entry_words) f.0 p d }
+    ensures { result ≡ to_pieces coords.now triangle_words.now entry_words.now f.0 p d }
 {
     to_entries(
         coords,
@@ -404,8 +403,8 @@ pub fn distance_in_face(
     p: Vec3,
 ) -> f64
     requires { made ≤ capacity_of (length words.now) (length reals.now) }
-    ensures { result ≡ face_distance_in (given vertices) (given triangles) (given coords) (given edge_words) (given edge_reals) (given triangle_words) (given triangle_reals)
-        (given vertex) (given words) (given reals) (given entry_words) made f.0 p }
+    ensures { result ≡ face_distance_in vertices.now triangles.now coords.now edge_words.now edge_reals.now triangle_words.now triangle_reals.now
+        vertex.now words.now reals.now entry_words.now made f.0 p }
 {
     let through = through_vertices(vertices, triangles, vertex, f, p);
     let sides = through_sides(

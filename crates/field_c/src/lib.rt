@@ -78,7 +78,7 @@ pub extern "C" fn sirmolaat_compute(
     other_scratch: &mut [u32],
     told: &mut [u32],
 ) -> u32
-    ensures { ToldOf (job (given vertices) (given triangles) (given flags) (given kinds) (given faces) (given coords) limit)
+    ensures { ToldOf (job vertices.now triangles.now flags.now kinds.now faces.now coords.now limit)
         (buffers_before vertex_words edge_words edge_reals round triangle_words triangle_reals
         piece_words piece_reals vertex words reals keys events entry_words pts out keep next scratch other_scratch) max_steps (given told) result
         (buffers_after vertex_words edge_words edge_reals round triangle_words triangle_reals
@@ -152,8 +152,8 @@ pub extern "C" fn sirmolaat_at(
     z: f64,
     distance: &mut [f64],
 ) -> u32
-    ensures { (result, left distance) ≡ asked_face (told_field (given told)) (job_slices (given vertices) (given triangles) (given kinds) (given faces) (given coords))
-        (field_slices (given edge_words) (given edge_reals) (given triangle_words) (given triangle_reals) (given vertex) (given words) (given reals) (given entry_words))
+    ensures { (result, left distance) ≡ asked_face (told_field told.now) (job_slices vertices.now triangles.now kinds.now faces.now coords.now)
+        (field_slices edge_words.now edge_reals.now triangle_words.now triangle_reals.now vertex.now words.now reals.now entry_words.now)
         f (record { x = x; y = y; z = z }) (given distance) }
 {
     let face = FaceId(f);
@@ -205,8 +205,8 @@ pub extern "C" fn sirmolaat_edge_at(
     x: f64,
     distance: &mut [f64],
 ) -> u32
-    ensures { (result, left distance) ≡ asked_edge (told_field (given told)) (job_slices (given vertices) (given triangles) (given kinds) (given faces) (given coords))
-        (field_slices (given edge_words) (given edge_reals) (given triangle_words) (given triangle_reals) (given vertex) (given words) (given reals) (given entry_words))
+    ensures { (result, left distance) ≡ asked_edge (told_field told.now) (job_slices vertices.now triangles.now kinds.now faces.now coords.now)
+        (field_slices edge_words.now edge_reals.now triangle_words.now triangle_reals.now vertex.now words.now reals.now entry_words.now)
         e x (given distance) }
 {
     let edge = EdgeId(e);
@@ -271,7 +271,7 @@ pub extern "C" fn sirmolaat_read_slip(
     told: &mut [u32],
     limit: &mut [f64],
 ) -> u32
-    ensures { ReadTold (given slip) (job_rows (given vertices) (given triangles) (given flags) (given kinds) (given faces) (given coords)) (given told) (given limit)
+    ensures { ReadTold slip.now (job_rows (given vertices) (given triangles) (given flags) (given kinds) (given faces) (given coords)) (given told) (given limit)
         result (job_rows (left vertices) (left triangles) (left flags) (left kinds) (left faces) (left coords)) (left told) (left limit) }
 {
     let read = slip::read(slip, vertices, triangles, flags, kinds, faces, coords);
@@ -290,7 +290,7 @@ pub extern "C" fn sirmolaat_write_slip(
     limit: f64,
     out: &mut [u8],
 ) -> usize
-    ensures { WriteTold (job (given vertices) (given triangles) (given flags) (given kinds) (given faces) (given coords) limit) (given out) result (left out) }
+    ensures { WriteTold (job vertices.now triangles.now flags.now kinds.now faces.now coords.now limit) (given out) result (left out) }
 {
     let written = slip_write::write(vertices, triangles, flags, kinds, faces, coords, limit, out);
     length_told(written)
@@ -305,7 +305,7 @@ pub extern "C" fn sirmolaat_print_out(
     vertex: &[f64],
     out: &mut [u8],
 ) -> usize
-    ensures { Puts (given out) 0 (text_of (told_answer refusal (given told)) (live_count (given words) (get_or (given told) 4 0)) (given vertex)) (left out) result }
+    ensures { Puts (given out) 0 (text_of (told_answer refusal told.now) (live_count words.now (get_or told.now 4 0)) vertex.now) (left out) result }
 {
     let answer = told_answer(refusal, told);
     let live = print_out::live_count(words, read_u32(told, 6, 0, 4));

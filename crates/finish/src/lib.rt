@@ -29,9 +29,9 @@ pub fn finish(
     made: u32,
 )
     requires { (made ≤ capacity_of (length words.now) (length reals.now)) × (edges ≤ slots_of (length edge_words.old) words_per_edge) }
-    ensures { FinishesTo edges made (given edge_reals)
-        (slices (given edge_words) (given words) (given reals) (given keys) (given events) (given vertex)) (cuts_before pts out keep next)
-        (slices (left edge_words) (given words) (given reals) (left keys) (left events) (left vertex)) (cuts_after pts out keep next) }
+    ensures { FinishesTo edges made edge_reals.now
+        (slices (given edge_words) words.now reals.now (given keys) (given events) (given vertex)) (cuts_before pts out keep next)
+        (slices (left edge_words) words.now reals.now (left keys) (left events) (left vertex)) (cuts_after pts out keep next) }
 {
     last_pass::lower_all(edge_words, edge_reals, words, reals, vertex, edges, made);
     contents::forget(edge_words);

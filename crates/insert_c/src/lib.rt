@@ -98,8 +98,8 @@ fn insert_parts(
 ) -> InsertedJob
     requires { (length vertices.now / 3 ≤ 65535) × ((length kinds.now ≤ 65535) × ((words_per_piece * length kinds.now ≤ length piece_words.old)
         × (x ≡ cut_count (cut_buffers pts.old out.old keep.old next.old)))) }
-    ensures { InsertsJob (given vertices) (given triangles) (given kinds) (given faces) (given coords) limit
-        (mesh_buffers (given vertex_words) (given edge_words) (given edge_reals) (given round) (given triangle_words) (given triangle_reals))
+    ensures { InsertsJob vertices.now triangles.now kinds.now faces.now coords.now limit
+        (mesh_buffers vertex_words.now (given edge_words) edge_reals.now round.now (given triangle_words) triangle_reals.now)
         (work_before piece_words piece_reals vertex words reals keys events entry_words) (cut_to x (cuts_before pts out keep next))
         result (left piece_words) (left piece_reals) (Buffers·after edge_words words reals keys events vertex) (entries_after triangle_words entry_words) }
 {
@@ -163,7 +163,7 @@ pub extern "C" fn sirmolaat_insert(
     next: &mut [f64],
     told: &mut [u32],
 ) -> u32
-    ensures { InsertAnswers (job (given vertices) (given triangles) (given flags) (given kinds) (given faces) (given coords) limit)
+    ensures { InsertAnswers (job vertices.now triangles.now flags.now kinds.now faces.now coords.now limit)
         (before vertex_words edge_words edge_reals round triangle_words triangle_reals)
         (work_before piece_words piece_reals vertex words reals keys events entry_words) (cuts_before pts out keep next) (given told)
         result (after vertex_words edge_words edge_reals round triangle_words triangle_reals)

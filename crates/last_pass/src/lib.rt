@@ -44,7 +44,7 @@ fn lower_edge(
     made: u32,
 )
     requires { (made ≤ capacity_of (length words.now) (length reals.now)) × (e.id.0 < slots_of (length edge_words.now) words_per_edge) }
-    ensures { left vertex ≡ lowered_edge e (wins_on (given words) (given reals) (chain_behind made (links (given edge_words) (given words)) e.id.0 made 0)) (given vertex) }
+    ensures { left vertex ≡ lowered_edge e (wins_on words.now reals.now (chain_behind made (links edge_words.now words.now) e.id.0 made 0)) (given vertex) }
 {
     let mut before = 0;
     let mut left = made;
@@ -72,7 +72,7 @@ fn lower_group(
     end: u32,
 )
     requires { (made ≤ capacity_of (length words.now) (length reals.now)) × ((end ≤ slots_of (length edge_words.now) words_per_edge) × (from ≤ end)) }
-    ensures { left vertex ≡ lowered_from made (given edge_reals) (links (given edge_words) (given words)) (given reals) from (end - from) (given vertex) }
+    ensures { left vertex ≡ lowered_from made edge_reals.now (links edge_words.now words.now) reals.now from (end - from) (given vertex) }
 {
     let mut e = from;
     while e < end {
@@ -108,7 +108,7 @@ pub fn lower_all(
     made: u32,
 )
     requires { (made ≤ capacity_of (length words.now) (length reals.now)) × (edges ≤ slots_of (length edge_words.now) words_per_edge) }
-    ensures { left vertex ≡ lowered_all_at made (given edge_reals) (links (given edge_words) (given words)) (given reals) edges (given vertex) }
+    ensures { left vertex ≡ lowered_all_at made edge_reals.now (links edge_words.now words.now) reals.now edges (given vertex) }
 {
     let mut e = 0;
     while e < edges {

@@ -38,7 +38,7 @@ fn tell(moved: Moved, told: &mut [usize]) -> u32
 // Moves a plain slip to groups: 0 or a refusal of 30, 31, 32 and 36. For 0 and 36 the first of `told` is the length of what it is moved to.
 #[unsafe(no_mangle)]
 pub extern "C" fn sirmolaat_slip_to_groups(slip: &[u8], out: &mut [u8], told: &mut [usize]) -> u32
-    ensures { (result, (left out, left told)) ≡ exported Plain Groups (given slip) (given out) (given told) }
+    ensures { (result, (left out, left told)) ≡ exported Plain Groups slip.now (given out) (given told) }
 {
     tell(slip_moves::to_groups(slip, out), told)
 }
@@ -46,7 +46,7 @@ pub extern "C" fn sirmolaat_slip_to_groups(slip: &[u8], out: &mut [u8], told: &m
 // Moves a slip in groups to a plain one: 0 or a refusal of 30, 31, 32, 34, 35 and 36, and `told` as above.
 #[unsafe(no_mangle)]
 pub extern "C" fn sirmolaat_groups_to_slip(slip: &[u8], out: &mut [u8], told: &mut [usize]) -> u32
-    ensures { (result, (left out, left told)) ≡ exported Groups Plain (given slip) (given out) (given told) }
+    ensures { (result, (left out, left told)) ≡ exported Groups Plain slip.now (given out) (given told) }
 {
     tell(slip_moves::from_groups(slip, out), told)
 }
@@ -79,7 +79,7 @@ fn read_told(
     told: &mut [u32],
     limit: &mut [f64],
 ) -> u32
-    ensures { (result, (job_rows (left vertices) (left triangles) (left flags) (left kinds) (left faces) (left coords), (left told, left limit))) ≡ form_read form (given slip)
+    ensures { (result, (job_rows (left vertices) (left triangles) (left flags) (left kinds) (left faces) (left coords), (left told, left limit))) ≡ form_read form slip.now
         (job_rows (given vertices) (given triangles) (given flags) (given kinds) (given faces) (given coords)) (given told) (given limit) }
 {
     let answer = form_read::read(form, slip, vertices, triangles, flags, kinds, faces, coords);
@@ -102,7 +102,7 @@ pub extern "C" fn sirmolaat_read_slip_form(
     limit: &mut [f64],
 ) -> u32
     ensures { (result, (job_rows (left vertices) (left triangles) (left flags) (left kinds) (left faces) (left coords), (left told, left limit)))
-        ≡ exported_read form (given slip) (job_rows (given vertices) (given triangles) (given flags) (given kinds) (given faces) (given coords)) (given told) (given limit) }
+        ≡ exported_read form slip.now (job_rows (given vertices) (given triangles) (given flags) (given kinds) (given faces) (given coords)) (given told) (given limit) }
 {
     if form == 1 {
         return read_told(

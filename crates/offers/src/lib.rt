@@ -45,7 +45,7 @@ fn add_to(
     limit: f64,
 ) -> Added
     requires { Ready e.0 counts.made 0 edge_words.old words.old reals.old × Sizes (length pts.old) out.old keep.old next.old }
-    ensures { AddsTo limit (given vertex_words) (trim_edge_at (given edge_words) (given edge_reals) e.0) w counts
+    ensures { AddsTo limit vertex_words.now (trim_edge_at (given edge_words) edge_reals.now e.0) w counts
         (before edge_words words reals keys events vertex) (cuts_before pts out keep next)
         result (after edge_words words reals keys events vertex) (cuts_after pts out keep next) }
 {
@@ -88,7 +88,7 @@ pub fn offer(
     limit: f64,
 ) -> Added
     requires { (counts.made ≤ capacity_of (length words.old) (length reals.old)) × Sizes (length pts.old) out.old keep.old next.old }
-    ensures { OffersTo limit (given vertex_words) (given edge_reals) o counts (before edge_words words reals keys events vertex) (cuts_before pts out keep next)
+    ensures { OffersTo limit vertex_words.now edge_reals.now o counts (before edge_words words reals keys events vertex) (cuts_before pts out keep next)
         result (after edge_words words reals keys events vertex) (cuts_after pts out keep next) }
 {
     match o {

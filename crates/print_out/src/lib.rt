@@ -1,4 +1,6 @@
 // The print-out of a job: lines of text, from its answer, the number of live windows and the vertices' distances.
+#![tactic(auto)]
+
 ghost use Rattle.std.specs.Prelude.{◌≡◌, cond, ◌&&◌, leb, ltb, [], ◌+◌, ◌*◌, ◌≤◌, ◌<◌, length};
 ghost use Rattle.std.specs.Float.{binary64};
 ghost use Rattle.std.specs.Float.Ieee.{of_bits};
@@ -24,7 +26,7 @@ fn one_if(b: bool) -> u32
 
 // Whether window k lives.
 fn is_live(words: &[u32], k: u32) -> bool
-    ensures { result ≡ is_live (given words) k }
+    ensures { result ≡ is_live words.now k }
 {
     let flags = read_u32(words, WORDS_PER_WINDOW, k, WINDOW_FLAGS);
     windows::has_flag(flags, ALIVE_FLAG)
@@ -32,7 +34,7 @@ fn is_live(words: &[u32], k: u32) -> bool
 
 // How many of the first n windows live.
 pub fn live_count(words: &[u32], n: u32) -> u32
-    ensures { result ≡ live_count (given words) n }
+    ensures { result ≡ live_count words.now n }
 {
     let mut live: u32 = 0;
     let mut k: u32 = 0;
@@ -46,7 +48,7 @@ pub fn live_count(words: &[u32], n: u32) -> u32
 // A word and a number.
 fn put_count(out: &mut [u8], i: usize, word: &[u8], n: u32) -> usize
     requires { (i < 8_000_000_000_000_000_000) × (length word.now ≤ 20) }
-    ensures { Puts (given out) i (count_text (given word) n) (left out) result × (result ≤ i + 40) }
+    ensures { Puts (given out) i (count_text word.now n) (left out) result × (result ≤ i + 40) }
 {
     let j = put_text(out, i, word);
     put_decimal(out, j, n as u64)
@@ -127,7 +129,7 @@ fn put_corner(out: &mut [u8], i: usize, k: u32, x: f64) -> usize
 // A line for each of the n vertices.
 fn put_corners(out: &mut [u8], i: usize, n: u32, vertex: &[f64]) -> usize
     requires { i < 6_000_000_000_000_000_000 }
-    ensures { Puts (given out) i (corner_lines (given vertex) n) (left out) result × (result ≤ i + 388 * n) }
+    ensures { Puts (given out) i (corner_lines vertex.now n) (left out) result × (result ≤ i + 388 * n) }
 {
     let mut at = i;
     let mut k: u32 = 0;
@@ -165,7 +167,7 @@ fn put_refused(out: &mut [u8], number: u32) -> usize
 }
 
 fn put_field(out: &mut [u8], field: Field, live: u32, vertex: &[f64]) -> usize
-    ensures { Puts (given out) 0 (field_text field live (given vertex)) (left out) result }
+    ensures { Puts (given out) 0 (field_text field live vertex.now) (left out) result }
 {
     let a = put_edges(out, field.edges);
     let b = put_windows(out, a, field.windows, live, field.steps);
@@ -175,7 +177,7 @@ fn put_field(out: &mut [u8], field: Field, live: u32, vertex: &[f64]) -> usize
 
 // The print-out of an answer, to the front of a slice: as much of it as there is room for. Answers how long it is.
 pub fn print_out(answer: Computed, live: u32, vertex: &[f64], out: &mut [u8]) -> usize
-    ensures { Puts (given out) 0 (text_of answer live (given vertex)) (left out) result }
+    ensures { Puts (given out) 0 (text_of answer live vertex.now) (left out) result }
 {
     match answer {
         Computed::Refused(number) => put_refused(out, number),

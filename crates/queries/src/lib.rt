@@ -5,7 +5,6 @@ ghost use Rattle.std.specs.Prelude.{◌≡◌, ◌≤◌, ◌<◌, length};
 ghost use Rattle.std.specs.Float.{nan};
 ghost use Rattle.layout.specs.Layout.{words_per_edge};
 ghost use Rattle.buffers.specs.Slots.{slots_of};
-ghost use Rattle.buffers.specs.Lent.{given};
 ghost use Rattle.windows.specs.Windows.{capacity_of};
 ghost use Rattle.chains.specs.Chains.{links};
 ghost use Rattle.job_checks.specs.Refusals.{out_of_range};
@@ -211,8 +210,8 @@ pub fn face_answer(
     p: Vec3,
 ) -> FaceDistance
     requires { (n.edges ≤ slots_of (length edge_words.now) words_per_edge) × (n.windows ≤ capacity_of (length words.now) (length reals.now)) }
-    ensures { result ≡ face_answer n (field_slices (given edge_words) (given edge_reals) (given triangle_words) (given triangle_reals) (given vertex) (given words) (given reals)
-        (given entry_words)) (job_slices (given vertices) (given triangles) (given kinds) (given faces) (given coords)) f.0 p }
+    ensures { result ≡ face_answer n (field_slices edge_words.now edge_reals.now triangle_words.now triangle_reals.now vertex.now words.now reals.now
+        entry_words.now) (job_slices vertices.now triangles.now kinds.now faces.now coords.now) f.0 p }
 {
     if n.triangles <= f.0 {
         return FaceDistance::MissingFace;
@@ -256,9 +255,9 @@ pub fn edge_answer_from(
 ) -> ResumedAnswer
     requires { (n.edges ≤ slots_of (length edge_words.now) words_per_edge) × ((n.windows ≤ capacity_of (length words.now) (length reals.now))
         × Resumes n.windows (links edge_words.now words.now) reals.now cursor) }
-    ensures answer_value { result.answer ≡ edge_answer n (field_slices (given edge_words) (given edge_reals) (given triangle_words) (given triangle_reals) (given vertex) (given words) (given reals)
-        (given entry_words)) e.0 x }
-    ensures resumes { Resumes n.windows (links (given edge_words) (given words)) (given reals) result.cursor }
+    ensures answer_value { result.answer ≡ edge_answer n (field_slices edge_words.now edge_reals.now triangle_words.now triangle_reals.now vertex.now words.now reals.now
+        entry_words.now) e.0 x }
+    ensures resumes { Resumes n.windows (links edge_words.now words.now) reals.now result.cursor }
 {
     if n.edges <= e.0 {
         return ResumedAnswer {
@@ -298,8 +297,8 @@ pub fn edge_answer(
     x: f64,
 ) -> EdgeDistance
     requires { (n.edges ≤ slots_of (length edge_words.now) words_per_edge) × (n.windows ≤ capacity_of (length words.now) (length reals.now)) }
-    ensures { result ≡ edge_answer n (field_slices (given edge_words) (given edge_reals) (given triangle_words) (given triangle_reals) (given vertex) (given words) (given reals)
-        (given entry_words)) e.0 x }
+    ensures { result ≡ edge_answer n (field_slices edge_words.now edge_reals.now triangle_words.now triangle_reals.now vertex.now words.now reals.now
+        entry_words.now) e.0 x }
 {
     let head = edge_query::head_cursor(e, n.windows);
     let resumed = edge_answer_from(
@@ -331,8 +330,8 @@ pub fn vertex_answer(
     entry_words: &[u32],
     k: VertexId,
 ) -> VertexDistance
-    ensures { result ≡ vertex_answer n (field_slices (given edge_words) (given edge_reals) (given triangle_words) (given triangle_reals) (given vertex) (given words) (given reals)
-        (given entry_words)) k.0 }
+    ensures { result ≡ vertex_answer n (field_slices edge_words.now edge_reals.now triangle_words.now triangle_reals.now vertex.now words.now reals.now
+        entry_words.now) k.0 }
 {
     if n.vertices <= k.0 {
         return VertexDistance::MissingVertex;
@@ -350,7 +349,7 @@ fn place_link(
     place: u32,
 ) -> u32
     requires { (made ≤ capacity_of (length words.now) (length reals.now)) × (e.0 < slots_of (length edge_words.now) words_per_edge) }
-    ensures value { result ≡ place_link place (chain_behind made (links (given edge_words) (given words)) e.0 made 0) }
+    ensures value { result ≡ place_link place (chain_behind made (links edge_words.now words.now) e.0 made 0) }
     ensures upper_bound { result ≤ made }
 {
     let mut before = 0;
@@ -373,7 +372,7 @@ fn place_link(
 
 fn linked_window(words: &[u32], reals: &[f64], link: u32) -> WindowAnswer
     requires { link ≤ capacity_of (length words.now) (length reals.now) }
-    ensures { result ≡ linked_window (given words) (given reals) link }
+    ensures { result ≡ linked_window words.now reals.now link }
 {
     if link == 0 {
         return WindowAnswer::PastEnd;
@@ -398,8 +397,8 @@ pub fn window_answer(
     place: u32,
 ) -> WindowAnswer
     requires { (n.edges ≤ slots_of (length edge_words.now) words_per_edge) × (n.windows ≤ capacity_of (length words.now) (length reals.now)) }
-    ensures { result ≡ window_answer n (field_slices (given edge_words) (given edge_reals) (given triangle_words) (given triangle_reals) (given vertex) (given words) (given reals)
-        (given entry_words)) e.0 place }
+    ensures { result ≡ window_answer n (field_slices edge_words.now edge_reals.now triangle_words.now triangle_reals.now vertex.now words.now reals.now
+        entry_words.now) e.0 place }
 {
     if n.edges <= e.0 {
         return WindowAnswer::MissingEdge;
@@ -427,8 +426,8 @@ pub fn face_at(
     f: FaceId,
     p: Vec3,
 ) -> FaceDistance
-    ensures { result ≡ face_query (job_slices (given vertices) (given triangles) (given kinds) (given faces) (given coords))
-        (field_slices (given edge_words) (given edge_reals) (given triangle_words) (given triangle_reals) (given vertex) (given words) (given reals) (given entry_words)) computed f.0 p }
+    ensures { result ≡ face_query (job_slices vertices.now triangles.now kinds.now faces.now coords.now)
+        (field_slices edge_words.now edge_reals.now triangle_words.now triangle_reals.now vertex.now words.now reals.now entry_words.now) computed f.0 p }
 {
     let Computed::Field(n) = computed else {
         return FaceDistance::NoField;
@@ -490,8 +489,8 @@ pub fn edge_at(
     e: EdgeId,
     x: f64,
 ) -> EdgeDistance
-    ensures { result ≡ edge_query (job_slices (given vertices) (given triangles) (given kinds) (given faces) (given coords))
-        (field_slices (given edge_words) (given edge_reals) (given triangle_words) (given triangle_reals) (given vertex) (given words) (given reals) (given entry_words)) computed e.0 x }
+    ensures { result ≡ edge_query (job_slices vertices.now triangles.now kinds.now faces.now coords.now)
+        (field_slices edge_words.now edge_reals.now triangle_words.now triangle_reals.now vertex.now words.now reals.now entry_words.now) computed e.0 x }
 {
     let Computed::Field(n) = computed else {
         return EdgeDistance::NoField;
@@ -547,8 +546,8 @@ pub fn vertex_at(
     entry_words: &[u32],
     k: VertexId,
 ) -> VertexDistance
-    ensures { result ≡ vertex_query (job_slices (given vertices) (given triangles) (given kinds) (given faces) (given coords))
-        (field_slices (given edge_words) (given edge_reals) (given triangle_words) (given triangle_reals) (given vertex) (given words) (given reals) (given entry_words)) computed k.0 }
+    ensures { result ≡ vertex_query (job_slices vertices.now triangles.now kinds.now faces.now coords.now)
+        (field_slices edge_words.now edge_reals.now triangle_words.now triangle_reals.now vertex.now words.now reals.now entry_words.now) computed k.0 }
 {
     let Computed::Field(n) = computed else {
         return VertexDistance::NoField;
@@ -604,8 +603,8 @@ pub fn window_at(
     e: EdgeId,
     place: u32,
 ) -> WindowAnswer
-    ensures { result ≡ window_query (job_slices (given vertices) (given triangles) (given kinds) (given faces) (given coords))
-        (field_slices (given edge_words) (given edge_reals) (given triangle_words) (given triangle_reals) (given vertex) (given words) (given reals) (given entry_words)) computed
+    ensures { result ≡ window_query (job_slices vertices.now triangles.now kinds.now faces.now coords.now)
+        (field_slices edge_words.now edge_reals.now triangle_words.now triangle_reals.now vertex.now words.now reals.now entry_words.now) computed
         e.0 place }
 {
     let Computed::Field(n) = computed else {
@@ -646,7 +645,7 @@ pub fn window_at(
 
 // The vertices, triangles, pieces, edges, windows and steps of a field, as a caller tells them.
 pub fn told_field(told: &[u32]) -> Field
-    ensures { result ≡ told_field (given told) }
+    ensures { result ≡ told_field told.now }
 {
     Field {
         vertices: read_u32(told, 6, 0, 0),
@@ -660,7 +659,7 @@ pub fn told_field(told: &[u32]) -> Field
 
 // The job's answer: 0 and what it told of its field, or a refusal's number.
 pub fn told_answer(refusal: u32, told: &[u32]) -> Computed
-    ensures { result ≡ told_answer refusal (given told) }
+    ensures { result ≡ told_answer refusal told.now }
 {
     if refusal == 0 {
         let field = told_field(told);

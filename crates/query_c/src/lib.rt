@@ -44,9 +44,9 @@ pub extern "C" fn sirmolaat_faces_at(
     numbers: &mut [u32],
     distances: &mut [f64],
 ) -> u32
-    ensures { (result, (left numbers, left distances)) ≡ told_row (face_row (job_slices (given vertices) (given triangles) (given kinds) (given faces) (given coords))
-        (field_slices (given edge_words) (given edge_reals) (given triangle_words) (given triangle_reals) (given vertex) (given words) (given reals) (given entry_words)) (given numbers)
-        (given distances) (told_answer refusal (given told)) (given asked) (given points)) }
+    ensures { (result, (left numbers, left distances)) ≡ told_row (face_row (job_slices vertices.now triangles.now kinds.now faces.now coords.now)
+        (field_slices edge_words.now edge_reals.now triangle_words.now triangle_reals.now vertex.now words.now reals.now entry_words.now) (given numbers)
+        (given distances) (told_answer refusal told.now) asked.now points.now) }
 {
     let computed = told_answer(refusal, told);
     let answer = query_rows::faces_at(
@@ -95,9 +95,9 @@ pub extern "C" fn sirmolaat_edges_at(
     numbers: &mut [u32],
     distances: &mut [f64],
 ) -> u32
-    ensures { (result, (left numbers, left distances)) ≡ told_row (edge_row (job_slices (given vertices) (given triangles) (given kinds) (given faces) (given coords))
-        (field_slices (given edge_words) (given edge_reals) (given triangle_words) (given triangle_reals) (given vertex) (given words) (given reals) (given entry_words)) (given numbers)
-        (given distances) (told_answer refusal (given told)) (given edges) (given places)) }
+    ensures { (result, (left numbers, left distances)) ≡ told_row (edge_row (job_slices vertices.now triangles.now kinds.now faces.now coords.now)
+        (field_slices edge_words.now edge_reals.now triangle_words.now triangle_reals.now vertex.now words.now reals.now entry_words.now) (given numbers)
+        (given distances) (told_answer refusal told.now) edges.now places.now) }
 {
     let computed = told_answer(refusal, told);
     let answer = query_rows::edges_at(
@@ -145,9 +145,9 @@ pub extern "C" fn sirmolaat_vertices_at(
     numbers: &mut [u32],
     distances: &mut [f64],
 ) -> u32
-    ensures { (result, (left numbers, left distances)) ≡ told_row (vertex_row (job_slices (given vertices) (given triangles) (given kinds) (given faces) (given coords))
-        (field_slices (given edge_words) (given edge_reals) (given triangle_words) (given triangle_reals) (given vertex) (given words) (given reals) (given entry_words)) (given numbers)
-        (given distances) (told_answer refusal (given told)) (given asked)) }
+    ensures { (result, (left numbers, left distances)) ≡ told_row (vertex_row (job_slices vertices.now triangles.now kinds.now faces.now coords.now)
+        (field_slices edge_words.now edge_reals.now triangle_words.now triangle_reals.now vertex.now words.now reals.now entry_words.now) (given numbers)
+        (given distances) (told_answer refusal told.now) asked.now) }
 {
     let computed = told_answer(refusal, told);
     let answer = query_rows::vertices_at(
@@ -198,9 +198,9 @@ pub extern "C" fn sirmolaat_windows_at(
     window_reals: &mut [f64],
 ) -> u32
     ensures { (result, (left numbers, (left ids, (left window_words, left window_reals)))) ≡ told_windows
-        (window_row (job_slices (given vertices) (given triangles) (given kinds) (given faces) (given coords))
-        (field_slices (given edge_words) (given edge_reals) (given triangle_words) (given triangle_reals) (given vertex) (given words) (given reals) (given entry_words)) (given numbers)
-        (given ids) (given window_words) (given window_reals) (told_answer refusal (given told)) (given edges) (given places)) }
+        (window_row (job_slices vertices.now triangles.now kinds.now faces.now coords.now)
+        (field_slices edge_words.now edge_reals.now triangle_words.now triangle_reals.now vertex.now words.now reals.now entry_words.now) (given numbers)
+        (given ids) (given window_words) (given window_reals) (told_answer refusal told.now) edges.now places.now) }
 {
     let computed = told_answer(refusal, told);
     let answer = window_rows::windows_at(

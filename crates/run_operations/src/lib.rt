@@ -47,7 +47,7 @@ fn touch(
     made: u32,
     queued: u32,
 ) -> Step
-    ensures { Touches v.0 d limit (given vertex_words) made queued (given keys) (given events) (given vertex) result (left keys) (left events) (left vertex) }
+    ensures { Touches v.0 d limit vertex_words.now made queued (given keys) (given events) (given vertex) result (left keys) (left events) (left vertex) }
 {
     if buffers::slots(vertex.len(), REALS_PER_VERTEX) <= v.0 {
         return Step::Stopped(73);
@@ -72,7 +72,7 @@ fn pop_first(words: &mut [u32], keys: &mut [f64], events: &mut [u32], made: u32,
 
 // How many edges the slices all have.
 fn edge_count(ends: &[u32], lens: &[f64], edges: &[u32]) -> u32
-    ensures { result ≡ edge_count (given ends) (given lens) (given edges) }
+    ensures { result ≡ edge_count ends.now lens.now edges.now }
 {
     let n = buffers::count(ends.len(), WORDS_PER_ENDS, lens.len(), REALS_PER_LEN);
     let heads = buffers::slots(edges.len(), WORDS_PER_EDGE);
@@ -132,7 +132,7 @@ fn add_candidate(
     queued: u32,
 ) -> Step
     requires { ReadyToRun m made (slices edges.old words.old reals.old keys.old events.old vertex.old) (cut_buffers pts.old out.old keep.old next.old) }
-    ensures { Operated (setting_of (cuts_before pts out keep next) (before edges words reals keys events vertex) limit (given vertex_words) (given ends) (given lens) m)
+    ensures { Operated (setting_of (cuts_before pts out keep next) (before edges words reals keys events vertex) limit vertex_words.now ends.now lens.now m)
         (Operations·add (as_candidate id.0 w)) made queued (before edges words reals keys events vertex) result (after edges words reals keys events vertex) }
 {
     let len = read_f64(lens, REALS_PER_LEN, id.0, 0);
@@ -196,7 +196,7 @@ fn operate(
     queued: u32,
 ) -> Step
     requires { ReadyToRun m made (slices edges.old words.old reals.old keys.old events.old vertex.old) (cut_buffers pts.old out.old keep.old next.old) }
-    ensures { Operated (setting_of (cuts_before pts out keep next) (before edges words reals keys events vertex) limit (given vertex_words) (given ends) (given lens) m)
+    ensures { Operated (setting_of (cuts_before pts out keep next) (before edges words reals keys events vertex) limit vertex_words.now ends.now lens.now m)
         (as_operation op) made queued (before edges words reals keys events vertex) result (after edges words reals keys events vertex) }
 {
     match op {
@@ -263,8 +263,8 @@ fn run_all(
 ) -> Ran
     requires { ReadyToRun m 0 (slices edges.old words.old reals.old keys.old events.old vertex.old) (cut_buffers pts.old out.old keep.old next.old)
         × ((e : ℕ) → head_of edges.old e ≡ 0) }
-    ensures { Runs (setting_of (cuts_before pts out keep next) (before edges words reals keys events vertex) limit (given vertex_words) (given ends) (given lens) m)
-        (given ops) (given args) n (snapshot_in 0 0 (before edges words reals keys events vertex)) result (after edges words reals keys events vertex) }
+    ensures { Runs (setting_of (cuts_before pts out keep next) (before edges words reals keys events vertex) limit vertex_words.now ends.now lens.now m)
+        ops.now args.now n (snapshot_in 0 0 (before edges words reals keys events vertex)) result (after edges words reals keys events vertex) }
 {
     let mut made = 0;
     let mut queued = 0;
@@ -327,8 +327,8 @@ fn run_parts(
 ) -> Ran
     requires { (m ≡ edge_count ends.now lens.now edges.old)
         × ((x ≡ cut_count (cut_buffers pts.old out.old keep.old next.old)) × ((n ≡ operation_count ops.now args.now) × ((e : ℕ) → head_of edges.old e ≡ 0))) }
-    ensures { Runs (lent_setting (cuts_before pts out keep next) (before edges words reals keys events vertex) limit (given vertex_words) (given ends) (given lens))
-        (given ops) (given args) (operation_count (given ops) (given args)) (snapshot_in 0 0 (before edges words reals keys events vertex)) result (after edges words reals keys events vertex) }
+    ensures { Runs (lent_setting (cuts_before pts out keep next) (before edges words reals keys events vertex) limit vertex_words.now ends.now lens.now)
+        ops.now args.now (operation_count ops.now args.now) (snapshot_in 0 0 (before edges words reals keys events vertex)) result (after edges words reals keys events vertex) }
 {
     let single = x as usize;
     let double = 2 * single;
@@ -374,7 +374,7 @@ pub fn run(
     keep: &mut [f64],
     next: &mut [f64],
 ) -> Ran
-    ensures { RunWhole limit (given vertex_words) (given ends) (given lens) (given ops) (given args)
+    ensures { RunWhole limit vertex_words.now ends.now lens.now ops.now args.now
         (before edges words reals keys events vertex) (cuts_before pts out keep next)
         result (after edges words reals keys events vertex) (cuts_after pts out keep next) }
 {

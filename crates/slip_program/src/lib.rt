@@ -28,7 +28,7 @@ fn print_answer(
     vertex: &[f64; 128],
     text: &mut [u8],
 ) -> usize
-    ensures { Puts (given text) 0 (text_of computed (live_count (given words) (windows_told computed)) (given vertex)) (left text) result }
+    ensures { Puts (given text) 0 (text_of computed (live_count words.now (windows_told computed)) vertex.now) (left text) result }
 {
     let live = print_out::live_count(words, window_count(computed));
     print_out::print_out(computed, live, vertex, text)
@@ -46,7 +46,7 @@ fn print_job(
     text: &mut [u8],
 ) -> usize
     ensures { Puts (given text) 0
-        (job_text (job (given vertices) (given triangles) (given flags) (given kinds) (given faces) (given coords) limit)) (left text) result }
+        (job_text (job vertices.now triangles.now flags.now kinds.now faces.now coords.now limit)) (left text) result }
 {
     let mut vertex_words = [0u32; 192];
     let mut edge_words = [0u32; 1728];
@@ -113,7 +113,7 @@ fn print_read(
     text: &mut [u8],
 ) -> usize
     ensures { Puts (given text) 0
-        (job_text (front_job read (job_rows (given vertices) (given triangles) (given flags) (given kinds) (given faces) (given coords)))) (left text) result }
+        (job_text (front_job read (job_rows vertices.now triangles.now flags.now kinds.now faces.now coords.now))) (left text) result }
 {
     let nv = least(3 * (read.vertices as usize), vertices.len());
     let v = &vertices[..nv];
@@ -132,7 +132,7 @@ fn print_read(
 
 // The print-out of a slip, to the front of a slice: as much of it as there is room for. Answers how long it is.
 pub fn print_slip(s: &[u8], text: &mut [u8]) -> usize
-    ensures { Puts (given text) 0 (program_text (given s)) (left text) result }
+    ensures { Puts (given text) 0 (program_text s.now) (left text) result }
 {
     let mut vertices = [0.0f64; 192];
     let mut triangles = [0u32; 288];

@@ -57,7 +57,7 @@ fn admit(
     requires { Ready e.id.0 counts.made 0 edges.old words.old reals.old
         × (Sizes (length pts.old) out.old keep.old next.old × (w.win.low ≡ lowest_of w.win.src w.win.b0 w.win.b1)) }
     ensures { MadeWithin (room_for words reals) result × (tiny ≡ tiny_of e.len →
-        Admits (length (given pts)) (room_for words reals) limit (given vertex_words) e (new_of w)
+        Admits (length (given pts)) (room_for words reals) limit vertex_words.now e (new_of w)
         (snapshot_before edges words reals keys events counts.made counts.queued 0 (given vertex))
         (end_after edges words reals keys events (made_end result) (left vertex))) }
 {
@@ -111,7 +111,7 @@ pub fn add(
     limit: f64,
 ) -> Added
     requires { Ready e.id.0 counts.made 0 edges.old words.old reals.old × Sizes (length pts.old) out.old keep.old next.old }
-    ensures { AddsTo limit (given vertex_words) e w counts (before edges words reals keys events vertex) (cuts_before pts out keep next)
+    ensures { AddsTo limit vertex_words.now e w counts (before edges words reals keys events vertex) (cuts_before pts out keep next)
         result (after edges words reals keys events vertex) (cuts_after pts out keep next) }
 {
     let tiny = 1e-11 * e.len;

@@ -47,7 +47,7 @@ pub extern "C" fn sirmolaat_trim_run(
     next: &mut [f64],
     told: &mut [u32],
 ) -> u32
-    ensures { AnsweredList limit (given vertex_words) (given ends) (given lens) (given ops) (given args)
+    ensures { AnsweredList limit vertex_words.now ends.now lens.now ops.now args.now
         (before edges words reals keys events vertex) (cuts_before pts out keep next)
         (after edges words reals keys events vertex) (cuts_after pts out keep next) (given told) result (left told) }
 {

@@ -34,7 +34,7 @@ fn touch_reached(
     win: Win,
 ) -> Pushed
     ensures { (cuts windows made : ℕ) →
-        play cuts windows limit (given vertex_words) (push_if reached (touch v.0 (eval_of win x zero64))) (stock made n (queue (given keys) (given events)) (given vertex))
+        play cuts windows limit vertex_words.now (push_if reached (touch v.0 (eval_of win x zero64))) (stock made n (queue (given keys) (given events)) (given vertex))
         ≡ queueing made (left vertex) (result, queue (left keys) (left events)) }
 {
     if reached {
@@ -59,7 +59,7 @@ fn touch_ends(
     b1: f64,
 ) -> Pushed
     ensures { (cuts windows made k j : ℕ) →
-        play cuts windows limit (given vertex_words) (touching e (part (live_of x k) b0 b1 j)) (stock made n (queue (given keys) (given events)) (given vertex))
+        play cuts windows limit vertex_words.now (touching e (part (live_of x k) b0 b1 j)) (stock made n (queue (given keys) (given events)) (given vertex))
         ≡ queueing made (left vertex) (result, queue (left keys) (left events)) }
 {
     let old = x.win;
@@ -129,7 +129,7 @@ fn keep_part(
 ) -> Made
     requires { Ready e.id.0 counts.made before edges.old words.old reals.old × (x.win.low ≡ lowest_of x.win.src x.win.b0 x.win.b1) }
     ensures { MadeWithin (room_for words reals) result × ((cuts k : ℕ) →
-        KeptOne cuts (room_for words reals) limit (given vertex_words) e (live_of x k) (interval b0 b1)
+        KeptOne cuts (room_for words reals) limit vertex_words.now e (live_of x k) (interval b0 b1)
         (snapshot_before edges words reals keys events counts.made counts.queued before (given vertex))
         (end_after edges words reals keys events (made_end result) (left vertex))) }
 {
@@ -189,7 +189,7 @@ pub fn keep_parts(
     requires { Ready e.id.0 counts.made before edges.old words.old reals.old
         × ((k + k ≤ length keep.now) × (x.win.low ≡ lowest_of x.win.src x.win.b0 x.win.b1)) }
     ensures { MadeWithin (room_for words reals) result × ((cuts j : ℕ) →
-        Seats cuts (room_for words reals) limit (given vertex_words) e (live_of x j) (wide_of tiny (pairs k (given keep)))
+        Seats cuts (room_for words reals) limit vertex_words.now e (live_of x j) (wide_of tiny (pairs k keep.now))
         (snapshot_before edges words reals keys events counts.made counts.queued before (given vertex))
         (end_after edges words reals keys events (made_end result) (left vertex))) }
 {

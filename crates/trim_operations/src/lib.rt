@@ -3,7 +3,6 @@ ghost use Rattle.std.specs.Prelude.{◌≡◌};
 ghost use Rattle.trim_operations.specs.Operations.{is_queued, source_at, new_window_at, operation_at, as_operation};
 ghost use Rattle.trim_operations.specs.Run.{has_length, is_on_edge};
 ghost use Rattle.trim_operations.specs.Represents.{CheckedCandidate};
-ghost use Rattle.buffers.specs.Lent.{given};
 
 use buffers::{EdgeId, FaceId, VertexId, read_f64, read_u32};
 use layout::{
@@ -24,7 +23,7 @@ pub enum Op {
 }
 
 fn source_at(args: &[f64], k: u32, line: bool) -> Src
-    ensures { result ≡ source_at (given args) k line }
+    ensures { result ≡ source_at args.now k line }
 {
     let s0 = read_f64(args, REALS_PER_OPERATION, k, OPERATION_S0);
     let s1 = read_f64(args, REALS_PER_OPERATION, k, OPERATION_S1);
@@ -44,7 +43,7 @@ fn source_at(args: &[f64], k: u32, line: bool) -> Src
 }
 
 fn is_queued(ops: &[u32], k: u32) -> bool
-    ensures { result ≡ is_queued (given ops) k }
+    ensures { result ≡ is_queued ops.now k }
 {
     if read_u32(ops, WORDS_PER_OPERATION, k, OPERATION_QUEUED) == 1 {
         return true;
@@ -53,7 +52,7 @@ fn is_queued(ops: &[u32], k: u32) -> bool
 }
 
 fn new_window_at(ops: &[u32], args: &[f64], k: u32, line: bool) -> NewWindow
-    ensures { result ≡ new_window_at (given ops) (given args) k (source_at (given args) k line) }
+    ensures { result ≡ new_window_at ops.now args.now k (source_at args.now k line) }
 {
     let into = read_u32(ops, WORDS_PER_OPERATION, k, OPERATION_INTO);
     let queued = is_queued(ops, k);
@@ -74,7 +73,7 @@ fn new_window_at(ops: &[u32], args: &[f64], k: u32, line: bool) -> NewWindow
 
 // Operation k of a list.
 pub fn operation_at(ops: &[u32], args: &[f64], k: u32) -> Op
-    ensures { as_operation result ≡ operation_at (given ops) (given args) k }
+    ensures { as_operation result ≡ operation_at ops.now args.now k }
 {
     let kind = read_u32(ops, WORDS_PER_OPERATION, k, OPERATION_KIND);
     let number = read_u32(ops, WORDS_PER_OPERATION, k, OPERATION_NUMBER);

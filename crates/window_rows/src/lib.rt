@@ -72,16 +72,16 @@ fn answer_windows(
     requires { (n.edges ≤ slots_of (length edge_words.now) words_per_edge) ×
         ((n.windows ≤ capacity_of (length words.now) (length reals.now)) × (count ≤ capacity_of (length window_words.old) (length window_reals.old))) }
     ensures numbers_value { left numbers ≡ written_row (window_numbers n
-        (field_slices (given edge_words) (given edge_reals) (given triangle_words) (given triangle_reals) (given vertex) (given words) (given reals) (given entry_words)) (given edges)
-        (given places)) count (given numbers) }
-    ensures ids_value { left ids ≡ written_row (window_ids n (field_slices (given edge_words) (given edge_reals) (given triangle_words) (given triangle_reals) (given vertex) (given words)
-        (given reals) (given entry_words)) (given edges) (given places)) count (given ids) }
+        (field_slices edge_words.now edge_reals.now triangle_words.now triangle_reals.now vertex.now words.now reals.now entry_words.now) edges.now
+        places.now) count (given numbers) }
+    ensures ids_value { left ids ≡ written_row (window_ids n (field_slices edge_words.now edge_reals.now triangle_words.now triangle_reals.now vertex.now words.now
+        reals.now entry_words.now) edges.now places.now) count (given ids) }
     ensures window_words_value { left window_words ≡ stored_row (window_words_of n
-        (field_slices (given edge_words) (given edge_reals) (given triangle_words) (given triangle_reals) (given vertex) (given words) (given reals) (given entry_words)) (given edges)
-        (given places)) count (given window_words) }
+        (field_slices edge_words.now edge_reals.now triangle_words.now triangle_reals.now vertex.now words.now reals.now entry_words.now) edges.now
+        places.now) count (given window_words) }
     ensures window_reals_value { left window_reals ≡ stored_row (window_reals_of n
-        (field_slices (given edge_words) (given edge_reals) (given triangle_words) (given triangle_reals) (given vertex) (given words) (given reals) (given entry_words)) (given edges)
-        (given places)) count (given window_reals) }
+        (field_slices edge_words.now edge_reals.now triangle_words.now triangle_reals.now vertex.now words.now reals.now entry_words.now) edges.now
+        places.now) count (given window_reals) }
 {
     let mut i: u32 = 0;
     while i < count {
@@ -133,9 +133,9 @@ pub fn windows_at(
     window_reals: &mut [f64],
 ) -> RowAnswer
     ensures { window_result result (left numbers) (left ids) (left window_words) (left window_reals) ≡ window_row
-        (job_slices (given vertices) (given triangles) (given kinds) (given faces) (given coords))
-        (field_slices (given edge_words) (given edge_reals) (given triangle_words) (given triangle_reals) (given vertex) (given words) (given reals) (given entry_words)) (given numbers)
-        (given ids) (given window_words) (given window_reals) computed (given edges) (given places) }
+        (job_slices vertices.now triangles.now kinds.now faces.now coords.now)
+        (field_slices edge_words.now edge_reals.now triangle_words.now triangle_reals.now vertex.now words.now reals.now entry_words.now) (given numbers)
+        (given ids) (given window_words) (given window_reals) computed edges.now places.now }
 {
     let Computed::Field(n) = computed else {
         return RowAnswer::NoField;

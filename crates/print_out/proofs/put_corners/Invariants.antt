@@ -1,0 +1,16 @@
+use Rattle.print_out.specs.PrintOut.{corner_lines}
+use Rattle.text_out.proofs.Puts.{puts_none, puts_then, puts_length}
+use Rattle.text_out.specs.Text.{Puts}
+use lib.ListN.{length}
+use mathlib.Core.Path.{◌≡◌, refl, ◌∙◌}
+use native.Mathlib.Omega.{arith}
+use native.Mathlib.Numerals.{add-one}
+use Prim.Native.Nat.{◌+◌, ◌-◌, ◌*◌, ◌≤◌}
+use borrow.Author.Rules.{rules}
+use Rattle.print_out.proofs.put_corners.Given as goal
+
+abbrev pub invariant-loop-k : goal.invariant-loop-k
+invariant-loop-k l = (l.k ≤ l.n) × ((l.at ≤ l.i + 388 * l.k) × ((length l.out ≡ length l.initial.out) × Puts l.initial.out l.i (corner_lines l.vertex l.k) l.out l.at))
+
+abbrev pub decreases-loop-k : goal.decreases-loop-k
+decreases-loop-k l = l.n - l.k

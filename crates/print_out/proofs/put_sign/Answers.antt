@@ -1,0 +1,13 @@
+-- `print_out::put_sign` meets its contract. Assumes nothing.
+use Rattle.text_out.proofs.Puts.{puts_none}
+use native.Mathlib.Omega.{arith}
+use borrow.Author.Rules.{rules}
+use Rattle.print_out.proofs.put_sign.Goals as goal
+
+pub returns-then-minus : goal.returns-then-minus
+returns-then-minus c =
+    let at-put-text = c in
+    let put = at-put-text.put_text.ensures in (rw at-put-text.if-minus.true put, omega (arith, put.ends))
+
+pub returns : goal.returns
+returns c = (rw c.if-minus.false (puts_none _ _), omega arith)
