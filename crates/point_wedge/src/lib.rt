@@ -1,5 +1,7 @@
 // The part of a side of a carrier that the wedge of a source point leaves: the Rust's `wedge_in` of `source_point`, and its loop over the wedge's directions. Nothing is asked of what
 // the buffers hold; where they hold a mesh's topology and the table of its pieces' ends, the part is the Rust's (proofs/Held.antt).
+#![tactic(auto)]
+
 ghost use Rattle.std.specs.Prelude.{◌≡◌, map};
 ghost use Rattle.segments_behind.specs.Behind.{leaving_at};
 ghost use Rattle.carriers.specs.of_source_windows.Wedge.{behind_of, wedge_of};
