@@ -1,4 +1,6 @@
 // The intervals that a new window keeps become windows, and the ends of the edge that they reach are touched.
+#![tactic(auto)]
+
 ghost use Rattle.buffers.specs.Lent.{given, left};
 ghost use Rattle.std.specs.Prelude.{◌≡◌, List, [], ◌∷◌, ℕ, ◌+◌, ◌≤◌, ◌<◌, length};
 ghost use Rattle.float64.specs.Scalar.{zero64};

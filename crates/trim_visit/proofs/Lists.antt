@@ -60,6 +60,7 @@ module _ (cuts windows : ℕ) (limit : Float) (flags : List ℕ) (s : Stock) whe
 
   -- some does not
   lists_stop : (ns : List ℕ) (rest : List Action) → Any (λ (n : ℕ). cuts < n) ns → played (lists ns ++ rest) ≡ actions.stopped 14
+  lists_stop [] rest x' = elim x' [ ]
   lists_stop (n ∷ ns) rest (inl h) = list_stop n (lists ns ++ rest) h
   lists_stop (n ∷ ns) rest (inr h) = elim (dec_le n cuts) [
     | yes i ↦ list_go n (lists ns ++ rest) i ∙ lists_stop ns rest h

@@ -1,4 +1,6 @@
 // The windows that a new one meets, visited one after the other along the chain of their edge.
+#![tactic(auto)]
+
 ghost use Rattle.buffers.specs.Lent.{given, left};
 ghost use Rattle.std.specs.Prelude.{ℕ, ◌≤◌, ◌<◌, List, length, Float};
 ghost use Rattle.trim_split.specs.of_better.Stretches.{better_of};
