@@ -1,4 +1,6 @@
 // Reading a slip in the form that the reader is told: its job to the fronts of six slices. All is checked before anything is written.
+#![tactic(auto)]
+
 ghost use Rattle.std.specs.Prelude.{◌≡◌, true, ◌+◌, ◌*◌, ◌≤◌, ◌<◌, length, get_or};
 ghost use Rattle.buffers.specs.Slots.{fill};
 ghost use Rattle.little_endian.specs.Bytes.{doubles_from, bytes_from, put_in_front};

@@ -1,1 +1,2 @@
 // Laws of reading and writing binary STL: specs/Laws.antt.
+#![tactic(auto)]
