@@ -1,4 +1,6 @@
 // The end of the Rust's `compute`: every vertex at the least of its edges' windows there. What else the Rust does then changes nothing (proofs/Finished.antt).
+#![tactic(auto)]
+
 ghost use Rattle.std.specs.Prelude.{◌≡◌, ◌≤◌, ◌<◌, ◌-◌, length};
 ghost use Rattle.layout.specs.Layout.{words_per_edge};
 ghost use Rattle.float64.specs.Scalar.{zero64};

@@ -1,4 +1,6 @@
 // Refusals 10 to 15 and 17 leave every buffer zero: a job's buffers are zeroed, group by group, where its work stopped, and else they stay as they are.
+#![tactic(auto)]
+
 ghost use Rattle.std.specs.Prelude.{◌≡◌};
 ghost use Rattle.buffers.specs.Lent.{given, left};
 ghost use Rattle.cut_lists.specs.Buffers.{cuts_before, cuts_after};

@@ -1,0 +1,18 @@
+use Prim.Native.Nat.{ℕ, ◌≤◌, ◌-◌}
+use mathlib.Core.Path.{◌≡◌, ap, ◌∙◌}
+use native.Mathlib.Omega.{arith}
+use native.Mathlib.Numerals.{add-one}
+use lib.ListN.{length}
+use Rattle.windows.specs.declared.Edge.{Edge}
+use Rattle.chains.specs.Chains.{links}
+use Rattle.last_pass.specs.Buffers.{lowered_from}
+use Rattle.last_pass.proofs.Turns.{none_of_group, one_of_group, length_group}
+use borrow.Author.Rules.{rules}
+use Rattle.last_pass.proofs.lower_group.Given as goal
+
+abbrev pub invariant-loop-e : goal.invariant-loop-e
+invariant-loop-e l =
+    ((l.from ≤ l.e) × (l.e ≤ l.end)) × (l.vertex ≡ lowered_from l.made l.edge_reals (links l.edge_words l.words) l.reals l.from (l.e - l.from) l.initial.vertex)
+
+abbrev pub decreases-loop-e : goal.decreases-loop-e
+decreases-loop-e l = l.end - l.e

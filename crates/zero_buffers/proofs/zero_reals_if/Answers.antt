@@ -1,0 +1,5 @@
+use borrow.Author.Rules.{rules}
+use Rattle.zero_buffers.proofs.zero_reals_if.Goals as goal
+
+pub returns-then-stop : goal.returns-then-stop
+returns-then-stop c = rw c.if-stop.true c.zero_f64.ensures
