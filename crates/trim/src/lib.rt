@@ -1,4 +1,6 @@
 // Window trimming: a candidate window is added to its edge.
+#![tactic(auto)]
+
 ghost use Rattle.std.specs.Prelude.{◌≤◌, ◌≡◌, [], ◌∷◌, length};
 ghost use Rattle.source.specs.Distance.{lowest_of};
 ghost use Rattle.trim_visit.specs.of_better.Stretches.{interval};

@@ -1,4 +1,6 @@
 // The operations of a list of candidates, pops and touches: read and checked.
+#![tactic(auto)]
+
 ghost use Rattle.std.specs.Prelude.{◌≡◌};
 ghost use Rattle.trim_operations.specs.Operations.{is_queued, source_at, new_window_at, operation_at, as_operation};
 ghost use Rattle.trim_operations.specs.Run.{has_length, is_on_edge};
