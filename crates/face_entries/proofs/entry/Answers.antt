@@ -1,6 +1,5 @@
 use mathlib.Core.Path.{ap, ◌∙◌}
 use Rattle.face_entries.specs.Buffers.{part_of_number, part_at}
-use borrow.Author.Rules.{rules}
 use Rattle.face_entries.proofs.entry.Goals as goal
 
 pub returns : goal.returns

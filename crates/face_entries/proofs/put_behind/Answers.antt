@@ -1,6 +1,5 @@
 use Rattle.face_entries.specs.Buffers.{entry_buffers}
 use Rattle.face_entries.proofs.Calls.{put_first, put_next}
-use borrow.Author.Rules.{rules}
 use Rattle.face_entries.proofs.put_behind.Goals as goal
 
 pub returns-then-last-eq0 : goal.returns-then-last-eq0

@@ -1,6 +1,5 @@
 use Rattle.buffers.specs.Slots.{fill}
 use Rattle.face_entries.specs.Buffers.{stored_in}
-use borrow.Author.Rules.{rules}
 use Rattle.face_entries.proofs.store.Goals as goal
 
 pub returns : goal.returns
