@@ -1,4 +1,6 @@
 // The Rust's `edge_at` over the buffers: the distance at a place on an edge. Whatever the buffers hold, no link leads past the windows made and no walk goes on for more of them.
+#![tactic(auto)]
+
 ghost use Rattle.std.specs.Prelude.{◌≡◌, ◌-◌, ◌≤◌, ◌<◌, length};
 ghost use Rattle.layout.specs.Layout.{words_per_edge};
 ghost use Rattle.buffers.specs.Slots.{slots_of};
