@@ -1,14 +1,17 @@
 // Replays the stored cases of `better`: how many there are, and how many are answered otherwise, with no test of ranges before it and with each of the two.
 // The file is a count of 4 bytes and packed records: two sources of 25 bytes, lo and hi, the capacity of the lists (4 bytes), the refusal (1 byte, 0 or 14),
 // the count of stretches (4 bytes), and their ends.
+#![tactic(auto)]
+
 ghost use Rattle.std.specs.Prelude.{◌≡◌, ◌+◌, ◌*◌, ◌≤◌, ◌<◌, length};
 ghost use Rattle.source_records.specs.Records.{word_from, float_from, src_from};
 ghost use Rattle.better_vectors.specs.Replay.{slot_count_of, stretches_of, other_floats, same_listed, FitsOut, Decides, Replays};
 
 use better::Listed;
 use source_records::{float_from, read_records, src_from, word_from};
-use vectors::Tally;
 use std::io;
+use std::rt::Files;
+use vectors::Tally;
 
 // The capacity and the count of stretches of the record at byte i: the low and the high 4 bytes of 8.
 fn capacity(s: &[u8], i: usize) -> usize
@@ -135,8 +138,13 @@ fn replay_all(rt: &impl Print, s: &[u8]) -> io::Result<()> {
     replay_with(rt, "range below", s, 0.0, 1.0)
 }
 
+// Reads the records into the buffer and replays them.
+fn replay_into(rt: &(impl Files + Print), buf: &mut [u8]) -> io::Result<()> {
+    let got = read_records(rt, "better", buf)?;
+    replay_all(rt, &buf[..got])
+}
+
 fn main(rt: HostRuntime) -> io::Result<()> {
     let mut buf = [0u8; 524288];
-    let got = read_records(&rt, "better", &mut buf)?;
-    replay_all(&rt, &buf[..got])
+    replay_into(&rt, &mut buf)
 }

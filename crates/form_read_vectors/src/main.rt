@@ -10,6 +10,7 @@ use stored_numbers::{all_f64, all_u32, at_most, count, double, number, record_si
 use stored_slots::{start_at, visit_f64, visit_u32};
 use vectors::{Tally, pattern};
 use std::io;
+use std::rt::Files;
 
 fn form_of(number: u32) -> Form {
     if number == 1 {
@@ -213,9 +214,14 @@ fn replay(s: &[u8]) -> Tally {
     Tally { cases, differences }
 }
 
+// Reads the file into the buffer, replays it and reports.
+fn replay_into(rt: &(impl Files + Print), buf: &mut [u8]) -> io::Result<()> {
+    let got = vectors::read_file(rt, "reads", buf)?;
+    let tally = replay(&buf[..got]);
+    vectors::report(rt, "reads", tally.cases, tally.differences)
+}
+
 fn main(rt: HostRuntime) -> io::Result<()> {
     let mut buf = [0u8; 262144];
-    let got = vectors::read_file(&rt, "reads", &mut buf)?;
-    let tally = replay(&buf[..got]);
-    vectors::report(&rt, "reads", tally.cases, tally.differences)
+    replay_into(&rt, &mut buf)
 }

@@ -1,12 +1,14 @@
 // Replays stored jobs through the checks: how many there are, and how many get another refusal than the stored one. tests/jobs/make_jobs.py makes the files.
+#![tactic(auto)]
+
 ghost use Rattle.std.specs.Prelude.{◌<◌};
 
 use job_checks::BufferCounts;
+use std::io;
+use std::rt::Files;
 use stored_jobs::{load_mesh, load_pieces};
 use stored_numbers::{at_most, count, double, number, record_size};
 use vectors::Tally;
-use std::io;
-use std::rt::Files;
 
 // How many slots the job at number k says that each buffer has.
 fn buffers(s: &[u8], k: usize) -> BufferCounts
@@ -84,11 +86,16 @@ fn replay(s: &[u8]) -> Tally {
     Tally { cases, differences }
 }
 
-fn replay_file(rt: &(impl Files + Print), name: &str) -> io::Result<()> {
-    let mut buf = [0u8; 524288];
-    let got = vectors::read_file(rt, name, &mut buf)?;
+// Reads the file of the name into the buffer, replays it and reports.
+fn replay_into(rt: &(impl Files + Print), name: &str, buf: &mut [u8]) -> io::Result<()> {
+    let got = vectors::read_file(rt, name, buf)?;
     let tally = replay(&buf[..got]);
     vectors::report(rt, name, tally.cases, tally.differences)
+}
+
+fn replay_file(rt: &(impl Files + Print), name: &str) -> io::Result<()> {
+    let mut buf = [0u8; 524288];
+    replay_into(rt, name, &mut buf)
 }
 
 fn main(rt: HostRuntime) -> io::Result<()> {

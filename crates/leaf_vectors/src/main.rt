@@ -263,11 +263,21 @@ fn report_content(rt: &impl Print, name: &str, f: Leaf, s: &[u8]) -> io::Result<
     vectors::report(rt, name, n as u64, differences(f, s, n))
 }
 
+// Reads the file of the name into the buffer and replays it.
+fn replay_into(
+    rt: &(impl Files + Print),
+    name: &str,
+    f: Leaf,
+    buf: &mut [u8],
+) -> io::Result<()> {
+    let got = vectors::read_file(rt, name, buf)?;
+    report_content(rt, name, f, &buf[..got])
+}
+
 // Replays the file of the name.
 fn replay(rt: &(impl Files + Print), name: &str, f: Leaf) -> io::Result<()> {
     let mut buf = [0u8; 524288];
-    let got = vectors::read_file(rt, name, &mut buf)?;
-    report_content(rt, name, f, &buf[..got])
+    replay_into(rt, name, f, &mut buf)
 }
 
 fn main(rt: HostRuntime) -> io::Result<()> {

@@ -440,11 +440,16 @@ fn replay(s: &[u8]) -> Tally {
     Tally { cases, differences }
 }
 
-fn replay_file(rt: &(impl Files + Print), name: &str) -> io::Result<()> {
-    let mut buf = [0u8; 524288];
-    let got = vectors::read_file(rt, name, &mut buf)?;
+// Reads the file of the name into the buffer, replays it and reports.
+fn replay_into(rt: &(impl Files + Print), name: &str, buf: &mut [u8]) -> io::Result<()> {
+    let got = vectors::read_file(rt, name, buf)?;
     let tally = replay(&buf[..got]);
     vectors::report(rt, name, tally.cases, tally.differences)
+}
+
+fn replay_file(rt: &(impl Files + Print), name: &str) -> io::Result<()> {
+    let mut buf = [0u8; 524288];
+    replay_into(rt, name, &mut buf)
 }
 
 fn main(rt: HostRuntime) -> io::Result<()> {

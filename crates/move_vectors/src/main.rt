@@ -8,6 +8,7 @@ use stored_bytes::holds_bytes;
 use stored_numbers::{at_most, count, number, record_size};
 use vectors::Tally;
 use std::io;
+use std::rt::Files;
 
 // The forms that a slip is moved from and to, by the stored direction.
 fn moved_from(direction: u32) -> Form {
@@ -87,9 +88,14 @@ fn replay(s: &[u8]) -> Tally {
     Tally { cases, differences }
 }
 
+// Reads the file into the buffer, replays it and reports.
+fn replay_into(rt: &(impl Files + Print), buf: &mut [u8]) -> io::Result<()> {
+    let got = vectors::read_file(rt, "moves", buf)?;
+    let tally = replay(&buf[..got]);
+    vectors::report(rt, "moves", tally.cases, tally.differences)
+}
+
 fn main(rt: HostRuntime) -> io::Result<()> {
     let mut buf = [0u8; 524288];
-    let got = vectors::read_file(&rt, "moves", &mut buf)?;
-    let tally = replay(&buf[..got]);
-    vectors::report(&rt, "moves", tally.cases, tally.differences)
+    replay_into(&rt, &mut buf)
 }

@@ -1,0 +1,16 @@
+use mathlib.Core.Path.{◌≡◌, refl, sym, ap, ◌∙◌}
+use mathlib.Core.Logic.{⊎_elim}
+use Prim.Native.Nat.{◌-◌, ◌≤◌}
+use native.Mathlib.Omega.{arith}
+use borrow.Author.Rules.{rules}
+use borrow.Author.Tests.{not-true, not-false}
+use Rattle.vectors.specs.Records.{agrees, failing}
+use Rattle.vectors.proofs.Laws.{same_count, one_more}
+use Rattle.better_vectors.specs.Replay.{other_floats}
+use Rattle.better_vectors.proofs.other_floats.Given as goal
+
+abbrev pub invariant-loop-k : goal.invariant-loop-k
+invariant-loop-k l = (l.k ≤ l.n) × (l.count ≤ l.k) × (l.count ≡ other_floats l.out l.s l.i l.k)
+
+abbrev pub decreases-loop-k : goal.decreases-loop-k
+decreases-loop-k l = l.n - l.k
