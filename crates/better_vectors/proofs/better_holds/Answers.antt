@@ -2,7 +2,6 @@
 use lib.ListN.{length}
 use Rattle.better_vectors.proofs.Laws.{answer_within}
 use native.Mathlib.Omega.{arith}
-use borrow.Author.Rules.{rules}
 use Rattle.better.proofs.Stored.{answers_of}
 use Rattle.better_vectors.proofs.better_holds.Goals as goal
 

@@ -1,9 +1,8 @@
 -- `better_vectors::better_replays` meets its contract. Assumes nothing.
-use mathlib.Core.Path.{sym, ap, ◌∙◌}
+use mathlib.Core.Path.{ap, ◌∙◌}
 use Prim.Native.Nat.{ℕ, ◌*◌}
 use native.Mathlib.Omega.{arith}
 use lib.Seq.{length-take-le}
-use borrow.Author.Rules.{rules}
 use Rattle.better_vectors.proofs.better_replays.Goals as goal
 
 pub returns-then-pts-most : goal.returns-then-pts-most

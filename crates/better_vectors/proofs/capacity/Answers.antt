@@ -1,6 +1,5 @@
 -- `better_vectors::capacity` meets its contract. Assumes nothing.
 use native.Mathlib.Omega.{arith}
-use borrow.Author.Rules.{rules}
 use Rattle.better_vectors.specs.Replay.{slot_count_of}
 use Rattle.better_vectors.proofs.capacity.Goals as goal
 

@@ -1,13 +1,8 @@
 -- `better_vectors::other_floats` meets its contract. Assumes nothing.
 use mathlib.Core.Path.{◌≡◌, refl, sym, ap, ◌∙◌}
-use mathlib.Core.Logic.{⊎_elim}
-use Prim.Native.Nat.{◌-◌, ◌≤◌}
 use native.Mathlib.Omega.{arith}
-use borrow.Author.Rules.{rules}
-use borrow.Author.Tests.{not-true, not-false}
 use Rattle.vectors.specs.Records.{agrees, failing}
 use Rattle.vectors.proofs.Laws.{same_count, one_more}
-use Rattle.better_vectors.specs.Replay.{other_floats}
 use Rattle.better_vectors.proofs.other_floats.Goals as goal
 use Rattle.better_vectors.proofs.other_floats.Goals.{then-not-agrees, else-not-agrees}
 

@@ -1,11 +1,5 @@
-use mathlib.Core.Path.{◌≡◌, refl, sym, ap, ◌∙◌}
-use mathlib.Core.Logic.{⊎_elim}
+use mathlib.Core.Path.{◌≡◌}
 use Prim.Native.Nat.{◌-◌, ◌≤◌}
-use native.Mathlib.Omega.{arith}
-use borrow.Author.Rules.{rules}
-use borrow.Author.Tests.{not-true, not-false}
-use Rattle.vectors.specs.Records.{agrees, failing}
-use Rattle.vectors.proofs.Laws.{same_count, one_more}
 use Rattle.better_vectors.specs.Replay.{other_floats}
 use Rattle.better_vectors.proofs.other_floats.Given as goal
 

@@ -1,9 +1,6 @@
 use mathlib.Core.Path.{◌≡◌}
-use mathlib.Core.Logic.{⊎_elim}
 use Prim.Native.Nat.{◌-◌, ◌≤◌}
 use lib.ListN.{length}
-use native.Mathlib.Omega.{arith}
-use borrow.Author.Rules.{rules}
 use Rattle.better_vectors.proofs.replay.Given as goal
 
 abbrev pub invariant-loop-i : goal.invariant-loop-i

@@ -2,7 +2,6 @@
 use borrow.Author.Tests.{eq-eqb, ne_eqb}
 use Rattle.better_vectors.specs.Replay.{same_listed}
 use native.Mathlib.Omega.{arith}
-use borrow.Author.Rules.{rules}
 use Rattle.better_vectors.proofs.same_listed.Goals as goal
 
 pub returns-then-refusal-ne0 : goal.returns-then-refusal-ne0

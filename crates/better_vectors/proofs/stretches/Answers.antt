@@ -1,6 +1,5 @@
 -- `better_vectors::stretches` meets its contract. Assumes nothing.
 use native.Mathlib.Omega.{arith}
-use borrow.Author.Rules.{rules}
 use Rattle.better_vectors.specs.Replay.{stretches_of}
 use Rattle.better_vectors.proofs.stretches.Goals as goal
 
