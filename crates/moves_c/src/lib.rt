@@ -1,6 +1,5 @@
 // Slips in either form for programs in C and Rust, in slices that they lend: moved from one form to the other, and read.
 ghost use Rattle.std.specs.Prelude.{◌≡◌, set};
-ghost use Rattle.buffers.specs.Lent.{given, left};
 ghost use Rattle.groups.specs.declared.Form.TheVariants.{Plain, Groups};
 ghost use Rattle.slip_moves.specs.Moves.{moved_number};
 ghost use Rattle.slip.specs.Reading.{job_rows};
@@ -12,7 +11,7 @@ use groups::Form;
 use slip_moves::Moved;
 
 fn set_first(told: &mut [usize], n: usize)
-    ensures { left told ≡ set (given told) 0 n }
+    ensures { told.new ≡ set told.old 0 n }
 {
     if 0 < told.len() {
         told[0] = n;
@@ -20,7 +19,7 @@ fn set_first(told: &mut [usize], n: usize)
 }
 
 fn tell(moved: Moved, told: &mut [usize]) -> u32
-    ensures { (result ≡ moved_number moved) × (left told ≡ told_length moved (given told)) }
+    ensures { (result ≡ moved_number moved) × (told.new ≡ told_length moved told.old) }
 {
     match moved {
         Moved::Length(n) => {
@@ -38,7 +37,7 @@ fn tell(moved: Moved, told: &mut [usize]) -> u32
 // Moves a plain slip to groups: 0 or a refusal of 30, 31, 32 and 36. For 0 and 36 the first of `told` is the length of what it is moved to.
 #[unsafe(no_mangle)]
 pub extern "C" fn sirmolaat_slip_to_groups(slip: &[u8], out: &mut [u8], told: &mut [usize]) -> u32
-    ensures { (result, (left out, left told)) ≡ exported Plain Groups slip.now (given out) (given told) }
+    ensures { (result, (out.new, told.new)) ≡ exported Plain Groups slip.now out.old told.old }
 {
     tell(slip_moves::to_groups(slip, out), told)
 }
@@ -46,13 +45,13 @@ pub extern "C" fn sirmolaat_slip_to_groups(slip: &[u8], out: &mut [u8], told: &m
 // Moves a slip in groups to a plain one: 0 or a refusal of 30, 31, 32, 34, 35 and 36, and `told` as above.
 #[unsafe(no_mangle)]
 pub extern "C" fn sirmolaat_groups_to_slip(slip: &[u8], out: &mut [u8], told: &mut [usize]) -> u32
-    ensures { (result, (left out, left told)) ≡ exported Groups Plain slip.now (given out) (given told) }
+    ensures { (result, (out.new, told.new)) ≡ exported Groups Plain slip.now out.old told.old }
 {
     tell(slip_moves::from_groups(slip, out), told)
 }
 
 fn tell_read(answer: Answer, told: &mut [u32], limit: &mut [f64]) -> u32
-    ensures { (result, (left told, left limit)) ≡ read_told answer (given told) (given limit) }
+    ensures { (result, (told.new, limit.new)) ≡ read_told answer told.old limit.old }
 {
     match answer {
         Answer::Refused(why) => slip_moves::refusal_number(why),
@@ -79,8 +78,8 @@ fn read_told(
     told: &mut [u32],
     limit: &mut [f64],
 ) -> u32
-    ensures { (result, (job_rows (left vertices) (left triangles) (left flags) (left kinds) (left faces) (left coords), (left told, left limit))) ≡ form_read form slip.now
-        (job_rows (given vertices) (given triangles) (given flags) (given kinds) (given faces) (given coords)) (given told) (given limit) }
+    ensures { (result, (job_rows vertices.new triangles.new flags.new kinds.new faces.new coords.new, (told.new, limit.new))) ≡ form_read form slip.now
+        (job_rows vertices.old triangles.old flags.old kinds.old faces.old coords.old) told.old limit.old }
 {
     let answer = form_read::read(form, slip, vertices, triangles, flags, kinds, faces, coords);
     tell_read(answer, told, limit)
@@ -101,8 +100,8 @@ pub extern "C" fn sirmolaat_read_slip_form(
     told: &mut [u32],
     limit: &mut [f64],
 ) -> u32
-    ensures { (result, (job_rows (left vertices) (left triangles) (left flags) (left kinds) (left faces) (left coords), (left told, left limit)))
-        ≡ exported_read form slip.now (job_rows (given vertices) (given triangles) (given flags) (given kinds) (given faces) (given coords)) (given told) (given limit) }
+    ensures { (result, (job_rows vertices.new triangles.new flags.new kinds.new faces.new coords.new, (told.new, limit.new)))
+        ≡ exported_read form slip.now (job_rows vertices.old triangles.old flags.old kinds.old faces.old coords.old) told.old limit.old }
 {
     if form == 1 {
         return read_told(

@@ -1,4 +1,6 @@
 // The square root and the hypotenuse for programs in C and Rust.
+#![tactic(auto)]
+
 ghost use Rattle.std.specs.Prelude.{◌≡◌};
 ghost use Rattle.std.specs.Float.{binary64};
 ghost use Rattle.root_spec.specs.Root.{sqrt_of, hypot_of};

@@ -1,6 +1,7 @@
 // Binary STL for programs in C and Rust, in slices that they lend.
+#![tactic(auto)]
+
 ghost use Rattle.std.specs.Prelude.{◌≡◌};
-ghost use Rattle.buffers.specs.Lent.{given, left};
 ghost use Rattle.stl_format.specs.Answers.{mesh_lists};
 ghost use Rattle.stl_c.specs.Exports.{packed_stl, packed_reading, packed_writing};
 
@@ -26,7 +27,7 @@ fn packed(answer: Stl) -> u64
 // Reads a file: a refusal in the upper 32 bits, or else the number of vertices. It has as many triangles as the file says.
 #[unsafe(no_mangle)]
 pub extern "C" fn sirmolaat_stl_read(s: &[u8], vertices: &mut [f64], triangles: &mut [u32]) -> u64
-    ensures { (result, mesh_lists (left vertices) (left triangles)) ≡ packed_reading s.now (mesh_lists (given vertices) (given triangles)) }
+    ensures { (result, mesh_lists vertices.new triangles.new) ≡ packed_reading s.now (mesh_lists vertices.old triangles.old) }
 {
     packed(stl::read(s, vertices, triangles))
 }
@@ -34,7 +35,7 @@ pub extern "C" fn sirmolaat_stl_read(s: &[u8], vertices: &mut [f64], triangles: 
 // Writes a file: a refusal in the upper 32 bits, or else the number of bytes.
 #[unsafe(no_mangle)]
 pub extern "C" fn sirmolaat_stl_write(vertices: &[f64], triangles: &[u32], out: &mut [u8]) -> u64
-    ensures { (result, left out) ≡ packed_writing vertices.now triangles.now (given out) }
+    ensures { (result, out.new) ≡ packed_writing vertices.now triangles.now out.old }
 {
     packed(stl::write(vertices, triangles, out))
 }
