@@ -2,7 +2,7 @@
 #![tactic(auto)]
 
 // How many vertices, triangles and pieces the job has, how many edges its mesh has, how many windows were made, and how many events were popped.
-#[derive(Drop)]
+#[derive(Clone, Copy)]
 pub struct Field {
     pub vertices: u32,
     pub triangles: u32,
@@ -13,7 +13,7 @@ pub struct Field {
 }
 
 // A refusal has its number in document 01.
-#[derive(Drop)]
+#[derive(Clone, Copy)]
 pub enum Computed {
     Refused(u32),
     Field(Field),

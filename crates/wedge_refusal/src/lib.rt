@@ -1,5 +1,7 @@
 // Document 01's refusal 11, over a whole job: a point to be entered lies on a vertex of more than two faces, and a segment of computed length above zero ends there whose face is
 // round the nearest vertex of the point's face. There the Rust asks `vertex_wedge`, which is not ported.
+#![tactic(auto)]
+
 ghost use Rattle.std.specs.Prelude.{◌≡◌, ◌≤◌, length};
 ghost use Rattle.wedge_refusal.specs.Wedge.{over_two_at, wedge_at, any_wedge_at};
 
