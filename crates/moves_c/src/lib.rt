@@ -1,4 +1,6 @@
 // Slips in either form for programs in C and Rust, in slices that they lend: moved from one form to the other, and read.
+#![tactic(auto)]
+
 ghost use Rattle.std.specs.Prelude.{◌≡◌, set};
 ghost use Rattle.groups.specs.declared.Form.TheVariants.{Plain, Groups};
 ghost use Rattle.slip_moves.specs.Moves.{moved_number};
