@@ -1,4 +1,6 @@
 // A candidate is offered to an edge of the mesh, whose length and ends are read from the mesh's buffers.
+#![tactic(auto)]
+
 ghost use Rattle.std.specs.Prelude.{◌≤◌, length};
 ghost use Rattle.buffers.specs.Lent.{given};
 ghost use Rattle.trim.specs.of_cut_lists.Buffers.{cuts_before, cuts_after};
