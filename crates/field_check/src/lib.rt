@@ -1,5 +1,7 @@
 // Document 01's refusal 20: whether the buffers that are lent to a query, with a job's answer and its mesh and pieces, are none of a field. It reads everything once and writes
 // nothing, and asks nothing of what the buffers hold.
+#![tactic(auto)]
+
 ghost use Rattle.std.specs.Prelude.{◌≡◌, not, ◌||◌, ℕ, ◌*◌, ltb, leb, length};
 ghost use Rattle.std.specs.Float.Ieee.{lt};
 ghost use Rattle.windows.specs.Windows.{link_of};

@@ -1,0 +1,14 @@
+use mathlib.Core.Path.{◌≡◌, sym, ◌∙◌}
+use mathlib.Core.Bool.{false}
+use Prim.Native.Nat.{◌≤◌, ◌-◌}
+use Rattle.job_checks.specs.Any.{any_below}
+use Rattle.job_checks.proofs.Any.{none_yet, none_more, found, none_at_all}
+use Rattle.field_check.specs.FieldCheck.{window_outside}
+use borrow.Author.Rules.{rules}
+use Rattle.field_check.proofs.any_window_outside.Given as goal
+
+abbrev pub invariant-loop-i : goal.invariant-loop-i
+invariant-loop-i l = (l.i ≤ l.made) × (any_below (window_outside l.n l.words) l.i ≡ false)
+
+abbrev pub decreases-loop-i : goal.decreases-loop-i
+decreases-loop-i l = l.made - l.i

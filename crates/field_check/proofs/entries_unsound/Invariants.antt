@@ -1,0 +1,16 @@
+use mathlib.Core.Path.{sym, ap, ◌∙◌}
+use native.Mathlib.Omega.{arith}
+use Prim.Native.Nat.{ℕ, ◌-◌, ◌≤◌}
+use lib.ListN.{length}
+use Rattle.face_entries.specs.Buffers.{entry_capacity, first_entry_of, next_entry_of}
+use Rattle.field_check.specs.Chains.{walk_of}
+use Rattle.field_check.specs.FieldCheck.{entry_outside, entries_unsound}
+use Rattle.field_check.proofs.Walks.{SoundSoFar, sound_start, sound_on, unsound_there, sound_all}
+use borrow.Author.Rules.{rules}
+use Rattle.field_check.proofs.entries_unsound.Given as goal
+
+abbrev pub invariant-loop-f : goal.invariant-loop-f
+invariant-loop-f l = (l.f ≤ l.triangles) × SoundSoFar (next_entry_of l.entry_words) (λ (before i : ℕ). entry_outside l.pieces l.entry_words i) (first_entry_of l.triangle_words) (entry_capacity (length l.entry_words)) l.left l.f
+
+abbrev pub decreases-loop-f : goal.decreases-loop-f
+decreases-loop-f l = l.triangles - l.f

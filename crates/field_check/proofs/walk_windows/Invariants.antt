@@ -1,0 +1,15 @@
+use mathlib.Core.Path.{◌≡◌, refl, sym, ap, ◌∙◌}
+use native.Mathlib.Omega.{arith}
+use Prim.Native.Nat.{◌-◌}
+use Rattle.windows.specs.Windows.{link_of}
+use Rattle.field_check.specs.Chains.{walk_of}
+use Rattle.field_check.specs.FieldCheck.{window_unsound}
+use Rattle.field_check.proofs.Walks.{walk_end, walk_over, walk_bad, walk_on_lem}
+use borrow.Author.Rules.{rules}
+use Rattle.field_check.proofs.walk_windows.Given as goal
+
+abbrev pub invariant-loop-at : goal.invariant-loop-at
+invariant-loop-at l = walk_of (link_of l.words) (window_unsound l.reals) l.left l.before l.at ≡ walk_of (link_of l.words) (window_unsound l.reals) l.most 0 l.head
+
+abbrev pub decreases-loop-at : goal.decreases-loop-at
+decreases-loop-at l = l.left
