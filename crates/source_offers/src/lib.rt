@@ -1,5 +1,7 @@
 // What a source segment and a source point offer to a side of a face, read from a mesh's buffers. Nothing is asked of what the buffers hold; where they hold a
 // mesh's topology, it is what the Rust adds (proofs/Held.antt).
+#![tactic(auto)]
+
 ghost use Rattle.std.specs.Prelude.{◌≡◌};
 ghost use Rattle.source_offers.specs.Offering.{along_at, segment_offer_at, point_offer_at};
 ghost use Rattle.source_offers.specs.Offering.{offered as offeredOf};
