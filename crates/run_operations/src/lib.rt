@@ -1,4 +1,6 @@
 // A list of candidates, pops and touches is run over lent buffers, from empty edges on.
+#![tactic(auto)]
+
 ghost use Rattle.std.specs.Prelude.{ℕ, ◌≡◌};
 ghost use Rattle.chains.specs.Chains.{head_of};
 ghost use Rattle.trim_operations.specs.Operations.{as_candidate, as_operation};
