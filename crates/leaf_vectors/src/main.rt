@@ -1,16 +1,18 @@
 // Replays stored answers of the Rust: the windows that `propagate`, `source_point`, `source_segment` and `emit` offer to `add`, and the distances of `at` and
 // `edge_at`. Prints of each file how many cases it has and how many are answered otherwise. A record is a row of doubles (oracle/README.md); the arguments
 // come first, then the answers. A window is six: its ends, 1 for a point or 2 for a line, and the source's three; where there is none, zeros.
+#![tactic(auto)]
+
 ghost use Rattle.std.specs.Prelude.{◌≤◌};
 
 use face_distance::{through_ends, through_vertex, through_window, to_point, to_segment};
 use propagation::{FaceAhead, FaceVertex, NextEdge, Side};
 use source::{Src, Win};
 use source_windows::{Bounds, CandidateRange, Normal};
-use stored_numbers::{count, read_doubles};
-use vec3::Vec3;
 use std::io;
 use std::rt::Files;
+use stored_numbers::{count, read_doubles};
+use vec3::Vec3;
 
 // The function that the records are of.
 #[derive(Clone, Copy)]
@@ -264,12 +266,7 @@ fn report_content(rt: &impl Print, name: &str, f: Leaf, s: &[u8]) -> io::Result<
 }
 
 // Reads the file of the name into the buffer and replays it.
-fn replay_into(
-    rt: &(impl Files + Print),
-    name: &str,
-    f: Leaf,
-    buf: &mut [u8],
-) -> io::Result<()> {
+fn replay_into(rt: &(impl Files + Print), name: &str, f: Leaf, buf: &mut [u8]) -> io::Result<()> {
     let got = vectors::read_file(rt, name, buf)?;
     report_content(rt, name, f, &buf[..got])
 }

@@ -1,5 +1,7 @@
 // Replays stored meshes through the checks and the topology: how many there are, and how many are answered otherwise. Compared are the refusal, every number
 // of the topology, and what is left in the buffers. tests/mesh/make_vectors.py has the format and makes the files.
+#![tactic(auto)]
+
 ghost use Rattle.std.specs.Prelude.{◌<◌};
 
 use buffers::read_u32;
@@ -8,12 +10,12 @@ use layout::{
     WORDS_PER_ROUND, WORDS_PER_TRIANGLE, WORDS_PER_VERTEX,
 };
 use mesh::{Meshed, OtherCounts};
+use std::io;
+use std::rt::Files;
 use stored_jobs::{list_places, load_mesh, load_pieces};
 use stored_numbers::{all_f64, all_u32, at_most, count, double, number, record_size};
 use stored_slots::{SummedWalk, broken, compare_or_sum, section, start_at, visit_f64, visit_u32};
 use vectors::Tally;
-use std::io;
-use std::rt::Files;
 
 // The faces from one place of their list up to another, their count first.
 fn visit_faces(
