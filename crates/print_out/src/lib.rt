@@ -4,7 +4,6 @@
 ghost use Rattle.std.specs.Prelude.{◌≡◌, cond, ◌&&◌, leb, ltb, [], ◌+◌, ◌*◌, ◌≤◌, ◌<◌, length};
 ghost use Rattle.std.specs.Float.{binary64};
 ghost use Rattle.std.specs.Float.Ieee.{of_bits};
-ghost use Rattle.buffers.specs.Lent.{given, left};
 ghost use Rattle.text_out.specs.Text.{Puts};
 ghost use Rattle.thousandths.specs.Thousandths.{thousandths_of};
 ghost use Rattle.print_out.specs.PrintOut.{is_live, live_count, minus_text, signed, count_text, distance_text, corner_line, corner_lines, edges_line, windows_line, refused_line, field_text, text_of};
@@ -48,7 +47,7 @@ pub fn live_count(words: &[u32], n: u32) -> u32
 // A word and a number.
 fn put_count(out: &mut [u8], i: usize, word: &[u8], n: u32) -> usize
     requires { (i < 8_000_000_000_000_000_000) × (length word.now ≤ 20) }
-    ensures { Puts (given out) i (count_text word.now n) (left out) result × (result ≤ i + 40) }
+    ensures { Puts out.old i (count_text word.now n) out.new result × (result ≤ i + 40) }
 {
     let j = put_text(out, i, word);
     put_decimal(out, j, n as u64)
@@ -78,7 +77,7 @@ fn is_below_zero(minus: bool, thousandths: u64) -> bool
 
 fn put_sign(out: &mut [u8], i: usize, minus: bool) -> usize
     requires { i < 8_600_000_000_000_000_000 }
-    ensures { Puts (given out) i (cond minus minus_text []) (left out) result × (result ≤ i + 1) }
+    ensures { Puts out.old i (cond minus minus_text []) out.new result × (result ≤ i + 1) }
 {
     if minus {
         return put_text(out, i, b"-");
@@ -89,7 +88,7 @@ fn put_sign(out: &mut [u8], i: usize, minus: bool) -> usize
 // The thousandths of the double whose pattern is b, a number, or of its negative.
 fn put_thousandths(out: &mut [u8], i: usize, minus: bool, b: u64) -> usize
     requires { (i < 8_500_000_000_000_000_000) × (b < 0x7ff0_0000_0000_0000) }
-    ensures { Puts (given out) i (signed minus (thousandths_of minus (of_bits binary64 b))) (left out) result × (result ≤ i + 346) }
+    ensures { Puts out.old i (signed minus (thousandths_of minus (of_bits binary64 b))) out.new result × (result ≤ i + 346) }
 {
     if 0x4330_0000_0000_0000 <= b {
         let j = put_sign(out, i, minus);
@@ -103,7 +102,7 @@ fn put_thousandths(out: &mut [u8], i: usize, minus: bool, b: u64) -> usize
 
 fn put_distance(out: &mut [u8], i: usize, x: f64) -> usize
     requires { i < 8_500_000_000_000_000_000 }
-    ensures { Puts (given out) i (distance_text x) (left out) result × (result ≤ i + 346) }
+    ensures { Puts out.old i (distance_text x) out.new result × (result ≤ i + 346) }
 {
     let b = little_endian::pattern(x);
     if b == 0x7ff0_0000_0000_0000 {
@@ -118,7 +117,7 @@ fn put_distance(out: &mut [u8], i: usize, x: f64) -> usize
 
 fn put_corner(out: &mut [u8], i: usize, k: u32, x: f64) -> usize
     requires { i < 7_000_000_000_000_000_000 }
-    ensures { Puts (given out) i (corner_line k x) (left out) result × (result ≤ i + 388) }
+    ensures { Puts out.old i (corner_line k x) out.new result × (result ≤ i + 388) }
 {
     let a = put_count(out, i, b"corner ", k);
     let b = put_text(out, a, b" ");
@@ -129,7 +128,7 @@ fn put_corner(out: &mut [u8], i: usize, k: u32, x: f64) -> usize
 // A line for each of the n vertices.
 fn put_corners(out: &mut [u8], i: usize, n: u32, vertex: &[f64]) -> usize
     requires { i < 6_000_000_000_000_000_000 }
-    ensures { Puts (given out) i (corner_lines vertex.now n) (left out) result × (result ≤ i + 388 * n) }
+    ensures { Puts out.old i (corner_lines vertex.now n) out.new result × (result ≤ i + 388 * n) }
 {
     let mut at = i;
     let mut k: u32 = 0;
@@ -143,7 +142,7 @@ fn put_corners(out: &mut [u8], i: usize, n: u32, vertex: &[f64]) -> usize
 
 // The lines of edges and of windows.
 fn put_edges(out: &mut [u8], edges: u32) -> usize
-    ensures { Puts (given out) 0 (edges_line edges) (left out) result × (result ≤ 41) }
+    ensures { Puts out.old 0 (edges_line edges) out.new result × (result ≤ 41) }
 {
     let a = put_count(out, 0, b"edges ", edges);
     put_text(out, a, b"\n")
@@ -151,7 +150,7 @@ fn put_edges(out: &mut [u8], edges: u32) -> usize
 
 fn put_windows(out: &mut [u8], i: usize, windows: u32, live: u32, steps: u32) -> usize
     requires { i < 7_000_000_000_000_000_000 }
-    ensures { Puts (given out) i (windows_line windows live steps) (left out) result × (result ≤ i + 121) }
+    ensures { Puts out.old i (windows_line windows live steps) out.new result × (result ≤ i + 121) }
 {
     let a = put_count(out, i, b"windows ", windows);
     let b = put_count(out, a, b" live ", live);
@@ -160,14 +159,14 @@ fn put_windows(out: &mut [u8], i: usize, windows: u32, live: u32, steps: u32) ->
 }
 
 fn put_refused(out: &mut [u8], number: u32) -> usize
-    ensures { Puts (given out) 0 (refused_line number) (left out) result }
+    ensures { Puts out.old 0 (refused_line number) out.new result }
 {
     let a = put_count(out, 0, b"refused ", number);
     put_text(out, a, b"\n")
 }
 
 fn put_field(out: &mut [u8], field: Field, live: u32, vertex: &[f64]) -> usize
-    ensures { Puts (given out) 0 (field_text field live vertex.now) (left out) result }
+    ensures { Puts out.old 0 (field_text field live vertex.now) out.new result }
 {
     let a = put_edges(out, field.edges);
     let b = put_windows(out, a, field.windows, live, field.steps);
@@ -177,7 +176,7 @@ fn put_field(out: &mut [u8], field: Field, live: u32, vertex: &[f64]) -> usize
 
 // The print-out of an answer, to the front of a slice: as much of it as there is room for. Answers how long it is.
 pub fn print_out(answer: Computed, live: u32, vertex: &[f64], out: &mut [u8]) -> usize
-    ensures { Puts (given out) 0 (text_of answer live vertex.now) (left out) result }
+    ensures { Puts out.old 0 (text_of answer live vertex.now) out.new result }
 {
     match answer {
         Computed::Refused(number) => put_refused(out, number),

@@ -1,6 +1,5 @@
 // Rows of questions to a field, for programs in C and Rust. `refusal` and `told` are what the whole job answered: 0 and the field's counts, or a refusal's number.
 ghost use Rattle.std.specs.Prelude.{◌≡◌};
-ghost use Rattle.buffers.specs.Lent.{given, left};
 ghost use Rattle.window_rows.specs.of_field_check.FieldCheck.{job_slices, field_slices};
 ghost use Rattle.window_rows.specs.of_queries.Told.{told_answer};
 ghost use Rattle.window_rows.specs.of_query_rows.Rows.{row_number, face_row, edge_row, vertex_row};
@@ -44,9 +43,9 @@ pub extern "C" fn sirmolaat_faces_at(
     numbers: &mut [u32],
     distances: &mut [f64],
 ) -> u32
-    ensures { (result, (left numbers, left distances)) ≡ told_row (face_row (job_slices vertices.now triangles.now kinds.now faces.now coords.now)
-        (field_slices edge_words.now edge_reals.now triangle_words.now triangle_reals.now vertex.now words.now reals.now entry_words.now) (given numbers)
-        (given distances) (told_answer refusal told.now) asked.now points.now) }
+    ensures { (result, (numbers.new, distances.new)) ≡ told_row (face_row (job_slices vertices.now triangles.now kinds.now faces.now coords.now)
+        (field_slices edge_words.now edge_reals.now triangle_words.now triangle_reals.now vertex.now words.now reals.now entry_words.now) numbers.old
+        distances.old (told_answer refusal told.now) asked.now points.now) }
 {
     let computed = told_answer(refusal, told);
     let answer = query_rows::faces_at(
@@ -95,9 +94,9 @@ pub extern "C" fn sirmolaat_edges_at(
     numbers: &mut [u32],
     distances: &mut [f64],
 ) -> u32
-    ensures { (result, (left numbers, left distances)) ≡ told_row (edge_row (job_slices vertices.now triangles.now kinds.now faces.now coords.now)
-        (field_slices edge_words.now edge_reals.now triangle_words.now triangle_reals.now vertex.now words.now reals.now entry_words.now) (given numbers)
-        (given distances) (told_answer refusal told.now) edges.now places.now) }
+    ensures { (result, (numbers.new, distances.new)) ≡ told_row (edge_row (job_slices vertices.now triangles.now kinds.now faces.now coords.now)
+        (field_slices edge_words.now edge_reals.now triangle_words.now triangle_reals.now vertex.now words.now reals.now entry_words.now) numbers.old
+        distances.old (told_answer refusal told.now) edges.now places.now) }
 {
     let computed = told_answer(refusal, told);
     let answer = query_rows::edges_at(
@@ -145,9 +144,9 @@ pub extern "C" fn sirmolaat_vertices_at(
     numbers: &mut [u32],
     distances: &mut [f64],
 ) -> u32
-    ensures { (result, (left numbers, left distances)) ≡ told_row (vertex_row (job_slices vertices.now triangles.now kinds.now faces.now coords.now)
-        (field_slices edge_words.now edge_reals.now triangle_words.now triangle_reals.now vertex.now words.now reals.now entry_words.now) (given numbers)
-        (given distances) (told_answer refusal told.now) asked.now) }
+    ensures { (result, (numbers.new, distances.new)) ≡ told_row (vertex_row (job_slices vertices.now triangles.now kinds.now faces.now coords.now)
+        (field_slices edge_words.now edge_reals.now triangle_words.now triangle_reals.now vertex.now words.now reals.now entry_words.now) numbers.old
+        distances.old (told_answer refusal told.now) asked.now) }
 {
     let computed = told_answer(refusal, told);
     let answer = query_rows::vertices_at(
@@ -197,10 +196,10 @@ pub extern "C" fn sirmolaat_windows_at(
     window_words: &mut [u32],
     window_reals: &mut [f64],
 ) -> u32
-    ensures { (result, (left numbers, (left ids, (left window_words, left window_reals)))) ≡ told_windows
+    ensures { (result, (numbers.new, (ids.new, (window_words.new, window_reals.new)))) ≡ told_windows
         (window_row (job_slices vertices.now triangles.now kinds.now faces.now coords.now)
-        (field_slices edge_words.now edge_reals.now triangle_words.now triangle_reals.now vertex.now words.now reals.now entry_words.now) (given numbers)
-        (given ids) (given window_words) (given window_reals) (told_answer refusal told.now) edges.now places.now) }
+        (field_slices edge_words.now edge_reals.now triangle_words.now triangle_reals.now vertex.now words.now reals.now entry_words.now) numbers.old
+        ids.old window_words.old window_reals.old (told_answer refusal told.now) edges.now places.now) }
 {
     let computed = told_answer(refusal, told);
     let answer = window_rows::windows_at(

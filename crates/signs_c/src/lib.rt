@@ -1,4 +1,6 @@
 // The sign of two sources at a point, and the bounds that it is first asked of, for programs in C and Rust.
+#![tactic(auto)]
+
 ghost use Rattle.std.specs.Prelude.{◌≡◌, T};
 ghost use Rattle.std.specs.Float.Ieee.{le};
 ghost use Rattle.float_laws.proofs.Order.{Number};

@@ -1,5 +1,4 @@
 // The function that runs a list, for programs in C and Rust, in buffers that they lend.
-ghost use Rattle.buffers.specs.Lent.{given, left};
 ghost use Rattle.run_operations.specs.of_trim.Buffers.{before, after};
 ghost use Rattle.run_operations.specs.of_cut_lists.Buffers.{cuts_before, cuts_after};
 ghost use Rattle.std.specs.Prelude.{◌≡◌};
@@ -11,7 +10,7 @@ use run_operations::Ran;
 // The answer is 0 where all operations went, else the number that refuses one. The first two numbers of `told` are then the windows made and the
 // events queued, or the operation that is refused and 0.
 fn tell(ran: Ran, told: &mut [u32]) -> u32
-    ensures { (result, left told) ≡ told_run ran (given told) }
+    ensures { (result, told.new) ≡ told_run ran told.old }
 {
     match ran {
         Ran::Done { made, queued } => {
@@ -49,7 +48,7 @@ pub extern "C" fn sirmolaat_trim_run(
 ) -> u32
     ensures { AnsweredList limit vertex_words.now ends.now lens.now ops.now args.now
         (before edges words reals keys events vertex) (cuts_before pts out keep next)
-        (after edges words reals keys events vertex) (cuts_after pts out keep next) (given told) result (left told) }
+        (after edges words reals keys events vertex) (cuts_after pts out keep next) told.old result told.new }
 {
     let ran = run_operations::run(
         limit,

@@ -1,6 +1,5 @@
 -- `print_out::is_below_zero` meets its contract. Assumes nothing.
 use borrow.Author.Tests.{lt-ltb, le-ltb}
-use borrow.Author.Rules.{rules}
 use Rattle.print_out.proofs.is_below_zero.Goals as goal
 
 pub returns-then-thousandths-gt0 : goal.returns-then-thousandths-gt0

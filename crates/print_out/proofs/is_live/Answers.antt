@@ -1,6 +1,5 @@
 -- `print_out::is_live` meets its contract. Assumes nothing.
 use Rattle.print_out.specs.PrintOut.{is_live}
-use borrow.Author.Rules.{rules}
 use Rattle.print_out.proofs.is_live.Goals as goal
 
 pub returns : goal.returns

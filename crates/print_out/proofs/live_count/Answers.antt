@@ -3,8 +3,6 @@ use Rattle.print_out.specs.PrintOut.{live_count}
 use mathlib.Core.Path.{◌≡◌, refl}
 use native.Mathlib.Numerals.{add-one}
 use native.Mathlib.Omega.{arith}
-use Prim.Native.Nat.{◌-◌, ◌≤◌}
-use borrow.Author.Rules.{rules}
 use Rattle.print_out.proofs.live_count.Goals as goal
 
 pub loop-k-init : goal.loop-k-init

@@ -1,9 +1,6 @@
 use Rattle.print_out.specs.PrintOut.{live_count}
-use mathlib.Core.Path.{◌≡◌, refl}
-use native.Mathlib.Numerals.{add-one}
-use native.Mathlib.Omega.{arith}
+use mathlib.Core.Path.{◌≡◌}
 use Prim.Native.Nat.{◌-◌, ◌≤◌}
-use borrow.Author.Rules.{rules}
 use Rattle.print_out.proofs.live_count.Given as goal
 
 abbrev pub invariant-loop-k : goal.invariant-loop-k

@@ -1,6 +1,5 @@
 -- `print_out::print_out` meets its contract. Assumes nothing.
 use Rattle.print_out.specs.PrintOut.{text_of}
-use borrow.Author.Rules.{rules}
 use Rattle.print_out.proofs.print_out.Goals as goal
 
 pub returns-in-Refused : goal.returns-in-Refused

@@ -1,13 +1,9 @@
 -- `print_out::put_corners` meets its contract. Assumes nothing.
 use Rattle.print_out.specs.PrintOut.{corner_lines}
 use Rattle.text_out.proofs.Puts.{puts_none, puts_then, puts_length}
-use Rattle.text_out.specs.Text.{Puts}
-use lib.ListN.{length}
 use mathlib.Core.Path.{◌≡◌, refl, ◌∙◌}
 use native.Mathlib.Omega.{arith}
 use native.Mathlib.Numerals.{add-one}
-use Prim.Native.Nat.{◌+◌, ◌-◌, ◌*◌, ◌≤◌}
-use borrow.Author.Rules.{rules}
 use Rattle.print_out.proofs.put_corners.Goals as goal
 
 pub loop-k-init : goal.loop-k-init

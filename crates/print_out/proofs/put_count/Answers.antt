@@ -2,7 +2,6 @@
 use Rattle.text_out.proofs.Puts.{puts_then}
 use Rattle.print_out.specs.PrintOut.{count_text}
 use native.Mathlib.Omega.{arith}
-use borrow.Author.Rules.{rules}
 use Rattle.print_out.proofs.put_count.Goals as goal
 
 pub returns : goal.returns

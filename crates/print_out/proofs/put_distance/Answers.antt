@@ -3,7 +3,6 @@ use Rattle.print_out.proofs.Distance.{far_is, nan_is, number_is}
 use lib.Dec.{T}
 use mathlib.Core.Path.{sym, subst, ◌∙◌}
 use native.Mathlib.Omega.{arith}
-use borrow.Author.Rules.{rules}
 use Rattle.print_out.proofs.put_distance.Goals as goal
 
 pub returns-then-b-eq9218868437227405312 : goal.returns-then-b-eq9218868437227405312

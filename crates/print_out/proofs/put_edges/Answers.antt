@@ -2,7 +2,6 @@
 use Rattle.text_out.proofs.Puts.{puts_then}
 use Rattle.print_out.specs.PrintOut.{edges_line}
 use native.Mathlib.Omega.{arith}
-use borrow.Author.Rules.{rules}
 use Rattle.print_out.proofs.put_edges.Goals as goal
 
 pub returns : goal.returns

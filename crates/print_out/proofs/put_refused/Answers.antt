@@ -1,7 +1,6 @@
 -- `print_out::put_refused` meets its contract. Assumes nothing.
 use Rattle.text_out.proofs.Puts.{puts_then}
 use Rattle.print_out.specs.PrintOut.{refused_line}
-use borrow.Author.Rules.{rules}
 use Rattle.print_out.proofs.put_refused.Goals as goal
 
 pub returns : goal.returns

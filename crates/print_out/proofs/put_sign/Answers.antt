@@ -1,7 +1,6 @@
 -- `print_out::put_sign` meets its contract. Assumes nothing.
 use Rattle.text_out.proofs.Puts.{puts_none}
 use native.Mathlib.Omega.{arith}
-use borrow.Author.Rules.{rules}
 use Rattle.print_out.proofs.put_sign.Goals as goal
 
 pub returns-then-minus : goal.returns-then-minus

@@ -1,7 +1,6 @@
 -- `print_out::put_thousandths` meets its contract. Assumes nothing.
 use Rattle.print_out.proofs.Distance.{small_text, large_text}
 use native.Mathlib.Omega.{arith}
-use borrow.Author.Rules.{rules}
 use Rattle.print_out.proofs.put_thousandths.Goals as goal
 
 pub returns-then-b-ge4841369599423283200 : goal.returns-then-b-ge4841369599423283200
