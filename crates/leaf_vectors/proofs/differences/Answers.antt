@@ -1,8 +1,5 @@
 -- `leaf_vectors::differences` is safe and ends. A record has at most 84 numbers. Assumes nothing.
-use mathlib.Core.Logic.{⊎_elim}
-use Prim.Native.Nat.{◌+◌, ◌-◌, ◌*◌, ◌≤◌}
 use native.Mathlib.Omega.{arith}
-use borrow.Author.Rules.{rules}
 use Rattle.leaf_vectors.proofs.differences.Goals as goal
 
 pub loop-i-init : goal.loop-i-init
