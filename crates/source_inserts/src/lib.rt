@@ -1,5 +1,7 @@
 // What the sources of a job do, one after the other, read from the buffers of the mesh and of the pieces: the Rust's loop over `sources` with `source_point` and `source_segment`, as a list of
 // entries and offers of which any one is asked for by its number. Nothing is asked of what the buffers hold; where they hold a job, the list is the Rust's (proofs/Held.antt).
+#![tactic(auto)]
+
 ghost use Rattle.std.specs.Prelude.{◌≡◌, ◌<◌};
 ghost use Rattle.source_inserts.specs.Read.{end_source_at, segment_source_at, job_source_at, insert_count_at, point_side_at, point_insert_at, segment_insert_at, normal_of_number, insert_at};
 

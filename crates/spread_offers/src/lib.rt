@@ -1,5 +1,7 @@
 // What a window that is propagated, and a vertex that passes distances on, offer to the edges ahead (the Rust's `propagate` and `emit`): one candidate at a time,
 // read from a mesh's buffers. Nothing is asked of what the buffers hold; where they hold a mesh's topology, it is what the Rust adds (proofs/Held.antt).
+#![tactic(auto)]
+
 ghost use Rattle.std.specs.Prelude.{◌≡◌};
 ghost use Rattle.source_offers.specs.of_mesh_readers.Readers.{edge_at};
 ghost use Rattle.spread_offers.specs.Offering.{side_number, side_end, ahead_at, next_edge_at, at_end, propagate_offer_at, emit_offer_at};
