@@ -1,4 +1,6 @@
 // The end of `compute`, where no event is queued any more: the last pass over the vertices, and zeros in what is no part of a field.
+#![tactic(auto)]
+
 ghost use Rattle.std.specs.Prelude.{◌≤◌, length};
 ghost use Rattle.layout.specs.Layout.{words_per_edge};
 ghost use Rattle.buffers.specs.Slots.{slots_of};
