@@ -1,5 +1,7 @@
 // The Rust's `at` over the buffers: the distance at a point of a face. Whatever the buffers hold, no link leads past the windows made, and no walk goes on for more than those, or
 // for more entries than the buffer counts for.
+#![tactic(auto)]
+
 ghost use Rattle.std.specs.Prelude.{◌≡◌, false, not, cond, ◌||◌, ◌-◌, ◌≤◌, ◌<◌, length};
 ghost use Rattle.std.specs.Float.{inf};
 ghost use Rattle.windows.specs.Windows.{capacity_of, window_at};

@@ -1,0 +1,5 @@
+use borrow.Author.Rules.{rules}
+use Rattle.face_query.proofs.to_first.Goals as goal
+
+pub returns : goal.returns
+returns c = rw (c.to_point.ensures, c.vector_from.ensures)
