@@ -1,5 +1,5 @@
 -- What the Rust's `add` does beside the list of its edge, one action after the other in the Rust's order, and what stops it. Definitions only.
-use Rattle.std.specs.Prelude.{ℕ, suc, ◌+◌, ◌*◌, ◌&&◌, ltb, leb, length, get_or, set, Float}
+use Rattle.std.specs.Prelude.{ℕ, suc, ◌+◌, ◌*◌, ◌&&◌, ltb, leb, length, get_or, set, Float, if◌then◌else◌}
 use Rattle.std.proofs.Math.Bool.{cond}
 use mathlib.Core.List.{List, [], ◌∷◌, ◌++◌}
 use Rattle.std.proofs.Math.Dec.{eqb}
@@ -8,7 +8,6 @@ use Rattle.std.specs.Float.Ieee.{lt, le}
 use Rattle.layout.specs.Layout.{words_per_vertex, vertex_flag, reals_per_vertex, vertex_distance, vertex_emitted}
 use Rattle.buffers.specs.declared.Lack.TheVariants.{Windows, Cuts}
 use Rattle.buffers.specs.Lack.{lack_number}
-use Rattle.float64.specs.Notation.{if◌then◌else◌}
 use Rattle.windows.specs.declared.WindowRecord.{WindowRecord}
 use Rattle.windows.specs.Windows.{trimmed, dead, adjust}
 use Rattle.heap.specs.declared.Event.{Event}

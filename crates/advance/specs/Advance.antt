@@ -1,8 +1,7 @@
 -- Up to so many turns of the Rust's main loop, over the state. Definitions only: `advance_more` in proofs/More.antt says that a number of turns and then more are all of them at once.
 use Prim.Native.Nat.{ℕ, zero, suc}
 use mathlib.Core.List.{List, [], ◌++◌}
-use Rattle.std.specs.Prelude.{Float}
-use Rattle.float64.specs.Notation.{if◌then◌else◌}
+use Rattle.std.specs.Prelude.{Float, if◌then◌else◌}
 use Rattle.insertion.specs.of_trim_model.Model.{Candidate}
 use Rattle.field_step.specs.of_trim_state.State.{State, Result, stopped, went}
 use Rattle.insertion.specs.of_offers.Offers.{and_next}

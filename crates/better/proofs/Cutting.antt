@@ -3,6 +3,7 @@
 --     halve_double     what it gives is a double
 --     cut_first, cut_second, cut_none, cut_flat     `cut_of` by its tests
 --     cut_between      a cut is a double that lies strictly between its two neighbours
+use Rattle.std.specs.Prelude.{if◌then◌else◌}
 use Prim.Native.Nat.{ℕ, zero, suc, ◌-◌}
 use native.Mathlib.Omega.{arith}
 use mathlib.Core.Path.{◌≡◌, refl}
@@ -13,7 +14,7 @@ use lib.Ieee.{Float, binary64, lt, fits}
 use lib.Ieee.Fits.{div-fits, and_l, and_r}
 use Rattle.nat_laws.proofs.Tests.{branch}
 use Rattle.float64.specs.Scalar.{two}
-use Rattle.float64.specs.Notation.{◌⊕◌, ◌⊘◌, if◌then◌else◌}
+use Rattle.float64.specs.Notation.{◌⊕◌, ◌⊘◌}
 use Rattle.source.specs.declared.Src.{Src}
 use Rattle.better.specs.declared.Compared.{Compared}
 use Rattle.better.specs.declared.Cut.{Cut}

@@ -4,6 +4,7 @@
 --     pairs_more, pairs_longer  what it holds after a stretch
 --     pairs_take     the first of them
 --     step           what a pair of neighbours adds to the stretches; stretches_cons, stretches_nil
+use Rattle.std.specs.Prelude.{if◌then◌else◌}
 use Prim.Native.Nat.{ℕ, zero, suc, ◌+◌, ◌*◌, ◌-◌, ◌≤◌, ◌<◌}
 use native.Mathlib.Omega.{arith}
 use native.Mathlib.Decide.{dec_le}
@@ -16,7 +17,6 @@ use mathlib.Core.List.{List, [], ◌∷◌, ◌++◌, append_assoc}
 use lib.ListN.{length, take, get_or, set, length-append, length-set}
 use lib.Seq.{get_or-set_same, get_or-set_other, take-append-le, take_all}
 use lib.Ieee.{Float, nan, eq}
-use Rattle.float64.specs.Notation.{if◌then◌else◌}
 use Rattle.better.specs.Stretches.{Interval, interval, joined, shorter_between, stretches}
 use Rattle.source.specs.declared.Src.{Src}
 use Rattle.better.specs.Buffers.{pairs, last_ends_at}

@@ -2,6 +2,7 @@
 -- While the points are walked, every stretch in `out` ends at or before the point x0 that is reached, and there is a gap between each two. The next, [x0, x1],
 -- starts at x0: it continues the last one where that ends at x0, and otherwise the last one ends before x0.
 --     better_separates     what the trimming of windows asks of `better_of`
+use Rattle.std.specs.Prelude.{if◌then◌else◌}
 use mathlib.Core.Logic.{inl, inr}
 use mathlib.Core.List.{List, [], ◌∷◌}
 use mathlib.Core.Bool.{Bool, true, false, not}
@@ -11,7 +12,7 @@ use Rattle.nat_laws.proofs.Lists.{all_map}
 use Rattle.nat_laws.proofs.Tests.{branch}
 use Rattle.float_laws.proofs.Order.{Number, finite_number, le_refl, le_trans, lt_trans, lt_le_trans, le_antisym, le_or_lt, not_le_lt}
 use Rattle.float64.specs.Scalar.{two}
-use Rattle.float64.specs.Notation.{◌⊕◌, ◌⊘◌, if◌then◌else◌}
+use Rattle.float64.specs.Notation.{◌⊕◌, ◌⊘◌}
 use Rattle.source.specs.declared.Src.{Src}
 use Rattle.source.specs.Distance.{edge_of}
 use Rattle.better.specs.Cutting.{shorter}

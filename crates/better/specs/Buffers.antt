@@ -1,8 +1,7 @@
 -- Lists in lent buffers. Definitions only.
-use Rattle.std.specs.Prelude.{ℕ, zero, suc, ◌+◌, ◌≤◌, ◌<◌, Bool, false, cond, ◌≡◌, ◌⊎◌, List, [], ◌∷◌, ◌++◌, leb, length, drop, get_or, Float}
+use Rattle.std.specs.Prelude.{ℕ, zero, suc, ◌+◌, ◌≤◌, ◌<◌, Bool, false, cond, ◌≡◌, ◌⊎◌, List, [], ◌∷◌, ◌++◌, leb, length, drop, get_or, Float, if◌then◌else◌}
 use Rattle.std.specs.Float.{nan}
 use Rattle.std.specs.Float.Ieee.{eq}
-use Rattle.float64.specs.Notation.{if◌then◌else◌}
 use Rattle.better.specs.Points.{insert_of}
 use Rattle.better.specs.Stretches.{Interval, interval}
 use Rattle.better.specs.declared.Placed.{Placed}

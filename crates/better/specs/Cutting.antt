@@ -1,9 +1,9 @@
 -- Where the sign of the difference of two sources turns: the closures `g` and `change` of the Rust's `better`, its halvings, and the cut between two points. Definitions only.
-use Rattle.std.specs.Prelude.{ℕ, zero, suc, Bool, true, false, ◌&&◌, ◌||◌, Float}
+use Rattle.std.specs.Prelude.{ℕ, zero, suc, Bool, true, false, ◌&&◌, ◌||◌, Float, if◌then◌else◌}
 use Rattle.std.specs.Float.{binary64}
 use Rattle.std.specs.Float.Ieee.{of_bits, lt}
 use Rattle.float64.specs.Scalar.{one, two}
-use Rattle.float64.specs.Notation.{◌⊕◌, ◌⊖◌, ◌⊗◌, ◌⊘◌, if◌then◌else◌}
+use Rattle.float64.specs.Notation.{◌⊕◌, ◌⊖◌, ◌⊗◌, ◌⊘◌}
 use Rattle.source.specs.declared.Src.{Src}
 use Rattle.source.specs.Distance.{edge_of}
 use Rattle.better.specs.declared.Compared.{Compared}

@@ -1,8 +1,8 @@
 -- Where one source is shorter than another: the Rust's `better`. Definitions only.
-use Rattle.std.specs.Prelude.{Bool, false, List, [], ◌∷◌, Float}
+use Rattle.std.specs.Prelude.{Bool, false, List, [], ◌∷◌, Float, if◌then◌else◌}
 use Rattle.std.specs.Float.Ieee.{le, eq}
 use Rattle.float64.specs.Scalar.{two}
-use Rattle.float64.specs.Notation.{◌⊕◌, ◌⊘◌, if◌then◌else◌}
+use Rattle.float64.specs.Notation.{◌⊕◌, ◌⊘◌}
 use Rattle.source.specs.declared.Src.{Src}
 use Rattle.source.specs.Distance.{edge_of}
 use Rattle.better.specs.declared.Cut.{Cut}

@@ -1,7 +1,6 @@
 -- The vertex of a face nearest to a point, as the Rust's `vertex_wedge` finds it. Definitions only.
-use Rattle.std.specs.Prelude.{ℕ, ◌+◌, ◌*◌, List, Float, get_or}
+use Rattle.std.specs.Prelude.{ℕ, ◌+◌, ◌*◌, List, Float, get_or, if◌then◌else◌}
 use Rattle.layout.specs.Layout.{vertices_per_triangle}
-use Rattle.float64.specs.Notation.{if◌then◌else◌}
 use Rattle.float64.specs.TotalOrder.{total_less}
 use Rattle.vec3.specs.declared.Vec3.{Vec3}
 use Rattle.vec3.specs.Vec.{sub_of, norm_of}

@@ -8,7 +8,7 @@ ghost use Rattle.compute.specs.Answers.{other_counts_of, edges_answered, zeroes,
 
 use buffers::slots;
 use computed::{Computed, Field};
-use field_model::of_mesh as mesh;
+use field_model::of_mesh;
 use field_model::of_mesh::{Meshed, OtherCounts};
 use field_model::of_zero_buffers::{
     zero_cuts_if, zero_mesh_if, zero_pieces_if, zero_windows_if, zero_words_if,
@@ -133,7 +133,7 @@ pub fn compute(
         scratch.len(),
         other_scratch.len(),
     );
-    let meshed = mesh::build(
+    let meshed = of_mesh::build(
         vertices,
         triangles,
         flags,
@@ -151,7 +151,7 @@ pub fn compute(
     );
     let edges = edge_count(meshed);
     let work = make_field::make_field(
-        mesh::refusal_number(meshed),
+        of_mesh::refusal_number(meshed),
         edges,
         vertices,
         triangles,

@@ -1,8 +1,7 @@
 -- The Rust's `edge_at`: the distance at x on an edge, from the distances of its ends, its length and its list of windows. Definitions only.
-use Rattle.std.specs.Prelude.{ℕ, suc, List, [], ◌∷◌, reverse, Float, take, drop}
+use Rattle.std.specs.Prelude.{ℕ, suc, List, [], ◌∷◌, reverse, Float, take, drop, if◌then◌else◌}
 use Rattle.std.specs.Float.Ieee.{lt, le}
 use Rattle.float64.specs.Scalar.{zero64, min_of}
-use Rattle.float64.specs.Notation.{if◌then◌else◌}
 use Rattle.source.specs.declared.Win.{Win}
 use Rattle.source.specs.Distance.{eval_of}
 use Rattle.windows.specs.declared.Edge.{Edge}

@@ -3,11 +3,10 @@
 -- before those that were met earlier. A window that ends short of x is kept by its link, since only the last of them is evaluated.
 use Prim.Native.Nat.{ℕ, zero, suc}
 use mathlib.Core.List.{List, [], ◌∷◌}
-use Rattle.std.specs.Prelude.{Float}
+use Rattle.std.specs.Prelude.{Float, if◌then◌else◌}
 use Rattle.std.specs.Float.{nan}
 use Rattle.std.specs.Float.Ieee.{lt, le}
 use Rattle.float64.specs.Scalar.{zero64, min_of}
-use Rattle.float64.specs.Notation.{if◌then◌else◌}
 use Rattle.source.specs.declared.Win.{Win}
 use Rattle.source.specs.Distance.{eval_of}
 use Rattle.windows.specs.Windows.{window_at}

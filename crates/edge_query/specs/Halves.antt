@@ -1,10 +1,9 @@
 -- The search by halves that Rust's `partition_point` is (`slice::binary_search_by`, which no answer `Equal` ends here). Definitions only: `halves_is` in proofs/Halves.antt says that it finds
 -- `partition_point` where starts rise.
 use Prim.Native.Nat.{ℕ, zero, suc, ◌+◌, ◌-◌, ◌/◌}
-use Rattle.std.specs.Prelude.{Bool, false, List, [], ◌∷◌, T, ltb, Float}
+use Rattle.std.specs.Prelude.{Bool, false, List, [], ◌∷◌, T, ltb, Float, if◌then◌else◌}
 use Rattle.std.proofs.Math.Dec.{eqb}
 use Rattle.std.specs.Float.Ieee.{lt, le}
-use Rattle.float64.specs.Notation.{if◌then◌else◌}
 use Rattle.source.specs.declared.Win.{Win}
 
 -- `pred` tests the element of a number

@@ -1,11 +1,10 @@
 -- Walks along the chain of an edge that begin where an earlier one has been. Definitions only: `walks_on` in proofs/Resume.antt says that a walk leaves such a place.
 -- Of the windows up to the last that ends short of x only that one counts. It ends short of every later place too, so behind it a walk for a later place comes to what it comes
 -- to from the head. No order of the windows is asked for: the bound of what was passed is kept.
-use Rattle.std.specs.Prelude.{ℕ, ◌+◌, ◌-◌, ◌*◌, ◌≤◌, not, List, ◌≡◌, T, eqb, Float, get_or}
+use Rattle.std.specs.Prelude.{ℕ, ◌+◌, ◌-◌, ◌*◌, ◌≤◌, not, List, ◌≡◌, T, eqb, Float, get_or, if◌then◌else◌}
 use Rattle.std.specs.Float.{nan}
 use Rattle.std.specs.Float.Ieee.{lt, is_nan}
 use Rattle.float64.specs.Scalar.{zero64, max_of}
-use Rattle.float64.specs.Notation.{if◌then◌else◌}
 use Rattle.layout.specs.Layout.{reals_per_window, window_b1}
 use Rattle.buffers.specs.declared.EdgeId.{EdgeId}
 use Rattle.chains.specs.Chains.{Links}

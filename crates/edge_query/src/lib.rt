@@ -11,7 +11,7 @@ ghost use Rattle.edge_query.specs.Forward.{value_of, passed_value, past_of};
 ghost use Rattle.edge_query.specs.Resume.{from_head, head_cursor, cursor_for, cursor_past, ResumesAt, Resumes};
 
 use buffers::{EdgeId, WindowId, read_f64};
-use last_pass::of_face_distance as face_distance;
+use last_pass::of_face_distance;
 use layout::{REALS_PER_WINDOW, WINDOW_B0, WINDOW_B1};
 use windows::Edge;
 
@@ -183,7 +183,7 @@ pub fn distance_from(
 {
     let da = actions::distance(vertex, e.a);
     let db = actions::distance(vertex, e.b);
-    let d = face_distance::through_ends(da, db, e.len, x);
+    let d = of_face_distance::through_ends(da, db, e.len, x);
     let from = cursor_for(cursor, e.id, made, x);
     least_on_chain(edge_words, words, reals, from, made, x, d)
 }

@@ -1,9 +1,9 @@
 -- The distances that the Rust's `at` and `edge_at` take the least of, on values. Definitions only.
-use Rattle.std.specs.Prelude.{Float}
+use Rattle.std.specs.Prelude.{Float, if◌then◌else◌}
 use Rattle.std.specs.Float.{binary64}
 use Rattle.std.specs.Float.Ieee.{of_bits, lt}
 use Rattle.float64.specs.Scalar.{zero64, one, min_of, max_of, clamp_of}
-use Rattle.float64.specs.Notation.{◌⊕◌, ◌⊖◌, ◌⊘◌, if◌then◌else◌}
+use Rattle.float64.specs.Notation.{◌⊕◌, ◌⊖◌, ◌⊘◌}
 use Rattle.vec3.specs.Vec.{axpy_of, sub_of, dot_of, norm_of}
 use Rattle.vec3.specs.declared.Vec3.{Vec3}
 use Rattle.source.specs.Distance.{eval_of}

@@ -1,10 +1,9 @@
 -- The Rust's `at`: the distance at a point p of a face f, over what the job's slices and the field's buffers hold. Definitions only.
 use Prim.Native.Nat.{ℕ, ◌+◌, ◌*◌}
-use Rattle.std.specs.Prelude.{false, List, [], ◌∷◌, map, Float, length, get_or}
+use Rattle.std.specs.Prelude.{false, List, [], ◌∷◌, map, Float, length, get_or, if◌then◌else◌}
 use Rattle.std.specs.Float.{inf}
 use Rattle.layout.specs.Layout.{vertices_per_triangle, coordinates_per_vertex, coordinates_per_piece}
 use Rattle.float64.specs.Scalar.{zero64, min_of, max_of}
-use Rattle.float64.specs.Notation.{if◌then◌else◌}
 use Rattle.vec3.specs.declared.Vec3.{Vec3}
 use Rattle.windows.specs.Windows.{window_at}
 use Rattle.windows.specs.declared.WindowRecord.{WindowRecord}

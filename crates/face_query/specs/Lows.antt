@@ -1,9 +1,8 @@
 -- The least `low` of the windows on a chain. Definitions only: `far_side` in proofs/Lows.antt says that no window is looked at where it fails the Rust's test.
-use Rattle.std.specs.Prelude.{ℕ, ◌+◌, ◌-◌, ◌*◌, ◌<◌, false, List, [], ◌∷◌, ◌≡◌, Float, get_or}
+use Rattle.std.specs.Prelude.{ℕ, ◌+◌, ◌-◌, ◌*◌, ◌<◌, false, List, [], ◌∷◌, ◌≡◌, Float, get_or, if◌then◌else◌}
 use Rattle.std.specs.Float.{nan, inf}
 use Rattle.layout.specs.Layout.{reals_per_window, window_low}
 use Rattle.float64.specs.Scalar.{min_of}
-use Rattle.float64.specs.Notation.{if◌then◌else◌}
 use Rattle.chains.specs.Chains.{Links, links}
 use Rattle.last_pass.specs.of_mesh_readers.Readers.{side_in}
 use Rattle.last_pass.specs.Buffers.{chain_behind}

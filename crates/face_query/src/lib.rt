@@ -14,8 +14,8 @@ ghost use Rattle.face_query.specs.Lows.{least_low, side_low, WalksOn};
 ghost use Rattle.face_query.specs.FaceDistance.{through_windows, records_on, first_end, second_end, to_part, to_entries, through_face_vertex, through_vertices, through_side, through_sides, to_pieces, face_distance_in};
 
 use buffers::{EdgeId, FaceId, WindowId, read_f64, read_u32};
-use face_entries::{Part, of_frames as frames};
-use last_pass::{of_face_distance as face_distance, of_mesh_readers as mesh_readers};
+use face_entries::{Part, of_frames};
+use last_pass::{of_face_distance, of_mesh_readers};
 use layout::{
     COORDINATES_PER_PIECE, COORDINATES_PER_VERTEX, EDGE_HEAD, REALS_PER_WINDOW, WINDOW_LINK,
     WINDOW_LOW, WORDS_PER_EDGE, WORDS_PER_WINDOW,
@@ -34,10 +34,10 @@ fn through_face_vertex(
 ) -> f64
     ensures { result ≡ through_face_vertex vertices.now triangles.now vertex.now f.0 p i d }
 {
-    let k = mesh_readers::face_vertex(triangles, f, i);
-    let v = mesh_readers::vertex(vertices, k);
+    let k = of_mesh_readers::face_vertex(triangles, f, i);
+    let v = of_mesh_readers::vertex(vertices, k);
     let far = actions::distance(vertex, k);
-    float64::min(d, face_distance::through_vertex(p, v, far))
+    float64::min(d, of_face_distance::through_vertex(p, v, far))
 }
 
 fn through_vertices(vertices: &[f64], triangles: &[u32], vertex: &[f64], f: FaceId, p: Vec3) -> f64
@@ -69,7 +69,7 @@ fn through_link(words: &[u32], reals: &[f64], i: u32, x: f64, y: f64, d: f64) ->
     if y + read_f64(reals, REALS_PER_WINDOW, i, WINDOW_LOW) < d {
         let window = windows::load(words, reals, WindowId(i));
         if window.alive {
-            return face_distance::through_window(d, window.win, x, y);
+            return of_face_distance::through_window(d, window.win, x, y);
         }
         return d;
     }
@@ -227,8 +227,8 @@ fn through_side(
     requires { (made ≤ capacity_of (length words.now) (length reals.now)) × (low ≡ side_low edge_words.now triangle_words.now words.now reals.now made f.0 i) }
     ensures { result ≡ through_side vertices.now edge_words.now edge_reals.now triangle_words.now triangle_reals.now words.now reals.now made f.0 p i d }
 {
-    let e = mesh_readers::side(triangle_words, f, i);
-    let c = mesh_readers::coords(
+    let e = of_mesh_readers::side(triangle_words, f, i);
+    let c = of_mesh_readers::coords(
         vertices,
         edge_words,
         edge_reals,
@@ -261,9 +261,9 @@ fn through_sides(
     requires { made ≤ capacity_of (length words.now) (length reals.now) }
     ensures { result ≡ through_sides vertices.now edge_words.now edge_reals.now triangle_words.now triangle_reals.now words.now reals.now made f.0 p d }
 {
-    let e0 = mesh_readers::side(triangle_words, f, 0);
-    let e1 = mesh_readers::side(triangle_words, f, 1);
-    let e2 = mesh_readers::side(triangle_words, f, 2);
+    let e0 = of_mesh_readers::side(triangle_words, f, 0);
+    let e1 = of_mesh_readers::side(triangle_words, f, 1);
+    let e2 = of_mesh_readers::side(triangle_words, f, 2);
     let lows = side_lows(edge_words, words, reals, made, e0, e1, e2);
     let a = through_side(
         vertices,
@@ -317,7 +317,7 @@ fn to_first(coords: &[f64], p: Vec3, piece: u32) -> f64
     ensures { result ≡ to_point p (first_end coords.now piece) }
 {
     let at = (COORDINATES_PER_PIECE as usize) * (piece as usize);
-    face_distance::to_point(p, frames::vector_from(coords, at))
+    of_face_distance::to_point(p, of_frames::vector_from(coords, at))
 }
 
 fn to_second(coords: &[f64], p: Vec3, piece: u32) -> f64
@@ -325,16 +325,16 @@ fn to_second(coords: &[f64], p: Vec3, piece: u32) -> f64
 {
     let at = (COORDINATES_PER_PIECE as usize) * (piece as usize)
         + (COORDINATES_PER_VERTEX as usize);
-    face_distance::to_point(p, frames::vector_from(coords, at))
+    of_face_distance::to_point(p, of_frames::vector_from(coords, at))
 }
 
 fn to_whole(coords: &[f64], p: Vec3, piece: u32) -> f64
     ensures { result ≡ to_segment p (first_end coords.now piece) (second_end coords.now piece) }
 {
     let at = (COORDINATES_PER_PIECE as usize) * (piece as usize);
-    let a = frames::vector_from(coords, at);
-    let b = frames::vector_from(coords, at + (COORDINATES_PER_VERTEX as usize));
-    face_distance::to_segment(p, a, b)
+    let a = of_frames::vector_from(coords, at);
+    let b = of_frames::vector_from(coords, at + (COORDINATES_PER_VERTEX as usize));
+    of_face_distance::to_segment(p, a, b)
 }
 
 // From p to what an entry holds.

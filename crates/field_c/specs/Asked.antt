@@ -1,8 +1,7 @@
 -- One question to a field that passed refusal 20, as a caller in C or Rust is answered: 20 is not tried again, only whether the slices have the field's slots. Definitions only.
-use Rattle.std.specs.Prelude.{ℕ, Bool, ◌&&◌, List, leb, Float, length}
+use Rattle.std.specs.Prelude.{ℕ, Bool, ◌&&◌, List, leb, Float, length, if◌then◌else◌}
 use Rattle.std.proofs.Math.ListN.{set}
 use Rattle.layout.specs.Layout.{words_per_edge}
-use Rattle.float64.specs.Notation.{if◌then◌else◌}
 use Rattle.buffers.specs.Slots.{slots_of}
 use Rattle.vec3.specs.declared.Vec3.{Vec3}
 use Rattle.windows.specs.Windows.{capacity_of}

@@ -1,9 +1,9 @@
 -- A job is refused for 01's reasons alone: refused_for. Assumes nothing.
+use Rattle.std.specs.Prelude.{if◌then◌else◌}
 use Prim.Native.Nat.{ℕ, zero, suc}
 use mathlib.Core.Bool.{Bool, true, false}
 use mathlib.Core.List.{List, [], ◌∷◌}
 use mathlib.Core.Path.{◌≡◌, refl, sym, ap, subst, ◌∙◌}
-use Rattle.float64.specs.Notation.{if◌then◌else◌}
 use Rattle.heap.specs.declared.Event.{Event}
 use Rattle.heap.specs.Model.{taking}
 use Rattle.job_checks.specs.Job.{Job}

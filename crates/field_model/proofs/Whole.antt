@@ -1,11 +1,11 @@
 -- A whole job over any queue that takes the least event: its refusal is that of `compute_by_heap`, or else all but the queue is the same. Assumes nothing.
+use Rattle.std.specs.Prelude.{if◌then◌else◌}
 use Prim.Native.Nat.{ℕ, zero, suc, ◌+◌, ◌≤◌, ◌<◌, min}
 use native.Mathlib.Omega.{arith}
 use mathlib.Core.Bool.{Bool, true, false}
 use mathlib.Core.List.{List, ◌++◌}
 use mathlib.Core.Path.{◌≡◌, refl, sym, ap, ◌∙◌}
 use lib.ListN.{length, length-take}
-use Rattle.float64.specs.Notation.{if◌then◌else◌}
 use Rattle.layout.specs.Layout.{words_per_event}
 use Rattle.buffers.specs.Slots.{slots_of}
 use Rattle.windows.specs.Windows.{capacity_of}

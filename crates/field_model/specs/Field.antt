@@ -2,14 +2,13 @@
 -- none of. Its queue is any that pops the least event of 01's order (module 5, `Event`) and leaves the rest: no buffer of it is spoken of, only how many events it has slots for.
 -- Definitions only: proofs/ says that the heap in its buffers comes to the same.
 use Prim.Native.Nat.{ℕ, zero, suc}
-use Rattle.std.specs.Prelude.{Bool, ◌&&◌, get_or, Float}
+use Rattle.std.specs.Prelude.{Bool, ◌&&◌, get_or, Float, if◌then◌else◌}
 use mathlib.Core.List.{List, [], ◌∷◌, ◌++◌}
 use Rattle.std.proofs.Math.Dec.{ltb, leb}
 use Rattle.std.proofs.Math.ListN.{length}
 use Rattle.std.specs.Float.Ieee.{lt, le}
 use Rattle.buffers.specs.declared.Lack.TheVariants.{Windows, Events, Cuts, Entries}
 use Rattle.buffers.specs.Lack.{lack_number}
-use Rattle.float64.specs.Notation.{if◌then◌else◌}
 use Rattle.compute_spec.specs.of_better.Stretches.{better_of}
 use Rattle.heap.specs.declared.Event.{Event}
 use Rattle.heap.specs.declared.Item.{Item}

@@ -1,6 +1,5 @@
 -- A whole job over any queue that pops the least event, with numbers of slots in place of slices: the Rust's `compute`, and 01's `Handing in a job`. Definitions only.
-use Rattle.std.specs.Prelude.{ℕ, zero, suc, Bool, List, [], ◌++◌, eqb, get_or, Float}
-use Rattle.float64.specs.Notation.{if◌then◌else◌}
+use Rattle.std.specs.Prelude.{ℕ, zero, suc, Bool, List, [], ◌++◌, eqb, get_or, Float, if◌then◌else◌}
 use Rattle.windows.specs.declared.WindowRecord.{WindowRecord}
 use Rattle.compute_spec.specs.of_trim_model.Windows.{Window}
 use Rattle.compute_spec.specs.of_trim_model.Model.{Candidate}

@@ -1,5 +1,4 @@
 // A whole job over any queue that pops the least event: definitions and laws, no code.
 #![tactic(auto)]
 
-pub use compute_spec::of_zero_buffers as of_zero_buffers;
-pub use compute_spec::of_mesh as of_mesh;
+pub use compute_spec::{of_mesh, of_zero_buffers};

@@ -1,7 +1,6 @@
 -- One turn of the Rust's `while let Some(Event(key, id, vertex)) = field.queue.pop()`, over the state. Definitions only.
-use Rattle.std.specs.Prelude.{ℕ, Bool, true, false, ◌&&◌, List, [], get_or, Float}
+use Rattle.std.specs.Prelude.{ℕ, Bool, true, false, ◌&&◌, List, [], get_or, Float, if◌then◌else◌}
 use Rattle.float64.specs.Scalar.{zero64}
-use Rattle.float64.specs.Notation.{if◌then◌else◌}
 use Rattle.source.specs.declared.Src.TheVariants.{Point}
 use Rattle.topology.specs.Edges.{no_face}
 use Rattle.heap.specs.declared.Item.{Item}

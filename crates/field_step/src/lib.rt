@@ -14,7 +14,7 @@ use heap::{Event, Item};
 use spread::of_spread_offers::Spread;
 use spread::of_trim::Added;
 use spread::of_trim_split::Counts;
-use windows_there::of_pop as pop;
+use windows_there::of_pop;
 use windows_there::of_pop::Taken;
 
 // What a popped event comes to: nothing, or what passes distances on.
@@ -148,7 +148,7 @@ pub fn step(
         counts (before edge_words words reals keys events vertex) (cuts_before pts out keep next) result (after edge_words words reals keys events vertex) }
 {
     let made = counts.made;
-    let taken = pop::pop(words, keys, events, made, counts.queued);
+    let taken = of_pop::pop(words, keys, events, made, counts.queued);
     match taken {
         Taken::Empty => Stepped::Idle,
         Taken::First(x, queued, pending) => {

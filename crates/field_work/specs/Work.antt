@@ -1,6 +1,5 @@
 -- The work on a job whose mesh is made, on values: refusal 11, the insertion of its pieces, the main loop within its budget. Definitions only.
-use Rattle.std.specs.Prelude.{ℕ, List, [], ◌++◌, length}
-use Rattle.float64.specs.Notation.{if◌then◌else◌}
+use Rattle.std.specs.Prelude.{ℕ, List, [], ◌++◌, length, if◌then◌else◌}
 use Rattle.windows.specs.Windows.{capacity_of}
 use Rattle.job_checks.specs.Job.{Job}
 use Rattle.run_steps.specs.of_cut_lists.Buffers.{Cuts}

@@ -11,7 +11,7 @@ ghost use Rattle.run_steps.specs.of_begin.Begin.{work_before};
 ghost use Rattle.field_work.specs.Contract.{WorksTo};
 
 pub use run_steps as of_run_steps;
-use run_steps::{FieldWork, of_insert_job as insert_job};
+use run_steps::{FieldWork, of_insert_job};
 
 pub fn work(
     vertices: &[f64],
@@ -48,7 +48,7 @@ pub fn work(
         result (left piece_words) (left piece_reals) (after edge_words words reals keys events vertex) (entries_after triangle_words entry_words) }
 {
     let n = (vertices.len() / 3) as u32;
-    let inserted = insert_job::insert_job(
+    let inserted = of_insert_job::insert_job(
         vertices,
         triangles,
         kinds,

@@ -1,11 +1,10 @@
 -- The operators of f64, each with one rounding, so that a definition reads as the code that it is of. Definitions only.
-use Rattle.std.specs.Prelude.{Bool, cond, Float}
+use Rattle.std.specs.Prelude.{Float}
 use Rattle.std.specs.Float.{binary64}
 use Rattle.std.specs.Float.Ieee.{add, sub, mul, div}
 
 infixl 65 ◌⊕◌ ◌⊖◌
 infixl 70 ◌⊗◌ ◌⊘◌
-infix 1 if◌then◌else◌
 abbrev pub ◌⊕◌ : Float → Float → Float
 x ⊕ y = add binary64 x y
 
@@ -17,6 +16,3 @@ x ⊗ y = mul binary64 x y
 
 abbrev pub ◌⊘◌ : Float → Float → Float
 x ⊘ y = div binary64 x y
-
-abbrev pub if◌then◌else◌ : {A : Type 0} → Bool → A → A → A
-if b then x else y = cond b x y

@@ -14,7 +14,7 @@ ghost use Rattle.insert_c.specs.Exports.{lent_counts, edges_told, insert_told, I
 
 use buffers::write_u32;
 use insert_job::of_mesh::{Meshed, OtherCounts};
-use insert_job::{InsertedJob, of_mesh as mesh};
+use insert_job::{InsertedJob, of_mesh};
 use layout::{
     REALS_PER_PIECE, REALS_PER_VERTEX, REALS_PER_WINDOW, WORDS_PER_PIECE, WORDS_PER_WINDOW,
 };
@@ -176,7 +176,7 @@ pub extern "C" fn sirmolaat_insert(
         words.len(),
         reals.len(),
     );
-    let meshed = mesh::build(
+    let meshed = of_mesh::build(
         vertices,
         triangles,
         flags,
@@ -192,7 +192,7 @@ pub extern "C" fn sirmolaat_insert(
         triangle_words,
         triangle_reals,
     );
-    let number = mesh::refusal_number(meshed);
+    let number = of_mesh::refusal_number(meshed);
     if number > 0 {
         return number;
     }

@@ -14,7 +14,7 @@ use buffers::Lack;
 use insert_sources::of_insertion::{InsertAnswer, InsertCounts};
 pub use insert_sources::of_mesh as of_mesh;
 use insert_sources::of_trim_split::Counts;
-use insert_sources::of_wedge_refusal as wedge_refusal;
+use insert_sources::of_wedge_refusal;
 
 // Refusal 11, what there is no slot for, or the counts after the last piece.
 #[derive(Clone, Copy)]
@@ -81,7 +81,7 @@ pub fn insert_job(
         events,
         entry_words,
     );
-    if wedge_refusal::any_wedge(
+    if of_wedge_refusal::any_wedge(
         vertices,
         edge_words,
         edge_reals,

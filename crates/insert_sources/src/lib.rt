@@ -12,11 +12,8 @@ ghost use Rattle.insert_sources.specs.Job.{insertion_slices, InsertsAll};
 
 pub use insertion as of_insertion;
 use insertion::of_source_inserts::Source;
-pub use insertion::{
-    of_mesh as of_mesh, of_piece_ends as of_piece_ends, of_trim_split as of_trim_split,
-    of_wedge_refusal as of_wedge_refusal,
-};
-use insertion::{InsertAnswer, InsertCounts, of_source_inserts as source_inserts};
+pub use insertion::{of_mesh, of_piece_ends, of_trim_split, of_wedge_refusal};
+use insertion::{InsertAnswer, InsertCounts, of_source_inserts};
 
 // The i-th of what source s does, in a job of so many pieces.
 fn insert_number(
@@ -55,7 +52,7 @@ fn insert_number(
         counts (before edge_words words reals keys events vertex) (entries_before triangle_words entry_words) (cuts_before pts out keep next)
         result (after edge_words words reals keys events vertex) (entries_after triangle_words entry_words) }
 {
-    let x = source_inserts::insert_at(
+    let x = of_source_inserts::insert_at(
         vertices,
         edge_words,
         edge_reals,
@@ -131,7 +128,7 @@ fn insert_source(
         counts (before edge_words words reals keys events vertex) (entries_before triangle_words entry_words) (cuts_before pts out keep next)
         result (after edge_words words reals keys events vertex) (entries_after triangle_words entry_words) }
 {
-    let s = source_inserts::job_source(
+    let s = of_source_inserts::job_source(
         vertices,
         edge_words,
         edge_reals,
@@ -144,7 +141,7 @@ fn insert_source(
         pieces,
         j,
     );
-    let count = source_inserts::insert_count(edge_words, vertex_words, s);
+    let count = of_source_inserts::insert_count(edge_words, vertex_words, s);
     let mut now = counts;
     let mut i: u32 = 0;
     while i < count {

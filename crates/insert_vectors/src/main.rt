@@ -7,9 +7,7 @@ use heap::Popped;
 use insert_sources::of_insertion::{InsertAnswer, InsertCounts};
 use insert_sources::of_mesh::{Meshed, OtherCounts};
 use insert_sources::of_trim_split::Counts;
-use insert_sources::{
-    of_mesh as mesh, of_piece_ends as piece_ends, of_wedge_refusal as wedge_refusal,
-};
+use insert_sources::{of_mesh, of_piece_ends, of_wedge_refusal};
 use layout::{
     EDGE_HEAD, ENTRY_LINK, REALS_PER_VERTEX, REALS_PER_WINDOW, TRIANGLE_FIRST_ENTRY, WINDOW_LINK,
     WORDS_PER_EDGE, WORDS_PER_ENTRY, WORDS_PER_TRIANGLE, WORDS_PER_WINDOW,
@@ -377,9 +375,9 @@ fn pieces_hold(
     let refusal = number(s, r);
     let mut piece_words = [7u32; 3600];
     let mut piece_reals = [7.0f64; 3600];
-    piece_ends::build(kinds, coords, &mut piece_words);
-    piece_ends::directions(kinds, coords, &mut piece_reals);
-    if wedge_refusal::any_wedge(
+    of_piece_ends::build(kinds, coords, &mut piece_words);
+    of_piece_ends::directions(kinds, coords, &mut piece_reals);
+    if of_wedge_refusal::any_wedge(
         vertices,
         edge_words,
         edge_reals,
@@ -460,7 +458,7 @@ fn job_holds(
     let mut round = [7u32; 6300];
     let mut triangle_words = [7u32; 12600];
     let mut triangle_reals = [7.0f64; 18900];
-    let meshed = mesh::build(
+    let meshed = of_mesh::build(
         v,
         t,
         f,

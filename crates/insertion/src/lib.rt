@@ -12,11 +12,8 @@ use source_inserts::of_face_entries::{Entered, PiecePart};
 use source_inserts::of_offers::Offered;
 use source_inserts::of_trim::Added;
 use source_inserts::of_trim_split::Counts;
-pub use source_inserts::{
-    of_mesh as of_mesh, of_piece_ends as of_piece_ends, of_trim_split as of_trim_split,
-    of_wedge_refusal as of_wedge_refusal,
-};
-use source_inserts::{Insert, of_face_entries as face_entries, of_offers as offers};
+pub use source_inserts::{of_mesh, of_piece_ends, of_trim_split, of_wedge_refusal};
+use source_inserts::{Insert, of_face_entries, of_offers};
 
 // How many windows are made and events queued, and how many entries there are.
 #[derive(Clone, Copy)]
@@ -43,7 +40,7 @@ fn enter(
 {
     let piece = x.piece;
     let part = x.part;
-    let entered = face_entries::enter(
+    let entered = of_face_entries::enter(
         triangle_words,
         entry_words,
         counts.entries,
@@ -83,7 +80,7 @@ fn offer(
         result (after edge_words words reals keys events vertex) (cuts_after pts out keep next) }
 {
     let trim = counts.trim;
-    let added = offers::offer(
+    let added = of_offers::offer(
         edge_words,
         words,
         reals,

@@ -1,9 +1,8 @@
 -- What else the Rust does at the end of `compute`: the `low` of every window is set, dead windows leave the lists of their edges, and the lists are sorted. Definitions only: it
 -- changes nothing (proofs/Finished.antt).
-use Rattle.std.specs.Prelude.{ℕ, ◌<◌, List, [], ◌∷◌, map, ◌≡◌, length, get_or}
+use Rattle.std.specs.Prelude.{ℕ, ◌<◌, List, [], ◌∷◌, map, ◌≡◌, length, get_or, if◌then◌else◌}
 use Rattle.nat_laws.specs.Lists.{sort_by}
 use Rattle.float64.specs.TotalOrder.{total_less}
-use Rattle.float64.specs.Notation.{if◌then◌else◌}
 use Rattle.source.specs.declared.Src.{Src}
 use Rattle.source.specs.Distance.{lowest_of}
 use Rattle.windows.specs.declared.WindowRecord.{WindowRecord}

@@ -1,8 +1,7 @@
 -- The live windows of each edge, as the reference model has them, standing in the window buffer and its chains. Definitions only.
-use Rattle.std.specs.Prelude.{ℕ, suc, ◌+◌, ◌*◌, ◌≤◌, ◌<◌, Bool, true, cond, List, [], ◌∷◌, ◌++◌, ◌≢◌, ◌≡◌, eqb, get_or, set, drop, Float}
+use Rattle.std.specs.Prelude.{ℕ, suc, ◌+◌, ◌*◌, ◌≤◌, ◌<◌, Bool, true, cond, List, [], ◌∷◌, ◌++◌, ◌≢◌, ◌≡◌, eqb, get_or, set, drop, Float, if◌then◌else◌}
 use Rattle.layout.specs.Layout.{words_per_edge, edge_head, edge_scratch, words_per_window, reals_per_window}
 use Rattle.float64.specs.TotalOrder.{total_less}
-use Rattle.float64.specs.Notation.{if◌then◌else◌}
 use Rattle.nat_laws.specs.Lists.{list_of}
 use Rattle.buffers.specs.declared.EdgeId.{EdgeId}
 use Rattle.source.specs.declared.Win.{Win}

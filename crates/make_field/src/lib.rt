@@ -7,7 +7,7 @@ ghost use Rattle.make_field.specs.Contract.{WorkFits, MakesField};
 
 pub use finish_work::of_run_steps as of_run_steps;
 use finish_work::of_run_steps::FieldWork;
-use work_parts::of_cut_slots as cut_slots;
+use work_parts::of_cut_slots;
 
 // `number` is the refusal of the mesh, or 0 where it has so many edges.
 pub fn make_field(
@@ -49,7 +49,7 @@ pub fn make_field(
     if number > 0 {
         return FieldWork::Refused(number);
     }
-    let x = cut_slots::cut_count(pts, out, keep, next);
+    let x = of_cut_slots::cut_count(pts, out, keep, next);
     let worked = work_parts::work_parts(
         x,
         vertices,

@@ -1,9 +1,8 @@
 -- The directions of a job's segments, as the Rust's `compute` makes them for `behind`. Definitions only.
-use Rattle.std.specs.Prelude.{ℕ, ◌+◌, ◌*◌, Bool, ◌&&◌, List, Float, length, replicate}
+use Rattle.std.specs.Prelude.{ℕ, ◌+◌, ◌*◌, Bool, ◌&&◌, List, Float, length, replicate, if◌then◌else◌}
 use Rattle.std.specs.Float.Ieee.{lt}
 use Rattle.layout.specs.Layout.{reals_per_piece}
 use Rattle.float64.specs.Scalar.{zero64}
-use Rattle.float64.specs.Notation.{if◌then◌else◌}
 use Rattle.vec3.specs.declared.Vec3.{Vec3}
 use Rattle.job_checks.specs.Edge.{len_of, xhat_of}
 use Rattle.frames.specs.Stored.{with_rows, row3}

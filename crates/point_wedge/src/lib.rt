@@ -9,7 +9,7 @@ ghost use Rattle.point_wedge.specs.Wedge.{laid_of, behind_at, across_at, pair_at
 
 use buffers::{EdgeId, FaceId};
 use carriers::of_mesh_readers::{ends, length, local, normal, side, side_to, unit, vertex};
-use carriers::of_source_windows as source_windows;
+use carriers::of_source_windows;
 use carriers::of_source_windows::{Bounds, unfolded, whole_edge};
 use segments_behind::{first_behind, leaving, next_behind};
 use vec3::Vec3;
@@ -44,7 +44,7 @@ fn behind_end(
 {
     let d = leaving(reals, e);
     let there = laid(plane, d);
-    source_windows::behind(o, p, xhat, w, there)
+    of_source_windows::behind(o, p, xhat, w, there)
 }
 
 // The part of a range of the edge o + t xhat that lies behind every segment of face f that ends at p; `first` is the link to the first end of its bits.

@@ -1,9 +1,9 @@
 -- The plane of a face in the frame of one of its edges, and the frame of another of its edges in it: `pos`, `xh`, `yh` and `map` of the Rust's `propagate`. Definitions only.
-use Rattle.std.specs.Prelude.{cond, eqb, Float}
+use Rattle.std.specs.Prelude.{cond, eqb, Float, if◌then◌else◌}
 use Rattle.std.specs.Float.Ieee.{neg, lt}
 use Rattle.buffers.specs.declared.VertexId.{VertexId}
 use Rattle.float64.specs.Scalar.{zero64}
-use Rattle.float64.specs.Notation.{◌⊕◌, ◌⊖◌, ◌⊗◌, ◌⊘◌, if◌then◌else◌}
+use Rattle.float64.specs.Notation.{◌⊕◌, ◌⊖◌, ◌⊗◌, ◌⊘◌}
 use Rattle.propagation.specs.declared.Vec2.{Vec2}
 use Rattle.propagation.specs.declared.FaceAhead.{FaceAhead}
 use Rattle.propagation.specs.declared.FaceVertex.{FaceVertex}

@@ -1,9 +1,9 @@
 -- The Rust's `propagate` on values: what a window passes on to one of the two edges ahead. Definitions only.
-use Rattle.std.specs.Prelude.{true, false, Float}
+use Rattle.std.specs.Prelude.{true, false, Float, if◌then◌else◌}
 use Rattle.std.specs.Float.{inf}
 use Rattle.std.specs.Float.Ieee.{neg, lt, le}
 use Rattle.float64.specs.Scalar.{zero64, min_of, max_of}
-use Rattle.float64.specs.Notation.{◌⊕◌, ◌⊖◌, ◌⊗◌, ◌⊘◌, if◌then◌else◌}
+use Rattle.float64.specs.Notation.{◌⊕◌, ◌⊖◌, ◌⊗◌, ◌⊘◌}
 use Rattle.source.specs.declared.Src.{Src}
 use Rattle.source.specs.declared.Src.TheVariants.{Point, Line}
 use Rattle.source_windows.specs.Wedge.{point_source_of}

@@ -1,9 +1,8 @@
 -- Document 01's queries, over the answer of a job, the job's mesh and pieces lent again, and the field's buffers: 20 first, then what is asked for, then its value. Definitions only.
-use Rattle.std.specs.Prelude.{ℕ, zero, suc, Bool, not, ◌&&◌, ◌||◌, List, [], ◌∷◌, Float}
+use Rattle.std.specs.Prelude.{ℕ, zero, suc, Bool, not, ◌&&◌, ◌||◌, List, [], ◌∷◌, Float, if◌then◌else◌}
 use Rattle.std.proofs.Math.Dec.{leb}
 use Rattle.std.specs.Float.Ieee.{le}
 use Rattle.float64.specs.Scalar.{zero64}
-use Rattle.float64.specs.Notation.{if◌then◌else◌}
 use Rattle.vec3.specs.declared.Vec3.{Vec3}
 use Rattle.windows.specs.Windows.{window_at}
 use Rattle.chains.specs.Chains.{links}

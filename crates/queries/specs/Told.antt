@@ -1,6 +1,5 @@
 -- A field and a job's answer, as a caller tells them in numbers. Definitions only.
-use Rattle.std.specs.Prelude.{ℕ, List, eqb, get_or}
-use Rattle.float64.specs.Notation.{if◌then◌else◌}
+use Rattle.std.specs.Prelude.{ℕ, List, eqb, get_or, if◌then◌else◌}
 use Rattle.computed.specs.declared.Computed.{Computed}
 use Rattle.computed.specs.declared.Computed.TheVariants.{Refused, Field as isField}
 use Rattle.computed.specs.declared.Field.{Field}

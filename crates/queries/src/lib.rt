@@ -21,7 +21,7 @@ pub use edge_query as of_edge_query;
 use edge_query::Cursor;
 pub use field_check as of_field_check;
 pub use field_check::of_mesh_readers as of_mesh_readers;
-use field_check::of_mesh_readers as mesh_readers;
+use field_check::of_mesh_readers;
 use vec3::Vec3;
 use windows::WindowRecord;
 
@@ -265,13 +265,13 @@ pub fn edge_answer_from(
             cursor,
         };
     }
-    if place_outside(mesh_readers::length(edge_reals, e), x) {
+    if place_outside(of_mesh_readers::length(edge_reals, e), x) {
         return ResumedAnswer {
             answer: EdgeDistance::PlaceOutside,
             cursor,
         };
     }
-    let edge = mesh_readers::edge(edge_words, edge_reals, e);
+    let edge = of_mesh_readers::edge(edge_words, edge_reals, e);
     let resumed = edge_query::distance_from(
         edge_words, words, reals, vertex, edge, n.windows, cursor, x,
     );

@@ -7,7 +7,7 @@ ghost use Rattle.window_rows.specs.WindowRows.{window_row};
 ghost use Rattle.query_c.specs.Exports.{told_row, told_windows};
 
 use window_rows::of_queries::told_answer;
-use window_rows::of_query_rows as query_rows;
+use window_rows::of_query_rows;
 use window_rows::of_query_rows::RowAnswer;
 
 fn row_number(answer: RowAnswer) -> u32
@@ -48,7 +48,7 @@ pub extern "C" fn sirmolaat_faces_at(
         distances.old (told_answer refusal told.now) asked.now points.now) }
 {
     let computed = told_answer(refusal, told);
-    let answer = query_rows::faces_at(
+    let answer = of_query_rows::faces_at(
         computed,
         vertices,
         triangles,
@@ -99,7 +99,7 @@ pub extern "C" fn sirmolaat_edges_at(
         distances.old (told_answer refusal told.now) edges.now places.now) }
 {
     let computed = told_answer(refusal, told);
-    let answer = query_rows::edges_at(
+    let answer = of_query_rows::edges_at(
         computed,
         vertices,
         triangles,
@@ -149,7 +149,7 @@ pub extern "C" fn sirmolaat_vertices_at(
         distances.old (told_answer refusal told.now) asked.now) }
 {
     let computed = told_answer(refusal, told);
-    let answer = query_rows::vertices_at(
+    let answer = of_query_rows::vertices_at(
         computed,
         vertices,
         triangles,

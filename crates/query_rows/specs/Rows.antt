@@ -1,9 +1,8 @@
 -- Rows of questions: refusal 20 once, then each question's number and distance, which are those of the single query. Definitions only.
 -- A row whose answers don't fit is refused by 74, a number that no document uses.
-use Rattle.std.specs.Prelude.{ℕ, Bool, ◌||◌, List, ltb, Float, length, get_or}
+use Rattle.std.specs.Prelude.{ℕ, Bool, ◌||◌, List, ltb, Float, length, get_or, if◌then◌else◌}
 use Rattle.layout.specs.Layout.{coordinates_per_vertex}
 use Rattle.buffers.specs.Slots.{slots_of}
-use Rattle.float64.specs.Notation.{if◌then◌else◌}
 use Rattle.computed.specs.declared.Computed.{Computed}
 use Rattle.computed.specs.declared.Computed.TheVariants.{Refused, Field as isField}
 use Rattle.computed.specs.declared.Field.{Field}

@@ -11,7 +11,7 @@ use stored_numbers::{
 };
 use stored_slots::{SummedWalk, compare_or_sum, start_at, visit_f64, visit_u32};
 use vectors::Tally;
-use window_rows::of_query_rows as query_rows;
+use window_rows::of_query_rows;
 use window_rows::of_query_rows::RowAnswer;
 
 // Of the record at number k: where list i stands, and how many elements it has, no more than most.
@@ -172,7 +172,7 @@ fn visit_faces(
     let to_distances = lent(s, c, 5, 60);
     let mut numbers = [77u32; 60];
     let mut distances = [77.0f64; 60];
-    let answer = query_rows::faces_at(
+    let answer = of_query_rows::faces_at(
         job,
         vertices,
         triangles,
@@ -224,7 +224,7 @@ fn visit_edges(
     let to_distances = lent(s, c, 5, 60);
     let mut numbers = [77u32; 60];
     let mut distances = [77.0f64; 60];
-    let answer = query_rows::edges_at(
+    let answer = of_query_rows::edges_at(
         job,
         vertices,
         triangles,
@@ -274,7 +274,7 @@ fn visit_vertices(
     let to_distances = lent(s, c, 5, 60);
     let mut numbers = [77u32; 60];
     let mut distances = [77.0f64; 60];
-    let answer = query_rows::vertices_at(
+    let answer = of_query_rows::vertices_at(
         job,
         vertices,
         triangles,

@@ -2,6 +2,7 @@
 -- All that it asks of the two sources is asked at its points and at middles of two of them, and these lie from lo to hi. Its points are lo, at most two ties
 -- strictly between, and hi; ties that are equal leave an empty stretch between them, and the next stretch continues the last all the same.
 --     never, always     what the range tests tell
+use Rattle.std.specs.Prelude.{if◌then◌else◌}
 use Prim.Native.Nat.{suc, ◌+◌, ◌≤◌}
 use native.Mathlib.Omega.{arith}
 use mathlib.Core.Bool.{Bool, true, false, not, ◌&&◌}
@@ -19,7 +20,7 @@ use Rattle.nat_laws.proofs.Tests.{branch, by_cases}
 use Rattle.nat_laws.proofs.Lists.{all_left, all_sort_by}
 use Rattle.float64.specs.Scalar.{two}
 use Rattle.float64.specs.TotalOrder.{total_less}
-use Rattle.float64.specs.Notation.{◌⊕◌, ◌⊘◌, if◌then◌else◌}
+use Rattle.float64.specs.Notation.{◌⊕◌, ◌⊘◌}
 use Rattle.float_laws.proofs.Order.{Number, finite_number, le_refl, lt_le, lt_not_le, le_antisym, eq_refl, eq_trans, finite_between, le_or_lt, lt_number_l}
 use Rattle.float_laws.proofs.Total.{total_le}
 use Rattle.float_monotone.proofs.Middle.{middle_above, middle_below}

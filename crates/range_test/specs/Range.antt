@@ -1,9 +1,9 @@
 -- The range of a source's values from lo to hi, and what two ranges tell of `better`. Definitions only.
-use Rattle.std.specs.Prelude.{◌≤◌, Bool, cond, ◌&&◌, ◌≡◌, List, [], ◌∷◌, length, T, Float}
+use Rattle.std.specs.Prelude.{◌≤◌, Bool, cond, ◌&&◌, ◌≡◌, List, [], ◌∷◌, length, T, Float, if◌then◌else◌}
 use Rattle.std.specs.Float.{binary64}
 use Rattle.std.specs.Float.Ieee.{neg, lt, le, fits}
 use Rattle.float64.specs.Scalar.{zero64, one, max_of, abs_of, is_finite}
-use Rattle.float64.specs.Notation.{◌⊕◌, ◌⊖◌, ◌⊗◌, if◌then◌else◌}
+use Rattle.float64.specs.Notation.{◌⊕◌, ◌⊖◌, ◌⊗◌}
 use Rattle.source.specs.declared.Src.{Src}
 use Rattle.source.specs.declared.Src.TheVariants.{Point, Line}
 use Rattle.source.specs.Distance.{edge_of, lowest_of}

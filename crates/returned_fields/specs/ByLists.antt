@@ -1,7 +1,6 @@
 -- The Rust's queries over the lists of a field, the live windows of each edge and the entries of each face, where the buffers have chains. Definitions only.
-use Rattle.std.specs.Prelude.{ℕ, List, [], ◌∷◌, map, leb, Float}
+use Rattle.std.specs.Prelude.{ℕ, List, [], ◌∷◌, map, leb, Float, if◌then◌else◌}
 use Rattle.float64.specs.Scalar.{zero64, max_of}
-use Rattle.float64.specs.Notation.{if◌then◌else◌}
 use Rattle.vec3.specs.declared.Vec3.{Vec3}
 use Rattle.source.specs.declared.Win.{Win}
 use Rattle.actions.specs.Actions.{distance_of}

@@ -20,7 +20,7 @@ use layout::{
 use trim::Added;
 use trim::of_trim_split::Counts;
 use trim_operations::of_pop::Taken;
-use trim_operations::{Op, of_pop as pop};
+use trim_operations::{Op, of_pop};
 use windows::{Edge, NewWindow};
 
 // An operation is refused by its number; or so many windows are made and so many events queued.
@@ -65,7 +65,7 @@ fn touch(
 fn pop_first(words: &mut [u32], keys: &mut [f64], events: &mut [u32], made: u32, queued: u32) -> u32
     ensures { PopsFirst made queued (given words) (given keys) (given events) result (left words) (left keys) (left events) }
 {
-    let taken = pop::pop(words, keys, events, made, queued);
+    let taken = of_pop::pop(words, keys, events, made, queued);
     match taken {
         Taken::Empty => queued,
         Taken::First(_, n, _) => n,

@@ -1,6 +1,5 @@
 -- The Rust's main loop within a step budget, over the state. Definitions only.
-use Rattle.std.specs.Prelude.{ℕ, List, Float}
-use Rattle.float64.specs.Notation.{if◌then◌else◌}
+use Rattle.std.specs.Prelude.{ℕ, List, Float, if◌then◌else◌}
 use Rattle.advance.specs.of_trim_state.State.{Result, stopped, went}
 use Rattle.advance.specs.of_face_entries.Entries.{FaceEntry}
 use Rattle.insert_job.specs.of_insertion.Insertion.{Inserted}

@@ -1,9 +1,8 @@
 -- The Rust's `behind`: for a face and coordinate bits, the directions in which the face's segments leave the point of these bits. Definitions only.
-use Rattle.std.specs.Prelude.{ℕ, ◌*◌, ◌/◌, ◌%◌, Bool, ◌&&◌, List, map, eqb, length, get_or, Float}
+use Rattle.std.specs.Prelude.{ℕ, ◌*◌, ◌/◌, ◌%◌, Bool, ◌&&◌, List, map, eqb, length, get_or, Float, if◌then◌else◌}
 use Rattle.std.specs.Float.Ieee.{neg}
 use Rattle.layout.specs.Layout.{reals_per_piece}
 use Rattle.float64.specs.Scalar.{one}
-use Rattle.float64.specs.Notation.{if◌then◌else◌}
 use Rattle.vec3.specs.declared.Vec3.{Vec3}
 use Rattle.vec3.specs.Vec.{scale_of}
 use Rattle.frames.specs.Stored.{vector_at}

@@ -1,11 +1,11 @@
 -- The distance that a source gives along an edge and across it, and a window's value: the Rust's `Src`, `ties` and `Win::eval`. Definitions only.
 -- The frame is the edge's: x along it, y across it, away from the source.
-use Rattle.std.specs.Prelude.{◌&&◌, Float}
+use Rattle.std.specs.Prelude.{◌&&◌, Float, if◌then◌else◌}
 use Rattle.std.specs.Float.{binary64}
 use Rattle.std.specs.Float.Ieee.{neg, lt, le, eq, ne}
 use Rattle.root_spec.specs.Root.{hypot_of}
 use Rattle.float64.specs.Scalar.{zero64, one, two, min_of, abs_of, clamp_of}
-use Rattle.float64.specs.Notation.{◌⊕◌, ◌⊖◌, ◌⊗◌, ◌⊘◌, if◌then◌else◌}
+use Rattle.float64.specs.Notation.{◌⊕◌, ◌⊖◌, ◌⊗◌, ◌⊘◌}
 use Rattle.source.specs.Quadratic.{four, eight, roots_of}
 use Rattle.source.specs.declared.RealRoots.{RealRoots}
 use Rattle.source.specs.declared.RealRoots.TheVariants.{None, One}

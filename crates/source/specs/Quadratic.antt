@@ -1,10 +1,10 @@
 -- The real roots of a quadratic, as the Rust's `roots` finds them. Definitions only.
-use Rattle.std.specs.Prelude.{◌||◌, not, Float}
+use Rattle.std.specs.Prelude.{◌||◌, not, Float, if◌then◌else◌}
 use Rattle.std.specs.Float.{binary64}
 use Rattle.std.specs.Float.Ieee.{of_bits, neg, lt, le, eq, ne}
 use Rattle.root_spec.specs.Root.{sqrt_of}
 use Rattle.float64.specs.Scalar.{zero64, max_of, abs_of, signum_of, is_finite}
-use Rattle.float64.specs.Notation.{◌⊕◌, ◌⊖◌, ◌⊗◌, ◌⊘◌, if◌then◌else◌}
+use Rattle.float64.specs.Notation.{◌⊕◌, ◌⊖◌, ◌⊗◌, ◌⊘◌}
 use Rattle.source.specs.declared.RealRoots.{RealRoots}
 use Rattle.source.specs.declared.RealRoots.TheVariants.{None, One, Two}
 

@@ -11,7 +11,7 @@ ghost use Rattle.source_bounds.specs.Bounds.{least_bound, greatest_bound, Bounde
 use source::Src;
 
 // Bounds of a number, where they are known.
-#[derive(Drop)]
+#[derive(Clone, Copy)]
 pub struct Enclosure {
     pub lo: f64,
     pub hi: f64,

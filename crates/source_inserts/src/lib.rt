@@ -10,9 +10,7 @@ pub use face_entries as of_face_entries;
 pub use face_entries::of_mesh as of_mesh;
 use face_entries::{Part, PiecePart, part_of};
 use source_offers::of_offers::Offered;
-pub use source_offers::{
-    of_offers as of_offers, of_trim as of_trim, of_trim_split as of_trim_split,
-};
+pub use source_offers::{of_offers, of_trim, of_trim_split};
 use source_offers::{point_offer, segment_offer};
 use vec3::Vec3;
 pub use wedge_refusal as of_wedge_refusal;

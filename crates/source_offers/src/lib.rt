@@ -7,16 +7,14 @@ ghost use Rattle.source_offers.specs.Offering.{along_at, segment_offer_at, point
 ghost use Rattle.source_offers.specs.Offering.{offered as offeredOf};
 
 use buffers::{EdgeId, FaceId, no_face};
-use candidate_laws::of_source_windows as source_windows;
+use candidate_laws::of_source_windows;
 use candidate_laws::of_source_windows::{
     Bounds, CandidateRange, Normal, goes_back, lies_on, point_window, segment_window, too_narrow,
 };
 pub use offers as of_offers;
 use offers::Offered;
 use offers::of_mesh_readers::{coords, ends, length, other, side, unit, vertex};
-pub use offers::{
-    of_mesh_readers as of_mesh_readers, of_trim as of_trim, of_trim_split as of_trim_split,
-};
+pub use offers::{of_mesh_readers, of_trim, of_trim_split};
 use vec3::Vec3;
 use windows::{Carried, NewWindow};
 
@@ -76,7 +74,7 @@ fn framed_segment(
         f,
         b,
     );
-    let s = source_windows::in_frame(p.x, p.y, q.x, q.y, l);
+    let s = of_source_windows::in_frame(p.x, p.y, q.x, q.y, l);
     let w = segment_window(s, l, n);
     let beyond = other(edge_words, e, f);
     offered(e, beyond, true, w)

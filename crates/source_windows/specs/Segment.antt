@@ -1,10 +1,10 @@
 -- The Rust's `source_segment` on values: the wave that leaves a segment over an edge of its face, on one of its two sides. Definitions only.
-use Rattle.std.specs.Prelude.{◌&&◌, not, Float}
+use Rattle.std.specs.Prelude.{◌&&◌, not, Float, if◌then◌else◌}
 use Rattle.std.specs.Float.{binary64}
 use Rattle.std.specs.Float.Ieee.{neg, lt, le}
 use Rattle.root_spec.specs.Root.{sqrt_of}
 use Rattle.float64.specs.Scalar.{zero64, min_of, max_of, abs_of}
-use Rattle.float64.specs.Notation.{◌⊕◌, ◌⊖◌, ◌⊗◌, ◌⊘◌, if◌then◌else◌}
+use Rattle.float64.specs.Notation.{◌⊕◌, ◌⊖◌, ◌⊗◌, ◌⊘◌}
 use Rattle.source.specs.declared.Src.TheVariants.{Line}
 use Rattle.source_windows.specs.Tolerance.{narrowest, upright, too_narrow}
 use Rattle.source_windows.specs.Wedge.{whole_of}

@@ -1,9 +1,9 @@
 -- The Rust's `source_point` on values: the part of an edge that lies behind a point's segments, and the window there. Definitions only.
 -- In an edge's frame x goes along the edge from its first vertex, and the y of `coords` into the face.
-use Rattle.std.specs.Prelude.{Bool, List, [], ◌∷◌, Float}
+use Rattle.std.specs.Prelude.{Bool, List, [], ◌∷◌, Float, if◌then◌else◌}
 use Rattle.std.specs.Float.Ieee.{neg, lt, le}
 use Rattle.float64.specs.Scalar.{zero64, one, min_of, max_of}
-use Rattle.float64.specs.Notation.{◌⊗◌, ◌⊘◌, if◌then◌else◌}
+use Rattle.float64.specs.Notation.{◌⊗◌, ◌⊘◌}
 use Rattle.vec3.specs.Vec.{scale_of, axpy_of, sub_of, dot_of}
 use Rattle.vec3.specs.declared.Vec3.{Vec3}
 use Rattle.source.specs.declared.Src.{Src}

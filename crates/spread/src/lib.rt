@@ -11,8 +11,8 @@ ghost use Rattle.spread.specs.Walk.{SpreadIn};
 pub use spread_offers as of_spread_offers;
 use spread_offers::of_trim::Added;
 use spread_offers::of_trim_split::Counts;
-pub use spread_offers::{of_trim as of_trim, of_trim_split as of_trim_split};
-use spread_offers::{Spread, of_offers as offers};
+pub use spread_offers::{of_trim, of_trim_split};
+use spread_offers::{Spread, of_offers};
 
 // All candidates of a window or of a vertex, one after the other. What both candidates of a window ask for is read once: no addition changes it.
 pub fn spread(
@@ -67,7 +67,7 @@ pub fn spread(
             s,
             i,
         );
-        let added = offers::offer(
+        let added = of_offers::offer(
             edge_words,
             words,
             reals,

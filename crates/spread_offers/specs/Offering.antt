@@ -1,9 +1,8 @@
 -- What a window that is propagated, and a vertex that passes distances on, offer: one turn of the loop of the Rust's `propagate`, and one of `emit`. Definitions only.
 -- First as the Rust has it, of a mesh's topology; then as the mesh's buffers are read.
-use Rattle.std.specs.Prelude.{ℕ, ◌+◌, ◌*◌, Bool, cond, ◌||◌, List, eqb, Float}
+use Rattle.std.specs.Prelude.{ℕ, ◌+◌, ◌*◌, Bool, cond, ◌||◌, List, eqb, Float, if◌then◌else◌}
 use Rattle.std.proofs.Math.Bool.{true}
 use Rattle.std.proofs.Math.ListN.{get_or}
-use Rattle.float64.specs.Notation.{if◌then◌else◌}
 use Rattle.job_checks.specs.Edge.{vertex_at}
 use Rattle.topology.specs.Edges.{EndPair, no_edge, edges, tri_edge, other, third, edge_between}
 use Rattle.topology.specs.Frames.{len, coords_x, coords_y}

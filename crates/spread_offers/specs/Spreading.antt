@@ -1,7 +1,6 @@
 -- All that a window passes on, and all that a vertex emits, in the Rust's order; and the same numbered, as the buffers are read. Definitions only.
-use Rattle.std.specs.Prelude.{ℕ, ◌+◌, ◌*◌, ◌/◌, ◌%◌, ◌<◌, min, List, ltb, length, get_or, Float}
+use Rattle.std.specs.Prelude.{ℕ, ◌+◌, ◌*◌, ◌/◌, ◌%◌, ◌<◌, min, List, ltb, length, get_or, Float, if◌then◌else◌}
 use Rattle.float64.specs.Scalar.{zero64}
-use Rattle.float64.specs.Notation.{if◌then◌else◌}
 use Rattle.topology.specs.Edges.{edges, vertex_faces}
 use Rattle.source_offers.specs.of_mesh_readers.Readers.{third_at, degree_at, range_at, round_at}
 use Rattle.source.specs.declared.Src.{Src}

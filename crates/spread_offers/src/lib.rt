@@ -17,9 +17,7 @@ use source_offers::of_mesh_readers::{
 };
 use source_offers::of_offers::Offered;
 use source_offers::offered;
-pub use source_offers::{
-    of_offers as of_offers, of_trim as of_trim, of_trim_split as of_trim_split,
-};
+pub use source_offers::{of_offers, of_trim, of_trim_split};
 
 // What passes distances on: a window of an edge into a face, or a vertex at distance d.
 #[derive(Clone, Copy)]

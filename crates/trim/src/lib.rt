@@ -18,7 +18,7 @@ use buffers::Lack;
 use source::Win;
 pub use trim_visit::of_trim_split as of_trim_split;
 use trim_visit::of_trim_split::{Counts, Made};
-use trim_visit::{Visited, of_live_windows as live_windows};
+use trim_visit::{Visited, of_live_windows};
 use windows::{Edge, NewWindow, WindowRecord};
 
 // What there is no slot for; or how many windows and events there are now.
@@ -68,7 +68,7 @@ fn admit(
     }
     let win = w.win;
     whole(keep, win.b0, win.b1);
-    let before = live_windows::pass_front(edges, words, reals, counts.made, e.id, win.b0, tiny);
+    let before = of_live_windows::pass_front(edges, words, reals, counts.made, e.id, win.b0, tiny);
     let visited = trim_visit::visits(
         edges, words, reals, keys, events, pts, out, keep, next, counts, e.id, before, 1, w, tiny,
     );

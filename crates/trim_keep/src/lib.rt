@@ -19,7 +19,7 @@ ghost use Rattle.trim_keep.specs.Keeping.{MadeWithin, Seats, KeptOne};
 use buffers::{Lack, VertexId};
 use heap::Pushed;
 use source::Win;
-use trim_split::{Counts, Made, of_cut_lists as cut_lists, of_live_windows as live_windows};
+use trim_split::{Counts, Made, of_cut_lists, of_live_windows};
 use windows::{Edge, WindowRecord};
 
 // The end v of an edge, which is at x along it, is touched by a window that reaches it. Most values are told to be no less than the vertex's distance without a root.
@@ -135,7 +135,7 @@ fn keep_part(
         (snapshot_before edges words reals keys events counts.made counts.queued before (given vertex))
         (end_after edges words reals keys events (made_end result) (left vertex))) }
 {
-    let seat = live_windows::seat_from(edges, words, reals, counts.made, e.id, before, b0);
+    let seat = of_live_windows::seat_from(edges, words, reals, counts.made, e.id, before, b0);
     let old = x.win;
     let low = kept_low(old, b0, b1);
     let part = trim_split::make_part(
@@ -199,8 +199,8 @@ pub fn keep_parts(
     let mut last = before;
     let mut i = 0;
     while i < k {
-        let b0 = cut_lists::from_of(keep, i);
-        let b1 = cut_lists::to_of(keep, i);
+        let b0 = of_cut_lists::from_of(keep, i);
+        let b1 = of_cut_lists::to_of(keep, i);
         if b1 - b0 <= tiny {
             i += 1;
         } else {

@@ -1,10 +1,10 @@
 -- The Rust's `add` of an admitted window to the live windows of its edge, and the slivers that it drops. Definitions only.
-use Rattle.std.specs.Prelude.{ℕ, ◌+◌, ◌*◌, pred, Bool, not, ◌&&◌, Float}
+use Rattle.std.specs.Prelude.{ℕ, ◌+◌, ◌*◌, pred, Bool, not, ◌&&◌, Float, if◌then◌else◌}
 use mathlib.Core.List.{List, [], ◌∷◌, ◌++◌}
 use Rattle.std.proofs.Math.ListN.{length}
 use Rattle.std.specs.Float.Ieee.{lt, le}
 use Rattle.float64.specs.Scalar.{min_of, max_of}
-use Rattle.float64.specs.Notation.{◌⊕◌, ◌⊖◌, if◌then◌else◌}
+use Rattle.float64.specs.Notation.{◌⊕◌, ◌⊖◌}
 use Rattle.source.specs.declared.Src.{Src}
 use Rattle.better.specs.Stretches.{Interval, interval}
 use Rattle.trim_model.specs.Intervals.{width, next, pieces, piece_slivers, wide_of, keep_slivers}

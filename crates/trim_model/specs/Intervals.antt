@@ -1,9 +1,9 @@
 -- Intervals of an edge, and what trimming leaves of them: the Rust's lists `next` and `pieces` of `add`, and the slivers. Definitions only.
-use Rattle.std.specs.Prelude.{Bool, not, ◌&&◌, List, [], ◌∷◌, ◌++◌, Float}
+use Rattle.std.specs.Prelude.{Bool, not, ◌&&◌, List, [], ◌∷◌, ◌++◌, Float, if◌then◌else◌}
 use Rattle.std.specs.Float.{binary64}
 use Rattle.std.specs.Float.Ieee.{lt, le, of_bits}
 use Rattle.float64.specs.Scalar.{zero64, min_of, max_of}
-use Rattle.float64.specs.Notation.{◌⊖◌, ◌⊗◌, if◌then◌else◌}
+use Rattle.float64.specs.Notation.{◌⊖◌, ◌⊗◌}
 use Rattle.better.specs.Stretches.{Interval, interval}
 
 -- the width from a to b, as computed

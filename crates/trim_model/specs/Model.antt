@@ -1,6 +1,6 @@
 -- The reference model of window trimming: 01's book of demand 3. Definitions only.
 -- It is fed one limit, each edge's length and the candidate windows' arguments (01's offers), and nothing else.
-use Rattle.std.specs.Prelude.{ℕ, ◌+◌, Bool, not, ◌&&◌, ◌||◌, Float}
+use Rattle.std.specs.Prelude.{ℕ, ◌+◌, Bool, not, ◌&&◌, ◌||◌, Float, if◌then◌else◌}
 use mathlib.Core.List.{List, [], ◌∷◌, ◌++◌}
 use Rattle.std.proofs.Math.Dec.{eqb}
 use Rattle.std.specs.Float.Ieee.{lt, le}
@@ -11,7 +11,6 @@ use Rattle.better.specs.Stretches.{Interval, interval}
 use Rattle.trim_model.specs.Intervals.{width, tiny_of}
 use Rattle.trim_model.specs.Windows.{Window}
 use Rattle.trim_model.specs.Add.{Better, AddOutcome, add_to, add_bound}
-use Rattle.float64.specs.Notation.{if◌then◌else◌}
 
 pub record Candidate : Type 0 where
   pub edge : ℕ

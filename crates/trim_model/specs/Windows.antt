@@ -1,5 +1,5 @@
 -- The live windows of an edge as a list, numbered and sorted as the Rust does it. Definitions only.
-use Rattle.std.specs.Prelude.{ℕ, suc, Bool, true, false, ◌&&◌, Float}
+use Rattle.std.specs.Prelude.{ℕ, suc, Bool, true, false, ◌&&◌, Float, if◌then◌else◌}
 use mathlib.Core.List.{List, [], ◌∷◌}
 use Rattle.nat_laws.specs.Lists.{insert_by, sort_by}
 use Rattle.float64.specs.TotalOrder.{total_less}
@@ -7,7 +7,6 @@ use Rattle.source.specs.declared.Src.{Src}
 use Rattle.windows.specs.declared.Carried.{Carried}
 use Rattle.source.specs.Distance.{lowest_of}
 use Rattle.better.specs.Stretches.{Interval}
-use Rattle.float64.specs.Notation.{if◌then◌else◌}
 
 -- what demand 3 compares of a live window, its ends, lowest value, source and number; and what it carries along: the Rust's `into`, the face that it goes into, and `queued`
 pub record Window : Type 0 where

@@ -1,6 +1,5 @@
 -- The Rust's `add` on the live windows of all edges, the queue and the vertex distances. Definitions only.
-use Rattle.std.specs.Prelude.{ℕ, cond, List, eqb, Float}
-use Rattle.float64.specs.Notation.{if◌then◌else◌}
+use Rattle.std.specs.Prelude.{ℕ, cond, List, eqb, Float, if◌then◌else◌}
 use Rattle.better.specs.Stretches.{better_of}
 use Rattle.actions.specs.Actions as actions
 use Rattle.windows.specs.declared.Edge.{Edge}

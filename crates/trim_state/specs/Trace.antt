@@ -1,9 +1,9 @@
 -- The actions of the Rust's `add` of an admitted window, in its order, told from the windows and the lists alone. Definitions only.
-use Rattle.std.specs.Prelude.{ℕ, suc, true, List, [], ◌∷◌, ◌++◌, length, Float}
+use Rattle.std.specs.Prelude.{ℕ, suc, true, List, [], ◌∷◌, ◌++◌, length, Float, if◌then◌else◌}
 use Rattle.std.specs.Float.{binary64}
 use Rattle.std.specs.Float.Ieee.{of_bits, le}
 use Rattle.float64.specs.Scalar.{zero64}
-use Rattle.float64.specs.Notation.{◌⊖◌, ◌⊗◌, if◌then◌else◌}
+use Rattle.float64.specs.Notation.{◌⊖◌, ◌⊗◌}
 use Rattle.source.specs.declared.Win.{Win}
 use Rattle.source.specs.Distance.{lowest_of, eval_of}
 use Rattle.better.specs.Points.{pts_of, walk_of}

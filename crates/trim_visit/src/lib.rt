@@ -16,7 +16,7 @@ use buffers::{EdgeId, Lack, WindowId};
 pub use trim_split as of_trim_split;
 use trim_split::of_cut_lists::Met;
 pub use trim_split::of_live_windows as of_live_windows;
-use trim_split::{Counts, Made, of_cut_lists as cut_lists, of_live_windows as live_windows};
+use trim_split::{Counts, Made, of_cut_lists, of_live_windows};
 use windows::WindowRecord;
 
 // What there is no slot for; or how many windows and events there are now, the link of the last window that survived, and how many intervals the new
@@ -64,7 +64,7 @@ fn visit(
     }
     let p = new.src;
     let q = old.src;
-    let met = cut_lists::cut(
+    let met = of_cut_lists::cut(
         p,
         q,
         lo,
@@ -127,12 +127,12 @@ pub fn visits(
     let mut kept = k;
     let mut left = counts.made;
     while 0 < left {
-        let link = live_windows::next_link(edges, words, reals, now.made, e, last);
+        let link = of_live_windows::next_link(edges, words, reals, now.made, e, last);
         if link == 0 {
             return Visited::Went(now, last, kept);
         }
         let id = WindowId(link - 1);
-        let x = live_windows::load(words, reals, id);
+        let x = of_live_windows::load(words, reals, id);
         let old = x.win;
         if old.b0 < end {
             let visited = visit(

@@ -1,8 +1,7 @@
 -- Rows of questions for the windows at places in edges' lists: refusal 20 once, then each question's number, its window's number and the window, which are those of the single query.
 -- Definitions only. A row whose answers don't fit is refused by 74 (`row_number` of query_rows).
-use Rattle.std.specs.Prelude.{ℕ, zero, suc, List, Float, length, get_or}
+use Rattle.std.specs.Prelude.{ℕ, zero, suc, List, Float, length, get_or, if◌then◌else◌}
 use Rattle.std.proofs.Math.Dec.{ltb}
-use Rattle.float64.specs.Notation.{if◌then◌else◌}
 use Rattle.windows.specs.Windows.{capacity_of, words_with, reals_with}
 use Rattle.computed.specs.declared.Computed.{Computed}
 use Rattle.computed.specs.declared.Computed.TheVariants.{Refused, Field as isField}

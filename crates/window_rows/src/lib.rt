@@ -16,7 +16,7 @@ use layout::{REALS_PER_WINDOW, WORDS_PER_WINDOW};
 pub use query_rows as of_query_rows;
 pub use query_rows::of_queries as of_queries;
 use query_rows::of_queries::WindowAnswer;
-use query_rows::{RowAnswer, of_field_check as field_check, of_queries as queries};
+use query_rows::{RowAnswer, of_field_check, of_queries};
 
 fn window_id(answer: WindowAnswer) -> u32
     ensures { result ≡ window_id answer }
@@ -87,7 +87,7 @@ fn answer_windows(
     while i < count {
         let e = EdgeId(read_u32(edges, 1, i, 0));
         let place = read_u32(places, 1, i, 0);
-        let answer = queries::window_answer(
+        let answer = of_queries::window_answer(
             n,
             edge_words,
             edge_reals,
@@ -100,7 +100,7 @@ fn answer_windows(
             e,
             place,
         );
-        let number = queries::window_number(answer);
+        let number = of_queries::window_number(answer);
         write_u32(numbers, 1, i, 0, number);
         let id = window_id(answer);
         write_u32(ids, 1, i, 0, id);
@@ -140,7 +140,7 @@ pub fn windows_at(
     let Computed::Field(n) = computed else {
         return RowAnswer::NoField;
     };
-    if field_check::is_unsound(
+    if of_field_check::is_unsound(
         n,
         vertices,
         triangles,
