@@ -1,14 +1,16 @@
 // Replays stored slips that are moved from one form to the other: how many there are, and how many are moved otherwise. Compared are the answer, the length that is
 // told and every lent byte. oracle/README.md has the format; tests/moves/make_vectors.sh makes the file.
+#![tactic(auto)]
+
 ghost use Rattle.std.specs.Prelude.{◌≤◌, ◌<◌};
 
 use groups::Form;
 use slip_moves::{move_slip, moved_length, moved_number};
+use std::io;
+use std::rt::Files;
 use stored_bytes::holds_bytes;
 use stored_numbers::{at_most, count, number, record_size};
 use vectors::Tally;
-use std::io;
-use std::rt::Files;
 
 // The forms that a slip is moved from and to, by the stored direction.
 fn moved_from(direction: u32) -> Form {

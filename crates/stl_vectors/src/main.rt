@@ -1,7 +1,11 @@
 // Replays stored STL files and meshes: how many there are, and how many are read or written otherwise. Compared are the answer, the mesh or the file, and that no
 // other element of the lent slices changed. tests/stl/make_vectors.py has the format and makes the files.
+#![tactic(auto)]
+
 ghost use Rattle.std.specs.Prelude.{◌≤◌, ◌<◌};
 
+use std::io;
+use std::rt::Files;
 use stl_format::stl_number;
 use stored_bytes::holds_bytes;
 use stored_numbers::{
@@ -9,8 +13,6 @@ use stored_numbers::{
 };
 use stored_slots::{start_at, visit_f64, visit_u32};
 use vectors::Tally;
-use std::io;
-use std::rt::Files;
 
 // Whether the lists at number `at` are those of the slices, which hold 7 behind them.
 fn holds_mesh(s: &[u8], at: usize, vertices: &[f64], triangles: &[u32], v: usize, t: usize) -> bool
@@ -124,7 +126,12 @@ fn replay(s: &[u8], reads: bool) -> Tally {
 }
 
 // Reads the file of the name into the buffer, replays it and reports.
-fn replay_into(rt: &(impl Files + Print), name: &str, reads: bool, buf: &mut [u8]) -> io::Result<()> {
+fn replay_into(
+    rt: &(impl Files + Print),
+    name: &str,
+    reads: bool,
+    buf: &mut [u8],
+) -> io::Result<()> {
     let got = vectors::read_file(rt, name, buf)?;
     let tally = replay(&buf[..got], reads);
     vectors::report(rt, name, tally.cases, tally.differences)
