@@ -1,4 +1,6 @@
 // The topology of a mesh for programs in C and Rust, in buffers that they lend: a job with no pieces, limit 0 and no windows.
+#![tactic(auto)]
+
 ghost use Rattle.std.specs.Prelude.{◌≡◌};
 ghost use Rattle.job_checks.specs.Refusals.{refusal_of};
 ghost use Rattle.mesh.specs.Topology.{before, after};

@@ -1,4 +1,6 @@
 // The function that runs a list, for programs in C and Rust, in buffers that they lend.
+#![tactic(auto)]
+
 ghost use Rattle.run_operations.specs.of_trim.Buffers.{before, after};
 ghost use Rattle.run_operations.specs.of_cut_lists.Buffers.{cuts_before, cuts_after};
 ghost use Rattle.std.specs.Prelude.{◌≡◌};
