@@ -1,3 +1,4 @@
+pub use Rattle.advance.specs.of_cut_lists as of_cut_lists
 pub use Rattle.finish.specs.of_zero_buffers as of_zero_buffers
 pub use Rattle.advance.specs.of_insertion as of_insertion
 pub use Rattle.finish.specs.of_edge_table as of_edge_table

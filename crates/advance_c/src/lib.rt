@@ -1,6 +1,5 @@
-// A job's main loop some turns at a time, and its finish, for programs in C and Rust, in buffers that they lend: `sirmolaat_insert` comes before, and what is then held is a field.
+// A job's main loop some turns at a time, and its finish, in buffers that programs in C and Rust lend: `insert_c` comes before, and what is then held is a field.
 ghost use Rattle.std.specs.Prelude.{◌≡◌, ◌+◌, eqb, length};
-ghost use Rattle.buffers.specs.Lent.{given, left};
 ghost use Rattle.buffers.specs.Slots.{slots_of};
 ghost use Rattle.advance.specs.of_cut_lists.Buffers.{cuts_before, cuts_after};
 ghost use Rattle.finish.specs.of_trim.Buffers.{before, after, slices};
@@ -21,7 +20,7 @@ fn told_counts(told: &[u32]) -> Counts
 }
 
 fn tell_turns(advanced: Advanced, told: &mut [u32]) -> u32
-    ensures { (result, left told) ≡ turns_told advanced (given told) }
+    ensures { (result, told.new) ≡ turns_told advanced told.old }
 {
     match advanced {
         Advanced::Stopped(lack) => buffers::lack_number(lack),
@@ -84,8 +83,7 @@ fn finish_fits(edges: u32, made: u32, edge_words: usize, words: usize, reals: us
 
 // At most `most` turns in a mesh of n vertices. `told` has the windows made and the events queued, before and after, and the steps of these turns; fewer steps than `most`: no event waits.
 // The answer is 0, or 12 to 14: the job is refused, and its slices are then as they happen to be.
-#[unsafe(no_mangle)]
-pub extern "C" fn sirmolaat_advance(
+pub fn sirmolaat_advance(
     limit: f64,
     n: u32,
     most: u32,
@@ -109,8 +107,8 @@ pub extern "C" fn sirmolaat_advance(
     told: &mut [u32],
 ) -> u32
     ensures { TurnsAnswer limit n most vertices.now triangles.now vertex_words.now round.now edge_reals.now triangle_words.now triangle_reals.now
-        (given told) (before edge_words words reals keys events vertex) (cuts_before pts out keep next)
-        result (after edge_words words reals keys events vertex) (cuts_after pts out keep next) (left told) }
+        told.old (before edge_words words reals keys events vertex) (cuts_before pts out keep next)
+        result (after edge_words words reals keys events vertex) (cuts_after pts out keep next) told.new }
 {
     let counts = told_counts(told);
     if turns_fit(
@@ -151,8 +149,7 @@ pub extern "C" fn sirmolaat_advance(
 }
 
 // The end of a job whose queue is empty: the last pass over its vertices, and zeros in what is no part of a field.
-#[unsafe(no_mangle)]
-pub extern "C" fn sirmolaat_finish(
+pub fn sirmolaat_finish(
     edges: u32,
     made: u32,
     edge_reals: &[f64],
@@ -168,8 +165,8 @@ pub extern "C" fn sirmolaat_finish(
     next: &mut [f64],
 ) -> u32
     ensures { FinishAnswer edges made edge_reals.now
-        (slices (given edge_words) words.now reals.now (given keys) (given events) (given vertex)) (cuts_before pts out keep next)
-        result (slices (left edge_words) words.now reals.now (left keys) (left events) (left vertex)) (cuts_after pts out keep next) }
+        (slices edge_words.old words.now reals.now keys.old events.old vertex.old) (cuts_before pts out keep next)
+        result (slices edge_words.new words.now reals.now keys.new events.new vertex.new) (cuts_after pts out keep next) }
 {
     if finish_fits(edges, made, edge_words.len(), words.len(), reals.len()) {
         finish::finish(

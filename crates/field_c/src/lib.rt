@@ -1,6 +1,5 @@
 // The whole job, single questions to its field, slips and print-outs for programs in C and Rust, in buffers that they lend. docs/ABI.md says how they are called.
 ghost use Rattle.std.specs.Prelude.{◌≡◌, get_or};
-ghost use Rattle.buffers.specs.Lent.{given, left};
 ghost use Rattle.job_checks.specs.Job.{job};
 ghost use Rattle.compute.specs.of_compute_spec.Compute.{buffers_before, buffers_after};
 ghost use Rattle.queries.specs.of_field_check.FieldCheck.{job_slices, field_slices};
@@ -30,7 +29,7 @@ pub extern "C" fn sirmolaat_interface() -> u32
 
 // The answer is 0 for a field, else the refusal's number. Of a field the first six numbers of `told` are its vertices, triangles, pieces, edges, windows and steps.
 fn tell(computed: Computed, told: &mut [u32]) -> u32
-    ensures { (result, left told) ≡ field_told computed (given told) }
+    ensures { (result, told.new) ≡ field_told computed told.old }
 {
     match computed {
         Computed::Refused(number) => number,
@@ -80,9 +79,9 @@ pub extern "C" fn sirmolaat_compute(
 ) -> u32
     ensures { ToldOf (job vertices.now triangles.now flags.now kinds.now faces.now coords.now limit)
         (buffers_before vertex_words edge_words edge_reals round triangle_words triangle_reals
-        piece_words piece_reals vertex words reals keys events entry_words pts out keep next scratch other_scratch) max_steps (given told) result
+        piece_words piece_reals vertex words reals keys events entry_words pts out keep next scratch other_scratch) max_steps told.old result
         (buffers_after vertex_words edge_words edge_reals round triangle_words triangle_reals
-        piece_words piece_reals vertex words reals keys events entry_words pts out keep next scratch other_scratch) (left told) }
+        piece_words piece_reals vertex words reals keys events entry_words pts out keep next scratch other_scratch) told.new }
 {
     let computed = compute::compute(
         vertices,
@@ -152,9 +151,9 @@ pub extern "C" fn sirmolaat_at(
     z: f64,
     distance: &mut [f64],
 ) -> u32
-    ensures { (result, left distance) ≡ asked_face (told_field told.now) (job_slices vertices.now triangles.now kinds.now faces.now coords.now)
+    ensures { (result, distance.new) ≡ asked_face (told_field told.now) (job_slices vertices.now triangles.now kinds.now faces.now coords.now)
         (field_slices edge_words.now edge_reals.now triangle_words.now triangle_reals.now vertex.now words.now reals.now entry_words.now)
-        f (record { x = x; y = y; z = z }) (given distance) }
+        f (record { x = x; y = y; z = z }) distance.old }
 {
     let face = FaceId(f);
     let point = Vec3 { x, y, z };
@@ -205,9 +204,9 @@ pub extern "C" fn sirmolaat_edge_at(
     x: f64,
     distance: &mut [f64],
 ) -> u32
-    ensures { (result, left distance) ≡ asked_edge (told_field told.now) (job_slices vertices.now triangles.now kinds.now faces.now coords.now)
+    ensures { (result, distance.new) ≡ asked_edge (told_field told.now) (job_slices vertices.now triangles.now kinds.now faces.now coords.now)
         (field_slices edge_words.now edge_reals.now triangle_words.now triangle_reals.now vertex.now words.now reals.now entry_words.now)
-        e x (given distance) }
+        e x distance.old }
 {
     let edge = EdgeId(e);
     let n = told_field(told);
@@ -232,7 +231,7 @@ pub extern "C" fn sirmolaat_edge_at(
 }
 
 fn tell_slip(slip: Slip, told: &mut [u32], limit: &mut [f64]) -> u32
-    ensures { (result, (left told, left limit)) ≡ slip_told slip (given told) (given limit) }
+    ensures { (result, (told.new, limit.new)) ≡ slip_told slip told.old limit.old }
 {
     match slip {
         Slip::TooShort => 30,
@@ -271,8 +270,8 @@ pub extern "C" fn sirmolaat_read_slip(
     told: &mut [u32],
     limit: &mut [f64],
 ) -> u32
-    ensures { ReadTold slip.now (job_rows (given vertices) (given triangles) (given flags) (given kinds) (given faces) (given coords)) (given told) (given limit)
-        result (job_rows (left vertices) (left triangles) (left flags) (left kinds) (left faces) (left coords)) (left told) (left limit) }
+    ensures { ReadTold slip.now (job_rows vertices.old triangles.old flags.old kinds.old faces.old coords.old) told.old limit.old
+        result (job_rows vertices.new triangles.new flags.new kinds.new faces.new coords.new) told.new limit.new }
 {
     let read = slip::read(slip, vertices, triangles, flags, kinds, faces, coords);
     tell_slip(read, told, limit)
@@ -290,7 +289,7 @@ pub extern "C" fn sirmolaat_write_slip(
     limit: f64,
     out: &mut [u8],
 ) -> usize
-    ensures { WriteTold (job vertices.now triangles.now flags.now kinds.now faces.now coords.now limit) (given out) result (left out) }
+    ensures { WriteTold (job vertices.now triangles.now flags.now kinds.now faces.now coords.now limit) out.old result out.new }
 {
     let written = slip_write::write(vertices, triangles, flags, kinds, faces, coords, limit, out);
     length_told(written)
@@ -305,7 +304,7 @@ pub extern "C" fn sirmolaat_print_out(
     vertex: &[f64],
     out: &mut [u8],
 ) -> usize
-    ensures { Puts (given out) 0 (text_of (told_answer refusal told.now) (live_count words.now (get_or told.now 4 0)) vertex.now) (left out) result }
+    ensures { Puts out.old 0 (text_of (told_answer refusal told.now) (live_count words.now (get_or told.now 4 0)) vertex.now) out.new result }
 {
     let answer = told_answer(refusal, told);
     let live = print_out::live_count(words, read_u32(told, 6, 0, 4));

@@ -1,7 +1,6 @@
-// The insertion of a job's pieces for programs in C and Rust, in buffers that they lend.
+// The insertion of a job's pieces, in buffers that programs in C and Rust lend: the crate insert_export has it as a static library.
 ghost use Rattle.std.specs.Prelude.{◌≡◌, ◌*◌, ◌/◌, ◌≤◌, length};
 ghost use Rattle.layout.specs.Layout.{words_per_piece};
-ghost use Rattle.buffers.specs.Lent.{given, left};
 ghost use Rattle.cut_slots.specs.of_cut_lists.Buffers.{cut_buffers, cuts_before, cuts_after};
 ghost use Rattle.insert_job.specs.of_trim.Buffers.{after as Buffers·after};
 ghost use Rattle.cut_slots.specs.Slots.{cut_count, cut_to};
@@ -52,7 +51,7 @@ fn edges_told(meshed: Meshed) -> u32
 // The answer is 0 where all pieces are inserted, else the refusal's number. The first four numbers of `told` are then the edges, the windows made, the events queued and the
 // entries of faces.
 fn tell(edges: u32, inserted: InsertedJob, told: &mut [u32]) -> u32
-    ensures { (result, left told) ≡ insert_told edges inserted (given told) }
+    ensures { (result, told.new) ≡ insert_told edges inserted told.old }
 {
     match inserted {
         InsertedJob::Wedge => 11,
@@ -99,9 +98,9 @@ fn insert_parts(
     requires { (length vertices.now / 3 ≤ 65535) × ((length kinds.now ≤ 65535) × ((words_per_piece * length kinds.now ≤ length piece_words.old)
         × (x ≡ cut_count (cut_buffers pts.old out.old keep.old next.old)))) }
     ensures { InsertsJob vertices.now triangles.now kinds.now faces.now coords.now limit
-        (mesh_buffers vertex_words.now (given edge_words) edge_reals.now round.now (given triangle_words) triangle_reals.now)
+        (mesh_buffers vertex_words.now edge_words.old edge_reals.now round.now triangle_words.old triangle_reals.now)
         (work_before piece_words piece_reals vertex words reals keys events entry_words) (cut_to x (cuts_before pts out keep next))
-        result (left piece_words) (left piece_reals) (Buffers·after edge_words words reals keys events vertex) (entries_after triangle_words entry_words) }
+        result piece_words.new piece_reals.new (Buffers·after edge_words words reals keys events vertex) (entries_after triangle_words entry_words) }
 {
     let single = x as usize;
     let double = 2 * single;
@@ -134,8 +133,7 @@ fn insert_parts(
 }
 
 // Any job: its first refusal that holds of 1 to 14 and 17, or 0; its mesh, and its pieces inserted. Stopped by 11 to 17, the slices are left as they are then; the cut lists always are.
-#[unsafe(no_mangle)]
-pub extern "C" fn sirmolaat_insert(
+pub fn sirmolaat_insert(
     vertices: &[f64],
     triangles: &[u32],
     flags: &[u8],
@@ -165,9 +163,9 @@ pub extern "C" fn sirmolaat_insert(
 ) -> u32
     ensures { InsertAnswers (job vertices.now triangles.now flags.now kinds.now faces.now coords.now limit)
         (before vertex_words edge_words edge_reals round triangle_words triangle_reals)
-        (work_before piece_words piece_reals vertex words reals keys events entry_words) (cuts_before pts out keep next) (given told)
+        (work_before piece_words piece_reals vertex words reals keys events entry_words) (cuts_before pts out keep next) told.old
         result (after vertex_words edge_words edge_reals round triangle_words triangle_reals)
-        (work_after piece_words piece_reals vertex words reals keys events entry_words) (cuts_after pts out keep next) (left told) }
+        (work_after piece_words piece_reals vertex words reals keys events entry_words) (cuts_after pts out keep next) told.new }
 {
     let others = lent_counts(
         piece_words.len(),
