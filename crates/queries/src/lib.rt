@@ -21,7 +21,6 @@ pub use edge_query as of_edge_query;
 use edge_query::Cursor;
 pub use field_check as of_field_check;
 pub use field_check::of_mesh_readers as of_mesh_readers;
-use field_check::of_mesh_readers;
 use vec3::Vec3;
 use windows::WindowRecord;
 

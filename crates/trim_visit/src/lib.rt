@@ -16,7 +16,7 @@ use buffers::{EdgeId, Lack, WindowId};
 pub use trim_split as of_trim_split;
 use trim_split::of_cut_lists::Met;
 pub use trim_split::of_live_windows as of_live_windows;
-use trim_split::{Counts, Made, of_cut_lists, of_live_windows};
+use trim_split::{Counts, Made, of_cut_lists};
 use windows::WindowRecord;
 
 // What there is no slot for; or how many windows and events there are now, the link of the last window that survived, and how many intervals the new

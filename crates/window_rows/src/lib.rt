@@ -16,7 +16,7 @@ use layout::{REALS_PER_WINDOW, WORDS_PER_WINDOW};
 pub use query_rows as of_query_rows;
 pub use query_rows::of_queries as of_queries;
 use query_rows::of_queries::WindowAnswer;
-use query_rows::{RowAnswer, of_field_check, of_queries};
+use query_rows::{RowAnswer, of_field_check};
 
 fn window_id(answer: WindowAnswer) -> u32
     ensures { result ≡ window_id answer }
