@@ -1,4 +1,6 @@
 // What a window passes on to the edges ahead, and a vertex to those of the faces round it, is added: the Rust's `propagate` and `emit`.
+#![tactic(auto)]
+
 ghost use Rattle.std.specs.Prelude.{◌≤◌, length};
 ghost use Rattle.windows.specs.Windows.{capacity_of};
 ghost use Rattle.spread_offers.specs.of_cut_lists.Buffers.{cuts_before};

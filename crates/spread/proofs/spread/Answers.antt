@@ -1,0 +1,153 @@
+-- `spread::spread` meets its contract. Assumes nothing.
+use Prim.Native.Nat.{◌-◌}
+use native.Mathlib.Omega.{arith}
+use mathlib.Core.Path.{refl, ◌∙◌}
+use Rattle.spread_offers.specs.of_cut_lists.Buffers.{cut_buffers}
+use Rattle.spread_offers.specs.of_trim.Buffers.{slices}
+use Rattle.spread_offers.proofs.laws_of_offers.Walks.{sizes_same}
+use Rattle.spread_offers.proofs.laws_of_offers.Loop.{LoopInv, loop_start, loop_fits, loop_next, loop_stopped, loop_over}
+use Rattle.spread.proofs.Laws.{reads_spread, read_first}
+use borrow.Author.Rules.{rules}
+use Rattle.spread.proofs.spread.Goals as goal
+
+pub loop-i-init : goal.loop-i-init
+loop-i-init c =
+    let face = c in
+    let start = face in
+    let a = start.args in
+    loop_start a.limit a.vertex_words.now (reads_spread a.vertices.now a.triangles.now a.edge_reals.now a.triangle_words.now a.triangle_reals.now a.vertex_words.now a.round.now a.s a.edge_words.now face.find_opposite-o.result) a.counts
+    (slices a.edge_words.now a.words.now a.reals.now a.keys.now a.events.now a.vertex.now) (cut_buffers a.pts.now a.out.now a.keep.now a.next.now)
+    start.requires.0
+
+pub offer-added-requires : goal.offer-added-requires
+offer-added-requires c =
+    let read = c in
+    let tested = read in
+    let loop = tested in
+    let face = loop in
+    let start = face in
+    let a = start.args in
+    let l = loop.loop-i in (
+      loop_fits a.limit a.vertex_words.now (reads_spread a.vertices.now a.triangles.now a.edge_reals.now a.triangle_words.now a.triangle_reals.now a.vertex_words.now a.round.now a.s a.edge_words.now face.find_opposite-o.result) a.counts
+          (slices a.edge_words.now a.words.now a.reals.now a.keys.now a.events.now a.vertex.now) (cut_buffers a.pts.now a.out.now a.keep.now a.next.now)
+          (slices l.edge_words l.words l.reals l.keys l.events l.vertex) (cut_buffers l.pts l.out l.keep l.next) l.now l.i l.invariant
+          (omega (arith, tested.loop-i-test.true, loop.spread_count-n.ensures)),
+      sizes_same (slices a.edge_words.now a.words.now a.reals.now a.keys.now a.events.now a.vertex.now) (slices l.edge_words l.words l.reals l.keys l.events l.vertex) (cut_buffers a.pts.now a.out.now a.keep.now a.next.now) (cut_buffers l.pts l.out l.keep l.next)
+          l.invariant.same start.requires.1,
+    )
+
+pub shape_of-edge_words-in-Stopped : goal.shape_of-edge_words-in-Stopped
+shape_of-edge_words-in-Stopped c = let offered = c in offered.offer-added.auto.edge_words ∙ offered.loop-i.invariant.same.edges
+
+pub shape_of-words-in-Stopped : goal.shape_of-words-in-Stopped
+shape_of-words-in-Stopped c = let offered = c in offered.offer-added.auto.words ∙ offered.loop-i.invariant.same.words
+
+pub shape_of-reals-in-Stopped : goal.shape_of-reals-in-Stopped
+shape_of-reals-in-Stopped c = let offered = c in offered.offer-added.auto.reals ∙ offered.loop-i.invariant.same.reals
+
+pub shape_of-keys-in-Stopped : goal.shape_of-keys-in-Stopped
+shape_of-keys-in-Stopped c = let offered = c in offered.offer-added.auto.keys ∙ offered.loop-i.invariant.same.keys
+
+pub shape_of-events-in-Stopped : goal.shape_of-events-in-Stopped
+shape_of-events-in-Stopped c = let offered = c in offered.offer-added.auto.events ∙ offered.loop-i.invariant.same.events
+
+pub shape_of-vertex-in-Stopped : goal.shape_of-vertex-in-Stopped
+shape_of-vertex-in-Stopped c = let offered = c in offered.offer-added.auto.vertex ∙ offered.loop-i.invariant.same.vertex
+
+pub shape_of-pts-in-Stopped : goal.shape_of-pts-in-Stopped
+shape_of-pts-in-Stopped c = let offered = c in offered.offer-added.auto.pts ∙ offered.loop-i.invariant.same.pts
+
+pub shape_of-out-in-Stopped : goal.shape_of-out-in-Stopped
+shape_of-out-in-Stopped c = let offered = c in offered.offer-added.auto.out ∙ offered.loop-i.invariant.same.out
+
+pub shape_of-keep-in-Stopped : goal.shape_of-keep-in-Stopped
+shape_of-keep-in-Stopped c = let offered = c in offered.offer-added.auto.keep ∙ offered.loop-i.invariant.same.keep
+
+pub shape_of-next-in-Stopped : goal.shape_of-next-in-Stopped
+shape_of-next-in-Stopped c = let offered = c in offered.offer-added.auto.next ∙ offered.loop-i.invariant.same.next
+
+pub returns-in-Stopped : goal.returns-in-Stopped
+returns-in-Stopped c =
+    let offered = c in
+    let read = offered in
+    let tested = read in
+    let loop = tested in
+    let face = loop in
+    let a = face.args in
+    let l = loop.loop-i in
+    let r = offered.offer-added in
+    read_first a.vertices.now a.triangles.now a.edge_reals.now a.triangle_words.now a.triangle_reals.now a.vertex_words.now a.round.now a.s a.edge_words.now face.find_opposite-o.result face.find_opposite-o.ensures a.limit a.counts
+    (slices a.edge_words.now a.words.now a.reals.now a.keys.now a.events.now a.vertex.now) refl (cut_buffers a.pts.now a.out.now a.keep.now a.next.now) _ _
+    (loop_stopped a.limit a.vertex_words.now (reads_spread a.vertices.now a.triangles.now a.edge_reals.now a.triangle_words.now a.triangle_reals.now a.vertex_words.now a.round.now a.s a.edge_words.now face.find_opposite-o.result) a.counts
+    (slices a.edge_words.now a.words.now a.reals.now a.keys.now a.events.now a.vertex.now) (cut_buffers a.pts.now a.out.now a.keep.now a.next.now)
+    (slices l.edge_words l.words l.reals l.keys l.events l.vertex) (cut_buffers l.pts l.out l.keep l.next) l.now l.i l.invariant
+    (omega (arith, tested.loop-i-test.true, loop.spread_count-n.ensures)) read.spread_offer-x.result read.spread_offer-x.ensures c.in-Stopped.lack (slices r.new.edge_words r.new.words r.new.reals r.new.keys r.new.events r.new.vertex)
+    (cut_buffers r.new.pts r.new.out r.new.keep r.new.next)
+    (rw c.in-Stopped.is at r.ensures))
+
+pub overflow_add-i : goal.overflow_add-i
+overflow_add-i c = let tested = c in omega (arith, tested.loop-i-test.true, tested.spread_count-n.type_inv)
+
+pub loop-i-smaller : goal.loop-i-smaller
+loop-i-smaller c = let tested = c in omega (arith, tested.loop-i-test.true, tested.spread_count-n.type_inv)
+
+pub loop-i-preserved : goal.loop-i-preserved
+loop-i-preserved c =
+    let offered = c in
+    let read = offered in
+    let tested = read in
+    let loop = tested in
+    let face = loop in
+    let a = face.args in
+    let l = loop.loop-i in
+    let r = offered.offer-added in
+    loop_next a.limit a.vertex_words.now (reads_spread a.vertices.now a.triangles.now a.edge_reals.now a.triangle_words.now a.triangle_reals.now a.vertex_words.now a.round.now a.s a.edge_words.now face.find_opposite-o.result) a.counts
+    (slices a.edge_words.now a.words.now a.reals.now a.keys.now a.events.now a.vertex.now) (cut_buffers a.pts.now a.out.now a.keep.now a.next.now)
+    (slices l.edge_words l.words l.reals l.keys l.events l.vertex) (cut_buffers l.pts l.out l.keep l.next) l.now l.i l.invariant
+    (omega (arith, tested.loop-i-test.true, loop.spread_count-n.ensures)) read.spread_offer-x.result read.spread_offer-x.ensures c.in-Went.c (slices r.new.edge_words r.new.words r.new.reals r.new.keys r.new.events r.new.vertex)
+    (cut_buffers r.new.pts r.new.out r.new.keep r.new.next)
+    (record { edges = r.auto.edge_words; words = r.auto.words; reals = r.auto.reals; keys = r.auto.keys; events = r.auto.events; vertex = r.auto.vertex; pts = r.auto.pts; out = r.auto.out; keep = r.auto.keep; next = r.auto.next })
+    (rw c.in-Went.is at r.ensures)
+
+pub shape_of-edge_words : goal.shape_of-edge_words
+shape_of-edge_words c = c.loop-i.invariant.same.edges
+
+pub shape_of-words : goal.shape_of-words
+shape_of-words c = c.loop-i.invariant.same.words
+
+pub shape_of-reals : goal.shape_of-reals
+shape_of-reals c = c.loop-i.invariant.same.reals
+
+pub shape_of-keys : goal.shape_of-keys
+shape_of-keys c = c.loop-i.invariant.same.keys
+
+pub shape_of-events : goal.shape_of-events
+shape_of-events c = c.loop-i.invariant.same.events
+
+pub shape_of-vertex : goal.shape_of-vertex
+shape_of-vertex c = c.loop-i.invariant.same.vertex
+
+pub shape_of-pts : goal.shape_of-pts
+shape_of-pts c = c.loop-i.invariant.same.pts
+
+pub shape_of-out : goal.shape_of-out
+shape_of-out c = c.loop-i.invariant.same.out
+
+pub shape_of-keep : goal.shape_of-keep
+shape_of-keep c = c.loop-i.invariant.same.keep
+
+pub shape_of-next : goal.shape_of-next
+shape_of-next c = c.loop-i.invariant.same.next
+
+pub returns : goal.returns
+returns c =
+    let loop = c in
+    let face = loop in
+    let a = face.args in
+    let l = loop.loop-i in
+    read_first a.vertices.now a.triangles.now a.edge_reals.now a.triangle_words.now a.triangle_reals.now a.vertex_words.now a.round.now a.s a.edge_words.now face.find_opposite-o.result face.find_opposite-o.ensures a.limit a.counts
+    (slices a.edge_words.now a.words.now a.reals.now a.keys.now a.events.now a.vertex.now) refl (cut_buffers a.pts.now a.out.now a.keep.now a.next.now) _ _
+    (loop_over a.limit a.vertex_words.now (reads_spread a.vertices.now a.triangles.now a.edge_reals.now a.triangle_words.now a.triangle_reals.now a.vertex_words.now a.round.now a.s a.edge_words.now face.find_opposite-o.result) a.counts
+    (slices a.edge_words.now a.words.now a.reals.now a.keys.now a.events.now a.vertex.now) (cut_buffers a.pts.now a.out.now a.keep.now a.next.now)
+    (slices l.edge_words l.words l.reals l.keys l.events l.vertex) (cut_buffers l.pts l.out l.keep l.next) l.now l.i l.invariant
+    (omega (arith, c.loop-i-test.false, loop.spread_count-n.ensures)))
