@@ -1,4 +1,6 @@
 // One turn of the Rust's main loop: the least event is popped; its vertex passes its distance on, or its window is propagated, or it is out of date.
+#![tactic(auto)]
+
 ghost use Rattle.std.specs.Prelude.{◌≤◌, ◌<◌, cond, ◌≡◌, ltb, length};
 ghost use Rattle.buffers.specs.Lent.{given, left};
 ghost use Rattle.windows.specs.Windows.{window_at, capacity_of};
