@@ -1,6 +1,8 @@
 // Document 01's queries of a field: the distance at a point of a face (the Rust's `at`), at a place on an edge (`edge_at`) and of a vertex, and the window at a place in an edge's
 // list. Each takes the job's answer by value, the job's mesh and pieces again and the buffers of the field, all for reading only, and tries refusal 20 before anything else. The
 // functions that end in `_answer` give the answers of a field that passed it.
+#![tactic(auto)]
+
 ghost use Rattle.std.specs.Prelude.{◌≡◌, ◌≤◌, ◌<◌, length};
 ghost use Rattle.std.specs.Float.{nan};
 ghost use Rattle.layout.specs.Layout.{words_per_edge};

@@ -1,0 +1,21 @@
+use mathlib.Core.Path.{sym, ◌∙◌}
+use Rattle.queries.specs.Queries.{edge_query}
+use Rattle.queries.proofs.Checked.{enough, taken, left}
+use Rattle.queries.proofs.edge_at.Goals as goal
+
+pub edge_answer-requires : goal.edge_answer-requires
+edge_answer-requires c = enough _ _ _ (sym c.is_unsound.ensures ∙ c.if-is_unsound.false)
+
+pub returns-in_default : goal.returns-in_default
+unfolding edge_query
+returns-in_default c = rw c.in_default.is
+
+pub returns-then-is_unsound : goal.returns-then-is_unsound
+unfolding edge_query
+returns-then-is_unsound c = rw c.in-Field.is (taken _ _ _ (sym c.is_unsound.ensures ∙ c.if-is_unsound.true))
+
+pub returns : goal.returns
+unfolding edge_query
+returns c =
+    let sound = c in
+    rw sound.in-Field.is (left _ _ _ _ (sym sound.is_unsound.ensures ∙ sound.if-is_unsound.false) c.edge_answer.ensures)
