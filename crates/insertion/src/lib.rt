@@ -1,4 +1,6 @@
 // One thing that a source does: a part of a piece is entered in a face, or a window is offered to an edge.
+#![tactic(auto)]
+
 ghost use Rattle.std.specs.Prelude.{◌≤◌, length};
 ghost use Rattle.source_inserts.specs.of_cut_lists.Buffers.{cuts_before, cuts_after};
 ghost use Rattle.source_inserts.specs.of_cut_lists.Cut.{Sizes};
