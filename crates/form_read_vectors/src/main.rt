@@ -1,16 +1,18 @@
 // Replays stored slips of both forms that are read: how many there are, and how many are read otherwise. Compared are the answer, what is told of the job and every
 // element of the lent slices. oracle/README.md has the format; tests/moves/make_vectors.sh makes the file.
+#![tactic(auto)]
+
 ghost use Rattle.std.specs.Prelude.{◌≤◌, ◌<◌};
 
 use form_read::{Answer, answer_number};
 use groups::Form;
 use slip::SlipJob;
+use std::io;
+use std::rt::Files;
 use stored_bytes::holds_bytes;
 use stored_numbers::{all_f64, all_u32, at_most, count, double, number, record_size};
 use stored_slots::{start_at, visit_f64, visit_u32};
 use vectors::{Tally, pattern};
-use std::io;
-use std::rt::Files;
 
 fn form_of(number: u32) -> Form {
     if number == 1 {

@@ -1,6 +1,8 @@
 // Replays stored lists of candidates, pops and touches: how many there are, and how many are answered otherwise. Compared are the refusal and the operation that
 // meets it, the live windows of each edge in their order, the windows made, the distances of the vertices, the events left, and what is left in the buffers.
 // tests/trim/make_vectors.py has the format and makes the files.
+#![tactic(auto)]
+
 ghost use Rattle.std.specs.Prelude.{◌<◌};
 
 use buffers::{read_f64, read_u32};
@@ -10,13 +12,13 @@ use layout::{
     WORDS_PER_EDGE, WORDS_PER_WINDOW,
 };
 use run_operations::Ran;
+use std::io;
+use std::rt::Files;
 use stored_numbers::{
     Walk, all_f64, all_u32, at_most, count, double, number, read_bytes, read_doubles, read_numbers,
     record_size, u32_of_byte, visit, visit_double, wrong,
 };
 use vectors::Tally;
-use std::io;
-use std::rt::Files;
 
 // The first fields of slot i.
 fn visit_reals(s: &[u8], w: Walk, reals: &[f64], stride: u32, i: u32, fields: u32) -> Walk {
