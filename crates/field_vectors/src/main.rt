@@ -5,12 +5,12 @@ ghost use Rattle.std.specs.Prelude.{◌≤◌, ◌<◌};
 
 use buffers::slots;
 use computed::{Computed, Field};
+use std::io;
+use std::rt::Files;
 use stored_jobs::{list_places, load_mesh, load_pieces};
 use stored_numbers::{at_most, count, double, number, record_size};
 use stored_slots::{SummedWalk, compare_or_sum, start_at, visit_f64, visit_u32};
 use vectors::Tally;
-use std::io;
-use std::rt::Files;
 
 // Where max_steps of the record at number k stands, before the lengths of the slices.
 fn lent_at(s: &[u8], k: usize) -> usize

@@ -3,10 +3,10 @@
 ghost use Rattle.std.specs.Prelude.{◌≤◌, ◌<◌};
 
 use little_endian::read_bytes;
-use stored_numbers::{at_most, count, number, record_size, u32_of_byte};
-use vectors::Tally;
 use std::io;
 use std::rt::Files;
+use stored_numbers::{at_most, count, number, record_size, u32_of_byte};
+use vectors::Tally;
 
 // The check sum of stored jobs, of bytes.
 fn check_sum(text: &[u8]) -> u32 {
