@@ -1,5 +1,4 @@
 use Prim.Native.Nat.{◌≤◌, ◌-◌}
-use borrow.Author.Rules.{rules}
 use Rattle.trim_vectors.proofs.visit_chains.Given as goal
 
 abbrev pub invariant-loop-e : goal.invariant-loop-e

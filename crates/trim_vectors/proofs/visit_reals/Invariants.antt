@@ -1,5 +1,4 @@
 use Prim.Native.Nat.{◌≤◌, ◌-◌}
-use borrow.Author.Rules.{rules}
 use Rattle.trim_vectors.proofs.visit_reals.Given as goal
 
 abbrev pub invariant-loop-k : goal.invariant-loop-k
