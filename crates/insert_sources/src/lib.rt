@@ -1,4 +1,6 @@
 // The sources of a job are inserted, piece by piece: the Rust's loop over `sources` in `compute`, with `source_point` and `source_segment`.
+#![tactic(auto)]
+
 ghost use Rattle.std.specs.Prelude.{◌≤◌, ◌<◌, ◌*◌, ◌≡◌, length};
 ghost use Rattle.buffers.specs.Lent.{given};
 ghost use Rattle.insertion.specs.of_cut_lists.Buffers.{cuts_before};

@@ -1,0 +1,23 @@
+use Prim.Native.Nat.{◌*◌, ◌-◌, ◌<◌}
+use native.Mathlib.Omega.{arith}
+use mathlib.Core.Path.{◌∙◌, refl}
+use lib.ListN.{length}
+use Rattle.insertion.specs.of_cut_lists.Buffers.{cut_buffers}
+use Rattle.insertion.specs.of_trim.Buffers.{slices}
+use Rattle.insertion.specs.of_face_entries.Buffers.{entry_buffers}
+use Rattle.insert_sources.specs.Job.{insertion_slices}
+use Rattle.insert_sources.proofs.Loop.{InsertInv, insert_start, insert_fits, insert_sizes}
+use Rattle.insert_sources.proofs.Sources.{source_of, job_over, job_stopped, job_next}
+use borrow.Author.Rules.{rules}
+use Rattle.insert_sources.proofs.insert_all.Given as goal
+
+abbrev pub invariant-loop-j : goal.invariant-loop-j
+invariant-loop-j l =
+    InsertInv l.limit (insertion_slices l.vertices l.vertex_words l.edge_reals l.triangle_reals l.round l.kinds l.faces l.coords l.piece_words l.piece_reals)
+    (source_of l.limit (insertion_slices l.vertices l.vertex_words l.edge_reals l.triangle_reals l.round l.kinds l.faces l.coords l.piece_words l.piece_reals) l.initial.now (slices l.initial.edge_words l.initial.words l.initial.reals l.initial.keys l.initial.events l.initial.vertex) (entry_buffers l.initial.triangle_words l.initial.entry_words) (cut_buffers l.initial.pts l.initial.out l.initial.keep l.initial.next))
+    l.initial.now (slices l.initial.edge_words l.initial.words l.initial.reals l.initial.keys l.initial.events l.initial.vertex) (entry_buffers l.initial.triangle_words l.initial.entry_words) (cut_buffers l.initial.pts l.initial.out l.initial.keep l.initial.next) (3 * length l.kinds)
+    (slices l.edge_words l.words l.reals l.keys l.events l.vertex) (entry_buffers l.triangle_words l.entry_words) (cut_buffers l.pts l.out l.keep l.next) l.now l.j
+
+abbrev pub decreases-loop-j : goal.decreases-loop-j
+decreases-loop-j l =
+    3 * length l.kinds - l.j
