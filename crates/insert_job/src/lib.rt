@@ -1,4 +1,6 @@
 // The start of a job's work, its mesh being made: what the slices hold at first, refusal 11, and the insertion of its pieces.
+#![tactic(auto)]
+
 ghost use Rattle.std.specs.Prelude.{◌≡◌, ◌*◌, ◌/◌, ◌≤◌, length};
 ghost use Rattle.layout.specs.Layout.{words_per_piece};
 ghost use Rattle.buffers.specs.Lent.{given, left};
