@@ -1,0 +1,44 @@
+use mathlib.Core.Path.{sym, ◌∙◌}
+use native.Mathlib.Omega.{arith}
+use Rattle.face_rows.proofs.laws_of_queries.Checked.{taken, left}
+use Rattle.query_rows.specs.Rows.{short_for, vertex_row}
+use Rattle.open_rows.proofs.Written.{row_count}
+use Rattle.query_rows.proofs.Elements.{row_is}
+use Rattle.query_rows.proofs.vertices_at.Goals as goal
+
+pub answer_vertices-requires : goal.answer_vertices-requires
+answer_vertices-requires c = omega (arith, c.slots-count.ensures)
+
+pub returns-in_default : goal.returns-in_default
+unfolding vertex_row
+returns-in_default c = rw c.in_default.is
+
+pub returns-then-is_unsound : goal.returns-then-is_unsound
+unfolding vertex_row
+returns-then-is_unsound c = rw c.in-Field.is (taken _ _ _ (sym c.is_unsound.ensures ∙ c.if-is_unsound.true))
+
+pub returns-then-short_for : goal.returns-then-short_for
+unfolding vertex_row
+returns-then-short_for c =
+    let test = c in
+    let three = test in
+    let two = three in
+    let one = two in
+    let sound = one in
+    rw sound.in-Field.is
+    (left _ _ _ _ (sym sound.is_unsound.ensures ∙ sound.if-is_unsound.false) (taken _ _ _ ((λ i. short_for (sym one.slots-count.ensures i) (sym one.slots-count.ensures i) (sym two.slots-room.ensures i) (sym three.slots-rest.ensures i)) ∙ sym test.short_for.ensures ∙ c.if-short_for.true)))
+
+pub returns : goal.returns
+unfolding vertex_row
+returns c =
+    let done = c in
+    let fits = done in
+    let test = fits in
+    let three = test in
+    let two = three in
+    let one = two in
+    let sound = one in
+    rw sound.in-Field.is
+    (left _ _ _ _ (sym sound.is_unsound.ensures ∙ sound.if-is_unsound.false)
+    (left _ _ _ _ ((λ i. short_for (sym one.slots-count.ensures i) (sym one.slots-count.ensures i) (sym two.slots-room.ensures i) (sym three.slots-rest.ensures i)) ∙ sym test.short_for.ensures ∙ fits.if-short_for.false)
+    (row_is _ _ _ _ _ (row_count _ _ _ _ _ done.answer_vertices.ensures.numbers_value one.slots-count.ensures) (row_count _ _ _ _ _ done.answer_vertices.ensures.distances_value one.slots-count.ensures))))
