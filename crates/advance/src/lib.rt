@@ -1,4 +1,6 @@
 // The Rust's main loop, up to a number of turns: events are popped and passed on until the queue is empty.
+#![tactic(auto)]
+
 ghost use Rattle.std.specs.Prelude.{◌≤◌, length};
 ghost use Rattle.windows.specs.Windows.{capacity_of};
 ghost use Rattle.insertion.specs.of_cut_lists.Buffers.{cuts_before};
