@@ -1,6 +1,8 @@
 // Rows of questions for the windows at places in edges' lists: refusal 20 is tried once, and each answer is that of the single query. Of answer k, element k of `numbers` has the number
 // and element k of `ids` the window's own number; slot k of `window_words` and `window_reals` has the window, as a window buffer has it (crate `layout`). A question that is refused has
 // its number and 0 for its window, and its slot is left as it was; the others are answered all the same.
+#![tactic(auto)]
+
 ghost use Rattle.std.specs.Prelude.{◌≡◌, ◌≤◌, ◌<◌, length};
 ghost use Rattle.layout.specs.Layout.{words_per_edge};
 ghost use Rattle.buffers.specs.Slots.{slots_of};
