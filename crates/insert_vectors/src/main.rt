@@ -1,6 +1,8 @@
 // Replays stored jobs through the mesh, the tables of the pieces and insertion: how many there are, and how many are answered otherwise. Compared are the refusal, all
 // windows made, each edge's chain, the distances of the vertices, the events of the queue in the order of pops, and the entries of each face. oracle/README.md has
 // the format, under 'Stored jobs'; tests/insertion/make_vectors.sh makes the files.
+#![tactic(auto)]
+
 ghost use Rattle.std.specs.Prelude.{◌≤◌, ◌<◌, ◌≡◌, length};
 
 use heap::Popped;
