@@ -10,8 +10,11 @@ mkdir -p target/staticlib target/bin
 for crate in "$@"; do
     case $kind in
         library)
-            (cd "crates/$crate" && rt lib >&2)
-            cp "crates/$crate/out/lib$crate.a" target/staticlib/
+            # insert_c and advance_c are libraries for turns_laws: insert_export and advance_export have their exports
+            built=$crate
+            case $crate in insert_c | advance_c) built=${crate%_c}_export ;; esac
+            (cd "crates/$built" && rt lib >&2)
+            cp "crates/$built/out/lib$built.a" "target/staticlib/lib$crate.a"
             ;;
         program)
             # `rt run` builds a program and runs it: what it answers with no input is of no matter here
