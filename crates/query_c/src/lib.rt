@@ -1,4 +1,6 @@
 // Rows of questions to a field, for programs in C and Rust. `refusal` and `told` are what the whole job answered: 0 and the field's counts, or a refusal's number.
+#![tactic(auto)]
+
 ghost use Rattle.std.specs.Prelude.{◌≡◌};
 ghost use Rattle.window_rows.specs.of_field_check.FieldCheck.{job_slices, field_slices};
 ghost use Rattle.window_rows.specs.of_queries.Told.{told_answer};

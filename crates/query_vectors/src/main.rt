@@ -1,5 +1,7 @@
 // Replays stored questions to fields, sound ones and damaged ones, in rows: how many rows of each field there are, and how many are answered otherwise. Compared are a row's number and the
 // check sum of each slice for its answers, all 77 before. tests/README.md has the format, under 'Stored questions'; tests/query/make_vectors.sh makes the file.
+#![tactic(auto)]
+
 ghost use Rattle.std.specs.Prelude.{◌≤◌, length};
 
 use buffers::{write_f64, write_u32};
