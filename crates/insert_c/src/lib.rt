@@ -1,4 +1,6 @@
 // The insertion of a job's pieces, in buffers that programs in C and Rust lend: the crate insert_export has it as a static library.
+#![tactic(auto)]
+
 ghost use Rattle.std.specs.Prelude.{◌≡◌, ◌*◌, ◌/◌, ◌≤◌, length};
 ghost use Rattle.layout.specs.Layout.{words_per_piece};
 ghost use Rattle.cut_slots.specs.of_cut_lists.Buffers.{cut_buffers, cuts_before, cuts_after};
