@@ -1,5 +1,0 @@
-pub mod Counting
-pub mod Lists
-pub mod Passes
-pub mod Queries
-pub mod Returned

@@ -1,4 +1,0 @@
-pub mod Steps
-pub mod Then
-pub mod Calling
-pub mod Whole
