@@ -1,0 +1,26 @@
+pub use Rattle.finish.specs.of_live_windows as of_live_windows
+pub use Rattle.finish.specs.of_zero_buffers as of_zero_buffers
+pub use Rattle.finish.specs.of_edge_table as of_edge_table
+pub use Rattle.finish.specs.of_piece_ends as of_piece_ends
+pub use Rattle.cut_slots.specs as of_cut_slots
+pub use Rattle.field_work.specs.of_spread_offers as of_spread_offers
+pub use Rattle.finish.specs.of_pop as of_pop
+pub use Rattle.finish.specs as of_finish
+pub use Rattle.field_work.specs.of_run_steps as of_run_steps
+pub use Rattle.finish.specs.of_last_pass as of_last_pass
+pub use Rattle.finish.specs.of_contents as of_contents
+pub use Rattle.field_work.specs.of_insert_job as of_insert_job
+pub use Rattle.cut_slots.specs.of_cut_lists as of_cut_lists
+pub use Rattle.field_work.specs.of_begin as of_begin
+pub use Rattle.field_work.specs.of_source_inserts as of_source_inserts
+pub use Rattle.field_work.specs.of_mesh as of_mesh
+pub use Rattle.field_work.specs as of_field_work
+pub use Rattle.field_work.specs.of_advance as of_advance
+pub use Rattle.field_work.specs.of_field_step as of_field_step
+pub use Rattle.field_work.specs.of_insertion as of_insertion
+pub use Rattle.finish.specs.of_face_entries as of_face_entries
+pub use Rattle.finish.specs.of_offers as of_offers
+pub use Rattle.finish.specs.of_trim_state as of_trim_state
+pub use Rattle.cut_slots.specs.of_trim_model as of_trim_model
+pub use Rattle.cut_slots.specs.of_better as of_better
+pub mod Compute

@@ -1,0 +1,3 @@
+pub mod Told
+pub mod Asking
+pub mod Slipped

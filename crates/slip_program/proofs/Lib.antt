@@ -1,0 +1,3 @@
+pub mod Alive
+pub mod Read
+pub mod Texts

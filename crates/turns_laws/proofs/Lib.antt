@@ -1,0 +1,4 @@
+pub mod Steps
+pub mod Then
+pub mod Calling
+pub mod Whole
