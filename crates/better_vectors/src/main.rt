@@ -125,17 +125,26 @@ fn replay(s: &[u8], pts: &mut [f64], out: &mut [f64], p_low: f64, q_low: f64) ->
     Tally { cases, differences }
 }
 
-fn replay_with(rt: &impl Print, name: &str, s: &[u8], p_low: f64, q_low: f64) -> io::Result<()> {
-    let mut pts = [0.0f64; 2048];
-    let mut out = [0.0f64; 4096];
-    let tally = replay(s, &mut pts, &mut out, p_low, q_low);
+fn replay_with(
+    rt: &impl Print,
+    name: &str,
+    s: &[u8],
+    pts: &mut [f64],
+    out: &mut [f64],
+    p_low: f64,
+    q_low: f64,
+) -> io::Result<()> {
+    let tally = replay(s, pts, out, p_low, q_low);
     vectors::report(rt, name, tally.cases, tally.differences)
 }
 
+// The second and the third replay begin with what the one before left in the buffers.
 fn replay_all(rt: &impl Print, s: &[u8]) -> io::Result<()> {
-    replay_with(rt, "better", s, 0.0, 0.0)?;
-    replay_with(rt, "range above", s, 1.0, 0.0)?;
-    replay_with(rt, "range below", s, 0.0, 1.0)
+    let mut pts = [0.0f64; 2048];
+    let mut out = [0.0f64; 4096];
+    replay_with(rt, "better", s, &mut pts, &mut out, 0.0, 0.0)?;
+    replay_with(rt, "range above", s, &mut pts, &mut out, 1.0, 0.0)?;
+    replay_with(rt, "range below", s, &mut pts, &mut out, 0.0, 1.0)
 }
 
 // Reads the records into the buffer and replays them.
