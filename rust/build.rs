@@ -43,7 +43,7 @@ fn main() {
     let Some(folder) = std::env::var_os("OUT_DIR") else {
         fail("cargo names no folder to write to");
     };
-    // cargo links a copy of its own: `rt ci` removes target/
+    // cargo links a copy of its own, which stays when target/ goes
     let copy = Path::new(&folder).join("libsirmolaat.a");
     if let Err(error) = std::fs::copy(&archive, copy) {
         fail(&format!(

@@ -17,7 +17,8 @@ for crate in "$@"; do
             cp "crates/$built/out/lib$built.a" "target/staticlib/lib$crate.a"
             ;;
         program)
-            # `rt run` builds a program and runs it: what it answers with no input is of no matter here
+            # `rt run` builds a program and runs it: what it answers with no input is of no matter here. With the older program gone, `cp` fails where none is built
+            rm -f "crates/$crate/out/$crate"
             (cd "crates/$crate" && rt check >&2 && { rt run </dev/null >/dev/null 2>&1 || true; })
             cp "crates/$crate/out/$crate" target/bin/
             ;;

@@ -1,6 +1,6 @@
 #!/bin/sh
 # Times the proved roots beside C's, from the repository's root: tests/roots/bench.sh
-# With a revision, beside those of that revision: tests/roots/bench.sh REVISION (git, objcopy)
+# With a revision that the kit here builds, beside those of that revision: tests/roots/bench.sh REVISION (git, objcopy)
 # Needs rt and a C compiler on x86-64. Prints Markdown; tests/record.sh puts it into docs/BENCHMARKS.md.
 set -eu
 cd "$(dirname "$0")/../.."

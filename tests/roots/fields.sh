@@ -1,5 +1,5 @@
 #!/bin/sh
-# Times whole jobs with these roots and with those of an earlier revision, by turns in one run, from the repository's root: tests/roots/fields.sh REVISION [SHAPE LINES TURNS]
+# Times whole jobs with these roots and with those of an earlier revision that the kit here proves, by turns in one run, from the repository's root: tests/roots/fields.sh REVISION [SHAPE LINES TURNS]
 # Both libraries are of this revision but for the crates of the roots. ARCHIVES names a folder that has both (now.a, earlier.a); without it they are proved and made by rt,
 # the one with the earlier roots in a copy of its own, which takes as long as a first check of all below field_c.
 # Needs git, objcopy, cargo and rustc on x86-64. Prints Markdown; tests/record.sh puts it into docs/BENCHMARKS.md.
