@@ -6,7 +6,7 @@ pub returns-then-end-x : goal.returns-then-end-x
 returns-then-end-x c =
     let read = c in
     let a = read.args in
-    cursor_ended a.reals.now a.x a.cursor a.link a.left a.bound read.read_f64-end.result read.read_f64-end.ensures c.if-end-x.true c.max.result c.max.ensures
+    cursor_ended a.reals.now a.x a.cursor a.link a.left a.bound read.read_f64-end.result read.read_f64-end.ensures c.if-end-x.true _ (search rules)
 
 pub returns : goal.returns
 returns c =
