@@ -2,9 +2,9 @@
 -- The foot is x and a quotient, whose numerator is a product with zero. Where that product compares equal to zero, so does the quotient, and x and a zero are x again, but for the sign of a zero.
 use Prim.Native.Nat.{ℕ, zero, suc, ◌*◌}
 use mathlib.Core.Bool.{Bool, true, false, cond, not, ◌&&◌, ◌||◌}
-use mathlib.Core.Logic.{◌⊎◌, inl, inr}
+use mathlib.Core.Logic.{inl, inr}
 use mathlib.Core.Path.{◌≡◌, refl, sym, ap, ◌∙◌, subst}
-use native.Mathlib.Nat.{mul-pos, zero-lt-suc, zero-mul}
+use native.Mathlib.Nat.{mul-pos, zero-lt-suc}
 use native.Mathlib.Omega.{arith}
 use lib.Dec.{T, eqb, eqb→eq, ltb→lt, eqb-suc-zero, not_T}
 use lib.IntN.{ℤ, pos}
@@ -19,7 +19,6 @@ use Rattle.float64.specs.Notation.{◌⊕◌, ◌⊖◌, ◌⊗◌, ◌⊘◌}
 use Rattle.float_laws.proofs.Order.{finite_number, le_trans, le_lt_trans, lt_le_trans, lt_not_le, le_antisym, eq_refl, eq_sym, eq_le, neg_neg, neg_le}
 use Rattle.float_laws.proofs.Round.{round_zero}
 use Rattle.float_laws.proofs.Sum.{sub_below, add_above}
-use Rattle.source.specs.declared.Src.{Src}
 use Rattle.source.specs.declared.Src.TheVariants.{Point, Line}
 use Rattle.source.specs.declared.Win.{Win}
 use Rattle.source.specs.Distance.{edge_of, free_of, foot_of, eval_of}

@@ -1,8 +1,8 @@
 -- A way is no shorter than the sum of the longer legs of its two parts, since rounded roots and rounded sums keep the order. So a window whose legs come to d or more need not be evaluated. Assumes nothing.
 --     leg_below (the hypotenuse), sum_over (sums of what is at least as long), skipped (the least of d and of such a sum is d)
-use Prim.Native.Nat.{ℕ, ◌+◌, ◌*◌}
-use mathlib.Core.Bool.{Bool, true, false, not, cond}
-use mathlib.Core.Path.{◌≡◌, refl, sym, ap, ◌∙◌, subst}
+use Prim.Native.Nat.{ℕ, ◌*◌}
+use mathlib.Core.Bool.{Bool, true, false, not}
+use mathlib.Core.Path.{◌≡◌, refl, subst}
 use native.Mathlib.Nat.{add_comm, mul_comm}
 use lib.Dec.{T}
 use lib.IntN.{ℤ}

@@ -1,4 +1,4 @@
--- Slots of the mesh and of the pieces that a field does not take are zero: slots-zero. Assumes nothing.
+-- Slots of the mesh and of the pieces that a field does not take are zero. Assumes nothing.
 use Prim.Native.Nat.{ℕ, suc, ◌+◌, ◌*◌, ◌-◌, ◌/◌, ◌%◌, ◌≤◌, ◌<◌}
 use native.Mathlib.Omega.{arith}
 use native.Mathlib.Decide.{dec_le}

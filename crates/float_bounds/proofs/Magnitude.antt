@@ -1,15 +1,14 @@
 -- Magnitudes through sums, products and roots, as computed. Assumes nothing.
 --     within      within_of (from both sides), within_upper, within_lower, within_finite, within_wider, within_neg, within_from_zero (0 ≤ x ≤ c)
---     computed    within_add, within_sub, within-mul: the bound is the same operation on the bounds; bounds are finite
+--     computed    within_add, within_sub, within_mul: the bound is the same operation on the bounds; bounds are finite
 --     squares     square_from_zero (0 ≤ x * x), sum_from_zero
 --     roots       sqrt_upto (0 ≤ x ≤ c gives √x ≤ √c), sqrt_fits (a root is a value of the format)
-use Prim.Native.Nat.{ℕ, zero, suc, ◌*◌}
-use mathlib.Core.Bool.{Bool, true, false}
+use Prim.Native.Nat.{zero, suc, ◌*◌}
+use mathlib.Core.Bool.{true, false}
 use mathlib.Core.Logic.{◌⊎◌, inl, inr}
 use mathlib.Core.Path.{◌≡◌, refl, sym, ◌∙◌, subst}
 use native.Mathlib.Nat.{mul-pos, zero-lt-suc}
 use lib.Dec.{T}
-use lib.IntN.{ℤ}
 use lib.Ieee.{Float, nan, inf, fin, Format, up, down, add, sub, mul, neg, le, eq, fits, is_nan}
 use lib.Ieee.Fits.{up_pos, down_pos, nan-fits, inf-fits}
 use lib.Ieee.Scale.{finite}
@@ -17,7 +16,7 @@ use Rattle.root_spec.specs.Root.{sqrt_of}
 use Rattle.root_spec.proofs.Correct.{sqrt_of_value, sqrt_zero, sqrt_special, sqrt_negative}
 use Rattle.float64.specs.Scalar as scalar
 use Rattle.float64.specs.Scalar.{abs_of}
-use Rattle.float_laws.proofs.Order.{Number, finite_number, le_trans, le_number_l, neg_le, neg_neg, neg_finite, neg_zero_le, eq_le, eq_sym, finite_between}
+use Rattle.float_laws.proofs.Order.{Number, finite_number, le_trans, le_number_l, neg_le, neg_finite, neg_zero_le, eq_le, eq_sym, finite_between}
 use Rattle.float_laws.proofs.MinMax.{abs_finite, abs_neg, abs_nonneg, le_abs, neg_abs_le, abs_le}
 use Rattle.float_laws.proofs.Sum.{add_mono, add_comm, add_above, sub_of_neg, sub_turn}
 use Rattle.float_laws.proofs.Product.{mul_mono, mul_nonneg}

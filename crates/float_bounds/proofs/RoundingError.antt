@@ -5,7 +5,7 @@ use Prim.Native.Nat.{ℕ, zero, suc, ◌+◌, ◌-◌, ◌*◌, ◌/◌, ◌%◌
 use mathlib.Core.Bool.{Bool, true, false, not}
 use mathlib.Core.Logic.{inl, inr}
 use mathlib.Core.Path.{◌≡◌, refl, sym, ap, ◌∙◌, subst}
-use native.Mathlib.Nat.{le_trans, le_of_eq, mul-one, one-mul, mul-add, add-mul, suc-mul, mul-pos, mul_assoc, mul_comm, mul_right_comm, mul_left_comm, mul-mul-mul_comm, mul-le-mul_left, mul-le-mul_right, le_of_mul-le-mul_right, le-div_iff_mul-le, div-add-mod', mod-lt, eq-zero-or-pos}
+use native.Mathlib.Nat.{mul-one, one-mul, mul-add, add-mul, suc-mul, mul-pos, mul_assoc, mul_comm, mul_right_comm, mul_left_comm, mul-mul-mul_comm, mul-le-mul_left, mul-le-mul_right, le_of_mul-le-mul_right, le-div_iff_mul-le, div-add-mod', mod-lt, eq-zero-or-pos}
 use native.Mathlib.Omega.{arith}
 use lib.Dec.{T}
 use lib.Pow.{pow-add, pow_pos}

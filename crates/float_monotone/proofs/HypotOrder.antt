@@ -8,7 +8,6 @@ use native.Mathlib.Decide.{dec_le}
 use native.Mathlib.Nat.{le_refl, le_trans, le_of_eq, lt_irrefl, lt_of_not-le, lt_of_le_of_lt, lt_of_lt_of_le, eq-or-lt_of_le, mul-pos, mul-le-mul, mul-le-mul_right, mul-lt-mul_of_pos_right, mul_right_comm}
 use native.Mathlib.Omega.{arith}
 use lib.Dec.{T}
-use lib.IntN.{ℤ}
 use lib.Pow.{pow_pos}
 use lib.Ieee.{Float, nan, inf, fin, Format, low, up, down, le, fits, is_nan}
 use lib.Ieee.Exact.{HasValue}

@@ -7,13 +7,13 @@ use native.Mathlib.Decide.{dec_le}
 use native.Mathlib.Nat.{le_trans, le_of_eq, lt_of_not-le, mul-pos, mul-one, mul_comm, mul_assoc, mul_right_comm, pow-suc, two-mul}
 use lib.Dec.{T, lit<}
 use lib.IntN.{ℤ, pos}
-use lib.Ieee.{Float, nan, inf, fin, Format, binary32, binary64, prec, low, emax, up, down, round, sum, add, div, neg, le, fits, is_nan, of_bits}
+use lib.Ieee.{Float, nan, inf, fin, Format, binary32, binary64, low, emax, up, down, round, sum, add, div, neg, le, fits, is_nan, of_bits}
 use lib.Ieee.Exact.{HasValue, round_exact}
 use lib.Ieee.Fits.{down_pos}
 use lib.Ieee.Order.{round_mono}
 use lib.Ieee.Scale.{finite, round_same}
 use Rattle.nat_laws.proofs.Ring.{ring}
-use Rattle.root_spec.proofs.Units.{FitsIn, fits_in, grid, grid_lt}
+use Rattle.root_spec.proofs.Units.{fits_in, grid, grid_lt}
 use Rattle.float64.specs.Scalar.{two}
 use Rattle.float_laws.proofs.Signed.{SLe, signed, signed_up, signed_down}
 use Rattle.float_laws.proofs.Order as order

@@ -1,5 +1,5 @@
 -- Magnitudes through the functions on vectors, as computed. Assumes nothing.
---     vec_wider, vec_finite; sub_within, scale_within, axpy_within, dot_within; square-within (0 ≤ dot u u ≤ c), norm-within (0 ≤ norm u ≤ c)
+--     vec_wider, vec_finite; sub_within, scale_within, axpy_within, dot_within; square_from, square_fits (0 ≤ dot u u, a double); norm_from, norm_upto (0 ≤ norm u ≤ √c)
 use lib.Dec.{T}
 use lib.Ieee.{Float, binary64, le, fits}
 use lib.Ieee.Fits.{mul-fits, add-fits}

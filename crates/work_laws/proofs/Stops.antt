@@ -1,4 +1,4 @@
--- The numbers that stop the work on a job are 11 to 15 and 17, and it takes no more steps than it is allowed: work-stops. Assumes nothing.
+-- The numbers that stop the work on a job are 11 to 15 and 17, and it takes no more steps than it is allowed: work_ends. Assumes nothing.
 use Prim.Native.Nat.{ℕ, zero, suc, ◌+◌, ◌*◌, ◌≤◌}
 use native.Mathlib.Omega.{arith}
 use mathlib.Core.Bool.{Bool, cond, ◌&&◌}

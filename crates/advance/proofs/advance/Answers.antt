@@ -5,27 +5,24 @@ use mathlib.Core.Path.{◌∙◌}
 use Rattle.insertion.specs.of_cut_lists.Buffers.{cut_buffers}
 use Rattle.insertion.specs.of_trim.Buffers.{slices}
 use Rattle.insertion.proofs.laws_of_offers.Walks.{sizes_same}
-use Rattle.advance.proofs.Loop.{LoopInv, loop_start, loop_fits, loop_next, loop_stopped, loop_idle, loop_over}
-use borrow.Author.Rules.{rules}
+use Rattle.advance.proofs.Loop.{loop_start, loop_fits, loop_next, loop_stopped, loop_idle, loop_over}
 use Rattle.advance.proofs.advance.Goals as goal
 
 pub loop-steps-init : goal.loop-steps-init
 loop-steps-init c =
-    let start = c in
-    let a = start.args in
+    let a = c.args in
     loop_start a.limit a.n a.most a.vertices.now a.triangles.now a.vertex_words.now a.round.now a.edge_reals.now a.triangle_words.now a.triangle_reals.now a.counts
-    (slices a.edge_words.now a.words.now a.reals.now a.keys.now a.events.now a.vertex.now) (cut_buffers a.pts.now a.out.now a.keep.now a.next.now) start.requires.0
+    (slices a.edge_words.now a.words.now a.reals.now a.keys.now a.events.now a.vertex.now) (cut_buffers a.pts.now a.out.now a.keep.now a.next.now) c.requires.0
 
 pub step-stepped-requires : goal.step-stepped-requires
 step-stepped-requires c =
-    let start = c in
-    let a = start.args in
+    let a = c.args in
     let l = c.loop-steps in (
       loop_fits a.limit a.n a.most a.vertices.now a.triangles.now a.vertex_words.now a.round.now a.edge_reals.now a.triangle_words.now a.triangle_reals.now a.counts
           (slices a.edge_words.now a.words.now a.reals.now a.keys.now a.events.now a.vertex.now) (cut_buffers a.pts.now a.out.now a.keep.now a.next.now)
           (slices l.edge_words l.words l.reals l.keys l.events l.vertex) (cut_buffers l.pts l.out l.keep l.next) l.now l.steps l.invariant c.loop-steps-test.true,
       sizes_same (slices a.edge_words.now a.words.now a.reals.now a.keys.now a.events.now a.vertex.now) (slices l.edge_words l.words l.reals l.keys l.events l.vertex)
-          (cut_buffers a.pts.now a.out.now a.keep.now a.next.now) (cut_buffers l.pts l.out l.keep l.next) l.invariant.same start.requires.1,
+          (cut_buffers a.pts.now a.out.now a.keep.now a.next.now) (cut_buffers l.pts l.out l.keep l.next) l.invariant.same c.requires.1,
     )
 
 pub shape_of-edge_words-in-Idle : goal.shape_of-edge_words-in-Idle
@@ -110,13 +107,11 @@ returns-in-Stopped c =
 
 pub overflow_add-steps : goal.overflow_add-steps
 overflow_add-steps c =
-    let tested = c in
-    omega (arith, tested.loop-steps-test.true, tested.ranges.most)
+    omega (arith, c.loop-steps-test.true, c.ranges.most)
 
 pub loop-steps-smaller : goal.loop-steps-smaller
 loop-steps-smaller c =
-    let tested = c in
-    omega (arith, tested.loop-steps-test.true, tested.ranges.most)
+    omega (arith, c.loop-steps-test.true, c.ranges.most)
 
 pub loop-steps-preserved : goal.loop-steps-preserved
 loop-steps-preserved c =

@@ -1,11 +1,7 @@
 use Prim.Native.Nat.{◌-◌}
-use native.Mathlib.Omega.{arith}
-use mathlib.Core.Path.{◌∙◌}
 use Rattle.insertion.specs.of_cut_lists.Buffers.{cut_buffers}
 use Rattle.insertion.specs.of_trim.Buffers.{slices}
-use Rattle.insertion.proofs.laws_of_offers.Walks.{sizes_same}
-use Rattle.advance.proofs.Loop.{LoopInv, loop_start, loop_fits, loop_next, loop_stopped, loop_idle, loop_over}
-use borrow.Author.Rules.{rules}
+use Rattle.advance.proofs.Loop.{LoopInv}
 use Rattle.advance.proofs.advance.Given as goal
 
 abbrev pub invariant-loop-steps : goal.invariant-loop-steps

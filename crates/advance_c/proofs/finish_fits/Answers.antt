@@ -1,18 +1,15 @@
 -- `advance_c::finish_fits` meets its contract. Assumes nothing.
 use native.Mathlib.Omega.{arith}
 use Rattle.advance_c.proofs.Turning.{finish_edges_lack, finish_windows_lack, finish_none_lacks}
-use borrow.Author.Rules.{rules}
 use Rattle.advance_c.proofs.finish_fits.Goals as goal
 
 pub returns-then-made-count : goal.returns-then-made-count
 returns-then-made-count c =
-    let first = c in
-    finish_none_lacks _ _ _ _ _ first.slots.ensures first.if-edges-slots.true c.count.ensures c.if-made-count.true
+    finish_none_lacks _ _ _ _ _ c.slots.ensures c.if-edges-slots.true c.count.ensures c.if-made-count.true
 
 pub returns-then-edges-slots : goal.returns-then-edges-slots
 returns-then-edges-slots c =
-    let first = c in
-    finish_windows_lack _ _ _ _ _ first.slots.ensures first.if-edges-slots.true c.count.ensures (omega (arith, c.if-made-count.false))
+    finish_windows_lack _ _ _ _ _ c.slots.ensures c.if-edges-slots.true c.count.ensures (omega (arith, c.if-made-count.false))
 
 pub returns : goal.returns
 returns c = finish_edges_lack _ _ _ _ _ c.slots.ensures (omega (arith, c.if-edges-slots.false))

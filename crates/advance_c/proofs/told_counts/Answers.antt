@@ -1,6 +1,5 @@
 -- `advance_c::told_counts` meets its contract. Assumes nothing.
 use Rattle.advance_c.proofs.Turning.{counts_told}
-use borrow.Author.Rules.{rules}
 use Rattle.advance_c.proofs.told_counts.Goals as goal
 
 pub returns : goal.returns

@@ -1,6 +1,5 @@
 -- `begin::begin_buffers` meets its contract. Assumes nothing.
 use Rattle.begin.specs.Begin.{work_slices}
-use borrow.Author.Rules.{rules}
 use Rattle.begin.proofs.begin_buffers.Goals as goal
 
 pub returns : goal.returns

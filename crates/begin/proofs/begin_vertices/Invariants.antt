@@ -1,13 +1,9 @@
 use Prim.Native.Nat.{ℕ, ◌-◌, ◌≤◌}
-use mathlib.Core.Path.{◌≡◌, refl, ◌∙◌}
-use native.Mathlib.Omega.{arith}
+use mathlib.Core.Path.{◌≡◌}
 use lib.ListN.{length}
-use borrow.Author.Rules.{rules}
 use Rattle.layout.specs.Layout.{reals_per_vertex}
 use Rattle.frames.specs.Stored.{with_rows}
-use Rattle.frames.proofs.Rows.{rows_start, rows_turn, rows_done}
 use Rattle.begin.specs.Begin.{unreached}
-use Rattle.begin.proofs.Vertices.{vertices_made}
 use Rattle.begin.proofs.begin_vertices.Given as goal
 
 abbrev pub invariant-loop-v : goal.invariant-loop-v

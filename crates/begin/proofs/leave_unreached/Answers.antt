@@ -1,6 +1,5 @@
 -- `begin::leave_unreached` meets its contract. Assumes nothing.
 use Rattle.begin.proofs.Vertices.{unreached_is}
-use borrow.Author.Rules.{rules}
 use Rattle.begin.proofs.leave_unreached.Goals as goal
 
 pub returns : goal.returns

@@ -13,12 +13,10 @@ returns-then-out-most c = λ h k. absurd (omega (arith, k, c.capacity-most.ensur
 
 pub returns : goal.returns
 returns c =
-    let called = c in
-    let most = called in
-    let a = most.args in
-    let size = length-take-le most.capacity-most.result a.pts.now (omega arith) ∙ most.capacity-most.ensures.0 in
+    let a = c.args in
+    let size = length-take-le c.capacity-most.result a.pts.now (omega arith) ∙ c.capacity-most.ensures.0 in
     λ h k. record {
-      out = called.better_holds.new.out;
-      entries = called.better_holds.auto.out ∙ length-take-le (2 * most.capacity-most.result) a.out.now (omega arith) ∙ ap (λ (n : ℕ). 2 * n) most.capacity-most.ensures.0;
-      decides = rw size at called.better_holds.ensures;
+      out = c.better_holds.new.out;
+      entries = c.better_holds.auto.out ∙ length-take-le (2 * c.capacity-most.result) a.out.now (omega arith) ∙ ap (λ (n : ℕ). 2 * n) c.capacity-most.ensures.0;
+      decides = rw size at c.better_holds.ensures;
     }

@@ -12,9 +12,8 @@ loop-k-init c = (omega arith, omega arith, refl)
 
 pub loop-k-preserved : goal.loop-k-preserved
 loop-k-preserved c =
-    let t = c in
     let h = c.agrees.ensures ∙ ap (agrees _) c.word_from.ensures in
-    elim c.if-not-agrees.branch [ then-not-agrees w ↦ (omega arith, omega arith, w.count-is ∙ one_more _ _ _ t.loop-k.invariant.2 (sym h ∙ w.if-not-agrees.true)) | else-not-agrees w ↦ (omega arith, omega arith, w.count-is ∙ same_count _ _ _ t.loop-k.invariant.2 (sym h ∙ w.if-not-agrees.false)) ]
+    elim c.if-not-agrees.branch [ then-not-agrees w ↦ (omega arith, omega arith, w.count-is ∙ one_more _ _ _ c.loop-k.invariant.2 (sym h ∙ w.if-not-agrees.true)) | else-not-agrees w ↦ (omega arith, omega arith, w.count-is ∙ same_count _ _ _ c.loop-k.invariant.2 (sym h ∙ w.if-not-agrees.false)) ]
 
 pub returns : goal.returns
 returns c =

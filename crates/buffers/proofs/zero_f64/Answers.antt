@@ -1,5 +1,4 @@
 use Rattle.buffers.specs.Zero.{zero_from}
-use borrow.Author.Rules.{rules}
 use Rattle.buffers.proofs.zero_f64.Reads as reads
 use Rattle.buffers.proofs.zero_f64.Lts as lts
 use Rattle.buffers.proofs.zero_f64.Goals as goal

@@ -1,10 +1,9 @@
 use borrow.Author.Rules.{rules}
-use mathlib.Core.Path.{◌≡◌, refl, sym, ◌∙◌}
-use Prim.Native.Nat.{◌+◌, ◌-◌}
+use mathlib.Core.Path.{refl, sym, ◌∙◌}
+use Prim.Native.Nat.{◌-◌}
 use lib.ListN.{length, length-set}
 use native.Mathlib.Omega.{arith}
 use Rattle.float64.specs.Scalar.{zero64}
-use Rattle.buffers.specs.Zero.{zero_from}
 use Rattle.buffers.proofs.Zeroing.{zero_more, zero_end}
 use Rattle.buffers.proofs.zero_f64_from.Goals as goal
 

@@ -1,10 +1,7 @@
-use borrow.Author.Rules.{rules}
-use mathlib.Core.Path.{◌≡◌, refl, sym, ◌∙◌}
+use mathlib.Core.Path.{◌≡◌}
 use Prim.Native.Nat.{◌+◌, ◌-◌}
-use lib.ListN.{length, length-set}
-use native.Mathlib.Omega.{arith}
+use lib.ListN.{length}
 use Rattle.buffers.specs.Zero.{zero_from}
-use Rattle.buffers.proofs.Zeroing.{zero_more, zero_end}
 use Rattle.buffers.proofs.zero_u32_from.Given as goal
 
 abbrev pub invariant-loop-i : goal.invariant-loop-i

@@ -5,12 +5,10 @@ use Rattle.chains.proofs.link_at.Goals as goal
 
 pub returns-then-before-eq0 : goal.returns-then-before-eq0
 returns-then-before-eq0 c =
-    let read = c in
-    let a = read.args in
-    c.within.ensures ∙ ap (link_in a.count) (read.read_u32-head.ensures ∙ link_head (links a.edges.now a.words.now) a.e.0 a.before read.if-before-eq0.true)
+    let a = c.args in
+    c.within.ensures ∙ ap (link_in a.count) (c.read_u32-head.ensures ∙ link_head (links a.edges.now a.words.now) a.e.0 a.before c.if-before-eq0.true)
 
 pub returns : goal.returns
 returns c =
-    let read = c in
-    let a = read.args in
-    c.within-2.ensures ∙ ap (link_in a.count) (read.read_u32-next.ensures ∙ link_next (links a.edges.now a.words.now) a.e.0 a.before read.if-before-eq0.false)
+    let a = c.args in
+    c.within-2.ensures ∙ ap (link_in a.count) (c.read_u32-next.ensures ∙ link_next (links a.edges.now a.words.now) a.e.0 a.before c.if-before-eq0.false)

@@ -5,16 +5,12 @@ use Rattle.chains.proofs.set_link.Goals as goal
 
 pub returns-then-before-eq0 : goal.returns-then-before-eq0
 returns-then-before-eq0 c =
-    let written = c in
-    let tested = written in
-    let a = tested.args in
-    (λ t. links (written.write_u32.ensures t) a.words.now)
-    ∙ with_head (links a.edges.now a.words.now) a.e.0 a.before a.link tested.if-before-eq0.true
+    let a = c.args in
+    (λ t. links (c.write_u32.ensures t) a.words.now)
+    ∙ with_head (links a.edges.now a.words.now) a.e.0 a.before a.link c.if-before-eq0.true
 
 pub returns : goal.returns
 returns c =
-    let written = c in
-    let tested = written in
-    let a = tested.args in
-    (λ t. links a.edges.now (written.write_u32-2.ensures t))
-    ∙ with_next_lem (links a.edges.now a.words.now) a.e.0 a.before a.link tested.if-before-eq0.false
+    let a = c.args in
+    (λ t. links a.edges.now (c.write_u32-2.ensures t))
+    ∙ with_next_lem (links a.edges.now a.words.now) a.e.0 a.before a.link c.if-before-eq0.false

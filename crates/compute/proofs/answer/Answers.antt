@@ -1,6 +1,5 @@
 -- `compute::answer` meets its contract. Assumes nothing.
 use Rattle.compute.proofs.Told.{told_refused, told_done}
-use borrow.Author.Rules.{rules}
 use Rattle.compute.proofs.answer.Goals as goal
 
 pub returns-in-Refused : goal.returns-in-Refused
@@ -10,6 +9,5 @@ returns-in-Refused c =
 
 pub returns-in-Done : goal.returns-in-Done
 returns-in-Done c =
-    let matched = c in
-    let a = matched.args in
-    told_done a.work a.vertices a.triangles a.kinds a.edges _ _ _ _ _ matched.in-Done.is c.slots.ensures c.slots-in-Done.ensures c.slots-in-Done-2.ensures
+    let a = c.args in
+    told_done a.work a.vertices a.triangles a.kinds a.edges _ _ _ _ _ c.in-Done.is c.slots.ensures c.slots-in-Done.ensures c.slots-in-Done-2.ensures

@@ -5,13 +5,11 @@ use Rattle.field_model.specs.of_cut_lists.Buffers.{cut_buffers}
 use Rattle.make_field.specs.of_begin.Begin.{work_slices}
 use Rattle.field_model.specs.of_compute_spec.Compute.{field_buffers}
 use Rattle.compute.proofs.Computing.{zeroed_is, work_fits, computes}
-use borrow.Author.Rules.{rules}
 use Rattle.compute.proofs.compute.Goals as goal
 
 pub make_field-work-requires : goal.make_field-work-requires
 make_field-work-requires c =
-    let far = c in
-    let a = far.args in
+    let a = c.args in
     let counts = c.other_counts-others in
     let made = c.build-meshed in
     let edges = c.edge_count-edges in
@@ -28,119 +26,95 @@ make_field-work-requires c =
 
 pub shape_of-vertex_words : goal.shape_of-vertex_words
 shape_of-vertex_words c =
-    let far = c in
-    let farther = far in
-    far.zero_mesh_if.auto.vertex_words
-    ∙ farther.build-meshed.auto.vertex_words
+    c.zero_mesh_if.auto.vertex_words
+    ∙ c.build-meshed.auto.vertex_words
 
 pub shape_of-edge_words : goal.shape_of-edge_words
 shape_of-edge_words c =
-    let far = c in
-    let farther = far in
-    far.zero_mesh_if.auto.edge_words
-    ∙ far.make_field-work.auto.edge_words
-    ∙ farther.build-meshed.auto.edge_words
+    c.zero_mesh_if.auto.edge_words
+    ∙ c.make_field-work.auto.edge_words
+    ∙ c.build-meshed.auto.edge_words
 
 pub shape_of-edge_reals : goal.shape_of-edge_reals
 shape_of-edge_reals c =
-    let far = c in
-    let farther = far in
-    far.zero_mesh_if.auto.edge_reals
-    ∙ farther.build-meshed.auto.edge_reals
+    c.zero_mesh_if.auto.edge_reals
+    ∙ c.build-meshed.auto.edge_reals
 
 pub shape_of-round : goal.shape_of-round
 shape_of-round c =
-    let far = c in
-    let farther = far in
-    far.zero_mesh_if.auto.round
-    ∙ farther.build-meshed.auto.round
+    c.zero_mesh_if.auto.round
+    ∙ c.build-meshed.auto.round
 
 pub shape_of-triangle_words : goal.shape_of-triangle_words
 shape_of-triangle_words c =
-    let far = c in
-    let farther = far in
-    far.zero_mesh_if.auto.triangle_words
-    ∙ far.make_field-work.auto.triangle_words
-    ∙ farther.build-meshed.auto.triangle_words
+    c.zero_mesh_if.auto.triangle_words
+    ∙ c.make_field-work.auto.triangle_words
+    ∙ c.build-meshed.auto.triangle_words
 
 pub shape_of-triangle_reals : goal.shape_of-triangle_reals
 shape_of-triangle_reals c =
-    let far = c in
-    let farther = far in
-    far.zero_mesh_if.auto.triangle_reals
-    ∙ farther.build-meshed.auto.triangle_reals
+    c.zero_mesh_if.auto.triangle_reals
+    ∙ c.build-meshed.auto.triangle_reals
 
 pub shape_of-piece_words : goal.shape_of-piece_words
 shape_of-piece_words c =
-    let far = c in
     c.zero_pieces_if.auto.piece_words
-    ∙ far.make_field-work.auto.piece_words
+    ∙ c.make_field-work.auto.piece_words
 
 pub shape_of-piece_reals : goal.shape_of-piece_reals
 shape_of-piece_reals c =
-    let far = c in
     c.zero_pieces_if.auto.piece_reals
-    ∙ far.make_field-work.auto.piece_reals
+    ∙ c.make_field-work.auto.piece_reals
 
 pub shape_of-vertex : goal.shape_of-vertex
 shape_of-vertex c =
-    let far = c in
     c.zero_pieces_if.auto.vertex
-    ∙ far.make_field-work.auto.vertex
+    ∙ c.make_field-work.auto.vertex
 
 pub shape_of-words : goal.shape_of-words
 shape_of-words c =
-    let far = c in
     c.zero_windows_if.auto.words
-    ∙ far.make_field-work.auto.words
+    ∙ c.make_field-work.auto.words
 
 pub shape_of-reals : goal.shape_of-reals
 shape_of-reals c =
-    let far = c in
     c.zero_windows_if.auto.reals
-    ∙ far.make_field-work.auto.reals
+    ∙ c.make_field-work.auto.reals
 
 pub shape_of-keys : goal.shape_of-keys
 shape_of-keys c =
-    let far = c in
     c.zero_windows_if.auto.keys
-    ∙ far.make_field-work.auto.keys
+    ∙ c.make_field-work.auto.keys
 
 pub shape_of-events : goal.shape_of-events
 shape_of-events c =
-    let far = c in
     c.zero_windows_if.auto.events
-    ∙ far.make_field-work.auto.events
+    ∙ c.make_field-work.auto.events
 
 pub shape_of-entry_words : goal.shape_of-entry_words
 shape_of-entry_words c =
-    let far = c in
     c.zero_words_if.auto.s
-    ∙ far.make_field-work.auto.entry_words
+    ∙ c.make_field-work.auto.entry_words
 
 pub shape_of-pts : goal.shape_of-pts
 shape_of-pts c =
-    let far = c in
     c.zero_cuts_if.auto.pts
-    ∙ far.make_field-work.auto.pts
+    ∙ c.make_field-work.auto.pts
 
 pub shape_of-out : goal.shape_of-out
 shape_of-out c =
-    let far = c in
     c.zero_cuts_if.auto.out
-    ∙ far.make_field-work.auto.out
+    ∙ c.make_field-work.auto.out
 
 pub shape_of-keep : goal.shape_of-keep
 shape_of-keep c =
-    let far = c in
     c.zero_cuts_if.auto.keep
-    ∙ far.make_field-work.auto.keep
+    ∙ c.make_field-work.auto.keep
 
 pub shape_of-next : goal.shape_of-next
 shape_of-next c =
-    let far = c in
     c.zero_cuts_if.auto.next
-    ∙ far.make_field-work.auto.next
+    ∙ c.make_field-work.auto.next
 
 pub shape_of-scratch : goal.shape_of-scratch
 shape_of-scratch c =
@@ -152,16 +126,14 @@ shape_of-other_scratch c =
 
 pub returns : goal.returns
 returns c =
-    let far = c in
-    let farther = far in
-    let a = farther.args in
-    let counts = farther.other_counts-others in
-    let made = farther.build-meshed in
-    let edges = far.edge_count-edges in
-    let number = far.refusal_number in
-    let work = far.make_field-work in
-    let zero = far.is_zeroed-zero in
-    let meshes = far.zero_mesh_if in
+    let a = c.args in
+    let counts = c.other_counts-others in
+    let made = c.build-meshed in
+    let edges = c.edge_count-edges in
+    let number = c.refusal_number in
+    let work = c.make_field-work in
+    let zero = c.is_zeroed-zero in
+    let meshes = c.zero_mesh_if in
     let pieces = c.zero_pieces_if in
     let windows = c.zero_windows_if in
     let entries = c.zero_words_if in

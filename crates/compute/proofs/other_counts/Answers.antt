@@ -1,6 +1,5 @@
 -- `compute::other_counts` meets its contract. Assumes nothing.
 use Rattle.compute.proofs.Told.{same_counts}
-use borrow.Author.Rules.{rules}
 use Rattle.compute.proofs.other_counts.Goals as goal
 
 pub returns : goal.returns

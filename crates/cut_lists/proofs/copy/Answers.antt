@@ -14,15 +14,13 @@ bounds-to-i-in-loop-i c = simp length-set (omega arith)
 
 pub loop-i-preserved : goal.loop-i-preserved
 loop-i-preserved c =
-    let i = c in
-    let a = i.args in (
+    let a = c.args in (
       omega arith,
-      simp length-set i.loop-i.invariant.1,
-      copy_turn a.from.now i.loop-i.to i.loop-i.i (2 * i.loop-i.i) (omega arith) (omega arith) i.loop-i.invariant.2,
+      simp length-set c.loop-i.invariant.1,
+      copy_turn a.from.now c.loop-i.to c.loop-i.i (2 * c.loop-i.i) (omega arith) (omega arith) c.loop-i.invariant.2,
     )
 
 pub returns : goal.returns
 returns c =
-    let i = c in
-    let a = i.args in
-    copy_done a.from.now i.loop-i.to a.n i.loop-i.i i.loop-i.invariant.0 c.loop-i-test.false i.loop-i.invariant.2
+    let a = c.args in
+    copy_done a.from.now c.loop-i.to a.n c.loop-i.i c.loop-i.invariant.0 c.loop-i-test.false c.loop-i.invariant.2

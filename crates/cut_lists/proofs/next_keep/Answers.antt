@@ -17,40 +17,30 @@ loop-i-init c = (omega arith, omega arith, refl, refl)
 
 pub shape_of-out-in_default : goal.shape_of-out-in_default
 shape_of-out-in_default c =
-    let f = c in
-    f.push_next-pushed.auto.out ∙ f.loop-i.invariant.2
+    c.push_next-pushed.auto.out ∙ c.loop-i.invariant.2
 
 pub returns-in_default : goal.returns-in_default
 returns-in_default c =
-    let f = c in
-    let g = f in
-    let w = g in
-    let i = w in
-    let a = i.args in
-    let gs = pairs i.loop-i.n i.loop-i.out in
+    let a = c.args in
+    let gs = pairs c.loop-i.n c.loop-i.out in
     let better = pairs a.m a.better.now in
-    let h = rw (c.in_default.is, g.to_of.ensures, g.from_of.ensures) at f.push_next-pushed.ensures in
-    let told-all = numbered Full a.out.now f.push_next-pushed.new.out (next a.lo a.hi better (pairs a.k a.keep.now)) (f.push_next-pushed.auto.out ∙ i.loop-i.invariant.2)
-    (rw i.loop-i.invariant.3 (next_full a.keep.now a.k i.loop-i.i gs a.lo a.hi better (length f.push_next-pushed.new.out) w.loop-i-test.true h)) in
+    let h = rw (c.in_default.is, c.to_of.ensures, c.from_of.ensures) at c.push_next-pushed.ensures in
+    let told-all = numbered Full a.out.now c.push_next-pushed.new.out (next a.lo a.hi better (pairs a.k a.keep.now)) (c.push_next-pushed.auto.out ∙ c.loop-i.invariant.2)
+    (rw c.loop-i.invariant.3 (next_full a.keep.now a.k c.loop-i.i gs a.lo a.hi better (length c.push_next-pushed.new.out) c.loop-i-test.true h)) in
     record { holds_pairs = told-all.0; result_value = told-all.1 }
 
 pub loop-i-preserved : goal.loop-i-preserved
 loop-i-preserved c =
-    let j = c in
-    let f = j in
-    let g = f in
-    let w = g in
-    let i = w in
-    let a = i.args in
-    let gs = pairs i.loop-i.n i.loop-i.out in
+    let a = c.args in
+    let gs = pairs c.loop-i.n c.loop-i.out in
     let better = pairs a.m a.better.now in
-    let h = rw (j.in-Entries.is, g.to_of.ensures, g.from_of.ensures) at f.push_next-pushed.ensures in (
+    let h = rw (c.in-Entries.is, c.to_of.ensures, c.from_of.ensures) at c.push_next-pushed.ensures in (
       omega arith,
       h.0,
-      f.push_next-pushed.auto.out ∙ i.loop-i.invariant.2,
-      i.loop-i.invariant.3
-          ∙ next_turn a.keep.now a.k i.loop-i.i gs a.lo a.hi better w.loop-i-test.true
-          ∙ ap (λ (hs : List Interval). hs ++ next a.lo a.hi better (drop (i.loop-i.i + 1) (pairs a.k a.keep.now))) (sym h.1),
+      c.push_next-pushed.auto.out ∙ c.loop-i.invariant.2,
+      c.loop-i.invariant.3
+          ∙ next_turn a.keep.now a.k c.loop-i.i gs a.lo a.hi better c.loop-i-test.true
+          ∙ ap (λ (hs : List Interval). hs ++ next a.lo a.hi better (drop (c.loop-i.i + 1) (pairs a.k a.keep.now))) (sym h.1),
     )
 
 pub shape_of-out : goal.shape_of-out
@@ -58,9 +48,8 @@ shape_of-out c = c.loop-i.invariant.2
 
 pub returns : goal.returns
 returns c =
-    let i = c in
-    let a = i.args in
+    let a = c.args in
     let better = pairs a.m a.better.now in
-    let told-all = numbered (Entries i.loop-i.n) a.out.now i.loop-i.out (next a.lo a.hi better (pairs a.k a.keep.now)) i.loop-i.invariant.2
-    (i.loop-i.invariant.1, sym (i.loop-i.invariant.3 ∙ next_done a.keep.now a.k i.loop-i.i (pairs i.loop-i.n i.loop-i.out) a.lo a.hi better c.loop-i-test.false)) in
+    let told-all = numbered (Entries c.loop-i.n) a.out.now c.loop-i.out (next a.lo a.hi better (pairs a.k a.keep.now)) c.loop-i.invariant.2
+    (c.loop-i.invariant.1, sym (c.loop-i.invariant.3 ∙ next_done a.keep.now a.k c.loop-i.i (pairs c.loop-i.n c.loop-i.out) a.lo a.hi better c.loop-i-test.false)) in
     record { holds_pairs = told-all.0; result_value = told-all.1 }

@@ -15,54 +15,39 @@ loop-i-init c = (omega arith, omega arith, refl, refl)
 
 pub shape_of-out-in_default : goal.shape_of-out-in_default
 shape_of-out-in_default c =
-    let f = c in
-    f.push_if-pushed.auto.out ∙ f.loop-i.invariant.2
+    c.push_if-pushed.auto.out ∙ c.loop-i.invariant.2
 
 pub returns-in_default : goal.returns-in_default
 returns-in_default c =
-    let f = c in
-    let g = f in
-    let w = g in
-    let i = w in
-    let a = i.args in
-    let gs = pairs i.loop-i.n i.loop-i.out in
-    let h = rw (c.in_default.is, g.from_of-g0.ensures) at f.push_if-pushed.ensures in
-    let told-all = numbered Full a.out.now f.push_if-pushed.new.out (pieces a.tiny a.b0 a.b1 (pairs a.m a.better.now)) (f.push_if-pushed.auto.out ∙ i.loop-i.invariant.2)
-    (rw i.loop-i.invariant.3 (pieces_full a.better.now a.m i.loop-i.i gs a.tiny i.loop-i.at a.b1 (length f.push_if-pushed.new.out) w.loop-i-test.true h)) in
+    let a = c.args in
+    let gs = pairs c.loop-i.n c.loop-i.out in
+    let h = rw (c.in_default.is, c.from_of-g0.ensures) at c.push_if-pushed.ensures in
+    let told-all = numbered Full a.out.now c.push_if-pushed.new.out (pieces a.tiny a.b0 a.b1 (pairs a.m a.better.now)) (c.push_if-pushed.auto.out ∙ c.loop-i.invariant.2)
+    (rw c.loop-i.invariant.3 (pieces_full a.better.now a.m c.loop-i.i gs a.tiny c.loop-i.at a.b1 (length c.push_if-pushed.new.out) c.loop-i-test.true h)) in
     record { holds_pairs = told-all.0; result_value = told-all.1 }
 
 pub loop-i-preserved : goal.loop-i-preserved
 loop-i-preserved c =
-    let u = c in
-    let j = u in
-    let f = j in
-    let g = f in
-    let w = g in
-    let i = w in
-    let a = i.args in
-    let gs = pairs i.loop-i.n i.loop-i.out in
-    let at = c.max-at.ensures ∙ ap (max_of i.loop-i.at) u.to_of.ensures in
-    let h = rw (j.in-Entries.is, g.from_of-g0.ensures) at f.push_if-pushed.ensures in (
+    let a = c.args in
+    let gs = pairs c.loop-i.n c.loop-i.out in
+    let at = c.max-at.ensures ∙ ap (max_of c.loop-i.at) c.to_of.ensures in
+    let h = rw (c.in-Entries.is, c.from_of-g0.ensures) at c.push_if-pushed.ensures in (
       omega arith,
       h.0,
-      f.push_if-pushed.auto.out ∙ i.loop-i.invariant.2,
-      i.loop-i.invariant.3
-          ∙ pieces_turn a.better.now a.m i.loop-i.i gs a.tiny i.loop-i.at a.b1 w.loop-i-test.true
+      c.push_if-pushed.auto.out ∙ c.loop-i.invariant.2,
+      c.loop-i.invariant.3
+          ∙ pieces_turn a.better.now a.m c.loop-i.i gs a.tiny c.loop-i.at a.b1 c.loop-i-test.true
           ∙ rw (at, h.1),
     )
 
 pub shape_of-out : goal.shape_of-out
 shape_of-out c =
-    let f = c in
-    f.push_if.auto.out ∙ f.loop-i.invariant.2
+    c.push_if.auto.out ∙ c.loop-i.invariant.2
 
 pub returns : goal.returns
 returns c =
-    let f = c in
-    let d = f in
-    let i = d in
-    let a = i.args in
-    let gs = pairs i.loop-i.n i.loop-i.out in
-    let told-all = numbered f.push_if.result a.out.now f.push_if.new.out (pieces a.tiny a.b0 a.b1 (pairs a.m a.better.now)) (f.push_if.auto.out ∙ i.loop-i.invariant.2)
-    (rw (i.loop-i.invariant.3, pieces_done a.better.now a.m i.loop-i.i gs a.tiny i.loop-i.at a.b1 d.loop-i-test.false) f.push_if.ensures) in
+    let a = c.args in
+    let gs = pairs c.loop-i.n c.loop-i.out in
+    let told-all = numbered c.push_if.result a.out.now c.push_if.new.out (pieces a.tiny a.b0 a.b1 (pairs a.m a.better.now)) (c.push_if.auto.out ∙ c.loop-i.invariant.2)
+    (rw (c.loop-i.invariant.3, pieces_done a.better.now a.m c.loop-i.i gs a.tiny c.loop-i.at a.b1 c.loop-i-test.false) c.push_if.ensures) in
     record { holds_pairs = told-all.0; result_value = told-all.1 }

@@ -15,36 +15,26 @@ loop-i-init c = (omega arith, omega arith, refl, refl)
 
 pub shape_of-out-in_default : goal.shape_of-out-in_default
 shape_of-out-in_default c =
-    let f = c in
-    f.push_if-pushed.auto.out ∙ f.loop-i.invariant.2
+    c.push_if-pushed.auto.out ∙ c.loop-i.invariant.2
 
 pub returns-in_default : goal.returns-in_default
 returns-in_default c =
-    let f = c in
-    let g = f in
-    let w = g in
-    let i = w in
-    let a = i.args in
-    let gs = pairs i.loop-i.k i.loop-i.out in
-    let h = rw (c.in_default.is, g.min-c1.ensures, g.max-c0.ensures, g.to_of.ensures, g.from_of.ensures) at f.push_if-pushed.ensures in
-    rw i.loop-i.invariant.3 (cuts_full a.better.now a.m i.loop-i.i gs a.o0 a.o1 (length f.push_if-pushed.new.out) w.loop-i-test.true h)
+    let a = c.args in
+    let gs = pairs c.loop-i.k c.loop-i.out in
+    let h = rw (c.in_default.is, c.min-c1.ensures, c.max-c0.ensures, c.to_of.ensures, c.from_of.ensures) at c.push_if-pushed.ensures in
+    rw c.loop-i.invariant.3 (cuts_full a.better.now a.m c.loop-i.i gs a.o0 a.o1 (length c.push_if-pushed.new.out) c.loop-i-test.true h)
 
 pub loop-i-preserved : goal.loop-i-preserved
 loop-i-preserved c =
-    let j = c in
-    let f = j in
-    let g = f in
-    let w = g in
-    let i = w in
-    let a = i.args in
-    let gs = pairs i.loop-i.k i.loop-i.out in
-    let h = rw (j.in-Entries.is, g.min-c1.ensures, g.max-c0.ensures, g.to_of.ensures, g.from_of.ensures) at f.push_if-pushed.ensures in (
+    let a = c.args in
+    let gs = pairs c.loop-i.k c.loop-i.out in
+    let h = rw (c.in-Entries.is, c.min-c1.ensures, c.max-c0.ensures, c.to_of.ensures, c.from_of.ensures) at c.push_if-pushed.ensures in (
       omega arith,
       h.0,
-      f.push_if-pushed.auto.out ∙ i.loop-i.invariant.2,
-      i.loop-i.invariant.3
-          ∙ cuts_turn a.better.now a.m i.loop-i.i gs a.o0 a.o1 w.loop-i-test.true
-          ∙ ap (λ (hs : List Interval). hs ++ cuts_within a.o0 a.o1 (drop (i.loop-i.i + 1) (pairs a.m a.better.now))) (sym h.1),
+      c.push_if-pushed.auto.out ∙ c.loop-i.invariant.2,
+      c.loop-i.invariant.3
+          ∙ cuts_turn a.better.now a.m c.loop-i.i gs a.o0 a.o1 c.loop-i-test.true
+          ∙ ap (λ (hs : List Interval). hs ++ cuts_within a.o0 a.o1 (drop (c.loop-i.i + 1) (pairs a.m a.better.now))) (sym h.1),
     )
 
 pub shape_of-out : goal.shape_of-out
@@ -52,6 +42,5 @@ shape_of-out c = c.loop-i.invariant.2
 
 pub returns : goal.returns
 returns c =
-    let i = c in
-    let a = i.args in
-    (i.loop-i.invariant.1, sym (i.loop-i.invariant.3 ∙ cuts_done a.better.now a.m i.loop-i.i (pairs i.loop-i.k i.loop-i.out) a.o0 a.o1 c.loop-i-test.false))
+    let a = c.args in
+    (c.loop-i.invariant.1, sym (c.loop-i.invariant.3 ∙ cuts_done a.better.now a.m c.loop-i.i (pairs c.loop-i.k c.loop-i.out) a.o0 a.o1 c.loop-i-test.false))

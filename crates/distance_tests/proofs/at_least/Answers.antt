@@ -1,5 +1,4 @@
 -- `distance_tests::at_least` meets its contract. Assumes nothing.
-use borrow.Author.Rules.{rules}
 use Rattle.nat_laws.proofs.Tests.{holds}
 use Rattle.source.specs.Distance.{edge_of}
 use Rattle.distance_tests.proofs.Told.{edge_least}

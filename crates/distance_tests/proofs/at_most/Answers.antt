@@ -1,5 +1,4 @@
 -- `distance_tests::at_most` meets its contract. Assumes nothing.
-use borrow.Author.Rules.{rules}
 use Rattle.nat_laws.proofs.Tests.{holds}
 use Rattle.distance_tests.proofs.Told.{edge_most}
 use Rattle.distance_tests.proofs.at_most.Goals as goal

@@ -7,11 +7,10 @@ use Rattle.distance_tests.proofs.hypot_from.Goals as goal
 
 pub returns-then-z-2 : goal.returns-then-z-2
 returns-then-z-2 c =
-    let s = c in
-    let a = s.args in
+    let a = c.args in
     λ k.
-    hypot_least a.d a.y (subst T (sym s.well_formed.0.1) tt) (subst T (sym s.well_formed.1.0.1) tt) (holds _ c.if-z.true)
-    a.lo (subst T (sym s.well_formed.1.1.0.1) tt) (holds _ c.if-lo-z.true) (holds _ c.if-z-2.true)
+    hypot_least a.d a.y (subst T (sym c.well_formed.0.1) tt) (subst T (sym c.well_formed.1.0.1) tt) (holds _ c.if-z.true)
+    a.lo (subst T (sym c.well_formed.1.1.0.1) tt) (holds _ c.if-lo-z.true) (holds _ c.if-z-2.true)
 
 pub returns-else-z-2 : goal.returns-else-z-2
 returns-else-z-2 c = λ k. absurd k

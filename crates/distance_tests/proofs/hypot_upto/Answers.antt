@@ -7,14 +7,10 @@ use Rattle.distance_tests.proofs.hypot_upto.Goals as goal
 
 pub returns-then-hi-2 : goal.returns-then-hi-2
 returns-then-hi-2 c =
-    let third = c in
-    let second = third in
-    let first = second in
-    let s = first in
-    let a = s.args in
+    let a = c.args in
     λ k.
-    hypot_most a.d a.y (subst T (sym s.well_formed.0.1) tt) (subst T (sym s.well_formed.1.0.1) tt) (holds _ second.if-z.true)
-    a.hi (subst T (sym s.well_formed.1.1.0.1) tt) (holds _ first.if-z-hi.true) (holds _ third.if-hi.true) (holds _ c.if-hi-2.true)
+    hypot_most a.d a.y (subst T (sym c.well_formed.0.1) tt) (subst T (sym c.well_formed.1.0.1) tt) (holds _ c.if-z.true)
+    a.hi (subst T (sym c.well_formed.1.1.0.1) tt) (holds _ c.if-z-hi.true) (holds _ c.if-hi.true) (holds _ c.if-hi-2.true)
 
 pub returns-else-hi-2 : goal.returns-else-hi-2
 returns-else-hi-2 c = λ k. absurd k

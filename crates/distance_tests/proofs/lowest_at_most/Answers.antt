@@ -1,5 +1,4 @@
 -- `distance_tests::lowest_at_most` meets its contract. Assumes nothing.
-use borrow.Author.Rules.{rules}
 use Rattle.nat_laws.proofs.Tests.{holds}
 use Rattle.distance_tests.proofs.Told.{lowest_first, lowest_last}
 use Rattle.distance_tests.proofs.lowest_at_most.Goals as goal

@@ -1,6 +1,5 @@
 -- `distance_tests::reaches` meets its contract. Assumes nothing.
 use mathlib.Core.Path.{sym}
-use borrow.Author.Rules.{rules}
 use lib.Ieee.Bits.{is_true}
 use Rattle.nat_laws.proofs.Tests.{holds}
 use Rattle.distance_tests.proofs.reaches.Goals as goal

@@ -1,7 +1,6 @@
 use mathlib.Core.Path.{refl}
 use borrow.Author.Tests.{eq-eqb, ne_eqb}
 use Rattle.edge_query.specs.Resume.{cursor_for}
-use borrow.Author.Rules.{rules}
 use Rattle.edge_query.proofs.cursor_for.Goals as goal
 
 pub returns-then-cursor-x : goal.returns-then-cursor-x

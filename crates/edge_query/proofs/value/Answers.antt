@@ -3,7 +3,6 @@ use Rattle.float64.specs.Scalar.{zero64}
 use Rattle.source.specs.Distance.{eval_of}
 use Rattle.windows.specs.declared.WindowRecord.{WindowRecord}
 use Rattle.edge_query.proofs.Forward.{no_number, value_none, value_some}
-use borrow.Author.Rules.{rules}
 use Rattle.edge_query.proofs.value.Goals as goal
 
 pub returns-then-link-eq0 : goal.returns-then-link-eq0
@@ -13,6 +12,5 @@ returns-then-link-eq0 c =
 
 pub returns : goal.returns
 returns c =
-    let loaded = c in
-    let a = loaded.args in
-    value_some a.words.now a.reals.now a.x a.link loaded.if-link-eq0.false c.eval.result (c.eval.ensures ∙ ap (λ (y : WindowRecord). eval_of y.win a.x zero64) loaded.load-window.ensures)
+    let a = c.args in
+    value_some a.words.now a.reals.now a.x a.link c.if-link-eq0.false c.eval.result (c.eval.ensures ∙ ap (λ (y : WindowRecord). eval_of y.win a.x zero64) c.load-window.ensures)

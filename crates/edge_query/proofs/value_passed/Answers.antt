@@ -1,6 +1,5 @@
 use mathlib.Core.Path.{ap, ◌∙◌}
 use Rattle.float64.specs.Scalar.{min_of}
-use borrow.Author.Rules.{rules}
 use Rattle.edge_query.proofs.value_passed.Goals as goal
 
 pub returns : goal.returns

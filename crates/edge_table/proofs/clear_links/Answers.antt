@@ -9,9 +9,8 @@ loop-e-init c = (search rules, (refl, unlinked_none _))
 
 pub loop-e-preserved : goal.loop-e-preserved
 loop-e-preserved c =
-    let wr = c in
-    let l = wr.loop-e in
-    (search rules, (wr.write_u32.auto.s ∙ l.invariant.1.0, unlinked_more _ l.e _ _ l.invariant.1.1 wr.write_u32.ensures))
+    let l = c.loop-e in
+    (search rules, (c.write_u32.auto.s ∙ l.invariant.1.0, unlinked_more _ l.e _ _ l.invariant.1.1 c.write_u32.ensures))
 
 pub returns : goal.returns
 returns c = unlinked_all _ _ c.loop-e.e _ c.loop-e.invariant.1.1 c.loop-e.invariant.0 c.loop-e-test.false

@@ -7,54 +7,32 @@ use Rattle.edge_table.proofs.enter_side.Goals as goal
 
 pub overflow_cast-triangles : goal.overflow_cast-triangles
 overflow_cast-triangles c =
-    let start = c in
-    omega (arith, start.requires.mesh.whole, start.requires.mesh.few_triangles)
+    omega (arith, c.requires.mesh.whole, c.requires.mesh.few_triangles)
 
 pub bucket_of-bucket-requires : goal.bucket_of-bucket-requires
 bucket_of-bucket-requires c =
-    let low = c in
-    let second = low in
-    let first = second in
-    let start = first in
-    let a = start.args in
-    let r = start.requires in
+    let a = c.args in
+    let r = c.requires in
     ends_below a.triangles.now a.h 65535 r.mesh r.side _ _
-    (side_is a.triangles.now a.h _ _ first.read_u32-a.ensures second.read_u32-b.ensures _ _ low.lower_of-low.ensures c.higher_of-high.ensures)
+    (side_is a.triangles.now a.h _ _ c.read_u32-a.ensures c.read_u32-b.ensures _ _ c.lower_of-low.ensures c.higher_of-high.ensures)
 
 pub find_in_bucket-link-requires : goal.find_in_bucket-link-requires
 find_in_bucket-link-requires c =
-    let start = c in
-    let a = start.args in
-    links_fall a.triangles.now (length a.triangles.now) a.h a.heads.now a.edge_words.now a.triangle_words.now start.requires.words
+    let a = c.args in
+    links_fall a.triangles.now (length a.triangles.now) a.h a.heads.now a.edge_words.now a.triangle_words.now c.requires.words
 
 pub add_edge-requires : goal.add_edge-requires
 add_edge-requires c =
-    let found = c in
-    let head = found in
-    let bucket = head in
-    let high = bucket in
-    let low = high in
-    let second = low in
-    let first = second in
-    let start = first in
-    let a = start.args in
-    let r = start.requires in
-    let q = side_is a.triangles.now a.h _ _ first.read_u32-a.ensures second.read_u32-b.ensures _ _ low.lower_of-low.ensures high.higher_of-high.ensures in
+    let a = c.args in
+    let r = c.requires in
+    let q = side_is a.triangles.now a.h _ _ c.read_u32-a.ensures c.read_u32-b.ensures _ _ c.lower_of-low.ensures c.higher_of-high.ensures in
     omega (arith, few a.triangles.now (length a.triangles.now) a.h a.heads.now a.edge_words.now a.triangle_words.now r.mesh r.long r.side refl r.words, r.counted)
 
 pub overflow_add-result : goal.overflow_add-result
 overflow_add-result c =
-    let found = c in
-    let head = found in
-    let bucket = head in
-    let high = bucket in
-    let low = high in
-    let second = low in
-    let first = second in
-    let start = first in
-    let a = start.args in
-    let r = start.requires in
-    let q = side_is a.triangles.now a.h _ _ first.read_u32-a.ensures second.read_u32-b.ensures _ _ low.lower_of-low.ensures high.higher_of-high.ensures in
+    let a = c.args in
+    let r = c.requires in
+    let q = side_is a.triangles.now a.h _ _ c.read_u32-a.ensures c.read_u32-b.ensures _ _ c.lower_of-low.ensures c.higher_of-high.ensures in
     record { fits = omega (arith, few a.triangles.now (length a.triangles.now) a.h a.heads.now a.edge_words.now a.triangle_words.now r.mesh r.long r.side refl r.words, r.counted) }
 
 pub shape_of-heads-then-link-eq0 : goal.shape_of-heads-then-link-eq0
@@ -68,42 +46,21 @@ shape_of-triangle_words-then-link-eq0 c = c.write_u32.auto.s
 
 pub returns-then-link-eq0 : goal.returns-then-link-eq0
 returns-then-link-eq0 c =
-    let stored = c in
-    let added = stored in
-    let new = added in
-    let found = new in
-    let head = found in
-    let bucket = head in
-    let high = bucket in
-    let low = high in
-    let second = low in
-    let first = second in
-    let start = first in
-    let a = start.args in
-    let r = start.requires in
-    let q = side_is a.triangles.now a.h _ _ first.read_u32-a.ensures second.read_u32-b.ensures _ _ low.lower_of-low.ensures high.higher_of-high.ensures in
+    let a = c.args in
+    let r = c.requires in
+    let q = side_is a.triangles.now a.h _ _ c.read_u32-a.ensures c.read_u32-b.ensures _ _ c.lower_of-low.ensures c.higher_of-high.ensures in
     new_done a.triangles.now (length a.triangles.now) a.h a.heads.now a.edge_words.now a.triangle_words.now r.mesh r.long r.side refl r.words _ _ _ _ _ _ _
-    (side_missing a.triangles.now (length a.triangles.now) a.h a.heads.now a.edge_words.now a.triangle_words.now r.words _ _ _ _ _ q bucket.bucket_of-bucket.ensures head.read_u32-head.ensures found.find_in_bucket-link.ensures new.if-link-eq0.true)
-    q bucket.bucket_of-bucket.ensures r.counted added.add_edge.ensures.0 added.add_edge.ensures.1 stored.write_u32.ensures
+    (side_missing a.triangles.now (length a.triangles.now) a.h a.heads.now a.edge_words.now a.triangle_words.now r.words _ _ _ _ _ q c.bucket_of-bucket.ensures c.read_u32-head.ensures c.find_in_bucket-link.ensures c.if-link-eq0.true)
+    q c.bucket_of-bucket.ensures r.counted c.add_edge.ensures.0 c.add_edge.ensures.1 c.write_u32.ensures
 
 pub returns-then-read_u32-none : goal.returns-then-read_u32-none
 returns-then-read_u32-none c =
-    let none = c in
-    let there = none in
-    let found = there in
-    let head = found in
-    let bucket = head in
-    let high = bucket in
-    let low = high in
-    let second = low in
-    let first = second in
-    let start = first in
-    let a = start.args in
-    let r = start.requires in
-    let q = side_is a.triangles.now a.h _ _ first.read_u32-a.ensures second.read_u32-b.ensures _ _ low.lower_of-low.ensures high.higher_of-high.ensures in
+    let a = c.args in
+    let r = c.requires in
+    let q = side_is a.triangles.now a.h _ _ c.read_u32-a.ensures c.read_u32-b.ensures _ _ c.lower_of-low.ensures c.higher_of-high.ensures in
     third_done a.triangles.now (length a.triangles.now) a.h a.heads.now a.edge_words.now a.triangle_words.now r.mesh r.long r.side refl r.words _ _ _ _
-    (side_found a.triangles.now (length a.triangles.now) a.h a.heads.now a.edge_words.now a.triangle_words.now r.words _ _ _ _ _ q bucket.bucket_of-bucket.ensures head.read_u32-head.ensures found.find_in_bucket-link.ensures there.if-link-eq0.false)
-    _ c.read_u32.ensures (rw none.no_face-none.ensures at c.if-read_u32-none.true)
+    (side_found a.triangles.now (length a.triangles.now) a.h a.heads.now a.edge_words.now a.triangle_words.now r.words _ _ _ _ _ q c.bucket_of-bucket.ensures c.read_u32-head.ensures c.find_in_bucket-link.ensures c.if-link-eq0.false)
+    _ c.read_u32.ensures (rw c.no_face-none.ensures at c.if-read_u32-none.true)
 
 pub shape_of-edge_words : goal.shape_of-edge_words
 shape_of-edge_words c = c.write_u32-2.auto.s
@@ -113,24 +70,11 @@ shape_of-triangle_words c = c.write_u32-3.auto.s
 
 pub returns : goal.returns
 returns c =
-    let numbered = c in
-    let stored = numbered in
-    let one = stored in
-    let none = one in
-    let there = none in
-    let found = there in
-    let head = found in
-    let bucket = head in
-    let high = bucket in
-    let low = high in
-    let second = low in
-    let first = second in
-    let start = first in
-    let a = start.args in
-    let r = start.requires in
-    let q = side_is a.triangles.now a.h _ _ first.read_u32-a.ensures second.read_u32-b.ensures _ _ low.lower_of-low.ensures high.higher_of-high.ensures in
+    let a = c.args in
+    let r = c.requires in
+    let q = side_is a.triangles.now a.h _ _ c.read_u32-a.ensures c.read_u32-b.ensures _ _ c.lower_of-low.ensures c.higher_of-high.ensures in
     found_done a.triangles.now (length a.triangles.now) a.h a.heads.now a.edge_words.now a.triangle_words.now r.mesh r.long r.side refl r.words _ _ _ _ _
-    (side_found a.triangles.now (length a.triangles.now) a.h a.heads.now a.edge_words.now a.triangle_words.now r.words _ _ _ _ _ q bucket.bucket_of-bucket.ensures head.read_u32-head.ensures found.find_in_bucket-link.ensures there.if-link-eq0.false)
+    (side_found a.triangles.now (length a.triangles.now) a.h a.heads.now a.edge_words.now a.triangle_words.now r.words _ _ _ _ _ q c.bucket_of-bucket.ensures c.read_u32-head.ensures c.find_in_bucket-link.ensures c.if-link-eq0.false)
     r.counted
-    _ one.read_u32.ensures (rw none.no_face-none.ensures at one.if-read_u32-none.false)
-    refl stored.write_u32-2.ensures numbered.write_u32-3.ensures
+    _ c.read_u32.ensures (rw c.no_face-none.ensures at c.if-read_u32-none.false)
+    refl c.write_u32-2.ensures c.write_u32-3.ensures

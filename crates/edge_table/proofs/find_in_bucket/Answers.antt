@@ -11,19 +11,13 @@ loop-at-init c = (search rules, refl)
 
 pub returns-then-read_u32-high : goal.returns-then-read_u32-high
 returns-then-read_u32-high c =
-    let one = c in
-    let loop = one in
-    let start = loop in
-    let a = start.args in
-    seek_at_here a.edge_words.now a.low a.high loop.loop-at.at a.head _ start.requires one.loop-at-test.true loop.loop-at.invariant.1 one.read_u32.ensures _ c.read_u32-then-read_u32-low.ensures c.if-read_u32-low.true c.if-read_u32-high.true
+    let a = c.args in
+    seek_at_here a.edge_words.now a.low a.high c.loop-at.at a.head _ c.requires c.loop-at-test.true c.loop-at.invariant.1 c.read_u32.ensures _ c.read_u32-then-read_u32-low.ensures c.if-read_u32-low.true c.if-read_u32-high.true
 
 pub loop-at-smaller : goal.loop-at-smaller
 loop-at-smaller c =
-    let one = c in
-    let loop = one in
-    let start = loop in
-    let a = start.args in
-    falls a.edge_words.now loop.loop-at.at start.requires one.loop-at-test.true _ c.read_u32-at.ensures
+    let a = c.args in
+    falls a.edge_words.now c.loop-at.at c.requires c.loop-at-test.true _ c.read_u32-at.ensures
 
 pub loop-at-preserved : goal.loop-at-preserved
 loop-at-preserved c =
@@ -38,6 +32,5 @@ loop-at-preserved c =
 
 pub returns : goal.returns
 returns c =
-    let loop = c in
-    let a = loop.args in
-    seek_end a.edge_words.now a.low a.high loop.loop-at.at a.head loop.loop-at.invariant.1 c.loop-at-test.false
+    let a = c.args in
+    seek_end a.edge_words.now a.low a.high c.loop-at.at a.head c.loop-at.invariant.1 c.loop-at-test.false

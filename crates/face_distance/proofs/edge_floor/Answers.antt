@@ -1,5 +1,4 @@
 -- `face_distance::edge_floor` meets its contract. Assumes nothing.
-use borrow.Author.Rules.{rules}
 use Rattle.float_laws.proofs.Order.{le_refl}
 use Rattle.source.specs.Distance.{edge_of}
 use Rattle.face_distance.proofs.Floors.{hypot_from_zero, floor_sum}

@@ -1,5 +1,4 @@
 -- `face_distance::through_ends` meets its contract. Assumes nothing.
-use borrow.Author.Rules.{rules}
 use Rattle.face_distance.specs.Entries.{through_ends}
 use Rattle.face_distance.proofs.through_ends.Goals as goal
 

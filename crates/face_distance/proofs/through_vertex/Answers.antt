@@ -1,5 +1,4 @@
 -- `face_distance::through_vertex` meets its contract. Assumes nothing.
-use borrow.Author.Rules.{rules}
 use Rattle.face_distance.specs.Entries.{through_vertex}
 use Rattle.face_distance.proofs.through_vertex.Goals as goal
 

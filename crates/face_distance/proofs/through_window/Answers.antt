@@ -1,5 +1,4 @@
 -- `face_distance::through_window` meets its contract. Assumes nothing.
-use borrow.Author.Rules.{rules}
 use Rattle.face_distance.specs.Entries.{through_window}
 use Rattle.face_distance.proofs.through_window.Goals as goal
 

@@ -1,5 +1,4 @@
 -- `face_distance::to_point` meets its contract. Assumes nothing.
-use borrow.Author.Rules.{rules}
 use Rattle.face_distance.specs.Entries.{to_point}
 use Rattle.face_distance.proofs.to_point.Goals as goal
 

@@ -1,5 +1,4 @@
 -- `face_distance::to_segment` meets its contract. Assumes nothing.
-use borrow.Author.Rules.{rules}
 use Rattle.face_distance.specs.Entries.{to_segment}
 use Rattle.face_distance.proofs.to_segment.Goals as goal
 

@@ -1,17 +1,14 @@
 use mathlib.Core.Path.{ap, ◌∙◌}
 use Rattle.chains.specs.Chains.{links, link_in}
 use Rattle.chains.proofs.Turns.{link_head, link_next}
-use borrow.Author.Rules.{rules}
 use Rattle.face_query.proofs.link_behind.Goals as goal
 
 pub returns-then-before-eq0 : goal.returns-then-before-eq0
 returns-then-before-eq0 c =
-    let read = c in
-    let a = read.args in
-    c.within.ensures ∙ ap (link_in a.made) (read.read_u32.ensures ∙ link_head (links a.edge_words.now a.words.now) a.e.0 a.before read.if-before-eq0.true)
+    let a = c.args in
+    c.within.ensures ∙ ap (link_in a.made) (c.read_u32.ensures ∙ link_head (links a.edge_words.now a.words.now) a.e.0 a.before c.if-before-eq0.true)
 
 pub returns : goal.returns
 returns c =
-    let read = c in
-    let a = read.args in
-    c.within-2.ensures ∙ ap (link_in a.made) (read.read_u32-2.ensures ∙ link_next (links a.edge_words.now a.words.now) a.e.0 a.before read.if-before-eq0.false)
+    let a = c.args in
+    c.within-2.ensures ∙ ap (link_in a.made) (c.read_u32-2.ensures ∙ link_next (links a.edge_words.now a.words.now) a.e.0 a.before c.if-before-eq0.false)

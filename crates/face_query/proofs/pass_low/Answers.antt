@@ -1,5 +1,4 @@
 use mathlib.Core.Path.{ap, ◌∙◌}
-use borrow.Author.Rules.{rules}
 use Rattle.float64.specs.Scalar.{min_of}
 use Rattle.chains.specs.Chains.{links}
 use Rattle.face_query.proofs.Lows.{walk_ends, walk_on_lem, walk_stays}
@@ -7,20 +6,14 @@ use Rattle.face_query.proofs.pass_low.Goals as goal
 
 pub returns-then-at-eq0 : goal.returns-then-at-eq0
 returns-then-at-eq0 c =
-    let read = c in
-    let more = read in
-    let a = more.args in
-    λ left p. walk_ends a.made (links a.edge_words.now a.words.now) a.reals.now a.e.0 a.s more.if-s.true read.link_behind-at.result read.link_behind-at.ensures left p c.if-at-eq0.true
+    let a = c.args in
+    λ left p. walk_ends a.made (links a.edge_words.now a.words.now) a.reals.now a.e.0 a.s c.if-s.true c.link_behind-at.result c.link_behind-at.ensures left p c.if-at-eq0.true
 
 pub returns-then-s : goal.returns-then-s
 returns-then-s c =
-    let low = c in
-    let some = low in
-    let read = some in
-    let more = read in
-    let a = more.args in
-    λ left p. walk_on_lem a.made (links a.edge_words.now a.words.now) a.reals.now a.e.0 a.s more.if-s.true read.link_behind-at.result read.link_behind-at.ensures left p some.if-at-eq0.false
-    c.min-low.result (c.min-low.ensures ∙ ap (min_of a.s.low) low.read_f64.ensures)
+    let a = c.args in
+    λ left p. walk_on_lem a.made (links a.edge_words.now a.words.now) a.reals.now a.e.0 a.s c.if-s.true c.link_behind-at.result c.link_behind-at.ensures left p c.if-at-eq0.false
+    c.min-low.result (c.min-low.ensures ∙ ap (min_of a.s.low) c.read_f64.ensures)
 
 pub returns : goal.returns
 returns c =

@@ -10,7 +10,6 @@ use Rattle.last_pass.specs.Buffers.{chain_behind}
 use Rattle.face_query.specs.Lows.{least_low, walk_low}
 use Rattle.face_query.proofs.Steps.{infinite}
 use Rattle.face_query.proofs.Lows.{walk_over, walk_out}
-use borrow.Author.Rules.{rules}
 use Rattle.face_query.proofs.side_lows.Invariants.{lowest}
 use Rattle.face_query.proofs.side_lows.Goals as goal
 
@@ -34,9 +33,8 @@ loop-left-init c =
 
 pub returns-then-over : goal.returns-then-over
 returns-then-over c =
-    let at = c in
-    let l = at.loop-left in
-    let a = at.args in
+    let l = c.loop-left in
+    let a = c.args in
     let b = links a.edge_words.now a.words.now in
     let n = none l.a.more l.b.more l.c.more c.over.result c.over.ensures c.if-over.true in (
       sym (walk_over a.made b a.reals.now a.e0.0 l.left l.a n.0) ∙ l.invariant.0,
@@ -48,22 +46,18 @@ returns-then-over c =
 
 pub loop-left-preserved : goal.loop-left-preserved
 loop-left-preserved c =
-    let second = c in
-    let first = second in
-    let turn = first in
-    let l = turn.loop-left in (
-      first.pass_low-a.ensures l.left turn.loop-left-test.true ∙ l.invariant.0,
+    let l = c.loop-left in (
+      c.pass_low-a.ensures l.left c.loop-left-test.true ∙ l.invariant.0,
       (
-        second.pass_low-b.ensures l.left turn.loop-left-test.true ∙ l.invariant.1.0,
-        c.pass_low-c.ensures l.left turn.loop-left-test.true ∙ l.invariant.1.1,
+        c.pass_low-b.ensures l.left c.loop-left-test.true ∙ l.invariant.1.0,
+        c.pass_low-c.ensures l.left c.loop-left-test.true ∙ l.invariant.1.1,
       ),
     )
 
 pub returns : goal.returns
 returns c =
-    let at = c in
-    let l = at.loop-left in
-    let a = at.args in
+    let l = c.loop-left in
+    let a = c.args in
     let b = links a.edge_words.now a.words.now in
     let z : l.left ≡ 0 = omega (arith, c.loop-left-test.false) in (
       sym (walk_out a.made b a.reals.now a.e0.0 l.left l.a z) ∙ l.invariant.0,

@@ -1,16 +1,11 @@
 use Prim.Native.Nat.{ℕ}
-use native.Mathlib.Omega.{arith}
-use mathlib.Core.Bool.{Bool, true, false, not, ◌||◌, true≢false}
+use mathlib.Core.Bool.{false}
 use mathlib.Core.List.{List}
-use mathlib.Core.Path.{◌≡◌, refl, sym, ap, ◌∙◌}
-use lib.Ieee.{Float, inf, binary64, div}
-use Rattle.float64.specs.Scalar.{zero64, one}
+use mathlib.Core.Path.{◌≡◌}
+use lib.Ieee.{Float, inf}
 use Rattle.chains.specs.Chains.{links}
 use Rattle.last_pass.specs.Buffers.{chain_behind}
 use Rattle.face_query.specs.Lows.{least_low, walk_low}
-use Rattle.face_query.proofs.Steps.{infinite}
-use Rattle.face_query.proofs.Lows.{walk_over, walk_out}
-use borrow.Author.Rules.{rules}
 use Rattle.face_query.proofs.side_lows.Given as goal
 
 -- the least of an edge's chain

@@ -1,9 +1,6 @@
-use mathlib.Core.Path.{◌≡◌, refl, sym, ◌∙◌}
-use native.Mathlib.Omega.{arith}
-use Rattle.chains.specs.Chains.{links, link_at}
-use Rattle.chains.proofs.Turns.{link_le}
-use Rattle.face_query.proofs.Walks.{to_do, chain_done, count_done, one_window}
-use borrow.Author.Rules.{rules}
+use mathlib.Core.Path.{◌≡◌}
+use Rattle.chains.specs.Chains.{links}
+use Rattle.face_query.proofs.Walks.{to_do}
 use Rattle.face_query.proofs.through_chain.Given as goal
 
 abbrev pub invariant-loop-left : goal.invariant-loop-left

@@ -1,9 +1,7 @@
-use mathlib.Core.Path.{◌≡◌, sym, ap, ◌∙◌}
-use native.Mathlib.Omega.{arith}
+use mathlib.Core.Path.{◌≡◌, ap}
 use lib.ListN.{length}
 use Rattle.face_entries.specs.Buffers.{entry_capacity}
-use Rattle.face_query.proofs.Walks.{to_enter, entries_done, slots_done, one_entry}
-use borrow.Author.Rules.{rules}
+use Rattle.face_query.proofs.Walks.{to_enter}
 use Rattle.face_query.proofs.to_entries.Given as goal
 
 abbrev pub invariant-loop-left : goal.invariant-loop-left

@@ -1,5 +1,4 @@
 use Rattle.face_query.specs.FaceDistance.{to_part}
-use borrow.Author.Rules.{rules}
 use Rattle.face_query.proofs.to_part.Goals as goal
 
 pub returns-in-EndA : goal.returns-in-EndA

@@ -4,7 +4,6 @@ use lib.ListN.{length}
 use Rattle.face_entries.specs.Buffers.{entry_capacity}
 use Rattle.face_entries.specs.Entries.{entries_from_link}
 use Rattle.face_query.specs.FaceDistance.{to_entries, to_pieces}
-use borrow.Author.Rules.{rules}
 use Rattle.face_query.proofs.to_pieces.Goals as goal
 
 pub returns : goal.returns

@@ -1,4 +1,3 @@
-use borrow.Author.Rules.{rules}
 use Rattle.face_query.proofs.to_whole.Goals as goal
 
 pub returns : goal.returns

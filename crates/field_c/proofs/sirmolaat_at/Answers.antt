@@ -1,7 +1,6 @@
 -- `field_c::sirmolaat_at` meets its contract. Assumes nothing.
 use mathlib.Core.Path.{sym, ◌∙◌}
 use Rattle.field_c.proofs.Asking.{has_both, face_told, face_unfit}
-use borrow.Author.Rules.{rules}
 use Rattle.field_c.proofs.sirmolaat_at.Goals as goal
 
 pub face_answer-answer-requires : goal.face_answer-answer-requires
@@ -9,12 +8,7 @@ face_answer-answer-requires c = has_both _ _ _ _ (sym c.has_slots.ensures ∙ c.
 
 pub returns-then-has_slots : goal.returns-then-has_slots
 returns-then-has_slots c =
-    let written = c in
-    let valued = written in
-    let answered = valued in
-    let asked = answered in
-    let tested = asked in
-    face_told _ _ _ tested.told_field-n.ensures tested.has_slots.ensures _ _ asked.if-has_slots.true answered.face_answer-answer.ensures valued.face_value.ensures written.write_f64.ensures c.face_number.ensures
+    face_told _ _ _ c.told_field-n.ensures c.has_slots.ensures _ _ c.if-has_slots.true c.face_answer-answer.ensures c.face_value.ensures c.write_f64.ensures c.face_number.ensures
 
 pub returns : goal.returns
 returns c = face_unfit _ _ _ c.told_field-n.ensures c.has_slots.ensures _ _ c.if-has_slots.false

@@ -1,5 +1,4 @@
 -- `field_c::sirmolaat_compute` meets its contract. Assumes nothing.
-use borrow.Author.Rules.{rules}
 use Rattle.field_c.proofs.sirmolaat_compute.Goals as goal
 
 pub shape_of-vertex_words : goal.shape_of-vertex_words

@@ -1,6 +1,5 @@
 -- `field_c::tell_slip` meets its contract. Assumes nothing.
 use Rattle.field_c.proofs.Slipped.{told_short, told_over, told_kind, told_many, told_job}
-use borrow.Author.Rules.{rules}
 use Rattle.field_c.proofs.tell_slip.Goals as goal
 
 pub returns-in-TooShort : goal.returns-in-TooShort
@@ -17,8 +16,4 @@ returns-in-TooMany c = told_many _ _ c.in-TooMany.is
 
 pub returns-in-Job : goal.returns-in-Job
 returns-in-Job c =
-    let at-limit = c in
-    let at-pieces = at-limit in
-    let at-triangles = at-pieces in
-    let at-vertices = at-triangles in
-    told_job _ _ _ at-vertices.in-Job.is at-vertices.write_u32.ensures at-triangles.write_u32-in-Job.ensures at-pieces.write_u32-in-Job-2.ensures at-limit.write_f64.ensures
+    told_job _ _ _ c.in-Job.is c.write_u32.ensures c.write_u32-in-Job.ensures c.write_u32-in-Job-2.ensures c.write_f64.ensures

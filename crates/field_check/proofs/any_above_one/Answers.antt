@@ -1,9 +1,7 @@
-use mathlib.Core.Path.{◌≡◌, sym}
+use mathlib.Core.Path.{sym}
 use mathlib.Core.Bool.{false}
-use Prim.Native.Nat.{◌≤◌, ◌-◌}
-use Rattle.job_checks.specs.Any.{any_below}
+use Prim.Native.Nat.{◌-◌}
 use Rattle.job_checks.proofs.Any.{none_yet, none_more, found, none_at_all}
-use lib.ListN.{length}
 use Rattle.job_checks.specs.Refusals.{above_one}
 use Rattle.job_checks.proofs.Tests.{above_one_lem, not_above_one}
 use borrow.Author.Rules.{rules}

@@ -1,7 +1,6 @@
-use mathlib.Core.Path.{◌≡◌, sym, ◌∙◌}
+use mathlib.Core.Path.{sym, ◌∙◌}
 use mathlib.Core.Bool.{false}
-use Prim.Native.Nat.{◌≤◌, ◌-◌}
-use Rattle.job_checks.specs.Any.{any_below}
+use Prim.Native.Nat.{◌-◌}
 use Rattle.job_checks.proofs.Any.{none_yet, none_more, found, none_at_all}
 use Rattle.field_check.specs.FieldCheck.{triangle_outside}
 use borrow.Author.Rules.{rules}

@@ -1,5 +1,4 @@
 use Rattle.field_check.specs.FieldCheck.{counts_differ}
-use borrow.Author.Rules.{rules}
 use Rattle.field_check.proofs.counts_differ.Goals as goal
 
 pub returns : goal.returns

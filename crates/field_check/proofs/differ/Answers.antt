@@ -2,7 +2,6 @@ use mathlib.Core.Bool.{not}
 use mathlib.Core.Path.{sym, ap, ◌∙◌}
 use borrow.Author.Tests.{eq-eqb, ne_eqb}
 use Rattle.field_check.specs.FieldCheck.{records_differ}
-use borrow.Author.Rules.{rules}
 use Rattle.field_check.proofs.differ.Goals as goal
 
 pub returns-then-elements-due : goal.returns-then-elements-due

@@ -1,12 +1,11 @@
 use mathlib.Core.Path.{sym, ap, ◌∙◌}
 use native.Mathlib.Omega.{arith}
-use Prim.Native.Nat.{ℕ, ◌-◌, ◌≤◌}
+use Prim.Native.Nat.{ℕ, ◌-◌}
 use lib.ListN.{length}
 use Rattle.face_entries.specs.Buffers.{entry_capacity, first_entry_of, next_entry_of}
 use Rattle.field_check.specs.Chains.{walk_of}
 use Rattle.field_check.specs.FieldCheck.{entry_outside, entries_unsound}
-use Rattle.field_check.proofs.Walks.{SoundSoFar, sound_start, sound_on, unsound_there, sound_all}
-use borrow.Author.Rules.{rules}
+use Rattle.field_check.proofs.Walks.{sound_start, sound_on, unsound_there, sound_all}
 use Rattle.field_check.proofs.entries_unsound.Goals as goal
 
 pub loop-f-init : goal.loop-f-init
@@ -17,28 +16,21 @@ loop-f-init c =
 pub returns-then-walked : goal.returns-then-walked
 unfolding entries_unsound
 returns-then-walked c =
-    let walked = c in
-    let head = walked in
-    let i = head in
-    let l = i.loop-f in
-    let a = i.args in
-    sym (unsound_there (next_entry_of a.entry_words.now) (λ (before i : ℕ). entry_outside a.pieces a.entry_words.now i) (first_entry_of a.triangle_words.now) (entry_capacity (length a.entry_words.now)) l.left l.f l.invariant.1 walked.walk_entries-walked.result (walked.walk_entries-walked.ensures ∙ ap (walk_of (next_entry_of a.entry_words.now) (λ (before i : ℕ). entry_outside a.pieces a.entry_words.now i) l.left 0) head.read_u32-first.ensures) c.if-walked.true a.triangles head.loop-f-test.true)
+    let l = c.loop-f in
+    let a = c.args in
+    sym (unsound_there (next_entry_of a.entry_words.now) (λ (before i : ℕ). entry_outside a.pieces a.entry_words.now c) (first_entry_of a.triangle_words.now) (entry_capacity (length a.entry_words.now)) l.left l.f l.invariant.1 c.walk_entries-walked.result (c.walk_entries-walked.ensures ∙ ap (walk_of (next_entry_of a.entry_words.now) (λ (before i : ℕ). entry_outside a.pieces a.entry_words.now c) l.left 0) c.read_u32-first.ensures) c.if-walked.true a.triangles c.loop-f-test.true)
 
 pub loop-f-preserved : goal.loop-f-preserved
 loop-f-preserved c =
-    let walked = c in
-    let head = walked in
-    let i = head in
-    let l = i.loop-f in
-    let a = i.args in (
-      omega (arith, head.loop-f-test.true),
-      sound_on (next_entry_of a.entry_words.now) (λ (before i : ℕ). entry_outside a.pieces a.entry_words.now i) (first_entry_of a.triangle_words.now) (entry_capacity (length a.entry_words.now)) l.left l.f l.invariant.1 walked.walk_entries-walked.result (walked.walk_entries-walked.ensures ∙ ap (walk_of (next_entry_of a.entry_words.now) (λ (before i : ℕ). entry_outside a.pieces a.entry_words.now i) l.left 0) head.read_u32-first.ensures) c.if-walked.false,
+    let l = c.loop-f in
+    let a = c.args in (
+      omega (arith, c.loop-f-test.true),
+      sound_on (next_entry_of a.entry_words.now) (λ (before i : ℕ). entry_outside a.pieces a.entry_words.now c) (first_entry_of a.triangle_words.now) (entry_capacity (length a.entry_words.now)) l.left l.f l.invariant.1 c.walk_entries-walked.result (c.walk_entries-walked.ensures ∙ ap (walk_of (next_entry_of a.entry_words.now) (λ (before i : ℕ). entry_outside a.pieces a.entry_words.now c) l.left 0) c.read_u32-first.ensures) c.if-walked.false,
     )
 
 pub returns : goal.returns
 unfolding entries_unsound
 returns c =
-    let i = c in
-    let l = i.loop-f in
-    let a = i.args in
-    sym (sound_all (next_entry_of a.entry_words.now) (λ (before i : ℕ). entry_outside a.pieces a.entry_words.now i) (first_entry_of a.triangle_words.now) (entry_capacity (length a.entry_words.now)) l.left l.f a.triangles l.invariant.1 l.invariant.0 c.loop-f-test.false)
+    let l = c.loop-f in
+    let a = c.args in
+    sym (sound_all (next_entry_of a.entry_words.now) (λ (before i : ℕ). entry_outside a.pieces a.entry_words.now c) (first_entry_of a.triangle_words.now) (entry_capacity (length a.entry_words.now)) l.left l.f a.triangles l.invariant.1 l.invariant.0 c.loop-f-test.false)

@@ -1,12 +1,9 @@
-use mathlib.Core.Path.{sym, ap, ◌∙◌}
-use native.Mathlib.Omega.{arith}
+use mathlib.Core.Path.{ap}
 use Prim.Native.Nat.{ℕ, ◌-◌, ◌≤◌}
 use lib.ListN.{length}
 use Rattle.face_entries.specs.Buffers.{entry_capacity, first_entry_of, next_entry_of}
-use Rattle.field_check.specs.Chains.{walk_of}
-use Rattle.field_check.specs.FieldCheck.{entry_outside, entries_unsound}
-use Rattle.field_check.proofs.Walks.{SoundSoFar, sound_start, sound_on, unsound_there, sound_all}
-use borrow.Author.Rules.{rules}
+use Rattle.field_check.specs.FieldCheck.{entry_outside}
+use Rattle.field_check.proofs.Walks.{SoundSoFar}
 use Rattle.field_check.proofs.entries_unsound.Given as goal
 
 abbrev pub invariant-loop-f : goal.invariant-loop-f

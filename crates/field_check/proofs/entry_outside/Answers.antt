@@ -1,5 +1,4 @@
 use Rattle.field_check.specs.FieldCheck.{entry_outside}
-use borrow.Author.Rules.{rules}
 use Rattle.field_check.proofs.entry_outside.Goals as goal
 
 pub returns : goal.returns

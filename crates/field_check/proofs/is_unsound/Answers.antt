@@ -1,7 +1,6 @@
 use mathlib.Core.Path.{sym, ◌∙◌}
 use Rattle.field_check.proofs.Tests.{holds, passes}
 use Rattle.field_check.specs.FieldCheck.{points_outside, lists_unsound, field_unsound}
-use borrow.Author.Rules.{rules}
 use Rattle.field_check.proofs.is_unsound.Goals as goal
 
 pub returns-then-too_few_slots : goal.returns-then-too_few_slots
@@ -11,35 +10,25 @@ returns-then-too_few_slots c = holds _ _ (sym c.too_few_slots.ensures ∙ c.if-t
 pub returns-then-counts_differ : goal.returns-then-counts_differ
 unfolding field_unsound
 returns-then-counts_differ c =
-    let one = c in
-    passes _ _ _ (sym one.too_few_slots.ensures ∙ one.if-too_few_slots.false) (holds _ _ (sym c.counts_differ.ensures ∙ c.if-counts_differ.true))
+    passes _ _ _ (sym c.too_few_slots.ensures ∙ c.if-too_few_slots.false) (holds _ _ (sym c.counts_differ.ensures ∙ c.if-counts_differ.true))
 
 pub returns-then-meets_refusal : goal.returns-then-meets_refusal
 unfolding field_unsound
 returns-then-meets_refusal c =
-    let two = c in
-    let one = two in
-    passes _ _ _ (sym one.too_few_slots.ensures ∙ one.if-too_few_slots.false)
-    (passes _ _ _ (sym two.counts_differ.ensures ∙ two.if-counts_differ.false) (holds _ _ (sym c.meets_refusal.ensures ∙ c.if-meets_refusal.true)))
+    passes _ _ _ (sym c.too_few_slots.ensures ∙ c.if-too_few_slots.false)
+    (passes _ _ _ (sym c.counts_differ.ensures ∙ c.if-counts_differ.false) (holds _ _ (sym c.meets_refusal.ensures ∙ c.if-meets_refusal.true)))
 
 pub returns-then-points_outside : goal.returns-then-points_outside
 unfolding field_unsound points_outside
 returns-then-points_outside c =
-    let three = c in
-    let two = three in
-    let one = two in
-    passes _ _ _ (sym one.too_few_slots.ensures ∙ one.if-too_few_slots.false)
-    (passes _ _ _ (sym two.counts_differ.ensures ∙ two.if-counts_differ.false)
-    (passes _ _ _ (sym three.meets_refusal.ensures ∙ three.if-meets_refusal.false) (holds _ _ (sym c.points_outside.ensures ∙ c.if-points_outside.true))))
+    passes _ _ _ (sym c.too_few_slots.ensures ∙ c.if-too_few_slots.false)
+    (passes _ _ _ (sym c.counts_differ.ensures ∙ c.if-counts_differ.false)
+    (passes _ _ _ (sym c.meets_refusal.ensures ∙ c.if-meets_refusal.false) (holds _ _ (sym c.points_outside.ensures ∙ c.if-points_outside.true))))
 
 pub returns : goal.returns
 unfolding field_unsound points_outside lists_unsound
 returns c =
-    let four = c in
-    let three = four in
-    let two = three in
-    let one = two in
-    passes _ _ _ (sym one.too_few_slots.ensures ∙ one.if-too_few_slots.false)
-    (passes _ _ _ (sym two.counts_differ.ensures ∙ two.if-counts_differ.false)
-    (passes _ _ _ (sym three.meets_refusal.ensures ∙ three.if-meets_refusal.false)
-    (passes _ _ _ (sym four.points_outside.ensures ∙ four.if-points_outside.false) c.lists_unsound.ensures)))
+    passes _ _ _ (sym c.too_few_slots.ensures ∙ c.if-too_few_slots.false)
+    (passes _ _ _ (sym c.counts_differ.ensures ∙ c.if-counts_differ.false)
+    (passes _ _ _ (sym c.meets_refusal.ensures ∙ c.if-meets_refusal.false)
+    (passes _ _ _ (sym c.points_outside.ensures ∙ c.if-points_outside.false) c.lists_unsound.ensures)))

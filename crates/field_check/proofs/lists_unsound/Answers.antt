@@ -1,6 +1,5 @@
 use mathlib.Core.Path.{sym, ◌∙◌}
 use Rattle.field_check.proofs.Tests.{holds, passes}
-use borrow.Author.Rules.{rules}
 use Rattle.field_check.proofs.lists_unsound.Goals as goal
 
 pub returns-then-windows_unsound : goal.returns-then-windows_unsound

@@ -1,6 +1,5 @@
 use native.Mathlib.Omega.{arith}
 use Rattle.buffers.proofs.Strides.{index_fits}
-use borrow.Author.Rules.{rules}
 use Rattle.field_check.proofs.product.Goals as goal
 
 pub overflow_mul-result : goal.overflow_mul-result

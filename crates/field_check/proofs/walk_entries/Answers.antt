@@ -1,11 +1,10 @@
-use mathlib.Core.Path.{◌≡◌, refl, sym, ap, ◌∙◌}
+use mathlib.Core.Path.{refl, sym, ap, ◌∙◌}
 use native.Mathlib.Omega.{arith}
 use Prim.Native.Nat.{ℕ, ◌-◌}
 use Rattle.face_entries.specs.Buffers.{next_entry_of}
 use Rattle.field_check.specs.Chains.{walk_of}
 use Rattle.field_check.specs.FieldCheck.{entry_outside}
 use Rattle.field_check.proofs.Walks.{walk_end, walk_over, walk_bad, walk_on_lem, walk_any}
-use borrow.Author.Rules.{rules}
 use Rattle.field_check.proofs.walk_entries.Goals as goal
 
 pub loop-at-init : goal.loop-at-init
@@ -22,19 +21,17 @@ entry_outside-requires c = c.capacity-entries.ensures
 
 pub returns-then-entry_outside : goal.returns-then-entry_outside
 returns-then-entry_outside c =
-    let test = c in
-    let l = test.loop-at in
-    let a = test.args in
-    sym (walk_bad (next_entry_of a.entry_words.now) (λ (before i : ℕ). entry_outside a.pieces a.entry_words.now i) l.left 0 l.at test.loop-at-test.true (sym test.entry_outside.ensures ∙ c.if-entry_outside.true)) ∙ l.invariant
+    let l = c.loop-at in
+    let a = c.args in
+    sym (walk_bad (next_entry_of a.entry_words.now) (λ (before i : ℕ). entry_outside a.pieces a.entry_words.now i) l.left 0 l.at c.loop-at-test.true (sym c.entry_outside.ensures ∙ c.if-entry_outside.true)) ∙ l.invariant
 
 pub loop-at-preserved : goal.loop-at-preserved
 loop-at-preserved c =
-    let test = c in
-    let l = test.loop-at in
-    let a = test.args in
+    let l = c.loop-at in
+    let a = c.args in
     ap (walk_of (next_entry_of a.entry_words.now) (λ (before i : ℕ). entry_outside a.pieces a.entry_words.now i) (l.left - 1) 0) c.read_u32-at.ensures
     ∙ walk_any (next_entry_of a.entry_words.now) (λ (before i : ℕ). entry_outside a.pieces a.entry_words.now i) (λ k m i. refl) (l.left - 1) 0 l.at (next_entry_of a.entry_words.now (l.at - 1))
-    ∙ walk_on_lem (next_entry_of a.entry_words.now) (λ (before i : ℕ). entry_outside a.pieces a.entry_words.now i) l.left 0 l.at test.if-left-eq0.false test.loop-at-test.true (sym test.entry_outside.ensures ∙ c.if-entry_outside.false)
+    ∙ walk_on_lem (next_entry_of a.entry_words.now) (λ (before i : ℕ). entry_outside a.pieces a.entry_words.now i) l.left 0 l.at c.if-left-eq0.false c.loop-at-test.true (sym c.entry_outside.ensures ∙ c.if-entry_outside.false)
     ∙ l.invariant
 
 pub returns : goal.returns

@@ -1,11 +1,10 @@
-use mathlib.Core.Path.{◌≡◌, refl, sym, ap, ◌∙◌}
+use mathlib.Core.Path.{refl, sym, ap, ◌∙◌}
 use native.Mathlib.Omega.{arith}
 use Prim.Native.Nat.{◌-◌}
 use Rattle.windows.specs.Windows.{link_of}
 use Rattle.field_check.specs.Chains.{walk_of}
 use Rattle.field_check.specs.FieldCheck.{window_unsound}
 use Rattle.field_check.proofs.Walks.{walk_end, walk_over, walk_bad, walk_on_lem}
-use borrow.Author.Rules.{rules}
 use Rattle.field_check.proofs.walk_windows.Goals as goal
 
 pub loop-at-init : goal.loop-at-init
@@ -19,18 +18,16 @@ returns-then-left-eq0 c =
 
 pub returns-then-window_unsound : goal.returns-then-window_unsound
 returns-then-window_unsound c =
-    let test = c in
-    let l = test.loop-at in
-    let a = test.args in
-    sym (walk_bad (link_of a.words.now) (window_unsound a.reals.now) l.left l.before l.at test.loop-at-test.true (sym test.window_unsound.ensures ∙ c.if-window_unsound.true)) ∙ l.invariant
+    let l = c.loop-at in
+    let a = c.args in
+    sym (walk_bad (link_of a.words.now) (window_unsound a.reals.now) l.left l.before l.at c.loop-at-test.true (sym c.window_unsound.ensures ∙ c.if-window_unsound.true)) ∙ l.invariant
 
 pub loop-at-preserved : goal.loop-at-preserved
 loop-at-preserved c =
-    let test = c in
-    let l = test.loop-at in
-    let a = test.args in
+    let l = c.loop-at in
+    let a = c.args in
     ap (walk_of (link_of a.words.now) (window_unsound a.reals.now) (l.left - 1) l.at) c.read_u32-at.ensures
-    ∙ walk_on_lem (link_of a.words.now) (window_unsound a.reals.now) l.left l.before l.at test.if-left-eq0.false test.loop-at-test.true (sym test.window_unsound.ensures ∙ c.if-window_unsound.false)
+    ∙ walk_on_lem (link_of a.words.now) (window_unsound a.reals.now) l.left l.before l.at c.if-left-eq0.false c.loop-at-test.true (sym c.window_unsound.ensures ∙ c.if-window_unsound.false)
     ∙ l.invariant
 
 pub returns : goal.returns

@@ -1,11 +1,8 @@
-use mathlib.Core.Path.{◌≡◌, refl, sym, ap, ◌∙◌}
-use native.Mathlib.Omega.{arith}
+use mathlib.Core.Path.{◌≡◌}
 use Prim.Native.Nat.{◌-◌}
 use Rattle.windows.specs.Windows.{link_of}
 use Rattle.field_check.specs.Chains.{walk_of}
 use Rattle.field_check.specs.FieldCheck.{window_unsound}
-use Rattle.field_check.proofs.Walks.{walk_end, walk_over, walk_bad, walk_on_lem}
-use borrow.Author.Rules.{rules}
 use Rattle.field_check.proofs.walk_windows.Given as goal
 
 abbrev pub invariant-loop-at : goal.invariant-loop-at

@@ -1,12 +1,11 @@
 use mathlib.Core.Path.{sym, ap, ◌∙◌}
 use native.Mathlib.Omega.{arith}
-use Prim.Native.Nat.{◌-◌, ◌≤◌}
+use Prim.Native.Nat.{◌-◌}
 use Rattle.windows.specs.Windows.{link_of}
 use Rattle.chains.specs.Chains.{head_of}
 use Rattle.field_check.specs.Chains.{walk_of}
 use Rattle.field_check.specs.FieldCheck.{window_unsound, windows_unsound}
-use Rattle.field_check.proofs.Walks.{SoundSoFar, sound_start, sound_on, unsound_there, sound_all}
-use borrow.Author.Rules.{rules}
+use Rattle.field_check.proofs.Walks.{sound_start, sound_on, unsound_there, sound_all}
 use Rattle.field_check.proofs.windows_unsound.Goals as goal
 
 pub loop-e-init : goal.loop-e-init
@@ -17,28 +16,21 @@ loop-e-init c =
 pub returns-then-walked : goal.returns-then-walked
 unfolding windows_unsound
 returns-then-walked c =
-    let walked = c in
-    let head = walked in
-    let i = head in
-    let l = i.loop-e in
-    let a = i.args in
-    sym (unsound_there (link_of a.words.now) (window_unsound a.reals.now) (head_of a.edge_words.now) a.made l.left l.e l.invariant.1 walked.walk_windows-walked.result (walked.walk_windows-walked.ensures ∙ ap (walk_of (link_of a.words.now) (window_unsound a.reals.now) l.left 0) head.read_u32-head.ensures) c.if-walked.true a.edges head.loop-e-test.true)
+    let l = c.loop-e in
+    let a = c.args in
+    sym (unsound_there (link_of a.words.now) (window_unsound a.reals.now) (head_of a.edge_words.now) a.made l.left l.e l.invariant.1 c.walk_windows-walked.result (c.walk_windows-walked.ensures ∙ ap (walk_of (link_of a.words.now) (window_unsound a.reals.now) l.left 0) c.read_u32-head.ensures) c.if-walked.true a.edges c.loop-e-test.true)
 
 pub loop-e-preserved : goal.loop-e-preserved
 loop-e-preserved c =
-    let walked = c in
-    let head = walked in
-    let i = head in
-    let l = i.loop-e in
-    let a = i.args in (
-      omega (arith, head.loop-e-test.true),
-      sound_on (link_of a.words.now) (window_unsound a.reals.now) (head_of a.edge_words.now) a.made l.left l.e l.invariant.1 walked.walk_windows-walked.result (walked.walk_windows-walked.ensures ∙ ap (walk_of (link_of a.words.now) (window_unsound a.reals.now) l.left 0) head.read_u32-head.ensures) c.if-walked.false,
+    let l = c.loop-e in
+    let a = c.args in (
+      omega (arith, c.loop-e-test.true),
+      sound_on (link_of a.words.now) (window_unsound a.reals.now) (head_of a.edge_words.now) a.made l.left l.e l.invariant.1 c.walk_windows-walked.result (c.walk_windows-walked.ensures ∙ ap (walk_of (link_of a.words.now) (window_unsound a.reals.now) l.left 0) c.read_u32-head.ensures) c.if-walked.false,
     )
 
 pub returns : goal.returns
 unfolding windows_unsound
 returns c =
-    let i = c in
-    let l = i.loop-e in
-    let a = i.args in
+    let l = c.loop-e in
+    let a = c.args in
     sym (sound_all (link_of a.words.now) (window_unsound a.reals.now) (head_of a.edge_words.now) a.made l.left l.e a.edges l.invariant.1 l.invariant.0 c.loop-e-test.false)

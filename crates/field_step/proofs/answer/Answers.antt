@@ -1,4 +1,3 @@
-use borrow.Author.Rules.{rules}
 use Rattle.field_step.proofs.answer.Goals as goal
 
 pub returns-in-Stopped : goal.returns-in-Stopped

@@ -1,5 +1,4 @@
 use Rattle.field_step.specs.Step.{marked_vertex}
-use borrow.Author.Rules.{rules}
 use Rattle.field_step.proofs.mark.Goals as goal
 
 pub returns-in-Window : goal.returns-in-Window

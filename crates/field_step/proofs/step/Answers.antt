@@ -8,24 +8,20 @@ use Rattle.spread.specs.of_trim.Buffers.{slices}
 use Rattle.field_step.specs.declared.Stepped.{Stepped}
 use Rattle.field_step.specs.Contract.{StepsOnce}
 use Rattle.field_step.proofs.Stepping.{pending_slot, step_idle, step_skip, step_pass}
-use borrow.Author.Rules.{rules}
 use Rattle.field_step.proofs.step.Goals as goal
 
 pub turn_of-turn-requires : goal.turn_of-turn-requires
 turn_of-turn-requires c =
-    let start = c in
-    let a = start.args in
+    let a = c.args in
     let q = c.pop-taken in
-    let x = c in
     pending_slot a.limit a.n a.vertices.now a.triangles.now a.vertex_words.now a.round.now a.edge_reals.now a.triangle_words.now a.triangle_reals.now a.counts
     (slices a.edge_words.now a.words.now a.reals.now a.keys.now a.events.now a.vertex.now) (cut_buffers a.pts.now a.out.now a.keep.now a.next.now)
-    start.requires.0 q.new.words q.new.keys q.new.events q.result q.ensures.0 q.ensures.1.0 q.ensures.1.1 c.in-First.x c.in-First.queued c.in-First.pending c.in-First.is q.auto.words
+    c.requires.0 q.new.words q.new.keys q.new.events q.result q.ensures.0 q.ensures.1.0 q.ensures.1.1 c.in-First.x c.in-First.queued c.in-First.pending c.in-First.is q.auto.words
 
 pub spread-added-requires : goal.spread-added-requires
 spread-added-requires c =
-    let start = c in
-    let a = start.args in
-    (subst (λ (k : ℕ). a.counts.made ≤ capacity_of k (length a.reals.now)) (sym c.pop-taken.auto.words) start.requires.0, start.requires.1)
+    let a = c.args in
+    (subst (λ (k : ℕ). a.counts.made ≤ capacity_of k (length a.reals.now)) (sym c.pop-taken.auto.words) c.requires.0, c.requires.1)
 
 pub shape_of-words-in-Empty : goal.shape_of-words-in-Empty
 shape_of-words-in-Empty c = c.pop-taken.auto.words
@@ -38,99 +34,78 @@ shape_of-events-in-Empty c = c.pop-taken.auto.events
 
 pub returns-in-Empty : goal.returns-in-Empty
 returns-in-Empty c =
-    let start = c in
-    let a = start.args in
+    let a = c.args in
     let q = c.pop-taken in
     step_idle a.limit a.n a.vertices.now a.triangles.now a.vertex_words.now a.round.now a.edge_reals.now a.triangle_words.now a.triangle_reals.now a.counts
     (slices a.edge_words.now a.words.now a.reals.now a.keys.now a.events.now a.vertex.now) (cut_buffers a.pts.now a.out.now a.keep.now a.next.now)
-    start.requires.0 q.new.words q.new.keys q.new.events q.result q.ensures.0 q.ensures.1.0 q.ensures.1.1 c.in-Empty.is
+    c.requires.0 q.new.words q.new.keys q.new.events q.result q.ensures.0 q.ensures.1.0 q.ensures.1.1 c.in-Empty.is
 
 pub shape_of-words-in-Skip : goal.shape_of-words-in-Skip
 shape_of-words-in-Skip c =
-    let at-pop = c in
-    at-pop.pop-taken.auto.words
+    c.pop-taken.auto.words
 
 pub shape_of-keys-in-Skip : goal.shape_of-keys-in-Skip
 shape_of-keys-in-Skip c =
-    let at-pop = c in
-    at-pop.pop-taken.auto.keys
+    c.pop-taken.auto.keys
 
 pub shape_of-events-in-Skip : goal.shape_of-events-in-Skip
 shape_of-events-in-Skip c =
-    let at-pop = c in
-    at-pop.pop-taken.auto.events
+    c.pop-taken.auto.events
 
 pub returns-in-Skip : goal.returns-in-Skip
 returns-in-Skip c =
-    let start = c in
-    let a = start.args in
+    let a = c.args in
     let q = c.pop-taken in
-    let x = c in
     let turn = c.turn_of-turn in
     step_skip a.limit a.n a.vertices.now a.triangles.now a.vertex_words.now a.round.now a.edge_reals.now a.triangle_words.now a.triangle_reals.now a.counts
     (slices a.edge_words.now a.words.now a.reals.now a.keys.now a.events.now a.vertex.now) (cut_buffers a.pts.now a.out.now a.keep.now a.next.now)
-    start.requires.0 q.new.words q.new.keys q.new.events q.result q.ensures.0 q.ensures.1.0 q.ensures.1.1 c.in-First.x c.in-First.queued c.in-First.pending c.in-First.is turn.result turn.ensures c.in-Skip.is
+    c.requires.0 q.new.words q.new.keys q.new.events q.result q.ensures.0 q.ensures.1.0 q.ensures.1.1 c.in-First.x c.in-First.queued c.in-First.pending c.in-First.is turn.result turn.ensures c.in-Skip.is
 
 pub shape_of-edge_words : goal.shape_of-edge_words
 shape_of-edge_words c =
-    let at-spread = c in
-    at-spread.spread-added.auto.edge_words
+    c.spread-added.auto.edge_words
 
 pub shape_of-words-in-Pass : goal.shape_of-words-in-Pass
 shape_of-words-in-Pass c =
-    let passed = c in
-    passed.spread-added.auto.words ∙ passed.pop-taken.auto.words
+    c.spread-added.auto.words ∙ c.pop-taken.auto.words
 
 pub shape_of-reals-in-Pass : goal.shape_of-reals-in-Pass
 shape_of-reals-in-Pass c =
-    let at-spread = c in
-    at-spread.spread-added.auto.reals
+    c.spread-added.auto.reals
 
 pub shape_of-keys-in-Pass : goal.shape_of-keys-in-Pass
 shape_of-keys-in-Pass c =
-    let passed = c in
-    passed.spread-added.auto.keys ∙ passed.pop-taken.auto.keys
+    c.spread-added.auto.keys ∙ c.pop-taken.auto.keys
 
 pub shape_of-events-in-Pass : goal.shape_of-events-in-Pass
 shape_of-events-in-Pass c =
-    let passed = c in
-    passed.spread-added.auto.events ∙ passed.pop-taken.auto.events
+    c.spread-added.auto.events ∙ c.pop-taken.auto.events
 
 pub shape_of-vertex-in-Pass : goal.shape_of-vertex-in-Pass
 shape_of-vertex-in-Pass c =
-    let at-spread = c in
-    let at_mark = at-spread in
-    at-spread.spread-added.auto.vertex ∙ at_mark.mark.auto.vertex
+    c.spread-added.auto.vertex ∙ c.mark.auto.vertex
 
 pub shape_of-pts : goal.shape_of-pts
 shape_of-pts c =
-    let at-spread = c in
-    at-spread.spread-added.auto.pts
+    c.spread-added.auto.pts
 
 pub shape_of-out : goal.shape_of-out
 shape_of-out c =
-    let at-spread = c in
-    at-spread.spread-added.auto.out
+    c.spread-added.auto.out
 
 pub shape_of-keep : goal.shape_of-keep
 shape_of-keep c =
-    let at-spread = c in
-    at-spread.spread-added.auto.keep
+    c.spread-added.auto.keep
 
 pub shape_of-next : goal.shape_of-next
 shape_of-next c =
-    let at-spread = c in
-    at-spread.spread-added.auto.next
+    c.spread-added.auto.next
 
 pub returns-in-Pass : goal.returns-in-Pass
 returns-in-Pass c =
-    let popped = c in
-    let start = popped in
-    let a = start.args in
-    let q = popped.pop-taken in
-    let x = c in
+    let a = c.args in
+    let q = c.pop-taken in
     let turn = c.turn_of-turn in
-    let p = c in
     let m = c.mark in
     let r = c.spread-added in
     let b = slices a.edge_words.now a.words.now a.reals.now a.keys.now a.events.now a.vertex.now in
@@ -139,5 +114,5 @@ returns-in-Pass c =
     (sym c.answer.ensures)
     (step_pass a.limit a.n a.vertices.now a.triangles.now a.vertex_words.now a.round.now a.edge_reals.now a.triangle_words.now a.triangle_reals.now a.counts
     (slices a.edge_words.now a.words.now a.reals.now a.keys.now a.events.now a.vertex.now) (cut_buffers a.pts.now a.out.now a.keep.now a.next.now)
-    start.requires.0 q.new.words q.new.keys q.new.events q.result q.ensures.0 q.ensures.1.0 q.ensures.1.1 c.in-First.x c.in-First.queued c.in-First.pending c.in-First.is turn.result turn.ensures
+    c.requires.0 q.new.words q.new.keys q.new.events q.result q.ensures.0 q.ensures.1.0 q.ensures.1.1 c.in-First.x c.in-First.queued c.in-First.pending c.in-First.is turn.result turn.ensures
     c.in-Pass.s c.in-Pass.is m.new.vertex m.ensures q.auto.words r.result after r.ensures)

@@ -1,5 +1,5 @@
 -- `field_vectors::replay` is safe and ends. Assumes nothing.
-use Prim.Native.Nat.{◌≤◌, ◌-◌}
+use Prim.Native.Nat.{◌-◌}
 use native.Mathlib.Omega.{arith}
 use Rattle.field_vectors.proofs.replay.Goals as goal
 use Rattle.field_vectors.proofs.replay.Goals.{then-not-job_replays, else-not-job_replays}

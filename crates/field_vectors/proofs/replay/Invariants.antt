@@ -1,7 +1,4 @@
 use Prim.Native.Nat.{◌≤◌, ◌-◌}
-use native.Mathlib.Omega.{arith}
-use mathlib.Core.Logic.{⊎_elim}
-use borrow.Author.Rules.{rules}
 use Rattle.field_vectors.proofs.replay.Given as goal
 
 abbrev pub invariant-loop-k : goal.invariant-loop-k

@@ -1,7 +1,6 @@
 -- `float64::signum` meets its contract. Assumes nothing.
 use mathlib.Core.Path.{sym, ◌∙◌, subst}
 use lib.Dec.{T}
-use lib.Ieee.{binary64, fits}
 use borrow.Author.Tests.{not-true, not-false, lt-ltb, le-ltb}
 use Rattle.float64.specs.Scalar.{signum_of, negative}
 use Rattle.root_spec.proofs.Floats.{no_nan}

@@ -5,7 +5,6 @@ use lib.Dec.{T}
 use lib.Ieee.{binary64}
 use lib.Ieee.Compare.{differs_from_itself}
 use lib.Ieee.Bits.{to_bits-lt}
-use borrow.Author.Rules.{rules}
 use Rattle.float64.specs.TotalOrder.{total_key}
 use Rattle.root_spec.proofs.Floats.{no_nan}
 use Rattle.float64.proofs.TotalOrder.{turned_low, turned_high, key_none}

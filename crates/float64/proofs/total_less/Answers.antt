@@ -4,7 +4,6 @@ use mathlib.Core.Path.{◌≡◌, sym, ◌∙◌, subst}
 use mathlib.Core.Bool.{Bool, true, false}
 use lib.Dec.{T, ltb}
 use lib.Ieee.{Float, binary64, fits}
-use borrow.Author.Rules.{rules}
 use borrow.Author.Tests.{lt-ltb, le-ltb}
 use Rattle.float64.specs.TotalOrder.{total_key, total_less}
 use Rattle.float64.proofs.TotalOrder.{total_key_less}

@@ -5,33 +5,27 @@ use Rattle.form_read.proofs.read.Goals as goal
 
 pub shape_of-vertices-in-Plain : goal.shape_of-vertices-in-Plain
 shape_of-vertices-in-Plain c =
-    let at_read = c in
-    at_read.read.auto.vertices
+    c.read.auto.vertices
 
 pub shape_of-triangles-in-Plain : goal.shape_of-triangles-in-Plain
 shape_of-triangles-in-Plain c =
-    let at_read = c in
-    at_read.read.auto.triangles
+    c.read.auto.triangles
 
 pub shape_of-flags-in-Plain : goal.shape_of-flags-in-Plain
 shape_of-flags-in-Plain c =
-    let at_read = c in
-    at_read.read.auto.flags
+    c.read.auto.flags
 
 pub shape_of-kinds-in-Plain : goal.shape_of-kinds-in-Plain
 shape_of-kinds-in-Plain c =
-    let at_read = c in
-    at_read.read.auto.kinds
+    c.read.auto.kinds
 
 pub shape_of-faces-in-Plain : goal.shape_of-faces-in-Plain
 shape_of-faces-in-Plain c =
-    let at_read = c in
-    at_read.read.auto.faces
+    c.read.auto.faces
 
 pub shape_of-coords-in-Plain : goal.shape_of-coords-in-Plain
 shape_of-coords-in-Plain c =
-    let at_read = c in
-    at_read.read.auto.coords
+    c.read.auto.coords
 
 pub returns-in-Plain : goal.returns-in-Plain
 unfolding form_reading
@@ -41,33 +35,27 @@ returns-in-Plain c =
 
 pub shape_of-vertices-in-Groups : goal.shape_of-vertices-in-Groups
 shape_of-vertices-in-Groups c =
-    let at-read-groups = c in
-    at-read-groups.read_groups.auto.vertices
+    c.read_groups.auto.vertices
 
 pub shape_of-triangles-in-Groups : goal.shape_of-triangles-in-Groups
 shape_of-triangles-in-Groups c =
-    let at-read-groups = c in
-    at-read-groups.read_groups.auto.triangles
+    c.read_groups.auto.triangles
 
 pub shape_of-flags-in-Groups : goal.shape_of-flags-in-Groups
 shape_of-flags-in-Groups c =
-    let at-read-groups = c in
-    at-read-groups.read_groups.auto.flags
+    c.read_groups.auto.flags
 
 pub shape_of-kinds-in-Groups : goal.shape_of-kinds-in-Groups
 shape_of-kinds-in-Groups c =
-    let at-read-groups = c in
-    at-read-groups.read_groups.auto.kinds
+    c.read_groups.auto.kinds
 
 pub shape_of-faces-in-Groups : goal.shape_of-faces-in-Groups
 shape_of-faces-in-Groups c =
-    let at-read-groups = c in
-    at-read-groups.read_groups.auto.faces
+    c.read_groups.auto.faces
 
 pub shape_of-coords-in-Groups : goal.shape_of-coords-in-Groups
 shape_of-coords-in-Groups c =
-    let at-read-groups = c in
-    at-read-groups.read_groups.auto.coords
+    c.read_groups.auto.coords
 
 pub returns-in-Groups : goal.returns-in-Groups
 unfolding form_reading

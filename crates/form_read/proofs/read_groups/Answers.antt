@@ -8,72 +8,47 @@ use Rattle.form_read.proofs.read_groups.Goals as goal
 pub write_job-requires : goal.write_job-requires
 unfolding vertex_slots triangle_slots piece_slots
 write_job-requires c =
-    let at-if = c in
-    let at-is-read = at-if in
-    let at-check = at-is-read in
-    let at-third = at-check in
-    let at_second = at-third in
-    let at_first = at_second in
-    let start = at_first in
-    let s = start.args.s.now in
-    let b : Rows = job_rows start.args.vertices.now start.args.triangles.now start.args.flags.now start.args.kinds.now start.args.faces.now start.args.coords.now in
-    let told : at-check.check-answer.result ≡ groups_answer s (vertex_slots b) (triangle_slots b) (piece_slots b) = rw (at_first.least-vertex_room.ensures, at-third.least-piece_room.ensures, at_second.least.ensures) at at-check.check-answer.ensures in
-    sym (ap is_read told) ∙ (sym at-is-read.is_read.ensures ∙ at-if.if-is_read.true)
+    let s = c.args.s.now in
+    let b : Rows = job_rows c.args.vertices.now c.args.triangles.now c.args.flags.now c.args.kinds.now c.args.faces.now c.args.coords.now in
+    let told : c.check-answer.result ≡ groups_answer s (vertex_slots b) (triangle_slots b) (piece_slots b) = rw (c.least-vertex_room.ensures, c.least-piece_room.ensures, c.least.ensures) at c.check-answer.ensures in
+    sym (ap is_read told) ∙ (sym c.is_read.ensures ∙ c.if-is_read.true)
 
 pub shape_of-vertices : goal.shape_of-vertices
 shape_of-vertices c =
-    let at-write-job = c in
-    at-write-job.write_job.auto.vertices
+    c.write_job.auto.vertices
 
 pub shape_of-triangles : goal.shape_of-triangles
 shape_of-triangles c =
-    let at-write-job = c in
-    at-write-job.write_job.auto.triangles
+    c.write_job.auto.triangles
 
 pub shape_of-flags : goal.shape_of-flags
 shape_of-flags c =
-    let at-write-job = c in
-    at-write-job.write_job.auto.flags
+    c.write_job.auto.flags
 
 pub shape_of-kinds : goal.shape_of-kinds
 shape_of-kinds c =
-    let at-write-job = c in
-    at-write-job.write_job.auto.kinds
+    c.write_job.auto.kinds
 
 pub shape_of-faces : goal.shape_of-faces
 shape_of-faces c =
-    let at-write-job = c in
-    at-write-job.write_job.auto.faces
+    c.write_job.auto.faces
 
 pub shape_of-coords : goal.shape_of-coords
 shape_of-coords c =
-    let at-write-job = c in
-    at-write-job.write_job.auto.coords
+    c.write_job.auto.coords
 
 pub returns-then-is_read : goal.returns-then-is_read
 unfolding vertex_slots triangle_slots piece_slots
 returns-then-is_read c =
-    let at-write-job = c in
-    let at-if = at-write-job in
-    let at-is-read = at-if in
-    let at-check = at-is-read in
-    let at-third = at-check in
-    let at_second = at-third in
-    let at_first = at_second in
-    let start = at_first in
-    let s = start.args.s.now in
-    let b : Rows = job_rows start.args.vertices.now start.args.triangles.now start.args.flags.now start.args.kinds.now start.args.faces.now start.args.coords.now in
-    let told : at-check.check-answer.result ≡ groups_answer s (vertex_slots b) (triangle_slots b) (piece_slots b) = rw (at_first.least-vertex_room.ensures, at-third.least-piece_room.ensures, at_second.least.ensures) at at-check.check-answer.ensures in
-    did_read s b at-check.check-answer.result told _ (sym at-is-read.is_read.ensures ∙ at-if.if-is_read.true) at-write-job.write_job.ensures
+    let s = c.args.s.now in
+    let b : Rows = job_rows c.args.vertices.now c.args.triangles.now c.args.flags.now c.args.kinds.now c.args.faces.now c.args.coords.now in
+    let told : c.check-answer.result ≡ groups_answer s (vertex_slots b) (triangle_slots b) (piece_slots b) = rw (c.least-vertex_room.ensures, c.least-piece_room.ensures, c.least.ensures) at c.check-answer.ensures in
+    did_read s b c.check-answer.result told _ (sym c.is_read.ensures ∙ c.if-is_read.true) c.write_job.ensures
 
 pub returns-else-is_read : goal.returns-else-is_read
 unfolding vertex_slots triangle_slots piece_slots
 returns-else-is_read c =
-    let at-third = c in
-    let at_second = at-third in
-    let at_first = at_second in
-    let start = at_first in
-    let s = start.args.s.now in
-    let b : Rows = job_rows start.args.vertices.now start.args.triangles.now start.args.flags.now start.args.kinds.now start.args.faces.now start.args.coords.now in
-    let told : c.check-answer.result ≡ groups_answer s (vertex_slots b) (triangle_slots b) (piece_slots b) = rw (at_first.least-vertex_room.ensures, at-third.least-piece_room.ensures, at_second.least.ensures) at c.check-answer.ensures in
+    let s = c.args.s.now in
+    let b : Rows = job_rows c.args.vertices.now c.args.triangles.now c.args.flags.now c.args.kinds.now c.args.faces.now c.args.coords.now in
+    let told : c.check-answer.result ≡ groups_answer s (vertex_slots b) (triangle_slots b) (piece_slots b) = rw (c.least-vertex_room.ensures, c.least-piece_room.ensures, c.least.ensures) at c.check-answer.ensures in
     did_refuse s b c.check-answer.result told (sym c.is_read.ensures ∙ c.if-is_read.false)

@@ -25,8 +25,7 @@ overflow_add-result c =
 
 pub shape_of-vertices : goal.shape_of-vertices
 shape_of-vertices c =
-    let at-read-doubles = c in
-    at-read-doubles.read_doubles.auto.to
+    c.read_doubles.auto.to
 
 pub shape_of-triangles : goal.shape_of-triangles
 shape_of-triangles c = c.write_numbers-from.auto.to

@@ -37,12 +37,7 @@ write_coords-requires c =
 
 pub overflow_add-at-in-loop-k : goal.overflow_add-at-in-loop-k
 overflow_add-at-in-loop-k c =
-    let at-behind = c in
-    let at-number = at-behind in
-    let at_test = at-number in
-    let at-loop = at_test in
-    let start = at-loop in
-    omega (arith, at-behind.behind-e.ensures, next_near at-number.read_number-number.result at-number.read_number-number.ensures, c.ends_size.ensures.1, at-loop.loop-k.invariant.near, start.requires.near, start.requires.few, at_test.loop-k-test.true)
+    omega (arith, c.behind-e.ensures, next_near c.read_number-number.result c.read_number-number.ensures, c.ends_size.ensures.1, c.loop-k.invariant.near, c.requires.near, c.requires.few, c.loop-k-test.true)
 
 pub loop-k-preserved : goal.loop-k-preserved
 unfolding ends_from

@@ -15,17 +15,14 @@ store_units-requires c = (omega (arith, c.requires.0, c.loop-f.invariant.1.0, c.
 
 pub loop-f-preserved : goal.loop-f-preserved
 loop-f-preserved c =
-    let at-store-units = c in
-    let at-loop = at-store-units in
-    let start = at-loop in
-    let store-units = at-store-units.store_units in
-    let l = at-loop.loop-f in (
+    let store-units = c.store_units in
+    let l = c.loop-f in (
       search rules,
       (
         store-units.auto.reals ∙ l.invariant.1.0,
         rows_turn_three reals_per_normal _ _ _ _ _ _ _ (3 * l.f) (3 * (l.f + 1)) (omega arith) store-units.ensures
-            (unit_past start.args.reals.now _ (3 * l.f) (3 * l.f) (omega arith) l.invariant.1.1) (unit_past start.args.reals.now _ (3 * l.f) (3 * l.f + 1) (omega arith) l.invariant.1.1)
-            (unit_past start.args.reals.now _ (3 * l.f) (3 * l.f + 2) (omega arith) l.invariant.1.1) l.invariant.1.1,
+            (unit_past c.args.reals.now _ (3 * l.f) (3 * l.f) (omega arith) l.invariant.1.1) (unit_past c.args.reals.now _ (3 * l.f) (3 * l.f + 1) (omega arith) l.invariant.1.1)
+            (unit_past c.args.reals.now _ (3 * l.f) (3 * l.f + 2) (omega arith) l.invariant.1.1) l.invariant.1.1,
       ),
     )
 

@@ -7,10 +7,7 @@ use Rattle.heap_vectors.proofs.event.Goals as goal
 pub returns : goal.returns
 unfolding event_at
 returns c =
-    let kind = c in
-    let number = kind in
-    let key = number in
     λ t. record {
-      key = key.float_at.ensures t;
-      item = (c.item_of.ensures ∙ (λ i. item_of ((number.low.ensures ∙ ap (λ z. z % 4294967296) number.word.ensures) i) ((c.low-2.ensures ∙ ap (λ z. z % 4294967296) kind.word-2.ensures) i))) t;
+      key = c.float_at.ensures t;
+      item = (c.item_of.ensures ∙ (λ i. item_of ((c.low.ensures ∙ ap (λ z. z % 4294967296) c.word.ensures) i) ((c.low-2.ensures ∙ ap (λ z. z % 4294967296) c.word-2.ensures) i))) t;
     }

@@ -11,32 +11,28 @@ loop-k-init c = (refl, (refl, (omega arith, (omega arith, records_start _ _ _ _)
 
 pub overflow_add-differences : goal.overflow_add-differences
 overflow_add-differences c =
-    let replayed = c in
-    let at-loop = replayed in
-    let l = at-loop.loop-k in
-    let a = at-loop.args in
+    let l = c.loop-k in
+    let a = c.args in
     let q = queue l.keys l.events in
-    omega (arith, l.invariant, answer_le a.s.now l.k l.n q replayed.replay_record-r.ensures)
+    omega (arith, l.invariant, answer_le a.s.now l.k l.n q c.replay_record-r.ensures)
 
 pub loop-k-preserved : goal.loop-k-preserved
 loop-k-preserved c =
-    let replayed = c in
-    let at-loop = replayed in
-    let l = at-loop.loop-k in
-    let a = at-loop.args in
+    let l = c.loop-k in
+    let a = c.args in
     let q = queue l.keys l.events in
     let m = length a.s.now / 32 in
-    let more : l.k < m = replayed.loop-k-test.true in
+    let more : l.k < m = c.loop-k-test.true in
     let e : m - l.k - 1 ≡ m - (l.k + 1) = omega arith in (
-      replayed.replay_record-r.auto.keys ∙ l.invariant.0,
+      c.replay_record-r.auto.keys ∙ l.invariant.0,
       (
-        replayed.replay_record-r.auto.events ∙ l.invariant.1.0,
+        c.replay_record-r.auto.events ∙ l.invariant.1.0,
         (
           omega arith,
           (
-            omega (arith, l.invariant, answer_le a.s.now l.k l.n q replayed.replay_record-r.ensures),
+            omega (arith, l.invariant, answer_le a.s.now l.k l.n q c.replay_record-r.ensures),
             l.invariant.1.1.1.1
-                ∙ records_more a.s.now l.k l.n l.differences q (m - l.k) (omega arith) replayed.replay_record-r.ensures
+                ∙ records_more a.s.now l.k l.n l.differences q (m - l.k) (omega arith) c.replay_record-r.ensures
                 ∙ rw e refl,
           ),
         ),

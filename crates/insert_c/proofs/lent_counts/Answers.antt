@@ -1,6 +1,5 @@
 -- `insert_c::lent_counts` meets its contract. Assumes nothing.
 use Rattle.insert_c.proofs.Told.{same_others}
-use borrow.Author.Rules.{rules}
 use Rattle.insert_c.proofs.lent_counts.Goals as goal
 
 pub returns : goal.returns

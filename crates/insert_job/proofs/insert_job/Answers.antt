@@ -7,7 +7,6 @@ use Rattle.insert_sources.specs.of_mesh.Topology.{mesh_buffers}
 use Rattle.insert_sources.specs.of_face_entries.Buffers.{entry_buffers}
 use Rattle.begin.specs.Begin.{work_slices}
 use Rattle.insert_job.proofs.Answers.{says_wedge, says_answer}
-use borrow.Author.Rules.{rules}
 use Rattle.insert_job.proofs.insert_job.Goals as goal
 
 pub overflow_cast-n : goal.overflow_cast-n
@@ -45,9 +44,8 @@ shape_of-entry_words-then-any_wedge c = c.begin_buffers.auto.entry_words
 
 pub returns-then-any_wedge : goal.returns-then-any_wedge
 returns-then-any_wedge c =
-    let begun = c in
-    let a = begun.args in
-    let first = begun.begin_buffers in
+    let a = c.args in
+    let first = c.begin_buffers in
     says_wedge a.vertices.now a.triangles.now a.kinds.now a.faces.now a.coords.now a.limit
     (mesh_buffers a.vertex_words.now a.edge_words.now a.edge_reals.now a.round.now a.triangle_words.now a.triangle_reals.now)
     (work_slices a.piece_words.now a.piece_reals.now a.vertex.now a.words.now a.reals.now a.keys.now a.events.now a.entry_words.now)
@@ -60,9 +58,7 @@ returns-then-any_wedge c =
 
 pub insert_all-answer-requires : goal.insert_all-answer-requires
 insert_all-answer-requires c =
-    let tested = c in
-    let start = tested in
-    (omega arith, (start.requires.1.1.1, start.requires.1.0))
+    (omega arith, (c.requires.1.1.1, c.requires.1.0))
 
 pub shape_of-edge_words : goal.shape_of-edge_words
 shape_of-edge_words c = c.insert_all-answer.auto.edge_words
@@ -78,39 +74,27 @@ shape_of-piece_reals c = c.begin_buffers.auto.piece_reals
 
 pub shape_of-vertex : goal.shape_of-vertex
 shape_of-vertex c =
-    let made = c in
-    let first = made in
-    made.insert_all-answer.auto.vertex ∙ first.begin_buffers.auto.vertex
+    c.insert_all-answer.auto.vertex ∙ c.begin_buffers.auto.vertex
 
 pub shape_of-words : goal.shape_of-words
 shape_of-words c =
-    let made = c in
-    let first = made in
-    made.insert_all-answer.auto.words ∙ first.begin_buffers.auto.words
+    c.insert_all-answer.auto.words ∙ c.begin_buffers.auto.words
 
 pub shape_of-reals : goal.shape_of-reals
 shape_of-reals c =
-    let made = c in
-    let first = made in
-    made.insert_all-answer.auto.reals ∙ first.begin_buffers.auto.reals
+    c.insert_all-answer.auto.reals ∙ c.begin_buffers.auto.reals
 
 pub shape_of-keys : goal.shape_of-keys
 shape_of-keys c =
-    let made = c in
-    let first = made in
-    made.insert_all-answer.auto.keys ∙ first.begin_buffers.auto.keys
+    c.insert_all-answer.auto.keys ∙ c.begin_buffers.auto.keys
 
 pub shape_of-events : goal.shape_of-events
 shape_of-events c =
-    let made = c in
-    let first = made in
-    made.insert_all-answer.auto.events ∙ first.begin_buffers.auto.events
+    c.insert_all-answer.auto.events ∙ c.begin_buffers.auto.events
 
 pub shape_of-entry_words : goal.shape_of-entry_words
 shape_of-entry_words c =
-    let made = c in
-    let first = made in
-    made.insert_all-answer.auto.entry_words ∙ first.begin_buffers.auto.entry_words
+    c.insert_all-answer.auto.entry_words ∙ c.begin_buffers.auto.entry_words
 
 pub shape_of-pts : goal.shape_of-pts
 shape_of-pts c = c.insert_all-answer.auto.pts
@@ -126,13 +110,9 @@ shape_of-next c = c.insert_all-answer.auto.next
 
 pub returns : goal.returns
 returns c =
-    let made = c in
-    let tested = made in
-    let asked = tested in
-    let begun = asked in
-    let a = begun.args in
-    let first = begun.begin_buffers in
-    let all = made.insert_all-answer in
+    let a = c.args in
+    let first = c.begin_buffers in
+    let all = c.insert_all-answer in
     says_answer a.vertices.now a.triangles.now a.kinds.now a.faces.now a.coords.now a.limit
     (mesh_buffers a.vertex_words.now a.edge_words.now a.edge_reals.now a.round.now a.triangle_words.now a.triangle_reals.now)
     (work_slices a.piece_words.now a.piece_reals.now a.vertex.now a.words.now a.reals.now a.keys.now a.events.now a.entry_words.now)
@@ -142,4 +122,4 @@ returns c =
     first.ensures
     (slices all.new.edge_words all.new.words all.new.reals all.new.keys all.new.events all.new.vertex)
     (entry_buffers all.new.triangle_words all.new.entry_words)
-    all.result c.of_answer.result c.of_answer.ensures (sym asked.any_wedge.ensures ∙ tested.if-any_wedge.false) all.ensures
+    all.result c.of_answer.result c.of_answer.ensures (sym c.any_wedge.ensures ∙ c.if-any_wedge.false) all.ensures

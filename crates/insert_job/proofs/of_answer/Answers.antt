@@ -1,7 +1,6 @@
 -- `insert_job::of_answer` meets its contract. Assumes nothing.
 use mathlib.Core.Path.{sym, ap}
 use Rattle.insert_job.specs.Job.{job_answer}
-use borrow.Author.Rules.{rules}
 use Rattle.insert_job.proofs.of_answer.Goals as goal
 
 pub returns-in-Stopped : goal.returns-in-Stopped

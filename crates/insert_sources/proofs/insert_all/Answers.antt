@@ -7,9 +7,8 @@ use Rattle.insertion.specs.of_cut_lists.Buffers.{cut_buffers}
 use Rattle.insertion.specs.of_trim.Buffers.{slices}
 use Rattle.insertion.specs.of_face_entries.Buffers.{entry_buffers}
 use Rattle.insert_sources.specs.Job.{insertion_slices}
-use Rattle.insert_sources.proofs.Loop.{InsertInv, insert_start, insert_fits, insert_sizes}
+use Rattle.insert_sources.proofs.Loop.{insert_start, insert_fits, insert_sizes}
 use Rattle.insert_sources.proofs.Sources.{source_of, job_over, job_stopped, job_next}
-use borrow.Author.Rules.{rules}
 use Rattle.insert_sources.proofs.insert_all.Goals as goal
 
 pub overflow_cast-pieces : goal.overflow_cast-pieces
@@ -20,23 +19,19 @@ overflow_mul-sources c = omega (arith, c.requires.1.1)
 
 pub loop-j-init : goal.loop-j-init
 loop-j-init c =
-    let start = c in
-    let a = start.args in
+    let a = c.args in
     let k = (insertion_slices a.vertices.now a.vertex_words.now a.edge_reals.now a.triangle_reals.now a.round.now a.kinds.now a.faces.now a.coords.now a.piece_words.now a.piece_reals.now) in
     insert_start a.limit k
     (source_of a.limit k a.counts (slices a.edge_words.now a.words.now a.reals.now a.keys.now a.events.now a.vertex.now) (entry_buffers a.triangle_words.now a.entry_words.now) (cut_buffers a.pts.now a.out.now a.keep.now a.next.now))
     a.counts (slices a.edge_words.now a.words.now a.reals.now a.keys.now a.events.now a.vertex.now) (entry_buffers a.triangle_words.now a.entry_words.now)
-    (cut_buffers a.pts.now a.out.now a.keep.now a.next.now) (3 * length a.kinds.now) start.requires.0
+    (cut_buffers a.pts.now a.out.now a.keep.now a.next.now) (3 * length a.kinds.now) c.requires.0
 
 pub insert_source-one-requires : goal.insert_source-one-requires
 insert_source-one-requires c =
-    let tested = c in
-    let loop = tested in
-    let start = loop in
-    let a = start.args in
-    let l = loop.loop-j in
+    let a = c.args in
+    let l = c.loop-j in
     let k = (insertion_slices a.vertices.now a.vertex_words.now a.edge_reals.now a.triangle_reals.now a.round.now a.kinds.now a.faces.now a.coords.now a.piece_words.now a.piece_reals.now) in
-    let q : l.j < 3 * length a.kinds.now = omega (arith, tested.loop-j-test.true) in (
+    let q : l.j < 3 * length a.kinds.now = omega (arith, c.loop-j-test.true) in (
       insert_fits a.limit k
           (source_of a.limit k a.counts (slices a.edge_words.now a.words.now a.reals.now a.keys.now a.events.now a.vertex.now) (entry_buffers a.triangle_words.now a.entry_words.now) (cut_buffers a.pts.now a.out.now a.keep.now a.next.now))
           a.counts (slices a.edge_words.now a.words.now a.reals.now a.keys.now a.events.now a.vertex.now) (entry_buffers a.triangle_words.now a.entry_words.now)
@@ -46,95 +41,66 @@ insert_source-one-requires c =
             (source_of a.limit k a.counts (slices a.edge_words.now a.words.now a.reals.now a.keys.now a.events.now a.vertex.now) (entry_buffers a.triangle_words.now a.entry_words.now) (cut_buffers a.pts.now a.out.now a.keep.now a.next.now))
             a.counts (slices a.edge_words.now a.words.now a.reals.now a.keys.now a.events.now a.vertex.now) (entry_buffers a.triangle_words.now a.entry_words.now)
             (cut_buffers a.pts.now a.out.now a.keep.now a.next.now) (3 * length a.kinds.now) (slices l.edge_words l.words l.reals l.keys l.events l.vertex) (entry_buffers l.triangle_words l.entry_words) (cut_buffers l.pts l.out l.keep l.next) l.now l.j l.invariant q
-            start.requires.1.0,
+            c.requires.1.0,
         (refl, q),
       ),
     )
 
 pub shape_of-edge_words-in-Stopped : goal.shape_of-edge_words-in-Stopped
 shape_of-edge_words-in-Stopped c =
-    let made = c in
-    let loop = made in
-    made.insert_source-one.auto.edge_words ∙ loop.loop-j.invariant.same.trim.edges
+    c.insert_source-one.auto.edge_words ∙ c.loop-j.invariant.same.trim.edges
 
 pub shape_of-words-in-Stopped : goal.shape_of-words-in-Stopped
 shape_of-words-in-Stopped c =
-    let made = c in
-    let loop = made in
-    made.insert_source-one.auto.words ∙ loop.loop-j.invariant.same.trim.words
+    c.insert_source-one.auto.words ∙ c.loop-j.invariant.same.trim.words
 
 pub shape_of-reals-in-Stopped : goal.shape_of-reals-in-Stopped
 shape_of-reals-in-Stopped c =
-    let made = c in
-    let loop = made in
-    made.insert_source-one.auto.reals ∙ loop.loop-j.invariant.same.trim.reals
+    c.insert_source-one.auto.reals ∙ c.loop-j.invariant.same.trim.reals
 
 pub shape_of-keys-in-Stopped : goal.shape_of-keys-in-Stopped
 shape_of-keys-in-Stopped c =
-    let made = c in
-    let loop = made in
-    made.insert_source-one.auto.keys ∙ loop.loop-j.invariant.same.trim.keys
+    c.insert_source-one.auto.keys ∙ c.loop-j.invariant.same.trim.keys
 
 pub shape_of-events-in-Stopped : goal.shape_of-events-in-Stopped
 shape_of-events-in-Stopped c =
-    let made = c in
-    let loop = made in
-    made.insert_source-one.auto.events ∙ loop.loop-j.invariant.same.trim.events
+    c.insert_source-one.auto.events ∙ c.loop-j.invariant.same.trim.events
 
 pub shape_of-vertex-in-Stopped : goal.shape_of-vertex-in-Stopped
 shape_of-vertex-in-Stopped c =
-    let made = c in
-    let loop = made in
-    made.insert_source-one.auto.vertex ∙ loop.loop-j.invariant.same.trim.vertex
+    c.insert_source-one.auto.vertex ∙ c.loop-j.invariant.same.trim.vertex
 
 pub shape_of-pts-in-Stopped : goal.shape_of-pts-in-Stopped
 shape_of-pts-in-Stopped c =
-    let made = c in
-    let loop = made in
-    made.insert_source-one.auto.pts ∙ loop.loop-j.invariant.same.trim.pts
+    c.insert_source-one.auto.pts ∙ c.loop-j.invariant.same.trim.pts
 
 pub shape_of-out-in-Stopped : goal.shape_of-out-in-Stopped
 shape_of-out-in-Stopped c =
-    let made = c in
-    let loop = made in
-    made.insert_source-one.auto.out ∙ loop.loop-j.invariant.same.trim.out
+    c.insert_source-one.auto.out ∙ c.loop-j.invariant.same.trim.out
 
 pub shape_of-keep-in-Stopped : goal.shape_of-keep-in-Stopped
 shape_of-keep-in-Stopped c =
-    let made = c in
-    let loop = made in
-    made.insert_source-one.auto.keep ∙ loop.loop-j.invariant.same.trim.keep
+    c.insert_source-one.auto.keep ∙ c.loop-j.invariant.same.trim.keep
 
 pub shape_of-next-in-Stopped : goal.shape_of-next-in-Stopped
 shape_of-next-in-Stopped c =
-    let made = c in
-    let loop = made in
-    made.insert_source-one.auto.next ∙ loop.loop-j.invariant.same.trim.next
+    c.insert_source-one.auto.next ∙ c.loop-j.invariant.same.trim.next
 
 pub shape_of-triangle_words-in-Stopped : goal.shape_of-triangle_words-in-Stopped
 shape_of-triangle_words-in-Stopped c =
-    let made = c in
-    let loop = made in
-    made.insert_source-one.auto.triangle_words ∙ loop.loop-j.invariant.same.triangles
+    c.insert_source-one.auto.triangle_words ∙ c.loop-j.invariant.same.triangles
 
 pub shape_of-entry_words-in-Stopped : goal.shape_of-entry_words-in-Stopped
 shape_of-entry_words-in-Stopped c =
-    let made = c in
-    let loop = made in
-    made.insert_source-one.auto.entry_words ∙ loop.loop-j.invariant.same.entries
+    c.insert_source-one.auto.entry_words ∙ c.loop-j.invariant.same.entries
 
 pub returns-in-Stopped : goal.returns-in-Stopped
 returns-in-Stopped c =
-    let made = c in
-    let tested = made in
-    let loop = tested in
-    let start = loop in
-    let a = start.args in
-    let l = loop.loop-j in
-    let r = made.insert_source-one in
+    let a = c.args in
+    let l = c.loop-j in
+    let r = c.insert_source-one in
     let k = (insertion_slices a.vertices.now a.vertex_words.now a.edge_reals.now a.triangle_reals.now a.round.now a.kinds.now a.faces.now a.coords.now a.piece_words.now a.piece_reals.now) in
-    let e = c in
-    let q : l.j < 3 * length a.kinds.now = omega (arith, tested.loop-j-test.true) in
+    let q : l.j < 3 * length a.kinds.now = omega (arith, c.loop-j-test.true) in
     job_stopped a.limit k a.counts (slices a.edge_words.now a.words.now a.reals.now a.keys.now a.events.now a.vertex.now) (entry_buffers a.triangle_words.now a.entry_words.now)
     (cut_buffers a.pts.now a.out.now a.keep.now a.next.now)
     (slices l.edge_words l.words l.reals l.keys l.events l.vertex) (entry_buffers l.triangle_words l.entry_words) (cut_buffers l.pts l.out l.keep l.next) l.now l.j l.invariant q
@@ -142,27 +108,19 @@ returns-in-Stopped c =
 
 pub overflow_add-j : goal.overflow_add-j
 overflow_add-j c =
-    let tested = c in
-    let start = tested in
-    omega (arith, tested.loop-j-test.true, start.requires.1.1)
+    omega (arith, c.loop-j-test.true, c.requires.1.1)
 
 pub loop-j-smaller : goal.loop-j-smaller
 loop-j-smaller c =
-    let tested = c in
-    omega (arith, tested.loop-j-test.true)
+    omega (arith, c.loop-j-test.true)
 
 pub loop-j-preserved : goal.loop-j-preserved
 loop-j-preserved c =
-    let made = c in
-    let tested = made in
-    let loop = tested in
-    let start = loop in
-    let a = start.args in
-    let l = loop.loop-j in
-    let r = made.insert_source-one in
+    let a = c.args in
+    let l = c.loop-j in
+    let r = c.insert_source-one in
     let k = (insertion_slices a.vertices.now a.vertex_words.now a.edge_reals.now a.triangle_reals.now a.round.now a.kinds.now a.faces.now a.coords.now a.piece_words.now a.piece_reals.now) in
-    let e = c in
-    let q : l.j < 3 * length a.kinds.now = omega (arith, tested.loop-j-test.true) in
+    let q : l.j < 3 * length a.kinds.now = omega (arith, c.loop-j-test.true) in
     job_next a.limit k a.counts (slices a.edge_words.now a.words.now a.reals.now a.keys.now a.events.now a.vertex.now) (entry_buffers a.triangle_words.now a.entry_words.now)
     (cut_buffers a.pts.now a.out.now a.keep.now a.next.now)
     (slices l.edge_words l.words l.reals l.keys l.events l.vertex) (entry_buffers l.triangle_words l.entry_words) (cut_buffers l.pts l.out l.keep l.next) l.now l.j l.invariant q
@@ -223,10 +181,8 @@ shape_of-entry_words c = c.loop-j.invariant.same.entries
 
 pub returns : goal.returns
 returns c =
-    let loop = c in
-    let start = loop in
-    let a = start.args in
-    let l = loop.loop-j in
+    let a = c.args in
+    let l = c.loop-j in
     let k = (insertion_slices a.vertices.now a.vertex_words.now a.edge_reals.now a.triangle_reals.now a.round.now a.kinds.now a.faces.now a.coords.now a.piece_words.now a.piece_reals.now) in
     job_over a.limit k a.counts (slices a.edge_words.now a.words.now a.reals.now a.keys.now a.events.now a.vertex.now) (entry_buffers a.triangle_words.now a.entry_words.now)
     (cut_buffers a.pts.now a.out.now a.keep.now a.next.now)

@@ -1,14 +1,11 @@
-use Prim.Native.Nat.{◌*◌, ◌-◌, ◌<◌}
-use native.Mathlib.Omega.{arith}
-use mathlib.Core.Path.{◌∙◌, refl}
+use Prim.Native.Nat.{◌*◌, ◌-◌}
 use lib.ListN.{length}
 use Rattle.insertion.specs.of_cut_lists.Buffers.{cut_buffers}
 use Rattle.insertion.specs.of_trim.Buffers.{slices}
 use Rattle.insertion.specs.of_face_entries.Buffers.{entry_buffers}
 use Rattle.insert_sources.specs.Job.{insertion_slices}
-use Rattle.insert_sources.proofs.Loop.{InsertInv, insert_start, insert_fits, insert_sizes}
-use Rattle.insert_sources.proofs.Sources.{source_of, job_over, job_stopped, job_next}
-use borrow.Author.Rules.{rules}
+use Rattle.insert_sources.proofs.Loop.{InsertInv}
+use Rattle.insert_sources.proofs.Sources.{source_of}
 use Rattle.insert_sources.proofs.insert_all.Given as goal
 
 abbrev pub invariant-loop-j : goal.invariant-loop-j

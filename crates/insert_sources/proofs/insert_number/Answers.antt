@@ -3,7 +3,6 @@ use Rattle.insertion.specs.of_cut_lists.Buffers.{cut_buffers}
 use Rattle.insertion.specs.of_trim.Buffers.{slices}
 use Rattle.insertion.specs.of_face_entries.Buffers.{entry_buffers}
 use Rattle.insertion.proofs.Calls.{inserts_read}
-use borrow.Author.Rules.{rules}
 use Rattle.insert_sources.proofs.insert_number.Goals as goal
 
 pub insert-requires : goal.insert-requires
@@ -11,63 +10,51 @@ insert-requires c = c.requires
 
 pub shape_of-edge_words : goal.shape_of-edge_words
 shape_of-edge_words c =
-    let at-insert = c in
-    at-insert.insert.auto.edge_words
+    c.insert.auto.edge_words
 
 pub shape_of-words : goal.shape_of-words
 shape_of-words c =
-    let at-insert = c in
-    at-insert.insert.auto.words
+    c.insert.auto.words
 
 pub shape_of-reals : goal.shape_of-reals
 shape_of-reals c =
-    let at-insert = c in
-    at-insert.insert.auto.reals
+    c.insert.auto.reals
 
 pub shape_of-keys : goal.shape_of-keys
 shape_of-keys c =
-    let at-insert = c in
-    at-insert.insert.auto.keys
+    c.insert.auto.keys
 
 pub shape_of-events : goal.shape_of-events
 shape_of-events c =
-    let at-insert = c in
-    at-insert.insert.auto.events
+    c.insert.auto.events
 
 pub shape_of-vertex : goal.shape_of-vertex
 shape_of-vertex c =
-    let at-insert = c in
-    at-insert.insert.auto.vertex
+    c.insert.auto.vertex
 
 pub shape_of-pts : goal.shape_of-pts
 shape_of-pts c =
-    let at-insert = c in
-    at-insert.insert.auto.pts
+    c.insert.auto.pts
 
 pub shape_of-out : goal.shape_of-out
 shape_of-out c =
-    let at-insert = c in
-    at-insert.insert.auto.out
+    c.insert.auto.out
 
 pub shape_of-keep : goal.shape_of-keep
 shape_of-keep c =
-    let at-insert = c in
-    at-insert.insert.auto.keep
+    c.insert.auto.keep
 
 pub shape_of-next : goal.shape_of-next
 shape_of-next c =
-    let at-insert = c in
-    at-insert.insert.auto.next
+    c.insert.auto.next
 
 pub shape_of-triangle_words : goal.shape_of-triangle_words
 shape_of-triangle_words c =
-    let at-insert = c in
-    at-insert.insert.auto.triangle_words
+    c.insert.auto.triangle_words
 
 pub shape_of-entry_words : goal.shape_of-entry_words
 shape_of-entry_words c =
-    let at-insert = c in
-    at-insert.insert.auto.entry_words
+    c.insert.auto.entry_words
 
 pub returns : goal.returns
 returns c =

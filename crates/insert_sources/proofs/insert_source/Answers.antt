@@ -6,151 +6,106 @@ use Rattle.insertion.specs.of_cut_lists.Buffers.{cut_buffers}
 use Rattle.insertion.specs.of_trim.Buffers.{slices}
 use Rattle.insertion.specs.of_face_entries.Buffers.{entry_buffers}
 use Rattle.insert_sources.specs.Job.{insertion_slices}
-use Rattle.insert_sources.proofs.Loop.{InsertInv, insert_start, insert_fits, insert_sizes}
+use Rattle.insert_sources.proofs.Loop.{insert_start, insert_fits, insert_sizes}
 use Rattle.insert_sources.proofs.Sources.{one_of, source_over, source_stopped, source_next}
-use borrow.Author.Rules.{rules}
 use Rattle.insert_sources.proofs.insert_source.Goals as goal
 
 pub loop-i-init : goal.loop-i-init
 loop-i-init c =
-    let start = c in
-    let a = start.args in
+    let a = c.args in
     let k = (insertion_slices a.vertices.now a.vertex_words.now a.edge_reals.now a.triangle_reals.now a.round.now a.kinds.now a.faces.now a.coords.now a.piece_words.now a.piece_reals.now) in
     insert_start a.limit k (one_of k a.j) a.counts (slices a.edge_words.now a.words.now a.reals.now a.keys.now a.events.now a.vertex.now) (entry_buffers a.triangle_words.now a.entry_words.now)
-    (cut_buffers a.pts.now a.out.now a.keep.now a.next.now) c.insert_count-count.result start.requires.0
+    (cut_buffers a.pts.now a.out.now a.keep.now a.next.now) c.insert_count-count.result c.requires.0
 
 pub insert_number-one-requires : goal.insert_number-one-requires
 insert_number-one-requires c =
-    let tested = c in
-    let loop = tested in
-    let start = tested in
-    let a = start.args in
-    let l = loop.loop-i in
+    let a = c.args in
+    let l = c.loop-i in
     let k = (insertion_slices a.vertices.now a.vertex_words.now a.edge_reals.now a.triangle_reals.now a.round.now a.kinds.now a.faces.now a.coords.now a.piece_words.now a.piece_reals.now) in
-    let n = loop.insert_count-count.result in (
+    let n = c.insert_count-count.result in (
       insert_fits a.limit k (one_of k a.j) a.counts (slices a.edge_words.now a.words.now a.reals.now a.keys.now a.events.now a.vertex.now) (entry_buffers a.triangle_words.now a.entry_words.now)
-          (cut_buffers a.pts.now a.out.now a.keep.now a.next.now) n (slices l.edge_words l.words l.reals l.keys l.events l.vertex) (entry_buffers l.triangle_words l.entry_words) (cut_buffers l.pts l.out l.keep l.next) l.now l.i l.invariant tested.loop-i-test.true,
+          (cut_buffers a.pts.now a.out.now a.keep.now a.next.now) n (slices l.edge_words l.words l.reals l.keys l.events l.vertex) (entry_buffers l.triangle_words l.entry_words) (cut_buffers l.pts l.out l.keep l.next) l.now l.i l.invariant c.loop-i-test.true,
       insert_sizes a.limit k (one_of k a.j) a.counts (slices a.edge_words.now a.words.now a.reals.now a.keys.now a.events.now a.vertex.now) (entry_buffers a.triangle_words.now a.entry_words.now)
-          (cut_buffers a.pts.now a.out.now a.keep.now a.next.now) n (slices l.edge_words l.words l.reals l.keys l.events l.vertex) (entry_buffers l.triangle_words l.entry_words) (cut_buffers l.pts l.out l.keep l.next) l.now l.i l.invariant tested.loop-i-test.true
-          start.requires.1.0,
+          (cut_buffers a.pts.now a.out.now a.keep.now a.next.now) n (slices l.edge_words l.words l.reals l.keys l.events l.vertex) (entry_buffers l.triangle_words l.entry_words) (cut_buffers l.pts l.out l.keep l.next) l.now l.i l.invariant c.loop-i-test.true
+          c.requires.1.0,
     )
 
 pub shape_of-edge_words-in-Stopped : goal.shape_of-edge_words-in-Stopped
 shape_of-edge_words-in-Stopped c =
-    let made = c in
-    let loop = made in
-    made.insert_number-one.auto.edge_words ∙ loop.loop-i.invariant.same.trim.edges
+    c.insert_number-one.auto.edge_words ∙ c.loop-i.invariant.same.trim.edges
 
 pub shape_of-words-in-Stopped : goal.shape_of-words-in-Stopped
 shape_of-words-in-Stopped c =
-    let made = c in
-    let loop = made in
-    made.insert_number-one.auto.words ∙ loop.loop-i.invariant.same.trim.words
+    c.insert_number-one.auto.words ∙ c.loop-i.invariant.same.trim.words
 
 pub shape_of-reals-in-Stopped : goal.shape_of-reals-in-Stopped
 shape_of-reals-in-Stopped c =
-    let made = c in
-    let loop = made in
-    made.insert_number-one.auto.reals ∙ loop.loop-i.invariant.same.trim.reals
+    c.insert_number-one.auto.reals ∙ c.loop-i.invariant.same.trim.reals
 
 pub shape_of-keys-in-Stopped : goal.shape_of-keys-in-Stopped
 shape_of-keys-in-Stopped c =
-    let made = c in
-    let loop = made in
-    made.insert_number-one.auto.keys ∙ loop.loop-i.invariant.same.trim.keys
+    c.insert_number-one.auto.keys ∙ c.loop-i.invariant.same.trim.keys
 
 pub shape_of-events-in-Stopped : goal.shape_of-events-in-Stopped
 shape_of-events-in-Stopped c =
-    let made = c in
-    let loop = made in
-    made.insert_number-one.auto.events ∙ loop.loop-i.invariant.same.trim.events
+    c.insert_number-one.auto.events ∙ c.loop-i.invariant.same.trim.events
 
 pub shape_of-vertex-in-Stopped : goal.shape_of-vertex-in-Stopped
 shape_of-vertex-in-Stopped c =
-    let made = c in
-    let loop = made in
-    made.insert_number-one.auto.vertex ∙ loop.loop-i.invariant.same.trim.vertex
+    c.insert_number-one.auto.vertex ∙ c.loop-i.invariant.same.trim.vertex
 
 pub shape_of-pts-in-Stopped : goal.shape_of-pts-in-Stopped
 shape_of-pts-in-Stopped c =
-    let made = c in
-    let loop = made in
-    made.insert_number-one.auto.pts ∙ loop.loop-i.invariant.same.trim.pts
+    c.insert_number-one.auto.pts ∙ c.loop-i.invariant.same.trim.pts
 
 pub shape_of-out-in-Stopped : goal.shape_of-out-in-Stopped
 shape_of-out-in-Stopped c =
-    let made = c in
-    let loop = made in
-    made.insert_number-one.auto.out ∙ loop.loop-i.invariant.same.trim.out
+    c.insert_number-one.auto.out ∙ c.loop-i.invariant.same.trim.out
 
 pub shape_of-keep-in-Stopped : goal.shape_of-keep-in-Stopped
 shape_of-keep-in-Stopped c =
-    let made = c in
-    let loop = made in
-    made.insert_number-one.auto.keep ∙ loop.loop-i.invariant.same.trim.keep
+    c.insert_number-one.auto.keep ∙ c.loop-i.invariant.same.trim.keep
 
 pub shape_of-next-in-Stopped : goal.shape_of-next-in-Stopped
 shape_of-next-in-Stopped c =
-    let made = c in
-    let loop = made in
-    made.insert_number-one.auto.next ∙ loop.loop-i.invariant.same.trim.next
+    c.insert_number-one.auto.next ∙ c.loop-i.invariant.same.trim.next
 
 pub shape_of-triangle_words-in-Stopped : goal.shape_of-triangle_words-in-Stopped
 shape_of-triangle_words-in-Stopped c =
-    let made = c in
-    let loop = made in
-    made.insert_number-one.auto.triangle_words ∙ loop.loop-i.invariant.same.triangles
+    c.insert_number-one.auto.triangle_words ∙ c.loop-i.invariant.same.triangles
 
 pub shape_of-entry_words-in-Stopped : goal.shape_of-entry_words-in-Stopped
 shape_of-entry_words-in-Stopped c =
-    let made = c in
-    let loop = made in
-    made.insert_number-one.auto.entry_words ∙ loop.loop-i.invariant.same.entries
+    c.insert_number-one.auto.entry_words ∙ c.loop-i.invariant.same.entries
 
 pub returns-in-Stopped : goal.returns-in-Stopped
 returns-in-Stopped c =
-    let made = c in
-    let tested = made in
-    let loop = tested in
-    let counted = loop in
-    let read = counted in
-    let start = read in
-    let a = start.args in
-    let l = loop.loop-i in
-    let r = made.insert_number-one in
+    let a = c.args in
+    let l = c.loop-i in
+    let r = c.insert_number-one in
     let k = (insertion_slices a.vertices.now a.vertex_words.now a.edge_reals.now a.triangle_reals.now a.round.now a.kinds.now a.faces.now a.coords.now a.piece_words.now a.piece_reals.now) in
-    let e = c in
-    source_stopped a.limit k a.pieces start.requires.1.1.0 a.j start.requires.1.1.1 a.counts (slices a.edge_words.now a.words.now a.reals.now a.keys.now a.events.now a.vertex.now) (entry_buffers a.triangle_words.now a.entry_words.now)
-    (cut_buffers a.pts.now a.out.now a.keep.now a.next.now) read.job_source-s.result read.job_source-s.ensures counted.insert_count-count.result counted.insert_count-count.ensures
-    (slices l.edge_words l.words l.reals l.keys l.events l.vertex) (entry_buffers l.triangle_words l.entry_words) (cut_buffers l.pts l.out l.keep l.next) l.now l.i l.invariant tested.loop-i-test.true
+    source_stopped a.limit k a.pieces c.requires.1.1.0 a.j c.requires.1.1.1 a.counts (slices a.edge_words.now a.words.now a.reals.now a.keys.now a.events.now a.vertex.now) (entry_buffers a.triangle_words.now a.entry_words.now)
+    (cut_buffers a.pts.now a.out.now a.keep.now a.next.now) c.job_source-s.result c.job_source-s.ensures c.insert_count-count.result c.insert_count-count.ensures
+    (slices l.edge_words l.words l.reals l.keys l.events l.vertex) (entry_buffers l.triangle_words l.entry_words) (cut_buffers l.pts l.out l.keep l.next) l.now l.i l.invariant c.loop-i-test.true
     (slices r.new.edge_words r.new.words r.new.reals r.new.keys r.new.events r.new.vertex) (entry_buffers r.new.triangle_words r.new.entry_words) c.in-Stopped.lack (rw c.in-Stopped.is at r.ensures)
 
 pub overflow_add-i : goal.overflow_add-i
 overflow_add-i c =
-    let tested = c in
-    omega (arith, tested.loop-i-test.true, tested.insert_count-count.type_inv)
+    omega (arith, c.loop-i-test.true, c.insert_count-count.type_inv)
 
 pub loop-i-smaller : goal.loop-i-smaller
 loop-i-smaller c =
-    let tested = c in
-    omega (arith, tested.loop-i-test.true)
+    omega (arith, c.loop-i-test.true)
 
 pub loop-i-preserved : goal.loop-i-preserved
 loop-i-preserved c =
-    let made = c in
-    let tested = made in
-    let loop = tested in
-    let counted = loop in
-    let read = counted in
-    let start = read in
-    let a = start.args in
-    let l = loop.loop-i in
-    let r = made.insert_number-one in
+    let a = c.args in
+    let l = c.loop-i in
+    let r = c.insert_number-one in
     let k = (insertion_slices a.vertices.now a.vertex_words.now a.edge_reals.now a.triangle_reals.now a.round.now a.kinds.now a.faces.now a.coords.now a.piece_words.now a.piece_reals.now) in
-    let e = c in
-    source_next a.limit k a.pieces start.requires.1.1.0 a.j start.requires.1.1.1 a.counts (slices a.edge_words.now a.words.now a.reals.now a.keys.now a.events.now a.vertex.now) (entry_buffers a.triangle_words.now a.entry_words.now)
-    (cut_buffers a.pts.now a.out.now a.keep.now a.next.now) read.job_source-s.result read.job_source-s.ensures counted.insert_count-count.result counted.insert_count-count.ensures
-    (slices l.edge_words l.words l.reals l.keys l.events l.vertex) (entry_buffers l.triangle_words l.entry_words) (cut_buffers l.pts l.out l.keep l.next) l.now l.i l.invariant tested.loop-i-test.true
+    source_next a.limit k a.pieces c.requires.1.1.0 a.j c.requires.1.1.1 a.counts (slices a.edge_words.now a.words.now a.reals.now a.keys.now a.events.now a.vertex.now) (entry_buffers a.triangle_words.now a.entry_words.now)
+    (cut_buffers a.pts.now a.out.now a.keep.now a.next.now) c.job_source-s.result c.job_source-s.ensures c.insert_count-count.result c.insert_count-count.ensures
+    (slices l.edge_words l.words l.reals l.keys l.events l.vertex) (entry_buffers l.triangle_words l.entry_words) (cut_buffers l.pts l.out l.keep l.next) l.now l.i l.invariant c.loop-i-test.true
     (slices r.new.edge_words r.new.words r.new.reals r.new.keys r.new.events r.new.vertex) (entry_buffers r.new.triangle_words r.new.entry_words) c.in-Went.n
     (cut_buffers r.new.pts r.new.out r.new.keep r.new.next)
     (record {
@@ -208,13 +163,9 @@ shape_of-entry_words c = c.loop-i.invariant.same.entries
 
 pub returns : goal.returns
 returns c =
-    let loop = c in
-    let counted = loop in
-    let read = counted in
-    let start = read in
-    let a = start.args in
-    let l = loop.loop-i in
+    let a = c.args in
+    let l = c.loop-i in
     let k = (insertion_slices a.vertices.now a.vertex_words.now a.edge_reals.now a.triangle_reals.now a.round.now a.kinds.now a.faces.now a.coords.now a.piece_words.now a.piece_reals.now) in
-    source_over a.limit k a.pieces start.requires.1.1.0 a.j start.requires.1.1.1 a.counts (slices a.edge_words.now a.words.now a.reals.now a.keys.now a.events.now a.vertex.now) (entry_buffers a.triangle_words.now a.entry_words.now)
-    (cut_buffers a.pts.now a.out.now a.keep.now a.next.now) read.job_source-s.result read.job_source-s.ensures counted.insert_count-count.result counted.insert_count-count.ensures
+    source_over a.limit k a.pieces c.requires.1.1.0 a.j c.requires.1.1.1 a.counts (slices a.edge_words.now a.words.now a.reals.now a.keys.now a.events.now a.vertex.now) (entry_buffers a.triangle_words.now a.entry_words.now)
+    (cut_buffers a.pts.now a.out.now a.keep.now a.next.now) c.job_source-s.result c.job_source-s.ensures c.insert_count-count.result c.insert_count-count.ensures
     (slices l.edge_words l.words l.reals l.keys l.events l.vertex) (entry_buffers l.triangle_words l.entry_words) (cut_buffers l.pts l.out l.keep l.next) l.now l.i l.invariant (omega (arith, c.loop-i-test.false))

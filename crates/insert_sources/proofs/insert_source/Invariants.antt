@@ -1,13 +1,10 @@
 use Prim.Native.Nat.{◌-◌}
-use native.Mathlib.Omega.{arith}
-use mathlib.Core.Path.{◌∙◌}
 use Rattle.insertion.specs.of_cut_lists.Buffers.{cut_buffers}
 use Rattle.insertion.specs.of_trim.Buffers.{slices}
 use Rattle.insertion.specs.of_face_entries.Buffers.{entry_buffers}
 use Rattle.insert_sources.specs.Job.{insertion_slices}
-use Rattle.insert_sources.proofs.Loop.{InsertInv, insert_start, insert_fits, insert_sizes}
-use Rattle.insert_sources.proofs.Sources.{one_of, source_over, source_stopped, source_next}
-use borrow.Author.Rules.{rules}
+use Rattle.insert_sources.proofs.Loop.{InsertInv}
+use Rattle.insert_sources.proofs.Sources.{one_of}
 use Rattle.insert_sources.proofs.insert_source.Given as goal
 
 abbrev pub invariant-loop-i : goal.invariant-loop-i

@@ -8,122 +8,96 @@ insert_with_cuts-answer-requires c = (omega (arith, c.count-to_pts.ensures), c.r
 
 pub shape_of-edge_words-then-refusal-ne0 : goal.shape_of-edge_words-then-refusal-ne0
 shape_of-edge_words-then-refusal-ne0 c =
-    let at-insert-with-cuts = c in
-    at-insert-with-cuts.insert_with_cuts-answer.auto.edge_words
+    c.insert_with_cuts-answer.auto.edge_words
 
 pub shape_of-triangle_words-then-refusal-ne0 : goal.shape_of-triangle_words-then-refusal-ne0
 shape_of-triangle_words-then-refusal-ne0 c =
-    let at-insert-with-cuts = c in
-    at-insert-with-cuts.insert_with_cuts-answer.auto.triangle_words
+    c.insert_with_cuts-answer.auto.triangle_words
 
 pub shape_of-words-then-refusal-ne0 : goal.shape_of-words-then-refusal-ne0
 shape_of-words-then-refusal-ne0 c =
-    let at-insert-with-cuts = c in
-    at-insert-with-cuts.insert_with_cuts-answer.auto.words
+    c.insert_with_cuts-answer.auto.words
 
 pub shape_of-reals-then-refusal-ne0 : goal.shape_of-reals-then-refusal-ne0
 shape_of-reals-then-refusal-ne0 c =
-    let at-insert-with-cuts = c in
-    at-insert-with-cuts.insert_with_cuts-answer.auto.reals
+    c.insert_with_cuts-answer.auto.reals
 
 pub shape_of-keys-then-refusal-ne0 : goal.shape_of-keys-then-refusal-ne0
 shape_of-keys-then-refusal-ne0 c =
-    let at-insert-with-cuts = c in
-    at-insert-with-cuts.insert_with_cuts-answer.auto.keys
+    c.insert_with_cuts-answer.auto.keys
 
 pub shape_of-events-then-refusal-ne0 : goal.shape_of-events-then-refusal-ne0
 shape_of-events-then-refusal-ne0 c =
-    let at-insert-with-cuts = c in
-    at-insert-with-cuts.insert_with_cuts-answer.auto.events
+    c.insert_with_cuts-answer.auto.events
 
 pub shape_of-vertex-then-refusal-ne0 : goal.shape_of-vertex-then-refusal-ne0
 shape_of-vertex-then-refusal-ne0 c =
-    let at-insert-with-cuts = c in
-    at-insert-with-cuts.insert_with_cuts-answer.auto.vertex
+    c.insert_with_cuts-answer.auto.vertex
 
 pub shape_of-entry_words-then-refusal-ne0 : goal.shape_of-entry_words-then-refusal-ne0
 shape_of-entry_words-then-refusal-ne0 c =
-    let at-insert-with-cuts = c in
-    at-insert-with-cuts.insert_with_cuts-answer.auto.entry_words
+    c.insert_with_cuts-answer.auto.entry_words
 
 pub shape_of-edge_words-in-Stopped : goal.shape_of-edge_words-in-Stopped
 shape_of-edge_words-in-Stopped c =
-    let at-insert-with-cuts = c in
-    at-insert-with-cuts.insert_with_cuts-answer.auto.edge_words
+    c.insert_with_cuts-answer.auto.edge_words
 
 pub shape_of-triangle_words-in-Stopped : goal.shape_of-triangle_words-in-Stopped
 shape_of-triangle_words-in-Stopped c =
-    let at-insert-with-cuts = c in
-    at-insert-with-cuts.insert_with_cuts-answer.auto.triangle_words
+    c.insert_with_cuts-answer.auto.triangle_words
 
 pub shape_of-words-in-Stopped : goal.shape_of-words-in-Stopped
 shape_of-words-in-Stopped c =
-    let at-insert-with-cuts = c in
-    at-insert-with-cuts.insert_with_cuts-answer.auto.words
+    c.insert_with_cuts-answer.auto.words
 
 pub shape_of-reals-in-Stopped : goal.shape_of-reals-in-Stopped
 shape_of-reals-in-Stopped c =
-    let at-insert-with-cuts = c in
-    at-insert-with-cuts.insert_with_cuts-answer.auto.reals
+    c.insert_with_cuts-answer.auto.reals
 
 pub shape_of-keys-in-Stopped : goal.shape_of-keys-in-Stopped
 shape_of-keys-in-Stopped c =
-    let at-insert-with-cuts = c in
-    at-insert-with-cuts.insert_with_cuts-answer.auto.keys
+    c.insert_with_cuts-answer.auto.keys
 
 pub shape_of-events-in-Stopped : goal.shape_of-events-in-Stopped
 shape_of-events-in-Stopped c =
-    let at-insert-with-cuts = c in
-    at-insert-with-cuts.insert_with_cuts-answer.auto.events
+    c.insert_with_cuts-answer.auto.events
 
 pub shape_of-vertex-in-Stopped : goal.shape_of-vertex-in-Stopped
 shape_of-vertex-in-Stopped c =
-    let at-insert-with-cuts = c in
-    at-insert-with-cuts.insert_with_cuts-answer.auto.vertex
+    c.insert_with_cuts-answer.auto.vertex
 
 pub shape_of-entry_words-in-Stopped : goal.shape_of-entry_words-in-Stopped
 shape_of-entry_words-in-Stopped c =
-    let at-insert-with-cuts = c in
-    at-insert-with-cuts.insert_with_cuts-answer.auto.entry_words
+    c.insert_with_cuts-answer.auto.entry_words
 
 pub shape_of-edge_words-else-refusal-ne0 : goal.shape_of-edge_words-else-refusal-ne0
 shape_of-edge_words-else-refusal-ne0 c =
-    let at-insert-with-cuts = c in
-    at-insert-with-cuts.insert_with_cuts-answer.auto.edge_words
+    c.insert_with_cuts-answer.auto.edge_words
 
 pub shape_of-triangle_words-else-refusal-ne0 : goal.shape_of-triangle_words-else-refusal-ne0
 shape_of-triangle_words-else-refusal-ne0 c =
-    let at-insert-with-cuts = c in
-    at-insert-with-cuts.insert_with_cuts-answer.auto.triangle_words
+    c.insert_with_cuts-answer.auto.triangle_words
 
 pub shape_of-words-else-refusal-ne0 : goal.shape_of-words-else-refusal-ne0
 shape_of-words-else-refusal-ne0 c =
-    let at-insert-with-cuts = c in
-    at-insert-with-cuts.insert_with_cuts-answer.auto.words
+    c.insert_with_cuts-answer.auto.words
 
 pub shape_of-reals-else-refusal-ne0 : goal.shape_of-reals-else-refusal-ne0
 shape_of-reals-else-refusal-ne0 c =
-    let at-insert-with-cuts = c in
-    at-insert-with-cuts.insert_with_cuts-answer.auto.reals
+    c.insert_with_cuts-answer.auto.reals
 
 pub shape_of-keys-else-refusal-ne0 : goal.shape_of-keys-else-refusal-ne0
 shape_of-keys-else-refusal-ne0 c =
-    let at-same-inserted = c in
-    let at-insert-with-cuts = at-same-inserted in
-    at-same-inserted.same_inserted.auto.keys ∙ at-insert-with-cuts.insert_with_cuts-answer.auto.keys
+    c.same_inserted.auto.keys ∙ c.insert_with_cuts-answer.auto.keys
 
 pub shape_of-events-else-refusal-ne0 : goal.shape_of-events-else-refusal-ne0
 shape_of-events-else-refusal-ne0 c =
-    let at-same-inserted = c in
-    let at-insert-with-cuts = at-same-inserted in
-    at-same-inserted.same_inserted.auto.events ∙ at-insert-with-cuts.insert_with_cuts-answer.auto.events
+    c.same_inserted.auto.events ∙ c.insert_with_cuts-answer.auto.events
 
 pub shape_of-vertex-else-refusal-ne0 : goal.shape_of-vertex-else-refusal-ne0
 shape_of-vertex-else-refusal-ne0 c =
-    let at-insert-with-cuts = c in
-    at-insert-with-cuts.insert_with_cuts-answer.auto.vertex
+    c.insert_with_cuts-answer.auto.vertex
 
 pub shape_of-entry_words-else-refusal-ne0 : goal.shape_of-entry_words-else-refusal-ne0
 shape_of-entry_words-else-refusal-ne0 c =
-    let at-insert-with-cuts = c in
-    at-insert-with-cuts.insert_with_cuts-answer.auto.entry_words
+    c.insert_with_cuts-answer.auto.entry_words

@@ -6,10 +6,8 @@ insert_holds-requires c = c.requires
 
 pub shape_of-edge_words : goal.shape_of-edge_words
 shape_of-edge_words c =
-    let at-insert-holds = c in
-    at-insert-holds.insert_holds.auto.edge_words
+    c.insert_holds.auto.edge_words
 
 pub shape_of-triangle_words : goal.shape_of-triangle_words
 shape_of-triangle_words c =
-    let at-insert-holds = c in
-    at-insert-holds.insert_holds.auto.triangle_words
+    c.insert_holds.auto.triangle_words

@@ -27,26 +27,22 @@ slice_bounds-insert_all-end-4 c = sym (length-take-le _ _ (search rules))
 
 pub insert_all-requires : goal.insert_all-requires
 insert_all-requires c =
-    let start = c in
-    let n = start.args.to_pts in (
+    let n = c.args.to_pts in (
       omega arith,
-      (record { outs = twice n _ _ (search rules) (search rules); keeps = twice n _ _ (search rules) (search rules); nexts = twice n _ _ (search rules) (search rules) }, omega (arith, start.requires.1)),
+      (record { outs = twice n _ _ (search rules) (search rules); keeps = twice n _ _ (search rules) (search rules); nexts = twice n _ _ (search rules) (search rules) }, omega (arith, c.requires.1)),
     )
 
 pub shape_of-edge_words : goal.shape_of-edge_words
 shape_of-edge_words c =
-    let at-insert-all = c in
-    at-insert-all.insert_all.auto.edge_words
+    c.insert_all.auto.edge_words
 
 pub shape_of-triangle_words : goal.shape_of-triangle_words
 shape_of-triangle_words c =
-    let at-insert-all = c in
-    at-insert-all.insert_all.auto.triangle_words
+    c.insert_all.auto.triangle_words
 
 pub shape_of-words : goal.shape_of-words
 shape_of-words c =
-    let at-insert-all = c in
-    at-insert-all.insert_all.auto.words
+    c.insert_all.auto.words
 
 pub shape_of-reals : goal.shape_of-reals
 shape_of-reals c = c.insert_all.auto.reals
@@ -59,10 +55,8 @@ shape_of-events c = c.insert_all.auto.events
 
 pub shape_of-vertex : goal.shape_of-vertex
 shape_of-vertex c =
-    let at-insert-all = c in
-    at-insert-all.insert_all.auto.vertex
+    c.insert_all.auto.vertex
 
 pub shape_of-entry_words : goal.shape_of-entry_words
 shape_of-entry_words c =
-    let at-insert-all = c in
-    at-insert-all.insert_all.auto.entry_words
+    c.insert_all.auto.entry_words

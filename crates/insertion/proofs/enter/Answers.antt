@@ -1,7 +1,6 @@
 -- `insertion::enter` meets its contract. Assumes nothing.
 use Rattle.source_inserts.specs.of_face_entries.Buffers.{entry_buffers}
 use Rattle.insertion.proofs.Calls.{enters_full, enters_count}
-use borrow.Author.Rules.{rules}
 use Rattle.insertion.proofs.enter.Goals as goal
 
 pub shape_of-triangle_words-in-Full : goal.shape_of-triangle_words-in-Full
@@ -26,5 +25,4 @@ pub returns-in-Count : goal.returns-in-Count
 returns-in-Count c =
     let a = c.args in
     let r = c.enter-entered in
-    let e = c in
     enters_count a.counts a.face a.x (entry_buffers a.triangle_words.now a.entry_words.now) (entry_buffers r.new.triangle_words r.new.entry_words) r.result r.ensures.entry_words_value c.in-Count.entries c.in-Count.is

@@ -1,11 +1,10 @@
-use Prim.Native.Nat.{ℕ, ◌≤◌, ◌-◌}
-use mathlib.Core.Path.{◌≡◌, ap, ◌∙◌}
+use Prim.Native.Nat.{ℕ, ◌-◌}
+use mathlib.Core.Path.{ap, ◌∙◌}
 use native.Mathlib.Omega.{arith}
 use lib.ListN.{length}
 use Rattle.chains.specs.Chains.{links}
 use Rattle.last_pass.specs.Buffers.{lowered_all_at}
 use Rattle.last_pass.proofs.Turns.{none_yet, one_group, length_all}
-use borrow.Author.Rules.{rules}
 use Rattle.last_pass.proofs.lower_all.Goals as goal
 
 pub loop-e-init : goal.loop-e-init
@@ -15,19 +14,16 @@ loop-e-init c =
 
 pub lower_group-requires : goal.lower_group-requires
 lower_group-requires c =
-    let group = c in
-    let p = group.requires in
-    (p.0, (omega (arith, p.1, group.group_end-end.ensures.1), omega (arith, group.group_end-end.ensures.0)))
+    let p = c.requires in
+    (p.0, (omega (arith, p.1, c.group_end-end.ensures.1), omega (arith, c.group_end-end.ensures.0)))
 
 pub loop-e-preserved : goal.loop-e-preserved
 loop-e-preserved c =
-    let lowered = c in
-    let group = lowered in
-    let l = group.loop-e in
-    let a = group.args in (
-      omega (arith, group.group_end-end.ensures.1),
-      one_group a.made a.edge_reals.now (links a.edge_words.now a.words.now) a.reals.now l.e group.group_end-end.result (omega (arith, group.group_end-end.ensures.0)) a.vertex.now l.vertex _
-          l.invariant.1 lowered.lower_group.ensures,
+    let l = c.loop-e in
+    let a = c.args in (
+      omega (arith, c.group_end-end.ensures.1),
+      one_group a.made a.edge_reals.now (links a.edge_words.now a.words.now) a.reals.now l.e c.group_end-end.result (omega (arith, c.group_end-end.ensures.0)) a.vertex.now l.vertex _
+          l.invariant.1 c.lower_group.ensures,
     )
 
 pub returns : goal.returns

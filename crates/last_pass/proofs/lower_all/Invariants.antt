@@ -1,11 +1,7 @@
-use Prim.Native.Nat.{ℕ, ◌≤◌, ◌-◌}
-use mathlib.Core.Path.{◌≡◌, ap, ◌∙◌}
-use native.Mathlib.Omega.{arith}
-use lib.ListN.{length}
+use Prim.Native.Nat.{◌≤◌, ◌-◌}
+use mathlib.Core.Path.{◌≡◌}
 use Rattle.chains.specs.Chains.{links}
 use Rattle.last_pass.specs.Buffers.{lowered_all_at}
-use Rattle.last_pass.proofs.Turns.{none_yet, one_group, length_all}
-use borrow.Author.Rules.{rules}
 use Rattle.last_pass.proofs.lower_all.Given as goal
 
 abbrev pub invariant-loop-e : goal.invariant-loop-e

@@ -1,12 +1,10 @@
-use Prim.Native.Nat.{◌≤◌}
-use mathlib.Core.Path.{◌≡◌, refl, sym, ap, ◌∙◌}
+use mathlib.Core.Path.{refl, sym, ap, ◌∙◌}
 use native.Mathlib.Omega.{arith}
 use lib.ListN.{length}
 use Rattle.chains.specs.Chains.{links, link_at}
 use Rattle.chains.proofs.Turns.{link_le}
 use Rattle.last_pass.specs.Buffers.{chain_behind, wins_on}
-use Rattle.last_pass.proofs.Turns.{to_do, done_chain, done_count, one_less, length_edge}
-use borrow.Author.Rules.{rules}
+use Rattle.last_pass.proofs.Turns.{done_chain, done_count, one_less, length_edge}
 use Rattle.last_pass.proofs.lower_edge.Goals as goal
 
 pub loop-left-init : goal.loop-left-init
@@ -14,10 +12,9 @@ loop-left-init c = (omega arith, (omega arith, refl))
 
 pub returns-then-at-eq0 : goal.returns-then-at-eq0
 returns-then-at-eq0 c =
-    let read = c in
-    let l = read.loop-left in
-    let a = read.args in
-    sym (done_chain a.made (links a.edge_words.now a.words.now) a.reals.now a.e l.left l.before read.link_at-at.result read.link_at-at.ensures c.if-at-eq0.true l.vertex) ∙ l.invariant.1.1
+    let l = c.loop-left in
+    let a = c.args in
+    sym (done_chain a.made (links a.edge_words.now a.words.now) a.reals.now a.e l.left l.before c.link_at-at.result c.link_at-at.ensures c.if-at-eq0.true l.vertex) ∙ l.invariant.1.1
 
 pub shape_of-vertex-then-at-eq0 : goal.shape_of-vertex-then-at-eq0
 shape_of-vertex-then-at-eq0 c =
@@ -26,25 +23,19 @@ shape_of-vertex-then-at-eq0 c =
 
 pub load-x-requires : goal.load-x-requires
 load-x-requires c =
-    let read = c in
-    let l = read.loop-left in
-    let s = read in
-    let a = s.args in
-    omega (arith, s.requires.0, c.if-at-eq0.false, link_le a.made (link_at (links a.edge_words.now a.words.now) a.e.id.0 l.before) read.link_at-at.result read.link_at-at.ensures)
+    let l = c.loop-left in
+    let a = c.args in
+    omega (arith, c.requires.0, c.if-at-eq0.false, link_le a.made (link_at (links a.edge_words.now a.words.now) a.e.id.0 l.before) c.link_at-at.result c.link_at-at.ensures)
 
 pub loop-left-preserved : goal.loop-left-preserved
 loop-left-preserved c =
-    let lowered = c in
-    let loaded = lowered in
-    let some = loaded in
-    let read = some in
-    let l = read.loop-left in
-    let a = read.args in (
-      link_le a.made (link_at (links a.edge_words.now a.words.now) a.e.id.0 l.before) read.link_at-at.result read.link_at-at.ensures,
+    let l = c.loop-left in
+    let a = c.args in (
+      link_le a.made (link_at (links a.edge_words.now a.words.now) a.e.id.0 l.before) c.link_at-at.result c.link_at-at.ensures,
       (
         omega (arith, l.invariant.1.0),
-        one_less a.made (links a.edge_words.now a.words.now) a.reals.now a.e l.left l.before read.link_at-at.result read.link_at-at.ensures read.loop-left-test.true some.if-at-eq0.false
-            loaded.load-x.result loaded.load-x.ensures l.vertex _ lowered.lower_ends.ensures ∙ l.invariant.1.1,
+        one_less a.made (links a.edge_words.now a.words.now) a.reals.now a.e l.left l.before c.link_at-at.result c.link_at-at.ensures c.loop-left-test.true c.if-at-eq0.false
+            c.load-x.result c.load-x.ensures l.vertex _ c.lower_ends.ensures ∙ l.invariant.1.1,
       ),
     )
 

@@ -1,12 +1,7 @@
 use Prim.Native.Nat.{◌≤◌}
-use mathlib.Core.Path.{◌≡◌, refl, sym, ap, ◌∙◌}
-use native.Mathlib.Omega.{arith}
-use lib.ListN.{length}
-use Rattle.chains.specs.Chains.{links, link_at}
-use Rattle.chains.proofs.Turns.{link_le}
-use Rattle.last_pass.specs.Buffers.{chain_behind, wins_on}
-use Rattle.last_pass.proofs.Turns.{to_do, done_chain, done_count, one_less, length_edge}
-use borrow.Author.Rules.{rules}
+use mathlib.Core.Path.{◌≡◌}
+use Rattle.chains.specs.Chains.{links}
+use Rattle.last_pass.proofs.Turns.{to_do}
 use Rattle.last_pass.proofs.lower_edge.Given as goal
 
 abbrev pub invariant-loop-left : goal.invariant-loop-left

@@ -1,4 +1,4 @@
-use Prim.Native.Nat.{ℕ, ◌≤◌, ◌-◌}
+use Prim.Native.Nat.{ℕ, ◌-◌}
 use mathlib.Core.Path.{◌≡◌, ap, ◌∙◌}
 use native.Mathlib.Omega.{arith}
 use native.Mathlib.Numerals.{add-one}
@@ -7,35 +7,30 @@ use Rattle.windows.specs.declared.Edge.{Edge}
 use Rattle.chains.specs.Chains.{links}
 use Rattle.last_pass.specs.Buffers.{lowered_from}
 use Rattle.last_pass.proofs.Turns.{none_of_group, one_of_group, length_group}
-use borrow.Author.Rules.{rules}
 use Rattle.last_pass.proofs.lower_group.Goals as goal
 
 pub loop-e-init : goal.loop-e-init
 loop-e-init c =
-    let start = c in
-    let a = start.args in
+    let a = c.args in
     let none : 0 ≡ a.from - a.from = omega arith in (
-      (omega arith, omega (arith, start.requires.1.1)),
+      (omega arith, omega (arith, c.requires.1.1)),
       none_of_group a.made a.edge_reals.now (links a.edge_words.now a.words.now) a.reals.now a.from a.vertex.now
           ∙ ap (λ (k : ℕ). lowered_from a.made a.edge_reals.now (links a.edge_words.now a.words.now) a.reals.now a.from k a.vertex.now) none,
     )
 
 pub lower_edge-requires : goal.lower_edge-requires
 lower_edge-requires c =
-    let read = c in
-    let p = read.requires in
-    (p.0, omega (arith, p.1.0, read.loop-e-test.true, ap (λ (x : Edge). x.id.0) read.edge-edge.ensures))
+    let p = c.requires in
+    (p.0, omega (arith, p.1.0, c.loop-e-test.true, ap (λ (x : Edge). x.id.0) c.edge-edge.ensures))
 
 pub loop-e-preserved : goal.loop-e-preserved
 loop-e-preserved c =
-    let lowered = c in
-    let read = lowered in
-    let l = read.loop-e in
-    let a = read.args in (
-      (omega (arith, l.invariant.0.0), omega (arith, read.loop-e-test.true)),
+    let l = c.loop-e in
+    let a = c.args in (
+      (omega (arith, l.invariant.0.0), omega (arith, c.loop-e-test.true)),
       rw (add-one l.e)
           (one_of_group a.made a.edge_reals.now (links a.edge_words.now a.words.now) a.reals.now a.from l.e l.invariant.0.0 a.vertex.now l.vertex _
-          read.edge-edge.result read.edge-edge.ensures l.invariant.1 lowered.lower_edge.ensures),
+          c.edge-edge.result c.edge-edge.ensures l.invariant.1 c.lower_edge.ensures),
     )
 
 pub returns : goal.returns

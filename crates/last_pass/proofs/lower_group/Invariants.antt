@@ -1,13 +1,7 @@
-use Prim.Native.Nat.{ℕ, ◌≤◌, ◌-◌}
-use mathlib.Core.Path.{◌≡◌, ap, ◌∙◌}
-use native.Mathlib.Omega.{arith}
-use native.Mathlib.Numerals.{add-one}
-use lib.ListN.{length}
-use Rattle.windows.specs.declared.Edge.{Edge}
+use Prim.Native.Nat.{◌≤◌, ◌-◌}
+use mathlib.Core.Path.{◌≡◌}
 use Rattle.chains.specs.Chains.{links}
 use Rattle.last_pass.specs.Buffers.{lowered_from}
-use Rattle.last_pass.proofs.Turns.{none_of_group, one_of_group, length_group}
-use borrow.Author.Rules.{rules}
 use Rattle.last_pass.proofs.lower_group.Given as goal
 
 abbrev pub invariant-loop-e : goal.invariant-loop-e

@@ -14,11 +14,10 @@ loop-j-init c = (refl, (omega arith, front_none _))
 
 pub loop-j-preserved : goal.loop-j-preserved
 loop-j-preserved c =
-    let at-loop-test = c in
-    let loop = at-loop-test.loop-j in
-    let a = at-loop-test.args in (
+    let loop = c.loop-j in
+    let a = c.args in (
       length-set loop.to loop.j _ ∙ loop.invariant.0,
-      (omega (arith, at-loop-test.loop-j-test.true), front_next (λ k. number_from a.s.now (a.i + 4 * k)) a.to.now loop.to loop.j _ c.number_at.ensures (omega arith) loop.invariant.1.1),
+      (omega (arith, c.loop-j-test.true), front_next (λ k. number_from a.s.now (a.i + 4 * k)) a.to.now loop.to loop.j _ c.number_at.ensures (omega arith) loop.invariant.1.1),
     )
 
 pub returns : goal.returns

@@ -10,31 +10,28 @@ loop-left-init c = (search rules, (search rules, refl))
 
 pub returns-then-at-eq0 : goal.returns-then-at-eq0
 returns-then-at-eq0 c =
-    let read = c in
-    let l = read.loop-left in
-    let a = read.args in
+    let l = c.loop-left in
+    let a = c.args in
     seated a.b0 a.reals.now a.made (links a.edges.now a.words.now) a.e.0 a.from l.before l.invariant.0
-    (sym (walk_end (starts_at a.b0 a.reals.now) a.made (links a.edges.now a.words.now) a.e.0 l.left l.before read.next_link-at.result read.next_link-at.ensures.is c.if-at-eq0.true) ∙ l.invariant.1.1)
+    (sym (walk_end (starts_at a.b0 a.reals.now) a.made (links a.edges.now a.words.now) a.e.0 l.left l.before c.next_link-at.result c.next_link-at.ensures.is c.if-at-eq0.true) ∙ l.invariant.1.1)
 
 pub loop-left-preserved : goal.loop-left-preserved
 loop-left-preserved c =
-    let read = c in
-    let l = read.loop-left in
-    let a = read.args in (
-      read.next_link-at.ensures.made,
+    let l = c.loop-left in
+    let a = c.args in (
+      c.next_link-at.ensures.made,
       (
         search rules,
-        sym (walk_go (starts_at a.b0 a.reals.now) a.made (links a.edges.now a.words.now) a.e.0 l.left l.before read.next_link-at.result read.next_link-at.ensures.is read.loop-left-test.true c.if-at-eq0.false (sym c.starts_by-go.ensures ∙ c.if-go.true)) ∙ l.invariant.1.1,
+        sym (walk_go (starts_at a.b0 a.reals.now) a.made (links a.edges.now a.words.now) a.e.0 l.left l.before c.next_link-at.result c.next_link-at.ensures.is c.loop-left-test.true c.if-at-eq0.false (sym c.starts_by-go.ensures ∙ c.if-go.true)) ∙ l.invariant.1.1,
       ),
     )
 
 pub returns-else-go : goal.returns-else-go
 returns-else-go c =
-    let read = c in
-    let l = read.loop-left in
-    let a = read.args in
+    let l = c.loop-left in
+    let a = c.args in
     seated a.b0 a.reals.now a.made (links a.edges.now a.words.now) a.e.0 a.from l.before l.invariant.0
-    (sym (walk_stop (starts_at a.b0 a.reals.now) a.made (links a.edges.now a.words.now) a.e.0 l.left l.before read.next_link-at.result read.next_link-at.ensures.is c.if-at-eq0.false (sym c.starts_by-go.ensures ∙ c.if-go.false)) ∙ l.invariant.1.1)
+    (sym (walk_stop (starts_at a.b0 a.reals.now) a.made (links a.edges.now a.words.now) a.e.0 l.left l.before c.next_link-at.result c.next_link-at.ensures.is c.if-at-eq0.false (sym c.starts_by-go.ensures ∙ c.if-go.false)) ∙ l.invariant.1.1)
 
 pub returns : goal.returns
 returns c =

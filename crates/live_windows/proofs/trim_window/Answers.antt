@@ -5,7 +5,5 @@ use Rattle.live_windows.proofs.trim_window.Goals as goal
 
 pub returns : goal.returns
 returns c =
-    let stored = c in
-    let s = stored in
-    let a = s.args in
-    trim_done a.reals.now a.id.0 a.b0 a.b1 a.low (counted a.id.0 (length a.words.now) (length a.reals.now) s.requires).1 _ stored.store_range.ensures
+    let a = c.args in
+    trim_done a.reals.now a.id.0 a.b0 a.b1 a.low (counted a.id.0 (length a.words.now) (length a.reals.now) c.requires).1 _ c.store_range.ensures

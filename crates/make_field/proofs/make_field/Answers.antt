@@ -7,7 +7,6 @@ use Rattle.finish_work.specs.of_trim.Buffers.{slices}
 use Rattle.compute_spec.specs.of_face_entries.Buffers.{entry_buffers}
 use Rattle.compute_spec.specs.of_begin.Begin.{work_slices}
 use Rattle.make_field.proofs.Making.{makes_field, passes_field, within_left, edges_left}
-use borrow.Author.Rules.{rules}
 use Rattle.make_field.proofs.make_field.Goals as goal
 
 pub returns-then-number-gt0 : goal.returns-then-number-gt0
@@ -27,10 +26,9 @@ work_parts-worked-requires c =
 
 pub finish_work-requires : goal.finish_work-requires
 finish_work-requires c =
-    let far = c in
-    let a = far.args in
+    let a = c.args in
     let none = c.if-number-gt0.false in
-    let fits = far.requires (omega (arith, none)) in
+    let fits = c.requires (omega (arith, none)) in
     let worked = c.work_parts-worked in (
       within_left worked.result a.words.now a.reals.now worked.new.words worked.new.reals worked.auto.words worked.auto.reals worked.ensures.bounded,
       edges_left a.edges a.edge_words.now worked.new.edge_words worked.auto.edge_words fits.1.1.1,
@@ -96,10 +94,9 @@ shape_of-next c =
 
 pub returns : goal.returns
 returns c =
-    let far = c in
-    let a = far.args in
-    let none = far.if-number-gt0.false in
-    let cut = far.cut_count-x in
+    let a = c.args in
+    let none = c.if-number-gt0.false in
+    let cut = c.cut_count-x in
     let worked = c.work_parts-worked in
     let ended = c.finish_work in
     makes_field a.edges a.vertices.now a.triangles.now a.kinds.now a.faces.now a.coords.now a.limit

@@ -2,7 +2,6 @@
 use Prim.Native.Nat.{ℕ, min}
 use mathlib.Core.Path.{ap, ◌∙◌}
 use Rattle.mesh.proofs.Answering.{same_counts}
-use borrow.Author.Rules.{rules}
 use Rattle.mesh.proofs.buffer_counts.Goals as goal
 
 pub returns : goal.returns

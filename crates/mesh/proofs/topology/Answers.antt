@@ -3,7 +3,6 @@ use mathlib.Core.Path.{◌∙◌}
 use native.Mathlib.Omega.{arith}
 use Rattle.edge_table.proofs.Reading.{mesh_most}
 use Rattle.mesh.proofs.Making.{few_edges, made_third, made_filled}
-use borrow.Author.Rules.{rules}
 use Rattle.mesh.proofs.topology.Goals as goal
 
 pub build-requires : goal.build-requires
@@ -29,61 +28,48 @@ complete-requires c =
 
 pub shape_of-vertex_words-in-ThirdFace : goal.shape_of-vertex_words-in-ThirdFace
 shape_of-vertex_words-in-ThirdFace c =
-    let at-zero-u32 = c in
-    at-zero-u32.zero_u32.auto.s
+    c.zero_u32.auto.s
 
 pub shape_of-edge_words-in-ThirdFace : goal.shape_of-edge_words-in-ThirdFace
 shape_of-edge_words-in-ThirdFace c =
-    let at-build = c in
-    at-build.build.auto.edge_words
+    c.build.auto.edge_words
 
 pub shape_of-edge_reals-in-ThirdFace : goal.shape_of-edge_reals-in-ThirdFace
 shape_of-edge_reals-in-ThirdFace c = c.zero_f64.auto.s
 
 pub shape_of-round-in-ThirdFace : goal.shape_of-round-in-ThirdFace
 shape_of-round-in-ThirdFace c =
-    let at-build = c in
-    at-build.build.auto.heads
+    c.build.auto.heads
 
 pub shape_of-triangle_words-in-ThirdFace : goal.shape_of-triangle_words-in-ThirdFace
 shape_of-triangle_words-in-ThirdFace c =
-    let at-build = c in
-    at-build.build.auto.triangle_words
+    c.build.auto.triangle_words
 
 pub shape_of-triangle_reals-in-ThirdFace : goal.shape_of-triangle_reals-in-ThirdFace
 shape_of-triangle_reals-in-ThirdFace c = c.zero_f64-in-ThirdFace.auto.s
 
 pub returns-in-ThirdFace : goal.returns-in-ThirdFace
 returns-in-ThirdFace c =
-    let at-zero-f642 = c in
-    let at-zero-f64 = at-zero-f642 in
-    let at-zero-u32 = at-zero-f64 in
-    let at-enum-told = at-zero-u32 in
-    let at-build = at-enum-told in
-    made_third _ _ _ _ _ _ _ _ _ _ _ _ _ _ _ _ at-build.build.ensures at-enum-told.in-ThirdFace.is at-zero-u32.zero_u32.ensures at-zero-f64.zero_f64.ensures
-    at-zero-f642.zero_f64-in-ThirdFace.ensures
+    made_third _ _ _ _ _ _ _ _ _ _ _ _ _ _ _ _ c.build.ensures c.in-ThirdFace.is c.zero_u32.ensures c.zero_f64.ensures
+    c.zero_f64-in-ThirdFace.ensures
 
 pub shape_of-vertex_words-in-Edges : goal.shape_of-vertex_words-in-Edges
 shape_of-vertex_words-in-Edges c = c.complete.auto.vertex_words
 
 pub shape_of-edge_words-in-Edges : goal.shape_of-edge_words-in-Edges
 shape_of-edge_words-in-Edges c =
-    let at-build = c in
-    at-build.build.auto.edge_words
+    c.build.auto.edge_words
 
 pub shape_of-edge_reals-in-Edges : goal.shape_of-edge_reals-in-Edges
 shape_of-edge_reals-in-Edges c = c.complete.auto.edge_reals
 
 pub shape_of-round-in-Edges : goal.shape_of-round-in-Edges
 shape_of-round-in-Edges c =
-    let at-complete = c in
-    let at-build = at-complete in
-    at-complete.complete.auto.round ∙ at-build.build.auto.heads
+    c.complete.auto.round ∙ c.build.auto.heads
 
 pub shape_of-triangle_words-in-Edges : goal.shape_of-triangle_words-in-Edges
 shape_of-triangle_words-in-Edges c =
-    let at-build = c in
-    at-build.build.auto.triangle_words
+    c.build.auto.triangle_words
 
 pub shape_of-triangle_reals-in-Edges : goal.shape_of-triangle_reals-in-Edges
 shape_of-triangle_reals-in-Edges c = c.complete.auto.triangle_reals

@@ -6,17 +6,12 @@ returns-then-has_face c = side_to_0 _ _ _ _ _ c.read_u32.ensures _ c.has_face.en
 
 pub returns-then-has_face-2 : goal.returns-then-has_face-2
 returns-then-has_face-2 c =
-    let a = c in
-    side_to_1 _ _ _ _ _ a.read_u32.ensures _ a.has_face.ensures a.if-has_face.false _ c.read_u32-2.ensures _ c.has_face-2.ensures c.if-has_face-2.true
+    side_to_1 _ _ _ _ _ c.read_u32.ensures _ c.has_face.ensures c.if-has_face.false _ c.read_u32-2.ensures _ c.has_face-2.ensures c.if-has_face-2.true
 
 pub returns-then-has_face-3 : goal.returns-then-has_face-3
 returns-then-has_face-3 c =
-    let b = c in
-    let a = b in
-    side_to_2 _ _ _ _ _ a.read_u32.ensures _ a.has_face.ensures a.if-has_face.false _ b.read_u32-2.ensures _ b.has_face-2.ensures b.if-has_face-2.false _ c.read_u32-3.ensures _ c.has_face-3.ensures c.if-has_face-3.true
+    side_to_2 _ _ _ _ _ c.read_u32.ensures _ c.has_face.ensures c.if-has_face.false _ c.read_u32-2.ensures _ c.has_face-2.ensures c.if-has_face-2.false _ c.read_u32-3.ensures _ c.has_face-3.ensures c.if-has_face-3.true
 
 pub returns : goal.returns
 returns c =
-    let b = c in
-    let a = b in
-    side_to_none _ _ _ _ _ a.read_u32.ensures _ a.has_face.ensures a.if-has_face.false _ b.read_u32-2.ensures _ b.has_face-2.ensures b.if-has_face-2.false _ c.read_u32-3.ensures _ c.has_face-3.ensures c.if-has_face-3.false
+    side_to_none _ _ _ _ _ c.read_u32.ensures _ c.has_face.ensures c.if-has_face.false _ c.read_u32-2.ensures _ c.has_face-2.ensures c.if-has_face-2.false _ c.read_u32-3.ensures _ c.has_face-3.ensures c.if-has_face-3.false

@@ -3,20 +3,12 @@ use Rattle.mesh_readers.proofs.third.Goals as goal
 
 pub returns-then-off_ends : goal.returns-then-off_ends
 returns-then-off_ends c =
-    let a = c in
-    vertex_id _ _ (third_first _ _ _ _ _ _ _ a.read_u32-low.ensures a.read_u32-high.ensures a.read_u32-a.ensures _ c.off_ends.ensures c.if-off_ends.true)
+    vertex_id _ _ (third_first _ _ _ _ _ _ _ c.read_u32-low.ensures c.read_u32-high.ensures c.read_u32-a.ensures _ c.off_ends.ensures c.if-off_ends.true)
 
 pub returns-then-off_ends-2 : goal.returns-then-off_ends-2
 returns-then-off_ends-2 c =
-    let b = c in
-    let first = b in
-    let a = first in
-    vertex_id _ _ (third_second _ _ _ _ _ _ _ a.read_u32-low.ensures a.read_u32-high.ensures a.read_u32-a.ensures _ first.off_ends.ensures first.if-off_ends.false _ b.read_u32-b.ensures _ c.off_ends-2.ensures c.if-off_ends-2.true)
+    vertex_id _ _ (third_second _ _ _ _ _ _ _ c.read_u32-low.ensures c.read_u32-high.ensures c.read_u32-a.ensures _ c.off_ends.ensures c.if-off_ends.false _ c.read_u32-b.ensures _ c.off_ends-2.ensures c.if-off_ends-2.true)
 
 pub returns : goal.returns
 returns c =
-    let second = c in
-    let b = second in
-    let first = b in
-    let a = first in
-    vertex_id _ _ (third_last _ _ _ _ _ _ _ a.read_u32-low.ensures a.read_u32-high.ensures a.read_u32-a.ensures _ first.off_ends.ensures first.if-off_ends.false _ b.read_u32-b.ensures _ second.off_ends-2.ensures second.if-off_ends-2.false _ c.read_u32.ensures)
+    vertex_id _ _ (third_last _ _ _ _ _ _ _ c.read_u32-low.ensures c.read_u32-high.ensures c.read_u32-a.ensures _ c.off_ends.ensures c.if-off_ends.false _ c.read_u32-b.ensures _ c.off_ends-2.ensures c.if-off_ends-2.false _ c.read_u32.ensures)

@@ -5,33 +5,27 @@ use Rattle.moves_c.proofs.read_told.Goals as goal
 
 pub shape_of-vertices : goal.shape_of-vertices
 shape_of-vertices c =
-    let at_read = c in
-    at_read.read-answer.auto.vertices
+    c.read-answer.auto.vertices
 
 pub shape_of-triangles : goal.shape_of-triangles
 shape_of-triangles c =
-    let at_read = c in
-    at_read.read-answer.auto.triangles
+    c.read-answer.auto.triangles
 
 pub shape_of-flags : goal.shape_of-flags
 shape_of-flags c =
-    let at_read = c in
-    at_read.read-answer.auto.flags
+    c.read-answer.auto.flags
 
 pub shape_of-kinds : goal.shape_of-kinds
 shape_of-kinds c =
-    let at_read = c in
-    at_read.read-answer.auto.kinds
+    c.read-answer.auto.kinds
 
 pub shape_of-faces : goal.shape_of-faces
 shape_of-faces c =
-    let at_read = c in
-    at_read.read-answer.auto.faces
+    c.read-answer.auto.faces
 
 pub shape_of-coords : goal.shape_of-coords
 shape_of-coords c =
-    let at_read = c in
-    at_read.read-answer.auto.coords
+    c.read-answer.auto.coords
 
 pub shape_of-told : goal.shape_of-told
 shape_of-told c = c.tell_read.auto.told
@@ -42,9 +36,6 @@ shape_of-limit c = c.tell_read.auto.limit
 pub returns : goal.returns
 unfolding form_read
 returns c =
-    let p0 = c in
-    let p1 = p0 in
-    let p2 = p1 in
-    let reads = p1.read-answer.ensures in
-    let tells = p0.tell_read.ensures ∙ ap (λ q. read_told q.0 p2.args.told.now p2.args.limit.now) reads in
+    let reads = c.read-answer.ensures in
+    let tells = c.tell_read.ensures ∙ ap (λ q. read_told q.0 c.args.told.now c.args.limit.now) reads in
     λ i. ((tells i).0, ((reads i).1, (tells i).1))

@@ -14,10 +14,7 @@ returns-in-TooMany c = rw c.in-TooMany.is
 
 pub shape_of-told : goal.shape_of-told
 shape_of-told c =
-    let at-write-u323 = c in
-    let at-write-u322 = at-write-u323 in
-    let at-write-u32 = at-write-u322 in
-    at-write-u323.write_u32-in-Job-2.auto.s ∙ at-write-u322.write_u32-in-Job.auto.s ∙ at-write-u32.write_u32.auto.s
+    c.write_u32-in-Job-2.auto.s ∙ c.write_u32-in-Job.auto.s ∙ c.write_u32.auto.s
 
 pub shape_of-limit : goal.shape_of-limit
 shape_of-limit c = c.write_f64.auto.s

@@ -3,7 +3,6 @@ use mathlib.Core.Path.{◌≡◌, refl, subst, sym}
 use lib.Dec.{T}
 use lib.Ieee.{nan, binary64, to_bits}
 use lib.Ieee.Compare.{differs_from_itself}
-use borrow.Author.Rules.{rules}
 use Rattle.root_spec.proofs.Floats.{no_nan}
 use Rattle.piece_ends.proofs.bits.Goals as goal
 

@@ -23,6 +23,4 @@ overflow_cast-result c = let a = c.args in omega (arith, product-fits c.mix-h.re
 
 pub returns : goal.returns
 returns c =
-    let second = c in
-    let first = second in
-    scaled first.args.p _ _ _ first.mix.ensures second.mix-2.ensures c.mix-h.ensures first.args.size
+    scaled c.args.p _ _ _ c.mix.ensures c.mix-2.ensures c.mix-h.ensures c.args.size

@@ -8,7 +8,6 @@ use lib.ListN.{length, replicate, length-replicate}
 use Rattle.layout.specs.Layout.{words_per_piece}
 use Rattle.piece_ends.specs.Table.{entered}
 use Rattle.piece_ends.proofs.Building.{Partial, none_entered, enter_turn, all_entered_lem}
-use borrow.Author.Rules.{rules}
 use Rattle.piece_ends.proofs.build.Goals as goal
 
 length_of : (l m : List ℕ) → l ≡ replicate (length m) 0 → length l ≡ length m
@@ -27,23 +26,16 @@ none_left kinds coords e words z part = let n : e ≡ 0 = omega arith in subst (
 
 pub loop-e-init : goal.loop-e-init
 loop-e-init c =
-    let zeroed = c in
-    let a = zeroed.args in
-    (omega arith, (refl, zero-start a.kinds.now a.coords.now _ a.words.now zeroed.zero_u32.ensures))
+    let a = c.args in
+    (omega arith, (refl, zero-start a.kinds.now a.coords.now _ a.words.now c.zero_u32.ensures))
 
 pub loop-e-preserved : goal.loop-e-preserved
 loop-e-preserved c =
-    let done = c in
-    let test = done in
-    let at = test in
-    let zeroed = at in
-    let a = zeroed.args in
-    let p = zeroed.requires in
-    (omega (arith, at.loop-e.invariant.0), (done.enter.auto.words ∙ at.loop-e.invariant.1.0, entered-next a.kinds.now a.coords.now at.loop-e.e _ _ at.loop-e.invariant.0 test.loop-e-test.true (omega (arith, p.1, at.loop-e.invariant.1.0, length_of _ a.words.now zeroed.zero_u32.ensures)) at.loop-e.invariant.1.1 done.enter.ensures))
+    let a = c.args in
+    let p = c.requires in
+    (omega (arith, c.loop-e.invariant.0), (c.enter.auto.words ∙ c.loop-e.invariant.1.0, entered-next a.kinds.now a.coords.now c.loop-e.e _ _ c.loop-e.invariant.0 c.loop-e-test.true (omega (arith, p.1, c.loop-e.invariant.1.0, length_of _ a.words.now c.zero_u32.ensures)) c.loop-e.invariant.1.1 c.enter.ensures))
 
 pub returns : goal.returns
 returns c =
-    let at = c in
-    let zeroed = at in
-    let a = zeroed.args in
-    all_entered_lem a.kinds.now a.coords.now at.loop-e.words _ (at.loop-e.invariant.1.0 ∙ length_of _ a.words.now zeroed.zero_u32.ensures) (none_left a.kinds.now a.coords.now at.loop-e.e at.loop-e.words c.loop-e-test.false at.loop-e.invariant.1.1)
+    let a = c.args in
+    all_entered_lem a.kinds.now a.coords.now c.loop-e.words _ (c.loop-e.invariant.1.0 ∙ length_of _ a.words.now c.zero_u32.ensures) (none_left a.kinds.now a.coords.now c.loop-e.e c.loop-e.words c.loop-e-test.false c.loop-e.invariant.1.1)

@@ -1,13 +1,7 @@
-use Prim.Native.Nat.{ℕ, suc, ◌-◌, ◌*◌, ◌<◌, ◌≤◌}
-use mathlib.Core.Path.{◌≡◌, refl, sym, ap, subst, ◌∙◌}
-use mathlib.Core.List.{List}
-use native.Mathlib.Omega.{arith}
-use lib.Ieee.{Float}
-use lib.ListN.{length, replicate, length-replicate}
-use Rattle.layout.specs.Layout.{words_per_piece}
-use Rattle.piece_ends.specs.Table.{entered}
-use Rattle.piece_ends.proofs.Building.{Partial, none_entered, enter_turn, all_entered_lem}
-use borrow.Author.Rules.{rules}
+use Prim.Native.Nat.{◌-◌, ◌*◌, ◌≤◌}
+use mathlib.Core.Path.{◌≡◌}
+use lib.ListN.{length}
+use Rattle.piece_ends.proofs.Building.{Partial}
 use Rattle.piece_ends.proofs.build.Given as goal
 
 abbrev pub invariant-loop-e : goal.invariant-loop-e

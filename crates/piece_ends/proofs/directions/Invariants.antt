@@ -1,13 +1,9 @@
 use Prim.Native.Nat.{ℕ, ◌-◌, ◌≤◌}
-use mathlib.Core.Path.{◌≡◌, refl, ◌∙◌}
-use native.Mathlib.Omega.{arith}
+use mathlib.Core.Path.{◌≡◌}
 use lib.ListN.{length}
-use borrow.Author.Rules.{rules}
 use Rattle.layout.specs.Layout.{reals_per_piece}
 use Rattle.frames.specs.Stored.{with_rows, row3}
-use Rattle.frames.proofs.Rows.{rows_start, rows_turn, rows_done}
 use Rattle.piece_ends.specs.Directions.{direction_of}
-use Rattle.piece_ends.proofs.Unit.{directions_made}
 use Rattle.piece_ends.proofs.directions.Given as goal
 
 abbrev pub invariant-loop-i : goal.invariant-loop-i

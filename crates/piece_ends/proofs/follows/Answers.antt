@@ -2,7 +2,6 @@
 use mathlib.Core.Path.{sym, ◌∙◌}
 use native.Mathlib.Omega.{arith}
 use borrow.Author.Tests.{not-true, not-false}
-use borrow.Author.Rules.{rules}
 use Rattle.piece_ends.proofs.Seeking.{no_end_before, before_no_end, before_has}
 use Rattle.piece_ends.proofs.follows.Goals as goal
 
@@ -13,17 +12,10 @@ returns-then-e-eq0 c =
 
 pub returns-then-not-is_end : goal.returns-then-not-is_end
 returns-then-not-is_end c =
-    let test = c in
-    let some = test in
-    let a = some.args in
-    before_no_end a.kinds.now a.coords.now a.e (omega (arith, some.if-e-eq0.false)) (sym test.is_end.ensures ∙ not-true _ c.if-not-is_end.true-raw)
+    let a = c.args in
+    before_no_end a.kinds.now a.coords.now a.e (omega (arith, c.if-e-eq0.false)) (sym c.is_end.ensures ∙ not-true _ c.if-not-is_end.true-raw)
 
 pub returns : goal.returns
 returns c =
-    let own = c in
-    let other = own in
-    let live = other in
-    let test = live in
-    let some = test in
-    let a = some.args in
-    before_has a.kinds.now a.coords.now a.e _ _ _ (omega (arith, some.if-e-eq0.false)) (sym test.is_end.ensures ∙ not-false _ live.if-not-is_end.false-raw) other.end_point.ensures own.end_point-2.ensures c.same_bits.ensures
+    let a = c.args in
+    before_has a.kinds.now a.coords.now a.e _ _ _ (omega (arith, c.if-e-eq0.false)) (sym c.is_end.ensures ∙ not-false _ c.if-not-is_end.false-raw) c.end_point.ensures c.end_point-2.ensures c.same_bits.ensures

@@ -1,6 +1,5 @@
 -- `piece_ends::is_end` meets its contract. Assumes nothing.
 use mathlib.Core.Path.{refl}
-use borrow.Author.Rules.{rules}
 use borrow.Author.Tests.{lt-ltb, le-ltb, eq-eqb, ne_eqb}
 use Rattle.piece_ends.specs.Ends.{is_end}
 use Rattle.piece_ends.proofs.is_end.Goals as goal

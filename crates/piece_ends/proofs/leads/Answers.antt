@@ -1,28 +1,19 @@
 -- `piece_ends::leads` meets its contract. Assumes nothing.
 use native.Mathlib.Omega.{arith}
-use borrow.Author.Rules.{rules}
 use Rattle.piece_ends.proofs.Seeking.{first_is, first_is_not}
 use Rattle.piece_ends.proofs.leads.Goals as goal
 
 pub returns-then-link-eq0 : goal.returns-then-link-eq0
 returns-then-link-eq0 c =
-    let link = c in
-    let point = link in
-    let a = point.args in
-    first_is_not a.coords.now a.words.now a.pieces a.e _ _ point.end_point.ensures link.first_at-link.ensures (λ z. omega (arith, z, c.if-link-eq0.true))
+    let a = c.args in
+    first_is_not a.coords.now a.words.now a.pieces a.e _ _ c.end_point.ensures c.first_at-link.ensures (λ z. omega (arith, z, c.if-link-eq0.true))
 
 pub returns-then-link-e : goal.returns-then-link-e
 returns-then-link-e c =
-    let live = c in
-    let link = live in
-    let point = link in
-    let a = point.args in
-    first_is a.coords.now a.words.now a.pieces a.e _ _ point.end_point.ensures link.first_at-link.ensures (omega (arith, live.if-link-eq0.false, c.if-link-e.true))
+    let a = c.args in
+    first_is a.coords.now a.words.now a.pieces a.e _ _ c.end_point.ensures c.first_at-link.ensures (omega (arith, c.if-link-eq0.false, c.if-link-e.true))
 
 pub returns : goal.returns
 returns c =
-    let live = c in
-    let link = live in
-    let point = link in
-    let a = point.args in
-    first_is_not a.coords.now a.words.now a.pieces a.e _ _ point.end_point.ensures link.first_at-link.ensures (λ z. omega (arith, z, live.if-link-eq0.false, c.if-link-e.false))
+    let a = c.args in
+    first_is_not a.coords.now a.words.now a.pieces a.e _ _ c.end_point.ensures c.first_at-link.ensures (λ z. omega (arith, z, c.if-link-eq0.false, c.if-link-e.false))

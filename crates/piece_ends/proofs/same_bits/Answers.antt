@@ -3,7 +3,6 @@ use Prim.Native.Nat.{ℕ}
 use mathlib.Core.Bool.{true, false}
 use mathlib.Core.Path.{◌≡◌, refl, sym, ◌∙◌}
 use lib.Dec.{eqb}
-use borrow.Author.Rules.{rules}
 use borrow.Author.Tests.{eq-eqb, ne_eqb}
 use Rattle.piece_ends.specs.Ends.{same_bits}
 use Rattle.piece_ends.proofs.same_bits.Goals as goal
@@ -21,23 +20,18 @@ returns-then-bits c = rw (differ _ _ _ _ c.bits.ensures c.bits-2.ensures c.if-bi
 pub returns-then-bits-2 : goal.returns-then-bits-2
 unfolding same_bits
 returns-then-bits-2 c =
-    let x = c in
-    rw (agree _ _ _ _ x.bits.ensures x.bits-2.ensures x.if-bits.false, differ _ _ _ _ c.bits-3.ensures c.bits-4.ensures c.if-bits-2.true) refl
+    rw (agree _ _ _ _ c.bits.ensures c.bits-2.ensures c.if-bits.false, differ _ _ _ _ c.bits-3.ensures c.bits-4.ensures c.if-bits-2.true) refl
 
 pub returns-then-bits-3 : goal.returns-then-bits-3
 unfolding same_bits
 returns-then-bits-3 c =
-    let y = c in
-    let x = y in
     rw
-    (agree _ _ _ _ x.bits.ensures x.bits-2.ensures x.if-bits.false, agree _ _ _ _ y.bits-3.ensures y.bits-4.ensures y.if-bits-2.false, differ _ _ _ _ c.bits-5.ensures c.bits-6.ensures c.if-bits-3.true)
+    (agree _ _ _ _ c.bits.ensures c.bits-2.ensures c.if-bits.false, agree _ _ _ _ c.bits-3.ensures c.bits-4.ensures c.if-bits-2.false, differ _ _ _ _ c.bits-5.ensures c.bits-6.ensures c.if-bits-3.true)
     refl
 
 pub returns : goal.returns
 unfolding same_bits
 returns c =
-    let y = c in
-    let x = y in
     rw
-    (agree _ _ _ _ x.bits.ensures x.bits-2.ensures x.if-bits.false, agree _ _ _ _ y.bits-3.ensures y.bits-4.ensures y.if-bits-2.false, agree _ _ _ _ c.bits-5.ensures c.bits-6.ensures c.if-bits-3.false)
+    (agree _ _ _ _ c.bits.ensures c.bits-2.ensures c.if-bits.false, agree _ _ _ _ c.bits-3.ensures c.bits-4.ensures c.if-bits-2.false, agree _ _ _ _ c.bits-5.ensures c.bits-6.ensures c.if-bits-3.false)
     refl

@@ -1,10 +1,6 @@
 use Prim.Native.Nat.{◌*◌, ◌≤◌, ◌<◌}
-use mathlib.Core.Path.{◌≡◌, refl}
-use native.Mathlib.Omega.{arith}
+use mathlib.Core.Path.{◌≡◌}
 use Rattle.piece_ends.specs.Walk.{end_link_at, stands_at, find_along}
-use Rattle.piece_ends.proofs.Following.{search_ends, search_spent, search_found, search_next}
-use Rattle.piece_ends.proofs.Seeking.{stands_said}
-use borrow.Author.Rules.{rules}
 use Rattle.piece_ends.proofs.seek.Given as goal
 
 abbrev pub invariant-loop-rest : goal.invariant-loop-rest

@@ -4,10 +4,6 @@ use Rattle.point_wedge.proofs.across.Goals as goal
 
 pub returns : goal.returns
 returns c =
-    let there = c in
-    let into = there in
-    let here = into in
-    let along = here in
-    let a = along.args in
-    across_is a.edge_reals.now a.triangle_words.now a.triangle_reals.now a.g.0 a.h.0 a.e.0 here.local-i.result there.local-j.result along.unit-xh.result into.normal-yg.result c.normal-yh.result
-    along.unit-xh.ensures here.local-i.ensures into.normal-yg.ensures there.local-j.ensures c.normal-yh.ensures
+    let a = c.args in
+    across_is a.edge_reals.now a.triangle_words.now a.triangle_reals.now a.g.0 a.h.0 a.e.0 c.local-i.result c.local-j.result c.unit-xh.result c.normal-yg.result c.normal-yh.result
+    c.unit-xh.ensures c.local-i.ensures c.normal-yg.ensures c.local-j.ensures c.normal-yh.ensures

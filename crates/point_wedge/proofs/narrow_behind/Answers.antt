@@ -11,26 +11,17 @@ loop-rest-init c = (search rules, (omega arith, refl))
 
 pub returns-then-at-eq0 : goal.returns-then-at-eq0
 returns-then-at-eq0 c =
-    let at = c in
-    let first = at in
-    let a = first.args in
-    narrow_ends a.o a.p a.xhat a.plane (leaving_at a.reals.now) (next_behind_at a.kinds.now a.faces.now a.coords.now a.words.now a.pieces a.f.0) _ at.loop-rest.rest at.loop-rest.at at.loop-rest.part at.loop-rest.invariant.1.1 c.if-at-eq0.true
-    ∙ walk_is a.kinds.now a.faces.now a.coords.now a.words.now a.reals.now a.pieces a.f.0 a.first a.plane a.o a.p a.xhat a.w _ first.first_behind-at.ensures
+    let a = c.args in
+    narrow_ends a.o a.p a.xhat a.plane (leaving_at a.reals.now) (next_behind_at a.kinds.now a.faces.now a.coords.now a.words.now a.pieces a.f.0) _ c.loop-rest.rest c.loop-rest.at c.loop-rest.part c.loop-rest.invariant.1.1 c.if-at-eq0.true
+    ∙ walk_is a.kinds.now a.faces.now a.coords.now a.words.now a.reals.now a.pieces a.f.0 a.first a.plane a.o a.p a.xhat a.w _ c.first_behind-at.ensures
 
 pub loop-rest-preserved : goal.loop-rest-preserved
 loop-rest-preserved c =
-    let said = c in
-    let live = said in
-    let more = live in
-    let at = more in
-    let first = at in
-    let a = first.args in
-    (search rules, (omega (arith, at.loop-rest.invariant.1.0), narrow_turn a.o a.p a.xhat a.plane (leaving_at a.reals.now) (next_behind_at a.kinds.now a.faces.now a.coords.now a.words.now a.pieces a.f.0) _ at.loop-rest.rest at.loop-rest.at at.loop-rest.part at.loop-rest.invariant.1.1 more.loop-rest-test.true live.if-at-eq0.false _ said.behind_end-part.ensures _ c.next_behind-at.ensures))
+    let a = c.args in
+    (search rules, (omega (arith, c.loop-rest.invariant.1.0), narrow_turn a.o a.p a.xhat a.plane (leaving_at a.reals.now) (next_behind_at a.kinds.now a.faces.now a.coords.now a.words.now a.pieces a.f.0) _ c.loop-rest.rest c.loop-rest.at c.loop-rest.part c.loop-rest.invariant.1.1 c.loop-rest-test.true c.if-at-eq0.false _ c.behind_end-part.ensures _ c.next_behind-at.ensures))
 
 pub returns : goal.returns
 returns c =
-    let at = c in
-    let first = at in
-    let a = first.args in
-    narrow_spent a.o a.p a.xhat a.plane (leaving_at a.reals.now) (next_behind_at a.kinds.now a.faces.now a.coords.now a.words.now a.pieces a.f.0) _ at.loop-rest.rest at.loop-rest.at at.loop-rest.part at.loop-rest.invariant.1.1 c.loop-rest-test.false
-    ∙ walk_is a.kinds.now a.faces.now a.coords.now a.words.now a.reals.now a.pieces a.f.0 a.first a.plane a.o a.p a.xhat a.w _ first.first_behind-at.ensures
+    let a = c.args in
+    narrow_spent a.o a.p a.xhat a.plane (leaving_at a.reals.now) (next_behind_at a.kinds.now a.faces.now a.coords.now a.words.now a.pieces a.f.0) _ c.loop-rest.rest c.loop-rest.at c.loop-rest.part c.loop-rest.invariant.1.1 c.loop-rest-test.false
+    ∙ walk_is a.kinds.now a.faces.now a.coords.now a.words.now a.reals.now a.pieces a.f.0 a.first a.plane a.o a.p a.xhat a.w _ c.first_behind-at.ensures

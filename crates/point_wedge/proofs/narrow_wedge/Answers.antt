@@ -9,13 +9,10 @@ returns-then-count-eq1 c =
 
 pub returns-then-count-eq2 : goal.returns-then-count-eq2
 returns-then-count-eq2 c =
-    let second = c in
-    let first = second in
-    let a = first.args in
-    wedge_two a.edge_words.now a.edge_reals.now a.triangle_words.now a.triangle_reals.now a.kinds.now a.faces.now a.coords.now a.words.now a.reals.now a.pieces a.g.0 a.first a.o a.p a.xhat a.w a.count a.h.0 first.if-count-eq1.false second.if-count-eq2.true c.narrow_pair.result c.narrow_pair.ensures
+    let a = c.args in
+    wedge_two a.edge_words.now a.edge_reals.now a.triangle_words.now a.triangle_reals.now a.kinds.now a.faces.now a.coords.now a.words.now a.reals.now a.pieces a.g.0 a.first a.o a.p a.xhat a.w a.count a.h.0 c.if-count-eq1.false c.if-count-eq2.true c.narrow_pair.result c.narrow_pair.ensures
 
 pub returns : goal.returns
 returns c =
-    let first = c in
-    let a = first.args in
-    wedge_more a.edge_words.now a.edge_reals.now a.triangle_words.now a.triangle_reals.now a.kinds.now a.faces.now a.coords.now a.words.now a.reals.now a.pieces a.g.0 a.first a.o a.p a.xhat a.w a.count a.h.0 first.if-count-eq1.false c.if-count-eq2.false
+    let a = c.args in
+    wedge_more a.edge_words.now a.edge_reals.now a.triangle_words.now a.triangle_reals.now a.kinds.now a.faces.now a.coords.now a.words.now a.reals.now a.pieces a.g.0 a.first a.o a.p a.xhat a.w a.count a.h.0 c.if-count-eq1.false c.if-count-eq2.false

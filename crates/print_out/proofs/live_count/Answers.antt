@@ -12,12 +12,9 @@ loop-k-init c = (omega arith, (omega arith, refl))
 pub loop-k-preserved : goal.loop-k-preserved
 unfolding live_count
 loop-k-preserved c =
-    let at-is-live = c in
-    let at-loop = at-is-live in
-    (omega arith, (omega arith, rw (add-one, c.one_if-live.ensures.0, at-is-live.is_live.ensures, at-loop.loop-k.invariant.1.1)))
+    (omega arith, (omega arith, rw (add-one, c.one_if-live.ensures.0, c.is_live.ensures, c.loop-k.invariant.1.1)))
 
 pub returns : goal.returns
 returns c =
-    let at-loop = c in
-    let a = at-loop.args in
-    let e : at-loop.loop-k.k ≡ a.n = omega (arith, c.loop-k-test.false, at-loop.loop-k.invariant.0) in rw e at at-loop.loop-k.invariant.1.1
+    let a = c.args in
+    let e : c.loop-k.k ≡ a.n = omega (arith, c.loop-k-test.false, c.loop-k.invariant.0) in rw e at c.loop-k.invariant.1.1

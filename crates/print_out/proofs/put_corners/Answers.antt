@@ -13,14 +13,10 @@ loop-k-init c = (omega arith, (omega arith, (refl, puts_none _ _)))
 pub loop-k-preserved : goal.loop-k-preserved
 unfolding corner_lines
 loop-k-preserved c =
-    let at-put-corner = c in
-    let at-read-f64 = at-put-corner in
-    let at-loop = at-read-f64 in
-    let line = rw at-read-f64.read_f64-x.ensures at at-put-corner.put_corner-at.ensures.0 in
-    (omega arith, (omega (arith, at-put-corner.put_corner-at.ensures.1), (puts_length line ∙ at-loop.loop-k.invariant.1.1.0, rw add-one (puts_then at-loop.loop-k.invariant.1.1.1 line))))
+    let line = rw c.read_f64-x.ensures at c.put_corner-at.ensures.0 in
+    (omega arith, (omega (arith, c.put_corner-at.ensures.1), (puts_length line ∙ c.loop-k.invariant.1.1.0, rw add-one (puts_then c.loop-k.invariant.1.1.1 line))))
 
 pub returns : goal.returns
 returns c =
-    let at-loop = c in
-    let a = at-loop.args in
-    let e : at-loop.loop-k.k ≡ a.n = omega (arith, c.loop-k-test.false, at-loop.loop-k.invariant.0) in (rw e at at-loop.loop-k.invariant.1.1.1, omega (arith, e, at-loop.loop-k.invariant.1.0))
+    let a = c.args in
+    let e : c.loop-k.k ≡ a.n = omega (arith, c.loop-k-test.false, c.loop-k.invariant.0) in (rw e at c.loop-k.invariant.1.1.1, omega (arith, e, c.loop-k.invariant.1.0))

@@ -6,6 +6,4 @@ use Rattle.print_out.proofs.put_refused.Goals as goal
 pub returns : goal.returns
 unfolding refused_line
 returns c =
-    let at-put-text = c in
-    let at-put-count = at-put-text in
-    puts_then at-put-count.put_count-a.ensures.0 at-put-text.put_text.ensures
+    puts_then c.put_count-a.ensures.0 c.put_text.ensures

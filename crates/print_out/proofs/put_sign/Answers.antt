@@ -5,8 +5,7 @@ use Rattle.print_out.proofs.put_sign.Goals as goal
 
 pub returns-then-minus : goal.returns-then-minus
 returns-then-minus c =
-    let at-put-text = c in
-    let put = at-put-text.put_text.ensures in (rw at-put-text.if-minus.true put, omega (arith, put.ends))
+    let put = c.put_text.ensures in (rw c.if-minus.true put, omega (arith, put.ends))
 
 pub returns : goal.returns
 returns c = (rw c.if-minus.false (puts_none _ _), omega arith)

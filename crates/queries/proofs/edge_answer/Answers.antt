@@ -7,10 +7,9 @@ use Rattle.queries.proofs.edge_answer.Goals as goal
 
 pub edge_answer_from-resumed-requires : goal.edge_answer_from-resumed-requires
 edge_answer_from-resumed-requires c =
-    let s = c in
-    let a = s.args in
+    let a = c.args in
     let b = links a.edge_words.now a.words.now in
-    (s.requires.0, (s.requires.1, subst (λ (y : Cursor). Resumes a.n.windows b a.reals.now y) (sym c.head_cursor-head.ensures) (head_resumes a.n.windows b a.reals.now a.e)))
+    (c.requires.0, (c.requires.1, subst (λ (y : Cursor). Resumes a.n.windows b a.reals.now y) (sym c.head_cursor-head.ensures) (head_resumes a.n.windows b a.reals.now a.e)))
 
 pub returns : goal.returns
 returns c = c.edge_answer_from-resumed.ensures.answer_value

@@ -12,9 +12,7 @@ use Rattle.queries.proofs.edge_answer_from.Goals as goal
 
 pub distance_from-resumed-requires : goal.distance_from-resumed-requires
 distance_from-resumed-requires c =
-    let there = c in
-    let s = there in
-    (s.requires.1.0, (omega (arith, s.requires.0, there.if-n-e.false, ap (λ (k : Edge). k.id.0) c.edge-edge.ensures), s.requires.1.1))
+    (c.requires.1.0, (omega (arith, c.requires.0, c.if-n-e.false, ap (λ (k : Edge). k.id.0) c.edge-edge.ensures), c.requires.1.1))
 
 pub returns-then-n-e : goal.returns-then-n-e
 unfolding edge_answer
@@ -23,25 +21,18 @@ returns-then-n-e c = record { answer_value = taken _ _ _ (le-leb _ _ c.if-n-e.tr
 pub returns-then-place_outside : goal.returns-then-place_outside
 unfolding edge_answer
 returns-then-place_outside c =
-    let test = c in
-    let there = test in
-    let s = there in
-    let a = s.args in record {
-      answer_value = left _ _ _ _ (lt-leb _ _ there.if-n-e.false)
-          (taken _ _ _ (ap (λ (l : Float). place_outside l a.x) (sym test.length.ensures) ∙ sym test.place_outside.ensures ∙ c.if-place_outside.true));
-      resumes = s.requires.1.1;
+    let a = c.args in record {
+      answer_value = left _ _ _ _ (lt-leb _ _ c.if-n-e.false)
+          (taken _ _ _ (ap (λ (l : Float). place_outside l a.x) (sym c.length.ensures) ∙ sym c.place_outside.ensures ∙ c.if-place_outside.true));
+      resumes = c.requires.1.1;
     }
 
 pub returns : goal.returns
 unfolding edge_answer
 returns c =
-    let walk = c in
-    let inside = walk in
-    let test = inside in
-    let there = test in
-    let a = there.args in record {
-      answer_value = left _ _ _ _ (lt-leb _ _ there.if-n-e.false)
-          (left _ _ _ _ (ap (λ (l : Float). place_outside l a.x) (sym test.length.ensures) ∙ sym test.place_outside.ensures ∙ inside.if-place_outside.false)
-          (ap At (walk.distance_from-resumed.ensures.distance_value ∙ ap (λ (k : Edge). edge_distance_in a.vertex.now (links a.edge_words.now a.words.now) a.reals.now a.n.windows k a.x) walk.edge-edge.ensures)));
-      resumes = walk.distance_from-resumed.ensures.resumes;
+    let a = c.args in record {
+      answer_value = left _ _ _ _ (lt-leb _ _ c.if-n-e.false)
+          (left _ _ _ _ (ap (λ (l : Float). place_outside l a.x) (sym c.length.ensures) ∙ sym c.place_outside.ensures ∙ c.if-place_outside.false)
+          (ap At (c.distance_from-resumed.ensures.distance_value ∙ ap (λ (k : Edge). edge_distance_in a.vertex.now (links a.edge_words.now a.words.now) a.reals.now a.n.windows k a.x) c.edge-edge.ensures)));
+      resumes = c.distance_from-resumed.ensures.resumes;
     }

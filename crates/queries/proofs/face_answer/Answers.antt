@@ -16,6 +16,4 @@ returns-then-point_outside c = left _ _ _ _ (lt-leb _ _ c.if-n-f.false) (taken _
 pub returns : goal.returns
 unfolding face_answer
 returns c =
-    let inside = c in
-    let there = inside in
-    left _ _ _ _ (lt-leb _ _ there.if-n-f.false) (left _ _ _ _ (sym inside.point_outside.ensures ∙ inside.if-point_outside.false) (ap At c.distance_in_face-d.ensures))
+    left _ _ _ _ (lt-leb _ _ c.if-n-f.false) (left _ _ _ _ (sym c.point_outside.ensures ∙ c.if-point_outside.false) (ap At c.distance_in_face-d.ensures))

@@ -8,6 +8,5 @@ returns-then-link-eq0 c =
 
 pub returns : goal.returns
 returns c =
-    let some = c in
-    let a = some.args in
-    linked_some a.words.now a.reals.now a.link c.load-window.result some.if-link-eq0.false c.load-window.ensures
+    let a = c.args in
+    linked_some a.words.now a.reals.now a.link c.load-window.result c.if-link-eq0.false c.load-window.ensures

@@ -10,12 +10,9 @@ returns-then-out_of_range c = holds _ _ (sym c.out_of_range.ensures ∙ c.if-out
 pub returns-then-out_of_range-2 : goal.returns-then-out_of_range-2
 unfolding point_outside
 returns-then-out_of_range-2 c =
-    let first = c in
-    passes _ _ _ (sym first.out_of_range.ensures ∙ first.if-out_of_range.false) (holds _ _ (sym c.out_of_range-2.ensures ∙ c.if-out_of_range-2.true))
+    passes _ _ _ (sym c.out_of_range.ensures ∙ c.if-out_of_range.false) (holds _ _ (sym c.out_of_range-2.ensures ∙ c.if-out_of_range-2.true))
 
 pub returns : goal.returns
 unfolding point_outside
 returns c =
-    let second = c in
-    let first = second in
-    passes _ _ _ (sym first.out_of_range.ensures ∙ first.if-out_of_range.false) (passes _ _ _ (sym second.out_of_range-2.ensures ∙ second.if-out_of_range-2.false) c.out_of_range-3.ensures)
+    passes _ _ _ (sym c.out_of_range.ensures ∙ c.if-out_of_range.false) (passes _ _ _ (sym c.out_of_range-2.ensures ∙ c.if-out_of_range-2.false) c.out_of_range-3.ensures)

@@ -4,9 +4,4 @@ use Rattle.queries.proofs.told_field.Goals as goal
 
 pub returns : goal.returns
 returns c =
-    let five = c in
-    let four = five in
-    let three = four in
-    let two = three in
-    let one = two in
-    told_is _ one.read_u32.ensures two.read_u32-2.ensures three.read_u32-3.ensures four.read_u32-4.ensures five.read_u32-5.ensures c.read_u32-6.ensures
+    told_is _ c.read_u32.ensures c.read_u32-2.ensures c.read_u32-3.ensures c.read_u32-4.ensures c.read_u32-5.ensures c.read_u32-6.ensures

@@ -14,5 +14,4 @@ returns-then-is_unsound c = rw c.in-Field.is (taken _ _ _ (sym c.is_unsound.ensu
 pub returns : goal.returns
 unfolding vertex_query
 returns c =
-    let sound = c in
-    rw sound.in-Field.is (left _ _ _ _ (sym sound.is_unsound.ensures ∙ sound.if-is_unsound.false) c.vertex_answer.ensures)
+    rw c.in-Field.is (left _ _ _ _ (sym c.is_unsound.ensures ∙ c.if-is_unsound.false) c.vertex_answer.ensures)

@@ -7,8 +7,7 @@ use Rattle.queries.proofs.window_answer.Goals as goal
 
 pub place_link-link-requires : goal.place_link-link-requires
 place_link-link-requires c =
-    let s = c in
-    (s.requires.1, omega (arith, s.requires.0, c.if-n-e.false))
+    (c.requires.1, omega (arith, c.requires.0, c.if-n-e.false))
 
 pub linked_window-requires : goal.linked_window-requires
 linked_window-requires c = omega (arith, c.place_link-link.ensures.upper_bound, c.requires.1)
@@ -20,6 +19,5 @@ returns-then-n-e c = taken _ _ _ (le-leb _ _ c.if-n-e.true)
 pub returns : goal.returns
 unfolding window_answer
 returns c =
-    let there = c in
-    let a = there.args in
-    left _ _ _ _ (lt-leb _ _ there.if-n-e.false) (c.linked_window.ensures ∙ ap (linked_window a.words.now a.reals.now) c.place_link-link.ensures.value)
+    let a = c.args in
+    left _ _ _ _ (lt-leb _ _ c.if-n-e.false) (c.linked_window.ensures ∙ ap (linked_window a.words.now a.reals.now) c.place_link-link.ensures.value)

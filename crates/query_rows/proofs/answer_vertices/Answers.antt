@@ -13,40 +13,21 @@ loop-i-init c = (omega arith, (row_start _ _, row_start _ _))
 
 pub overflow_add-i : goal.overflow_add-i
 overflow_add-i c =
-    let wrote = c in
-    let value = wrote in
-    let put = value in
-    let number = put in
-    let answer = number in
-    let read = answer in
-    omega (arith, read.loop-i-test.true, read.requires)
+    omega (arith, c.loop-i-test.true, c.requires)
 
 pub loop-i-smaller : goal.loop-i-smaller
 loop-i-smaller c =
-    let wrote = c in
-    let value = wrote in
-    let put = value in
-    let number = put in
-    let answer = number in
-    let read = answer in
-    omega (arith, read.loop-i-test.true)
+    omega (arith, c.loop-i-test.true)
 
 pub loop-i-preserved : goal.loop-i-preserved
 loop-i-preserved c =
-    let wrote = c in
-    let value = wrote in
-    let put = value in
-    let number = put in
-    let answer = number in
-    let read = answer in
-    let i = read in
-    let l = i.loop-i in
-    let a = i.args in
-    let told = answer.vertex_answer-answer.ensures ∙ (λ j. vertex_answer a.n (field_slices a.edge_words.now a.edge_reals.now a.triangle_words.now a.triangle_reals.now a.vertex.now a.words.now a.reals.now a.entry_words.now) ((read.read_u32.ensures ∙ ap (λ (k : ℕ). get_or a.asked.now k 0) (one_slot l.i)) j)) in (
-      omega (arith, read.loop-i-test.true),
+    let l = c.loop-i in
+    let a = c.args in
+    let told = c.vertex_answer-answer.ensures ∙ (λ j. vertex_answer a.n (field_slices a.edge_words.now a.edge_reals.now a.triangle_words.now a.triangle_reals.now a.vertex.now a.words.now a.reals.now a.entry_words.now) ((c.read_u32.ensures ∙ ap (λ (k : ℕ). get_or a.asked.now k 0) (one_slot l.i)) j)) in (
+      omega (arith, c.loop-i-test.true),
       (
-        row_next _ _ l.i l.numbers _ number.vertex_number-number.result l.invariant.1.0 put.write_u32.ensures (number.vertex_number-number.ensures ∙ ap vertex_answer_number told),
-        row_next _ _ l.i l.distances _ value.vertex_value-value.result l.invariant.1.1 wrote.write_f64.ensures (value.vertex_value-value.ensures ∙ ap vertex_value told),
+        row_next _ _ l.i l.numbers _ c.vertex_number-number.result l.invariant.1.0 c.write_u32.ensures (c.vertex_number-number.ensures ∙ ap vertex_answer_number told),
+        row_next _ _ l.i l.distances _ c.vertex_value-value.result l.invariant.1.1 c.write_f64.ensures (c.vertex_value-value.ensures ∙ ap vertex_value told),
       ),
     )
 

@@ -9,13 +9,8 @@ use Rattle.query_rows.proofs.edges_at.Goals as goal
 
 pub answer_edges-requires : goal.answer_edges-requires
 answer_edges-requires c =
-    let fits = c in
-    let test = fits in
-    let four = test in
-    let three = four in
-    let sound = three in
-    let l = both_long _ _ _ _ (sym test.short_for.ensures ∙ fits.if-short_for.false) in
-    (enough _ _ _ (sym sound.is_unsound.ensures ∙ sound.if-is_unsound.false), (omega (arith, l.0, three.slots-room.ensures), omega (arith, l.1, four.slots-rest.ensures)))
+    let l = both_long _ _ _ _ (sym c.short_for.ensures ∙ c.if-short_for.false) in
+    (enough _ _ _ (sym c.is_unsound.ensures ∙ c.if-is_unsound.false), (omega (arith, l.0, c.slots-room.ensures), omega (arith, l.1, c.slots-rest.ensures)))
 
 pub returns-in_default : goal.returns-in_default
 unfolding edge_row
@@ -28,27 +23,13 @@ returns-then-is_unsound c = rw c.in-Field.is (taken _ _ _ (sym c.is_unsound.ensu
 pub returns-then-short_for : goal.returns-then-short_for
 unfolding edge_row
 returns-then-short_for c =
-    let test = c in
-    let four = test in
-    let three = four in
-    let two = three in
-    let one = two in
-    let sound = one in
-    rw sound.in-Field.is
-    (left _ _ _ _ (sym sound.is_unsound.ensures ∙ sound.if-is_unsound.false) (taken _ _ _ ((λ i. short_for (sym one.slots-count.ensures i) (sym two.slots-others.ensures i) (sym three.slots-room.ensures i) (sym four.slots-rest.ensures i)) ∙ sym test.short_for.ensures ∙ c.if-short_for.true)))
+    rw c.in-Field.is
+    (left _ _ _ _ (sym c.is_unsound.ensures ∙ c.if-is_unsound.false) (taken _ _ _ ((λ i. short_for (sym c.slots-count.ensures i) (sym c.slots-others.ensures i) (sym c.slots-room.ensures i) (sym c.slots-rest.ensures i)) ∙ sym c.short_for.ensures ∙ c.if-short_for.true)))
 
 pub returns : goal.returns
 unfolding edge_row
 returns c =
-    let done = c in
-    let fits = done in
-    let test = fits in
-    let four = test in
-    let three = four in
-    let two = three in
-    let one = two in
-    let sound = one in
-    rw sound.in-Field.is
-    (left _ _ _ _ (sym sound.is_unsound.ensures ∙ sound.if-is_unsound.false)
-    (left _ _ _ _ ((λ i. short_for (sym one.slots-count.ensures i) (sym two.slots-others.ensures i) (sym three.slots-room.ensures i) (sym four.slots-rest.ensures i)) ∙ sym test.short_for.ensures ∙ fits.if-short_for.false)
-    (row_is _ _ _ _ _ (row_count _ _ _ _ _ done.answer_edges.ensures.numbers_value one.slots-count.ensures) (row_count _ _ _ _ _ done.answer_edges.ensures.distances_value one.slots-count.ensures))))
+    rw c.in-Field.is
+    (left _ _ _ _ (sym c.is_unsound.ensures ∙ c.if-is_unsound.false)
+    (left _ _ _ _ ((λ i. short_for (sym c.slots-count.ensures i) (sym c.slots-others.ensures i) (sym c.slots-room.ensures i) (sym c.slots-rest.ensures i)) ∙ sym c.short_for.ensures ∙ c.if-short_for.false)
+    (row_is _ _ _ _ _ (row_count _ _ _ _ _ c.answer_edges.ensures.numbers_value c.slots-count.ensures) (row_count _ _ _ _ _ c.answer_edges.ensures.distances_value c.slots-count.ensures))))

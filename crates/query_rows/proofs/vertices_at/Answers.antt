@@ -20,25 +20,13 @@ returns-then-is_unsound c = rw c.in-Field.is (taken _ _ _ (sym c.is_unsound.ensu
 pub returns-then-short_for : goal.returns-then-short_for
 unfolding vertex_row
 returns-then-short_for c =
-    let test = c in
-    let three = test in
-    let two = three in
-    let one = two in
-    let sound = one in
-    rw sound.in-Field.is
-    (left _ _ _ _ (sym sound.is_unsound.ensures ∙ sound.if-is_unsound.false) (taken _ _ _ ((λ i. short_for (sym one.slots-count.ensures i) (sym one.slots-count.ensures i) (sym two.slots-room.ensures i) (sym three.slots-rest.ensures i)) ∙ sym test.short_for.ensures ∙ c.if-short_for.true)))
+    rw c.in-Field.is
+    (left _ _ _ _ (sym c.is_unsound.ensures ∙ c.if-is_unsound.false) (taken _ _ _ ((λ i. short_for (sym c.slots-count.ensures i) (sym c.slots-count.ensures i) (sym c.slots-room.ensures i) (sym c.slots-rest.ensures i)) ∙ sym c.short_for.ensures ∙ c.if-short_for.true)))
 
 pub returns : goal.returns
 unfolding vertex_row
 returns c =
-    let done = c in
-    let fits = done in
-    let test = fits in
-    let three = test in
-    let two = three in
-    let one = two in
-    let sound = one in
-    rw sound.in-Field.is
-    (left _ _ _ _ (sym sound.is_unsound.ensures ∙ sound.if-is_unsound.false)
-    (left _ _ _ _ ((λ i. short_for (sym one.slots-count.ensures i) (sym one.slots-count.ensures i) (sym two.slots-room.ensures i) (sym three.slots-rest.ensures i)) ∙ sym test.short_for.ensures ∙ fits.if-short_for.false)
-    (row_is _ _ _ _ _ (row_count _ _ _ _ _ done.answer_vertices.ensures.numbers_value one.slots-count.ensures) (row_count _ _ _ _ _ done.answer_vertices.ensures.distances_value one.slots-count.ensures))))
+    rw c.in-Field.is
+    (left _ _ _ _ (sym c.is_unsound.ensures ∙ c.if-is_unsound.false)
+    (left _ _ _ _ ((λ i. short_for (sym c.slots-count.ensures i) (sym c.slots-count.ensures i) (sym c.slots-room.ensures i) (sym c.slots-rest.ensures i)) ∙ sym c.short_for.ensures ∙ c.if-short_for.false)
+    (row_is _ _ _ _ _ (row_count _ _ _ _ _ c.answer_vertices.ensures.numbers_value c.slots-count.ensures) (row_count _ _ _ _ _ c.answer_vertices.ensures.distances_value c.slots-count.ensures))))

@@ -1,7 +1,4 @@
 use Prim.Native.Nat.{◌≤◌, ◌-◌, ◌+◌, ◌*◌}
-use native.Mathlib.Omega.{arith}
-use mathlib.Core.Logic.{⊎_elim}
-use borrow.Author.Rules.{rules}
 use Rattle.query_vectors.proofs.replay_record.Given as goal
 
 abbrev pub invariant-loop-i : goal.invariant-loop-i

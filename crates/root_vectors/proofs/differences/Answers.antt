@@ -16,8 +16,7 @@ loop-k-init c = (omega arith, omega arith, refl)
 
 pub holds-requires : goal.holds-requires
 holds-requires c =
-    let r = c in
-    omega (arith, run_within (numbers_per_record r.args.f) {k = c.loop-k.k} {n = r.records-n.result} (omega arith), r.records-n.ensures.1)
+    omega (arith, run_within (numbers_per_record c.args.f) {k = c.loop-k.k} {n = c.records-n.result} (omega arith), c.records-n.ensures.1)
 
 pub overflow_add-count : goal.overflow_add-count
 overflow_add-count c = omega arith
@@ -41,7 +40,5 @@ few a n l h = omega (arith, simp (add-mul, one-mul) at h)
 
 pub returns : goal.returns
 returns c =
-    let l = c in
-    let r = l in
-    let e : l.loop-k.k ≡ records_in r.args.f r.args.s.now = omega (arith, r.records-n.ensures.0) in
-    (rw e at l.loop-k.invariant.2, omega (arith, few (arity r.args.f) r.records-n.result _ r.records-n.ensures.1))
+    let e : c.loop-k.k ≡ records_in c.args.f c.args.s.now = omega (arith, c.records-n.ensures.0) in
+    (rw e at c.loop-k.invariant.2, omega (arith, few (arity c.args.f) c.records-n.result _ c.records-n.ensures.1))

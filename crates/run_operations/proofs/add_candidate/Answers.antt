@@ -6,74 +6,51 @@ use Rattle.run_operations.proofs.add_candidate.Goals as goal
 
 pub returns-then-number-ne0 : goal.returns-then-number-ne0
 returns-then-number-ne0 c =
-    let at-refusal = c in
-    let at-read-f64 = at-refusal in
-    let start = at-read-f64 in
-    let refusal = at-refusal.refusal-number in
-    let read-f64 = at-read-f64.read_f64-len in
-    let a = start.args in
+    let refusal = c.refusal-number in
+    let read-f64 = c.read_f64-len in
+    let a = c.args in
     candidate_refused a.limit a.vertex_words.now a.ends.now a.lens.now a.m
     (slices a.edges.now a.words.now a.reals.now a.keys.now a.events.now a.vertex.now) (cut_buffers a.pts.now a.out.now a.keep.now a.next.now) a.made
     a.queued a.id a.w read-f64.result read-f64.ensures refusal.result refusal.ensures c.if-number-ne0.true
 
 pub add-added-requires : goal.add-added-requires
 add-added-requires c =
-    let at-if1 = c in
-    let at-refusal = at-if1 in
-    let at-read-f64 = at-refusal in
-    let start = at-read-f64 in
-    let refusal = at-refusal.refusal-number in
-    let read-f64 = at-read-f64.read_f64-len in
-    let a = start.args in
+    let refusal = c.refusal-number in
+    let read-f64 = c.read_f64-len in
+    let a = c.args in
     let the-cuts = cut_buffers a.pts.now a.out.now a.keep.now a.next.now in
     let the-slices = slices a.edges.now a.words.now a.reals.now a.keys.now a.events.now a.vertex.now in (
       candidate_ready a.limit a.vertex_words.now a.ends.now a.lens.now a.m the-slices the-cuts a.made a.queued a.id a.w read-f64.result read-f64.ensures
-          refusal.result refusal.ensures at-if1.if-number-ne0.false start.requires,
-      candidate_sizes a.m a.made the-slices the-cuts start.requires,
+          refusal.result refusal.ensures c.if-number-ne0.false c.requires,
+      candidate_sizes a.m a.made the-slices the-cuts c.requires,
     )
 
 pub returns-in-Stopped : goal.returns-in-Stopped
 returns-in-Stopped c =
-    let at_Added = c in
-    let at-add = at_Added in
-    let at-read-u322 = at-add in
-    let at-read-u32 = at-read-u322 in
-    let at-if1 = at-read-u32 in
-    let at-refusal = at-if1 in
-    let at-read-f64 = at-refusal in
-    let start = at-read-f64 in
     let lack-number = c.lack_number in
-    let add = at-add.add-added in
-    let read-u322 = at-read-u322.read_u32-high in
-    let read_u32 = at-read-u32.read_u32-low in
-    let refusal = at-refusal.refusal-number in
-    let read-f64 = at-read-f64.read_f64-len in
-    let a = start.args in
+    let add = c.add-added in
+    let read-u322 = c.read_u32-high in
+    let read_u32 = c.read_u32-low in
+    let refusal = c.refusal-number in
+    let read-f64 = c.read_f64-len in
+    let a = c.args in
     candidate_stopped a.limit a.vertex_words.now a.ends.now a.lens.now a.m
     (slices a.edges.now a.words.now a.reals.now a.keys.now a.events.now a.vertex.now) (cut_buffers a.pts.now a.out.now a.keep.now a.next.now) a.made
-    a.queued a.id a.w read-f64.result read-f64.ensures refusal.result refusal.ensures at-if1.if-number-ne0.false read_u32.result read-u322.result read_u32.ensures
+    a.queued a.id a.w read-f64.result read-f64.ensures refusal.result refusal.ensures c.if-number-ne0.false read_u32.result read-u322.result read_u32.ensures
     read-u322.ensures c.in-Stopped.lack lack-number.result lack-number.ensures
     (slices add.new.edges add.new.words add.new.reals add.new.keys add.new.events add.new.vertex)
     (rw c.in-Stopped.is at add.ensures.adds)
 
 pub returns-in-Went : goal.returns-in-Went
 returns-in-Went c =
-    let at-added2 = c in
-    let at-add = at-added2 in
-    let at-read-u322 = at-add in
-    let at-read-u32 = at-read-u322 in
-    let at-if1 = at-read-u32 in
-    let at-refusal = at-if1 in
-    let at-read-f64 = at-refusal in
-    let start = at-read-f64 in
-    let add = at-add.add-added in
-    let read-u322 = at-read-u322.read_u32-high in
-    let read_u32 = at-read-u32.read_u32-low in
-    let refusal = at-refusal.refusal-number in
-    let read-f64 = at-read-f64.read_f64-len in
-    let a = start.args in
+    let add = c.add-added in
+    let read-u322 = c.read_u32-high in
+    let read_u32 = c.read_u32-low in
+    let refusal = c.refusal-number in
+    let read-f64 = c.read_f64-len in
+    let a = c.args in
     candidate_went a.limit a.vertex_words.now a.ends.now a.lens.now a.m
     (slices a.edges.now a.words.now a.reals.now a.keys.now a.events.now a.vertex.now) (cut_buffers a.pts.now a.out.now a.keep.now a.next.now) a.made
-    a.queued a.id a.w read-f64.result read-f64.ensures refusal.result refusal.ensures at-if1.if-number-ne0.false read_u32.result read-u322.result read_u32.ensures
+    a.queued a.id a.w read-f64.result read-f64.ensures refusal.result refusal.ensures c.if-number-ne0.false read_u32.result read-u322.result read_u32.ensures
     read-u322.ensures c.in-Went.now (slices add.new.edges add.new.words add.new.reals add.new.keys add.new.events
     add.new.vertex) (rw c.in-Went.is at add.ensures.bounded) (rw c.in-Went.is at add.ensures.adds)

@@ -25,37 +25,30 @@ returns-in-Add c =
 
 pub returns-in-Pop : goal.returns-in-Pop
 returns-in-Pop c =
-    let popped = c in
-    let told = popped in
-    let s = told in
-    let a = s.args in
-    let p = popped.pop_first-n in
+    let a = c.args in
+    let p = c.pop_first-n in
     let before = slices a.edges.now a.words.now a.reals.now a.keys.now a.events.now a.vertex.now in
     let setting = setting_of (cut_buffers a.pts.now a.out.now a.keep.now a.next.now) before a.limit a.vertex_words.now a.ends.now a.lens.now a.m in
-    of_op setting a.made a.queued a.op Pop told.in-Pop.is before (Went a.made p.result)
+    of_op setting a.made a.queued a.op Pop c.in-Pop.is before (Went a.made p.result)
     (slices a.edges.now p.new.words a.reals.now p.new.keys p.new.events a.vertex.now)
-    (op_pop setting a.made a.queued s.requires.fits a.edges.now a.words.now a.reals.now a.keys.now a.events.now a.vertex.now s.requires.fits
+    (op_pop setting a.made a.queued c.requires.fits a.edges.now a.words.now a.reals.now a.keys.now a.events.now a.vertex.now c.requires.fits
     p.new.words p.new.keys p.new.events p.result p.ensures)
 
 pub returns-in-Touch : goal.returns-in-Touch
 returns-in-Touch c =
-    let at-touch = c in
-    let at-op2 = at-touch in
-    let start = at-op2 in
-    let touch = at-touch.touch in
-    let a = start.args in
+    let touch = c.touch in
+    let a = c.args in
     let the-settingOf = setting_of (cut_buffers a.pts.now a.out.now a.keep.now a.next.now)
     (slices a.edges.now a.words.now a.reals.now a.keys.now a.events.now a.vertex.now) a.limit a.vertex_words.now a.ends.now a.lens.now a.m in
     of_op the-settingOf a.made a.queued a.op (Touch c.in-Touch.v c.in-Touch.d) c.in-Touch.is
     (slices a.edges.now a.words.now a.reals.now a.keys.now a.events.now a.vertex.now) touch.result
     (slices a.edges.now a.words.now a.reals.now touch.new.keys touch.new.events touch.new.vertex)
-    (op_touch the-settingOf a.made a.queued start.requires.fits a.edges.now a.words.now a.reals.now a.keys.now a.events.now a.vertex.now c.in-Touch.v.0
+    (op_touch the-settingOf a.made a.queued c.requires.fits a.edges.now a.words.now a.reals.now a.keys.now a.events.now a.vertex.now c.in-Touch.v.0
     c.in-Touch.d refl touch.result touch.new.keys touch.new.events touch.new.vertex touch.ensures)
 
 pub returns-in-Unknown : goal.returns-in-Unknown
 returns-in-Unknown c =
-    let start = c in
-    let a = start.args in
+    let a = c.args in
     let the-slices = slices a.edges.now a.words.now a.reals.now a.keys.now a.events.now a.vertex.now in
     let the-settingOf = setting_of (cut_buffers a.pts.now a.out.now a.keep.now a.next.now) the-slices a.limit a.vertex_words.now a.ends.now a.lens.now a.m in
     of_op the-settingOf a.made a.queued a.op Unknown c.in-Unknown.is the-slices (Stopped 70) the-slices (op_unknown the-settingOf a.made a.queued the-slices)

@@ -7,35 +7,22 @@ use Rattle.run_operations.proofs.run.Goals as goal
 
 pub run_parts-r-requires : goal.run_parts-r-requires
 run_parts-r-requires c =
-    let at-zero-u32 = c in
-    let at_count = at-zero-u32 in
-    let at-cut-count = at_count in
-    let at-edge-count = at-cut-count in
-    let start = at-edge-count in
-    let zero-u32 = at-zero-u32.zero_u32 in
-    let edge_count_held = at-edge-count.edge_count-m in
-    let a = start.args in (
+    let zero-u32 = c.zero_u32 in
+    let edge_count_held = c.edge_count-m in
+    let a = c.args in (
       edges_same a.ends.now a.lens.now a.edges.now zero-u32.new.s edge_count_held.result zero-u32.auto.s edge_count_held.ensures,
-      (at-cut-count.cut_count-x.ensures, (at_count.count-n.ensures, heads_zero zero-u32.new.s (zeros_stay a.edges.now zero-u32.new.s zero-u32.ensures))),
+      (c.cut_count-x.ensures, (c.count-n.ensures, heads_zero zero-u32.new.s (zeros_stay a.edges.now zero-u32.new.s zero-u32.ensures))),
     )
 
 pub returns-in-Done : goal.returns-in-Done
 returns-in-Done c =
-    let at_forget = c in
-    let at-r = at_forget in
-    let at-zero-cuts = at-r in
-    let at-run-parts = at-zero-cuts in
-    let at-zero-f64 = at-run-parts in
-    let at-zero-u322 = at-zero-f64 in
-    let at-zero-u32 = at-zero-u322 in
-    let start = at-zero-u32 in
-    let forget = at_forget.forget in
-    let zero-cuts = at-zero-cuts.zero_cuts in
-    let run-parts = at-run-parts.run_parts-r in
-    let zero-f64 = at-zero-f64.zero_f64 in
-    let zero-u322 = at-zero-u322.zero_u32-2 in
-    let zero-u32 = at-zero-u32.zero_u32 in
-    let a = start.args in
+    let forget = c.forget in
+    let zero-cuts = c.zero_cuts in
+    let run-parts = c.run_parts-r in
+    let zero-f64 = c.zero_f64 in
+    let zero-u322 = c.zero_u32-2 in
+    let zero-u32 = c.zero_u32 in
+    let a = c.args in
     whole_done a.limit a.vertex_words.now a.ends.now a.lens.now a.ops.now a.args.now
     (slices a.edges.now a.words.now a.reals.now a.keys.now a.events.now a.vertex.now) (cut_buffers a.pts.now a.out.now a.keep.now a.next.now)
     zero-u32.new.s zero-u322.new.s zero-f64.new.s zero-u32.ensures zero-u322.ensures zero-f64.ensures run-parts.result
@@ -65,21 +52,13 @@ returns-in-Done c =
 
 pub returns-in-Ended : goal.returns-in-Ended
 returns-in-Ended c =
-    let at-zero-slices = c in
-    let at-r2 = at-zero-slices in
-    let at-zero-cuts = at-r2 in
-    let at-run-parts = at-zero-cuts in
-    let at-zero-f64 = at-run-parts in
-    let at-zero-u322 = at-zero-f64 in
-    let at-zero-u32 = at-zero-u322 in
-    let start = at-zero-u32 in
-    let zero-slices = at-zero-slices.zero_slices in
-    let zero-cuts = at-zero-cuts.zero_cuts in
-    let run-parts = at-run-parts.run_parts-r in
-    let zero-f64 = at-zero-f64.zero_f64 in
-    let zero-u322 = at-zero-u322.zero_u32-2 in
-    let zero-u32 = at-zero-u32.zero_u32 in
-    let a = start.args in
+    let zero-slices = c.zero_slices in
+    let zero-cuts = c.zero_cuts in
+    let run-parts = c.run_parts-r in
+    let zero-f64 = c.zero_f64 in
+    let zero-u322 = c.zero_u32-2 in
+    let zero-u32 = c.zero_u32 in
+    let a = c.args in
     whole_ended a.limit a.vertex_words.now a.ends.now a.lens.now a.ops.now a.args.now
     (slices a.edges.now a.words.now a.reals.now a.keys.now a.events.now a.vertex.now) (cut_buffers a.pts.now a.out.now a.keep.now a.next.now)
     zero-u32.new.s zero-u322.new.s zero-f64.new.s zero-u32.ensures zero-u322.ensures zero-f64.ensures run-parts.result

@@ -10,67 +10,50 @@ use Rattle.run_operations.proofs.run_all.Goals as goal
 
 pub loop-k-init : goal.loop-k-init
 loop-k-init c =
-    let start = c in
-    let a = start.args in
+    let a = c.args in
     inv_start a.limit a.vertex_words.now a.ends.now a.lens.now a.m a.ops.now a.args.now a.n
     (slices a.edges.now a.words.now a.reals.now a.keys.now a.events.now a.vertex.now) (cut_buffers a.pts.now a.out.now a.keep.now a.next.now)
-    start.requires.0 start.requires.1
+    c.requires.0 c.requires.1
 
 pub operate-step-requires : goal.operate-step-requires
 operate-step-requires c =
-    let at-loop = c in
-    let start = at-loop in
-    let loop = at-loop.loop-k in
-    let a = start.args in
+    let loop = c.loop-k in
+    let a = c.args in
     inv_ready a.limit a.vertex_words.now a.ends.now a.lens.now a.m a.ops.now a.args.now a.n
     (slices a.edges.now a.words.now a.reals.now a.keys.now a.events.now a.vertex.now) (cut_buffers a.pts.now a.out.now a.keep.now a.next.now)
-    start.requires.0 loop.k loop.made loop.queued (slices loop.edges loop.words loop.reals loop.keys loop.events loop.vertex)
+    c.requires.0 loop.k loop.made loop.queued (slices loop.edges loop.words loop.reals loop.keys loop.events loop.vertex)
     (cut_buffers loop.pts loop.out loop.keep loop.next) loop.invariant
 
 pub returns-in-Stopped : goal.returns-in-Stopped
 returns-in-Stopped c =
-    let at-step = c in
-    let at-operate = at-step in
-    let at-operation-at = at-operate in
-    let at-loop-test = at-operation-at in
-    let at-loop = at-loop-test in
-    let start = at-loop in
-    let operate = at-operate.operate-step in
-    let operation-at = at-operation-at.operation_at-op in
-    let loop = at-loop.loop-k in
-    let a = start.args in
+    let operate = c.operate-step in
+    let operation-at = c.operation_at-op in
+    let loop = c.loop-k in
+    let a = c.args in
     inv_stopped a.limit a.vertex_words.now a.ends.now a.lens.now a.m a.ops.now a.args.now a.n
     (slices a.edges.now a.words.now a.reals.now a.keys.now a.events.now a.vertex.now) (cut_buffers a.pts.now a.out.now a.keep.now a.next.now)
-    start.requires.0 loop.k loop.made loop.queued (slices loop.edges loop.words loop.reals loop.keys loop.events loop.vertex)
-    (cut_buffers loop.pts loop.out loop.keep loop.next) loop.invariant at-loop-test.loop-k-test.true operation-at.result operation-at.ensures operate.result
+    c.requires.0 loop.k loop.made loop.queued (slices loop.edges loop.words loop.reals loop.keys loop.events loop.vertex)
+    (cut_buffers loop.pts loop.out loop.keep loop.next) loop.invariant c.loop-k-test.true operation-at.result operation-at.ensures operate.result
     (slices operate.new.edges operate.new.words operate.new.reals operate.new.keys
     operate.new.events operate.new.vertex) operate.ensures c.in-Stopped.number c.in-Stopped.is
 
 pub overflow_add-k : goal.overflow_add-k
 overflow_add-k c =
-    let at-loop-test = c in
-    let at-fits = at-loop-test in
-    omega (arith, at-loop-test.loop-k-test.true, at-fits.ranges.n)
+    omega (arith, c.loop-k-test.true, c.ranges.n)
 
 pub loop-k-smaller : goal.loop-k-smaller
 loop-k-smaller c = omega (arith, c.loop-k-test.true)
 
 pub loop-k-preserved : goal.loop-k-preserved
 loop-k-preserved c =
-    let at-step2 = c in
-    let at-operate = at-step2 in
-    let at-operation-at = at-operate in
-    let at-loop-test = at-operation-at in
-    let at-loop = at-loop-test in
-    let start = at-loop in
-    let operate = at-operate.operate-step in
-    let operation-at = at-operation-at.operation_at-op in
-    let loop = at-loop.loop-k in
-    let a = start.args in
+    let operate = c.operate-step in
+    let operation-at = c.operation_at-op in
+    let loop = c.loop-k in
+    let a = c.args in
     inv_next a.limit a.vertex_words.now a.ends.now a.lens.now a.m a.ops.now a.args.now a.n
     (slices a.edges.now a.words.now a.reals.now a.keys.now a.events.now a.vertex.now) (cut_buffers a.pts.now a.out.now a.keep.now a.next.now)
-    start.requires.0 loop.k loop.made loop.queued (slices loop.edges loop.words loop.reals loop.keys loop.events loop.vertex)
-    (cut_buffers loop.pts loop.out loop.keep loop.next) loop.invariant at-loop-test.loop-k-test.true operation-at.result operation-at.ensures operate.result
+    c.requires.0 loop.k loop.made loop.queued (slices loop.edges loop.words loop.reals loop.keys loop.events loop.vertex)
+    (cut_buffers loop.pts loop.out loop.keep loop.next) loop.invariant c.loop-k-test.true operation-at.result operation-at.ensures operate.result
     (slices operate.new.edges operate.new.words operate.new.reals operate.new.keys
     operate.new.events operate.new.vertex) operate.ensures c.in-Went.a c.in-Went.b (loop.k + 1)
     (omega arith) c.in-Went.is (cut_buffers operate.new.pts operate.new.out
@@ -96,11 +79,9 @@ loop-k-preserved c =
 
 pub returns : goal.returns
 returns c =
-    let at-loop = c in
-    let start = at-loop in
-    let loop = at-loop.loop-k in
-    let a = start.args in
+    let loop = c.loop-k in
+    let a = c.args in
     inv_done a.limit a.vertex_words.now a.ends.now a.lens.now a.m a.ops.now a.args.now a.n
     (slices a.edges.now a.words.now a.reals.now a.keys.now a.events.now a.vertex.now) (cut_buffers a.pts.now a.out.now a.keep.now a.next.now)
-    start.requires.0 loop.k loop.made loop.queued (slices loop.edges loop.words loop.reals loop.keys loop.events loop.vertex)
+    c.requires.0 loop.k loop.made loop.queued (slices loop.edges loop.words loop.reals loop.keys loop.events loop.vertex)
     (cut_buffers loop.pts loop.out loop.keep loop.next) loop.invariant c.loop-k-test.false

@@ -51,21 +51,18 @@ slice_bounds-run_all-end-8 c =
 
 pub run_all-requires : goal.run_all-requires
 run_all-requires c =
-    let start = c in
-    let a = start.args in (
+    let a = c.args in (
       parts_ready a.ends.now a.lens.now (slices a.edges.now a.words.now a.reals.now a.keys.now a.events.now a.vertex.now)
-          (cut_buffers a.pts.now a.out.now a.keep.now a.next.now) a.m a.x start.requires.0 start.requires.1.0,
-      start.requires.1.1.1,
+          (cut_buffers a.pts.now a.out.now a.keep.now a.next.now) a.m a.x c.requires.0 c.requires.1.0,
+      c.requires.1.1.1,
     )
 
 pub returns : goal.returns
 returns c =
-    let at-run-all = c in
-    let start = at-run-all in
-    let run-all = at-run-all.run_all in
-    let a = start.args in
+    let run-all = c.run_all in
+    let a = c.args in
     let the-slices = slices a.edges.now a.words.now a.reals.now a.keys.now a.events.now a.vertex.now in
-    parts_run a.ends.now a.lens.now the-slices (cut_buffers a.pts.now a.out.now a.keep.now a.next.now) a.m a.x start.requires.0 start.requires.1.0 a.limit
-    a.vertex_words.now a.ops.now a.args.now a.n start.requires.1.1.0 (snapshot_in 0 0 the-slices) run-all.result
+    parts_run a.ends.now a.lens.now the-slices (cut_buffers a.pts.now a.out.now a.keep.now a.next.now) a.m a.x c.requires.0 c.requires.1.0 a.limit
+    a.vertex_words.now a.ops.now a.args.now a.n c.requires.1.1.0 (snapshot_in 0 0 the-slices) run-all.result
     (slices run-all.new.edges run-all.new.words run-all.new.reals
     run-all.new.keys run-all.new.events run-all.new.vertex) run-all.ensures

@@ -2,7 +2,6 @@
 use native.Mathlib.Omega.{arith}
 use Rattle.heap.specs.Queue.{queue, slots}
 use Rattle.run_steps.proofs.Running.{none_waits_lem, past_slots, one_waits}
-use borrow.Author.Rules.{rules}
 use Rattle.run_steps.proofs.none_waits.Goals as goal
 
 pub returns-then-queued-eq0 : goal.returns-then-queued-eq0

@@ -4,15 +4,12 @@ use lib.ListN.{length}
 use Rattle.advance.specs.of_cut_lists.Buffers.{cut_buffers}
 use Rattle.insert_job.specs.of_trim.Buffers.{slices}
 use Rattle.run_steps.proofs.Running.{run_wedge, run_lack, run_from_lem, counts_within}
-use borrow.Author.Rules.{rules}
 use Rattle.run_steps.proofs.run_steps.Goals as goal
 
 pub advance-advanced-requires : goal.advance-advanced-requires
 advance-advanced-requires c =
-    let start = c in
-    let a = start.args in
-    let went = c in
-    (counts_within (capacity_of (length a.words.now) (length a.reals.now)) a.from c.in-Went.counts c.in-Went.is start.requires.0, start.requires.1)
+    let a = c.args in
+    (counts_within (capacity_of (length a.words.now) (length a.reals.now)) a.from c.in-Went.counts c.in-Went.is c.requires.0, c.requires.1)
 
 pub returns-in-Wedge : goal.returns-in-Wedge
 returns-in-Wedge c =
@@ -24,7 +21,6 @@ returns-in-Wedge c =
 pub returns-in-Stopped : goal.returns-in-Stopped
 returns-in-Stopped c =
     let a = c.args in
-    let lack = c in
     run_lack a.limit a.n a.most a.vertices.now a.triangles.now a.vertex_words.now a.round.now a.edge_reals.now a.triangle_words.now a.triangle_reals.now
     (slices a.edge_words.now a.words.now a.reals.now a.keys.now a.events.now a.vertex.now) (cut_buffers a.pts.now a.out.now a.keep.now a.next.now)
     a.from c.in-Stopped.lack c.in-Stopped.is c.lack_number.result c.lack_number.ensures (slices a.edge_words.now a.words.now a.reals.now a.keys.now a.events.now a.vertex.now)
@@ -32,7 +28,6 @@ returns-in-Stopped c =
 pub returns-in-Went : goal.returns-in-Went
 returns-in-Went c =
     let a = c.args in
-    let went = c in
     let r = c.advance-advanced in
     run_from_lem a.limit a.n a.most a.vertices.now a.triangles.now a.vertex_words.now a.round.now a.edge_reals.now a.triangle_words.now a.triangle_reals.now
     (slices a.edge_words.now a.words.now a.reals.now a.keys.now a.events.now a.vertex.now) (cut_buffers a.pts.now a.out.now a.keep.now a.next.now)

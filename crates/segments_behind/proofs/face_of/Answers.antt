@@ -1,7 +1,6 @@
 -- `segments_behind::face_of` meets its contract. Assumes nothing.
 use mathlib.Core.Path.{◌∙◌}
 use Rattle.segments_behind.proofs.Finding.{face_read}
-use borrow.Author.Rules.{rules}
 use Rattle.segments_behind.proofs.face_of.Goals as goal
 
 pub returns : goal.returns

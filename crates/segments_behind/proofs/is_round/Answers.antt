@@ -2,19 +2,14 @@
 use mathlib.Core.Path.{sym, ◌∙◌}
 use borrow.Author.Tests.{not-true, not-false}
 use Rattle.segments_behind.proofs.Finding.{round_long, round_short}
-use borrow.Author.Rules.{rules}
 use Rattle.segments_behind.proofs.is_round.Goals as goal
 
 pub returns-then-not-is_long : goal.returns-then-not-is_long
 returns-then-not-is_long c =
-    let long = c in
-    let a = long.args in
-    round_short a.kinds.now a.faces.now a.coords.now a.triangles.now a.k.0 a.e (sym long.is_long.ensures ∙ not-true _ c.if-not-is_long.true-raw)
+    let a = c.args in
+    round_short a.kinds.now a.faces.now a.coords.now a.triangles.now a.k.0 a.e (sym c.is_long.ensures ∙ not-true _ c.if-not-is_long.true-raw)
 
 pub returns : goal.returns
 returns c =
-    let face = c in
-    let branch = face in
-    let long = branch in
-    let a = long.args in
-    round_long a.kinds.now a.faces.now a.coords.now a.e _ face.face_of.ensures a.triangles.now a.k.0 _ (sym long.is_long.ensures ∙ not-false _ branch.if-not-is_long.false-raw) c.has_vertex.ensures
+    let a = c.args in
+    round_long a.kinds.now a.faces.now a.coords.now a.e _ c.face_of.ensures a.triangles.now a.k.0 _ (sym c.is_long.ensures ∙ not-false _ c.if-not-is_long.false-raw) c.has_vertex.ensures

@@ -1,10 +1,8 @@
 -- `segments_behind::next_behind` meets its contract. Assumes nothing.
-use borrow.Author.Rules.{rules}
 use Rattle.segments_behind.proofs.Finding.{next_behind_done}
 use Rattle.segments_behind.proofs.next_behind.Goals as goal
 
 pub returns : goal.returns
 returns c =
-    let link = c in
-    let a = link.args in
-    next_behind_done a.kinds.now a.faces.now a.coords.now a.words.now a.pieces a.g.0 a.e _ _ link.next_at-link.ensures c.first_behind.ensures
+    let a = c.args in
+    next_behind_done a.kinds.now a.faces.now a.coords.now a.words.now a.pieces a.g.0 a.e _ _ c.next_at-link.ensures c.first_behind.ensures

@@ -1,9 +1,6 @@
 use Prim.Native.Nat.{◌*◌, ◌≤◌, ◌<◌}
-use mathlib.Core.Path.{◌≡◌, refl}
-use native.Mathlib.Omega.{arith}
-use borrow.Author.Rules.{rules}
+use mathlib.Core.Path.{◌≡◌}
 use Rattle.piece_ends.specs.Walk.{find_along, next_link_at}
-use Rattle.piece_ends.proofs.Following.{search_ends, search_spent, search_found, search_next}
 use Rattle.segments_behind.specs.Round.{is_round}
 use Rattle.segments_behind.proofs.seek_round.Given as goal
 

@@ -9,10 +9,8 @@ use Rattle.signs_c.proofs.sirmolaat_lower.Goals as goal
 
 pub returns-then-e : goal.returns-then-e
 returns-then-e c =
-    let b = c in
-    let a = b in
-    let e = b.bounds-e.ensures (holds _ c.if-e.true) in
-    λ n. subst (λ (s : Src). T (le b.bounds-e.result.lo (edge_of s a.args.x))) b.source_given-src.ensures e.from
+    let e = c.bounds-e.ensures (holds _ c.if-e.true) in
+    λ n. subst (λ (s : Src). T (le c.bounds-e.result.lo (edge_of s c.args.x))) c.source_given-src.ensures e.from
 
 pub returns : goal.returns
 unfolding is_nan div of_bits

@@ -5,15 +5,12 @@ use Rattle.signs_c.proofs.sirmolaat_sign.Goals as goal
 
 pub returns-in-Shorter : goal.returns-in-Shorter
 returns-in-Shorter c =
-    let s = c in
-    told _ _ _ _ _ _ Shorter c.in-Shorter.is s.sign-sign.ensures s.source_given-p.ensures s.source_given-q.ensures
+    told _ _ _ _ _ _ Shorter c.in-Shorter.is c.sign-sign.ensures c.source_given-p.ensures c.source_given-q.ensures
 
 pub returns-in-Equal : goal.returns-in-Equal
 returns-in-Equal c =
-    let s = c in
-    told _ _ _ _ _ _ Equal c.in-Equal.is s.sign-sign.ensures s.source_given-p.ensures s.source_given-q.ensures
+    told _ _ _ _ _ _ Equal c.in-Equal.is c.sign-sign.ensures c.source_given-p.ensures c.source_given-q.ensures
 
 pub returns-in-Longer : goal.returns-in-Longer
 returns-in-Longer c =
-    let s = c in
-    told _ _ _ _ _ _ Longer c.in-Longer.is s.sign-sign.ensures s.source_given-p.ensures s.source_given-q.ensures
+    told _ _ _ _ _ _ Longer c.in-Longer.is c.sign-sign.ensures c.source_given-p.ensures c.source_given-q.ensures

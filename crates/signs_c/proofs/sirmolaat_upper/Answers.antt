@@ -9,10 +9,8 @@ use Rattle.signs_c.proofs.sirmolaat_upper.Goals as goal
 
 pub returns-then-e : goal.returns-then-e
 returns-then-e c =
-    let b = c in
-    let a = b in
-    let e = b.bounds-e.ensures (holds _ c.if-e.true) in
-    λ n. subst (λ (s : Src). T (le (edge_of s a.args.x) b.bounds-e.result.hi)) b.source_given-src.ensures e.upto
+    let e = c.bounds-e.ensures (holds _ c.if-e.true) in
+    λ n. subst (λ (s : Src). T (le (edge_of s c.args.x) c.bounds-e.result.hi)) c.source_given-src.ensures e.upto
 
 pub returns : goal.returns
 unfolding is_nan div of_bits

@@ -15,30 +15,18 @@ returns-then-s-lt12 c =
 pub returns-then-has_too_many : goal.returns-then-has_too_many
 unfolding answer_to
 returns-then-has_too_many c =
-    let at-has-too-many = c in
-    let at-if1 = at-has-too-many in
-    let a = at-if1.args in
-    rw (le-ltb (length a.s.now) 12 at-if1.if-s-lt12.false, sym at-has-too-many.has_too_many.ensures ∙ c.if-has_too_many.true)
+    let a = c.args in
+    rw (le-ltb (length a.s.now) 12 c.if-s-lt12.false, sym c.has_too_many.ensures ∙ c.if-has_too_many.true)
 
 pub returns-then-s-from : goal.returns-then-s-from
 unfolding answer_to
 returns-then-s-from c =
-    let at-pieces-from = c in
-    let at-if2 = at-pieces-from in
-    let at-has-too-many = at-if2 in
-    let at-if1 = at-has-too-many in
-    let a = at-if1.args in
-    rw (le-ltb (length a.s.now) 12 at-if1.if-s-lt12.false, sym at-has-too-many.has_too_many.ensures ∙ at-if2.if-has_too_many.false, lt-ltb (length a.s.now) (pieces_from a.s.now) (omega (arith, c.if-s-from.true, at-pieces-from.pieces_from-from.ensures)))
+    let a = c.args in
+    rw (le-ltb (length a.s.now) 12 c.if-s-lt12.false, sym c.has_too_many.ensures ∙ c.if-has_too_many.false, lt-ltb (length a.s.now) (pieces_from a.s.now) (omega (arith, c.if-s-from.true, c.pieces_from-from.ensures)))
 
 pub returns : goal.returns
 unfolding answer_to
 returns c =
-    let at-number-at = c in
-    let at-if3 = at-number-at in
-    let at-pieces-from = at-if3 in
-    let at-if2 = at-pieces-from in
-    let at-has-too-many = at-if2 in
-    let at-if1 = at-has-too-many in
-    let a = at-if1.args in
-    rw (le-ltb (length a.s.now) 12 at-if1.if-s-lt12.false, sym at-has-too-many.has_too_many.ensures ∙ at-if2.if-has_too_many.false, le-ltb (length a.s.now) (pieces_from a.s.now) (omega (arith, at-if3.if-s-from.false, at-pieces-from.pieces_from-from.ensures)))
-    (rw (at-number-at.number_at.ensures, at-pieces-from.pieces_from-from.ensures) at c.check_pieces.ensures)
+    let a = c.args in
+    rw (le-ltb (length a.s.now) 12 c.if-s-lt12.false, sym c.has_too_many.ensures ∙ c.if-has_too_many.false, le-ltb (length a.s.now) (pieces_from a.s.now) (omega (arith, c.if-s-from.false, c.pieces_from-from.ensures)))
+    (rw (c.number_at.ensures, c.pieces_from-from.ensures) at c.check_pieces.ensures)

@@ -19,8 +19,5 @@ returns-then-rest-gt8 c =
 pub returns : goal.returns
 unfolding after_pieces
 returns c =
-    let at-number3 = c in
-    let at-number2 = at-number3 in
-    let at-number = at-number2 in
-    let a = at-number.args in
-    rw (le-ltb (length a.s.now) (a.i + 8) (omega arith), le-ltb (a.i + 8) (length a.s.now) (omega arith), at-number.number_at.ensures, at-number2.number_at-2.ensures, at-number3.number_at-3.ensures, c.double_at.ensures)
+    let a = c.args in
+    rw (le-ltb (length a.s.now) (a.i + 8) (omega arith), le-ltb (a.i + 8) (length a.s.now) (omega arith), c.number_at.ensures, c.number_at-2.ensures, c.number_at-3.ensures, c.double_at.ensures)

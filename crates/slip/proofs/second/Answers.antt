@@ -12,8 +12,7 @@ returns-then-s-i-eq0 c =
 pub double_at-requires : goal.double_at-requires
 unfolding piece_size
 double_at-requires c =
-    let start = c in
-    let whole = rw (ne_eqb _ _ c.if-s-i-eq0.false) at start.requires.1.1 in omega (arith, whole)
+    let whole = rw (ne_eqb _ _ c.if-s-i-eq0.false) at c.requires.1.1 in omega (arith, whole)
 
 pub returns : goal.returns
 unfolding second_double_at

@@ -43,9 +43,4 @@ shape_of-coords c = simp length-set
 pub returns : goal.returns
 unfolding fill piece_coords
 returns c =
-    let at-second2 = c in
-    let at_second = at-second2 in
-    let at-double-at3 = at_second in
-    let at-double-at2 = at-double-at3 in
-    let at-double-at = at-double-at2 in
-    rw (at-double-at.double_at.ensures, at-double-at2.double_at-2.ensures, at-double-at3.double_at-3.ensures, at_second.second.ensures, at-second2.second-2.ensures, c.second-3.ensures, add-zero)
+    rw (c.double_at.ensures, c.double_at-2.ensures, c.double_at-3.ensures, c.second.ensures, c.second-2.ensures, c.second-3.ensures, add-zero)

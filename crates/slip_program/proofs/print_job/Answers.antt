@@ -5,15 +5,12 @@ use Rattle.compute.specs.of_begin.Begin.{work_slices}
 use Rattle.compute.specs.of_mesh.Topology.{mesh_buffers}
 use Rattle.compute.specs.of_compute_spec.Compute.{field_buffers}
 use Rattle.slip_program.proofs.Texts.{puts_same, job_printed}
-use borrow.Author.Rules.{rules}
 use Rattle.slip_program.proofs.print_job.Goals as goal
 
 pub returns : goal.returns
 returns c =
-    let printed = c in
-    let computed = printed in
-    let made = computed.compute-computed in
-    let a = computed.args in
+    let made = c.compute-computed in
+    let a = c.args in
     puts_same
     (job_printed (job a.vertices.now a.triangles.now a.flags.now a.kinds.now a.faces.now a.coords.now a.limit)
     (field_buffers
@@ -37,4 +34,4 @@ returns c =
     made.new.next)
     made.new.scratch made.new.other_scratch)
     made.result made.ensures)
-    printed.print_answer.ensures
+    c.print_answer.ensures

@@ -28,16 +28,9 @@ slice_bounds-c-end c = sym (length-take-le _ _ (search rules))
 
 pub returns : goal.returns
 returns c =
-    let printed = c in
-    let coords = printed in
-    let faces = coords in
-    let kinds = faces in
-    let flags = kinds in
-    let triangles = flags in
-    let vertices = triangles in
-    let a = vertices.args in
+    let a = c.args in
     puts_same
     (λ i. job_text
-    (job (take (vertices.least-nv.ensures i) a.vertices.now) (take (triangles.least-nt.ensures i) a.triangles.now) (take (flags.least-nf.ensures i) a.flags.now)
-    (take (kinds.least-nk.ensures i) a.kinds.now) (take (faces.least-nn.ensures i) a.faces.now) (take (coords.least-nc.ensures i) a.coords.now) a.read.limit))
-    printed.print_job.ensures
+    (job (take (c.least-nv.ensures i) a.vertices.now) (take (c.least-nt.ensures i) a.triangles.now) (take (c.least-nf.ensures i) a.flags.now)
+    (take (c.least-nk.ensures i) a.kinds.now) (take (c.least-nn.ensures i) a.faces.now) (take (c.least-nc.ensures i) a.coords.now) a.read.limit))
+    c.print_job.ensures

@@ -1,5 +1,4 @@
 use Prim.Native.Nat.{◌*◌, ◌≤◌, ◌-◌}
-use borrow.Author.Rules.{rules}
 use Rattle.slip_vectors.proofs.replay.Given as goal
 
 abbrev pub invariant-loop-k : goal.invariant-loop-k

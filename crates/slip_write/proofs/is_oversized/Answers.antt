@@ -12,32 +12,23 @@ returns-then-vertices-gt72057594037927936 c =
 pub returns-then-triangles-gt72057594037927936 : goal.returns-then-triangles-gt72057594037927936
 unfolding oversized
 returns-then-triangles-gt72057594037927936 c =
-    let at-if1 = c in
-    let a = at-if1.args in
-    rw (le-ltb _ a.vertices at-if1.if-vertices-gt72057594037927936.false, lt-ltb _ a.triangles c.if-triangles-gt72057594037927936.true)
+    let a = c.args in
+    rw (le-ltb _ a.vertices c.if-vertices-gt72057594037927936.false, lt-ltb _ a.triangles c.if-triangles-gt72057594037927936.true)
 
 pub returns-then-flags-gt72057594037927936 : goal.returns-then-flags-gt72057594037927936
 unfolding oversized
 returns-then-flags-gt72057594037927936 c =
-    let at-if2 = c in
-    let at-if1 = at-if2 in
-    let a = at-if1.args in
-    rw (le-ltb _ a.vertices at-if1.if-vertices-gt72057594037927936.false, le-ltb _ a.triangles at-if2.if-triangles-gt72057594037927936.false, lt-ltb _ a.flags c.if-flags-gt72057594037927936.true)
+    let a = c.args in
+    rw (le-ltb _ a.vertices c.if-vertices-gt72057594037927936.false, le-ltb _ a.triangles c.if-triangles-gt72057594037927936.false, lt-ltb _ a.flags c.if-flags-gt72057594037927936.true)
 
 pub returns-then-kinds-gt72057594037927936 : goal.returns-then-kinds-gt72057594037927936
 unfolding oversized
 returns-then-kinds-gt72057594037927936 c =
-    let at-if3 = c in
-    let at-if2 = at-if3 in
-    let at-if1 = at-if2 in
-    let a = at-if1.args in
-    rw (le-ltb _ a.vertices at-if1.if-vertices-gt72057594037927936.false, le-ltb _ a.triangles at-if2.if-triangles-gt72057594037927936.false, le-ltb _ a.flags at-if3.if-flags-gt72057594037927936.false, lt-ltb _ a.kinds c.if-kinds-gt72057594037927936.true)
+    let a = c.args in
+    rw (le-ltb _ a.vertices c.if-vertices-gt72057594037927936.false, le-ltb _ a.triangles c.if-triangles-gt72057594037927936.false, le-ltb _ a.flags c.if-flags-gt72057594037927936.false, lt-ltb _ a.kinds c.if-kinds-gt72057594037927936.true)
 
 pub returns : goal.returns
 unfolding oversized
 returns c =
-    let at-if3 = c in
-    let at-if2 = at-if3 in
-    let at-if1 = at-if2 in
-    let a = at-if1.args in
-    rw (le-ltb _ a.vertices at-if1.if-vertices-gt72057594037927936.false, le-ltb _ a.triangles at-if2.if-triangles-gt72057594037927936.false, le-ltb _ a.flags at-if3.if-flags-gt72057594037927936.false, le-ltb _ a.kinds c.if-kinds-gt72057594037927936.false)
+    let a = c.args in
+    rw (le-ltb _ a.vertices c.if-vertices-gt72057594037927936.false, le-ltb _ a.triangles c.if-triangles-gt72057594037927936.false, le-ltb _ a.flags c.if-flags-gt72057594037927936.false, le-ltb _ a.kinds c.if-kinds-gt72057594037927936.false)

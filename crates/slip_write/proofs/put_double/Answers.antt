@@ -8,14 +8,9 @@ use Rattle.slip_write.proofs.put_double.Goals as goal
 
 pub put_number-requires : goal.put_number-requires
 put_number-requires c =
-    let at-put-number = c in
-    let at-pattern = at-put-number in
-    omega (arith, at-put-number.put_number-j.ensures.ends, length_number (at-pattern.pattern-b.result % 4_294_967_296))
+    omega (arith, c.put_number-j.ensures.ends, length_number (c.pattern-b.result % 4_294_967_296))
 
 pub returns : goal.returns
 unfolding double_bytes
 returns c =
-    let at-put-number2 = c in
-    let at-put-number = at-put-number2 in
-    let at-pattern = at-put-number in
-    let both = puts_then at-put-number.put_number-j.ensures at-put-number2.put_number.ensures in rw at-pattern.pattern-b.ensures at both
+    let both = puts_then c.put_number-j.ensures c.put_number.ensures in rw c.pattern-b.ensures at both

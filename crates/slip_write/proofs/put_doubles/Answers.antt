@@ -16,16 +16,13 @@ loop-k-init c = (omega arith, (omega arith, (refl, puts_none _ _)))
 pub loop-k-preserved : goal.loop-k-preserved
 unfolding doubles_bytes
 loop-k-preserved c =
-    let at-put-double = c in
-    let at-loop = at-put-double in
-    let a = at-loop.args in
-    let put = at-put-double.put_double-at.ensures in (
+    let a = c.args in
+    let put = c.put_double-at.ensures in (
       omega arith,
-      (omega (arith, put.ends, length_double (get_or a.xs.now at-loop.loop-k.k nan), at-loop.loop-k.invariant.1.0), (puts_length put ∙ at-loop.loop-k.invariant.1.1.0, rw add-one (puts_then at-loop.loop-k.invariant.1.1.1 put))),
+      (omega (arith, put.ends, length_double (get_or a.xs.now c.loop-k.k nan), c.loop-k.invariant.1.0), (puts_length put ∙ c.loop-k.invariant.1.1.0, rw add-one (puts_then c.loop-k.invariant.1.1.1 put))),
     )
 
 pub returns : goal.returns
 returns c =
-    let at-loop = c in
-    let a = at-loop.args in
-    let e : at-loop.loop-k.k ≡ length a.xs.now = omega (arith, c.loop-k-test.false, at-loop.loop-k.invariant.0) in (rw e at at-loop.loop-k.invariant.1.1.1, omega (arith, e, at-loop.loop-k.invariant.1.0))
+    let a = c.args in
+    let e : c.loop-k.k ≡ length a.xs.now = omega (arith, c.loop-k-test.false, c.loop-k.invariant.0) in (rw e at c.loop-k.invariant.1.1.1, omega (arith, e, c.loop-k.invariant.1.0))

@@ -7,11 +7,7 @@ use Rattle.slip_write.proofs.put_mesh.Goals as goal
 pub returns : goal.returns
 unfolding mesh_bytes
 returns c =
-    let at-put-text = c in
-    let at-put-numbers = at-put-text in
-    let at-put-doubles = at-put-numbers in
-    let start = at-put-doubles in
-    let v = at-put-doubles.put_doubles-a.ensures in
-    let t = at-put-numbers.put_numbers-b.ensures in
-    let f = at-put-text.put_text.ensures in
-    (puts_then (puts_then v.0 t.0) f, omega (arith, v.1, t.1, f.ends, start.requires.0, start.requires.1.0, start.requires.1.1.0, start.requires.1.1.1))
+    let v = c.put_doubles-a.ensures in
+    let t = c.put_numbers-b.ensures in
+    let f = c.put_text.ensures in
+    (puts_then (puts_then v.0 t.0) f, omega (arith, v.1, t.1, f.ends, c.requires.0, c.requires.1.0, c.requires.1.1.0, c.requires.1.1.1))

@@ -5,5 +5,4 @@ use Rattle.slip_write.proofs.put_number.Goals as goal
 pub returns : goal.returns
 unfolding number_bytes
 returns c =
-    let at-put-text = c in
-    at-put-text.put_text.ensures
+    c.put_text.ensures

@@ -15,16 +15,13 @@ loop-k-init c = (omega arith, (omega arith, (refl, puts_none _ _)))
 pub loop-k-preserved : goal.loop-k-preserved
 unfolding numbers_bytes
 loop-k-preserved c =
-    let at-put-number = c in
-    let at-loop = at-put-number in
-    let a = at-loop.args in
-    let put = at-put-number.put_number-at.ensures in (
+    let a = c.args in
+    let put = c.put_number-at.ensures in (
       omega arith,
-      (omega (arith, put.ends, length_number (get_or a.xs.now at-loop.loop-k.k 0), at-loop.loop-k.invariant.1.0), (puts_length put ∙ at-loop.loop-k.invariant.1.1.0, rw add-one (puts_then at-loop.loop-k.invariant.1.1.1 put))),
+      (omega (arith, put.ends, length_number (get_or a.xs.now c.loop-k.k 0), c.loop-k.invariant.1.0), (puts_length put ∙ c.loop-k.invariant.1.1.0, rw add-one (puts_then c.loop-k.invariant.1.1.1 put))),
     )
 
 pub returns : goal.returns
 returns c =
-    let at-loop = c in
-    let a = at-loop.args in
-    let e : at-loop.loop-k.k ≡ length a.xs.now = omega (arith, c.loop-k-test.false, at-loop.loop-k.invariant.0) in (rw e at at-loop.loop-k.invariant.1.1.1, omega (arith, e, at-loop.loop-k.invariant.1.0))
+    let a = c.args in
+    let e : c.loop-k.k ≡ length a.xs.now = omega (arith, c.loop-k-test.false, c.loop-k.invariant.0) in (rw e at c.loop-k.invariant.1.1.1, omega (arith, e, c.loop-k.invariant.1.0))

@@ -14,15 +14,12 @@ loop-k-init c = (omega arith, (omega arith, (refl, puts_none _ _)))
 pub loop-k-preserved : goal.loop-k-preserved
 unfolding pieces_bytes
 loop-k-preserved c =
-    let at-put-piece = c in
-    let at-loop = at-put-piece in
-    let put = at-put-piece.put_piece-at.ensures in (
+    let put = c.put_piece-at.ensures in (
       omega arith,
-      (omega (arith, put.1, at-loop.loop-k.invariant.1.0), (puts_length put.0 ∙ at-loop.loop-k.invariant.1.1.0, rw add-one (puts_then at-loop.loop-k.invariant.1.1.1 put.0))),
+      (omega (arith, put.1, c.loop-k.invariant.1.0), (puts_length put.0 ∙ c.loop-k.invariant.1.1.0, rw add-one (puts_then c.loop-k.invariant.1.1.1 put.0))),
     )
 
 pub returns : goal.returns
 returns c =
-    let at-loop = c in
-    let a = at-loop.args in
-    let e : at-loop.loop-k.k ≡ length a.kinds.now = omega (arith, c.loop-k-test.false, at-loop.loop-k.invariant.0) in (rw e at at-loop.loop-k.invariant.1.1.1, omega (arith, e, at-loop.loop-k.invariant.1.0))
+    let a = c.args in
+    let e : c.loop-k.k ≡ length a.kinds.now = omega (arith, c.loop-k-test.false, c.loop-k.invariant.0) in (rw e at c.loop-k.invariant.1.1.1, omega (arith, e, c.loop-k.invariant.1.0))

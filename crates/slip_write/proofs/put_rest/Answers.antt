@@ -6,6 +6,4 @@ use Rattle.slip_write.proofs.put_rest.Goals as goal
 pub returns : goal.returns
 unfolding rest_bytes
 returns c =
-    let at-put-double = c in
-    let at-put-pieces = at-put-double in
-    puts_then at-put-pieces.put_pieces-a.ensures.0 at-put-double.put_double.ensures
+    puts_then c.put_pieces-a.ensures.0 c.put_double.ensures

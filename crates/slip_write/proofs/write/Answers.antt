@@ -7,38 +7,25 @@ use Rattle.slip_write.proofs.write.Goals as goal
 
 pub returns-then-is_oversized : goal.returns-then-is_oversized
 returns-then-is_oversized c =
-    let at-is-oversized = c in
-    let a = at-is-oversized.args in
-    has_oversized (job a.vertices.now a.triangles.now a.flags.now a.kinds.now a.faces.now a.coords.now a.limit) a.out.now (sym at-is-oversized.is_oversized.ensures ∙ c.if-is_oversized.true)
+    let a = c.args in
+    has_oversized (job a.vertices.now a.triangles.now a.flags.now a.kinds.now a.faces.now a.coords.now a.limit) a.out.now (sym c.is_oversized.ensures ∙ c.if-is_oversized.true)
 
 pub put_slip-n-requires : goal.put_slip-n-requires
 put_slip-n-requires c =
-    let at-if1 = c in
-    let at-is-oversized = at-if1 in
-    let a = at-is-oversized.args in
-    in_bounds (length a.vertices.now) (length a.triangles.now) (length a.flags.now) (length a.kinds.now) (sym at-is-oversized.is_oversized.ensures ∙ at-if1.if-is_oversized.false)
+    let a = c.args in
+    in_bounds (length a.vertices.now) (length a.triangles.now) (length a.flags.now) (length a.kinds.now) (sym c.is_oversized.ensures ∙ c.if-is_oversized.false)
 
 pub returns-then-out-n : goal.returns-then-out-n
 returns-then-out-n c =
-    let at-put-slip = c in
-    let at-if1 = at-put-slip in
-    let at-is-oversized = at-if1 in
-    let a = at-is-oversized.args in
-    too_short (job a.vertices.now a.triangles.now a.flags.now a.kinds.now a.faces.now a.coords.now a.limit) a.out.now at-put-slip.put_slip-n.result (sym at-is-oversized.is_oversized.ensures ∙ at-if1.if-is_oversized.false) at-put-slip.put_slip-n.ensures.ends c.if-out-n.true
+    let a = c.args in
+    too_short (job a.vertices.now a.triangles.now a.flags.now a.kinds.now a.faces.now a.coords.now a.limit) a.out.now c.put_slip-n.result (sym c.is_oversized.ensures ∙ c.if-is_oversized.false) c.put_slip-n.ensures.ends c.if-out-n.true
 
 pub put_slip-requires : goal.put_slip-requires
 put_slip-requires c =
-    let at-if1 = c in
-    let at-is-oversized = at-if1 in
-    let a = at-is-oversized.args in
-    in_bounds (length a.vertices.now) (length a.triangles.now) (length a.flags.now) (length a.kinds.now) (sym at-is-oversized.is_oversized.ensures ∙ at-if1.if-is_oversized.false)
+    let a = c.args in
+    in_bounds (length a.vertices.now) (length a.triangles.now) (length a.flags.now) (length a.kinds.now) (sym c.is_oversized.ensures ∙ c.if-is_oversized.false)
 
 pub returns : goal.returns
 returns c =
-    let at-put-slip2 = c in
-    let at-if2 = at-put-slip2 in
-    let at-put-slip = at-if2 in
-    let at-if1 = at-put-slip in
-    let at-is-oversized = at-if1 in
-    let a = at-is-oversized.args in
-    done (job a.vertices.now a.triangles.now a.flags.now a.kinds.now a.faces.now a.coords.now a.limit) a.out.now at-put-slip.put_slip-n.result (sym at-is-oversized.is_oversized.ensures ∙ at-if1.if-is_oversized.false) at-put-slip.put_slip-n.ensures.ends _ _ at-if2.if-out-n.false at-put-slip2.put_slip.ensures
+    let a = c.args in
+    done (job a.vertices.now a.triangles.now a.flags.now a.kinds.now a.faces.now a.coords.now a.limit) a.out.now c.put_slip-n.result (sym c.is_oversized.ensures ∙ c.if-is_oversized.false) c.put_slip-n.ensures.ends _ _ c.if-out-n.false c.put_slip.ensures

@@ -16,5 +16,4 @@ returns-then-f-w-2 c = rw (← c.foot-f.ensures, c.if-f-w.true, c.if-f-w-2.true,
 pub returns : goal.returns
 unfolding eval_of
 returns c =
-    let j = c in
-    rw (← j.foot-f.ensures, outside (goal.at.returns c).Joined-else-f-w, ← c.clamp-q.ensures, c.hypot.ensures, c.edge.ensures)
+    rw (← c.foot-f.ensures, outside (goal.at.returns c).Joined-else-f-w, ← c.clamp-q.ensures, c.hypot.ensures, c.edge.ensures)

@@ -21,31 +21,24 @@ returns-then-s c = elim c.then-s.branch [ then-s-via-then-s w ↦ rw (largest (g
 pub returns-then-b : goal.returns-then-b
 unfolding roots_of
 returns-then-b c =
-    let e = c in
     rw (largest (goal.at.returns-then-b c).After-max-s, counts (goal.at.returns-then-b c).Else-not-is_finite, ← c.abs-4.ensures, c.if-abs-s.true, c.if-b.true)
 
 pub returns-then-abs-s : goal.returns-then-abs-s
 unfolding roots_of
 returns-then-abs-s c =
-    let e = c in
     rw (largest (goal.at.returns-then-abs-s c).After-max-s, counts (goal.at.returns-then-abs-s c).Else-not-is_finite, ← c.abs-4.ensures, c.if-abs-s.true, c.if-b.false)
 
 pub returns-then-disc : goal.returns-then-disc
 unfolding roots_of
 returns-then-disc c =
-    let e = c in
     rw (largest (goal.at.returns-then-disc c).After-max-s, counts (goal.at.returns-then-disc c).Else-not-is_finite, ← c.abs-4.ensures, c.if-abs-s.false, c.if-disc.true)
 
 pub returns-then-q : goal.returns-then-q
 unfolding roots_of
 returns-then-q c =
-    let d = c in
-    let e = d in
-    rw (largest (goal.at.returns-then-q c).After-max-s, counts (goal.at.returns-then-q c).Else-not-is_finite, ← d.abs-4.ensures, d.if-abs-s.false, d.if-disc.false, ← c.sqrt.ensures, ← c.signum.ensures, c.if-q.true)
+    rw (largest (goal.at.returns-then-q c).After-max-s, counts (goal.at.returns-then-q c).Else-not-is_finite, ← c.abs-4.ensures, c.if-abs-s.false, c.if-disc.false, ← c.sqrt.ensures, ← c.signum.ensures, c.if-q.true)
 
 pub returns : goal.returns
 unfolding roots_of
 returns c =
-    let d = c in
-    let e = d in
-    rw (largest (goal.at.returns c).After-max-s, counts (goal.at.returns c).Else-not-is_finite, ← d.abs-4.ensures, d.if-abs-s.false, d.if-disc.false, ← c.sqrt.ensures, ← c.signum.ensures, c.if-q.false)
+    rw (largest (goal.at.returns c).After-max-s, counts (goal.at.returns c).Else-not-is_finite, ← c.abs-4.ensures, c.if-abs-s.false, c.if-disc.false, ← c.sqrt.ensures, ← c.signum.ensures, c.if-q.false)

@@ -6,9 +6,7 @@ use Rattle.source_bounds.proofs.bounds.Goals as goal
 
 pub returns-then-b : goal.returns-then-b
 returns-then-b c =
-    let i = c in
-    let b = i in
-    λ k. rw b.in-Point.is (point_bounded _ _ _ _ _ _ _ _ c.limited.result.known (b.hypot_bounds-b.ensures (subst T (sym i.if-b.true) tt)) c.limited.ensures k)
+    λ k. rw c.in-Point.is (point_bounded _ _ _ _ _ _ _ _ c.limited.result.known (c.hypot_bounds-b.ensures (subst T (sym c.if-b.true) tt)) c.limited.ensures k)
 
 pub returns-else-b : goal.returns-else-b
 returns-else-b c = λ k. absurd (subst T c.if-b.false k)

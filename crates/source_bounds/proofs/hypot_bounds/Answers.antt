@@ -8,10 +8,8 @@ use Rattle.source_bounds.proofs.hypot_bounds.Goals as goal
 
 pub returns : goal.returns
 returns c =
-    let q = c in
-    let s = q in
-    let a = s.args in
+    let a = c.args in
     λ k.
-    certified_encloses a.d a.y _ _ (subst T (sym s.well_formed.0.1) tt) (subst T (sym s.well_formed.1.0.1) tt)
-    (mul-fits binary64 q.near_root-q.result (of_bits binary64 0x3fef_ffff_ffff_e000)) (mul-fits binary64 q.near_root-q.result (of_bits binary64 0x3ff0_0000_0000_1000))
+    certified_encloses a.d a.y _ _ (subst T (sym c.well_formed.0.1) tt) (subst T (sym c.well_formed.1.0.1) tt)
+    (mul-fits binary64 c.near_root-q.result (of_bits binary64 0x3fef_ffff_ffff_e000)) (mul-fits binary64 c.near_root-q.result (of_bits binary64 0x3ff0_0000_0000_1000))
     (c.is_certified-known.ensures k)

@@ -9,10 +9,7 @@ passed e = subst T (sym e) tt
 
 pub returns-then-hi-2 : goal.returns-then-hi-2
 returns-then-hi-2 c =
-    let f = c in
-    let t = f in
-    let s = t in
-    λ k. record { large = passed s.if-z.true; below = passed s.if-lo-z.true; above = passed t.if-z-hi.true; positive = passed f.if-hi.true; small = passed c.if-hi-2.true }
+    λ k. record { large = passed c.if-z.true; below = passed c.if-lo-z.true; above = passed c.if-z-hi.true; positive = passed c.if-hi.true; small = passed c.if-hi-2.true }
 
 pub returns-else-hi-2 : goal.returns-else-hi-2
 returns-else-hi-2 c = λ k. absurd k

@@ -1,7 +1,6 @@
 -- `source_inserts::insert_at` meets its contract. Assumes nothing.
 use mathlib.Core.Path.{refl}
 use Rattle.source_inserts.specs.Read.{insert_at}
-use borrow.Author.Rules.{rules}
 use Rattle.source_inserts.proofs.insert_at.Goals as goal
 
 pub returns-in-Absent : goal.returns-in-Absent

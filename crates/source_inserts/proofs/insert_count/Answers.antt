@@ -2,7 +2,6 @@
 use mathlib.Core.Path.{refl}
 use Rattle.source_inserts.specs.Read.{insert_count_at}
 use Rattle.source_inserts.proofs.Steps.{count_few, count_cut}
-use borrow.Author.Rules.{rules}
 use Rattle.source_inserts.proofs.insert_count.Goals as goal
 
 pub returns-then-count-lt1073741823 : goal.returns-then-count-lt1073741823

@@ -1,6 +1,5 @@
 -- `source_inserts::job_source` meets its contract. Assumes nothing.
 use Rattle.source_inserts.proofs.Steps.{source_whole, source_end}
-use borrow.Author.Rules.{rules}
 use Rattle.source_inserts.proofs.job_source.Goals as goal
 
 pub returns-then-k-eq2 : goal.returns-then-k-eq2

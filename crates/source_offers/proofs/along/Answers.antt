@@ -1,5 +1,4 @@
 -- `source_offers::along` meets its contract. Assumes nothing.
-use borrow.Author.Rules.{rules}
 use Rattle.source_offers.specs.Offering.{along_at}
 use Rattle.source_offers.proofs.along.Goals as goal
 

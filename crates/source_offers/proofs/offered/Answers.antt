@@ -1,7 +1,6 @@
 -- `source_offers::offered` meets its contract. Assumes nothing.
 use mathlib.Core.Path.{refl}
 use Rattle.source_offers.specs.Offering.{offered}
-use borrow.Author.Rules.{rules}
 use Rattle.source_offers.proofs.offered.Goals as goal
 
 pub returns-in-Nothing : goal.returns-in-Nothing

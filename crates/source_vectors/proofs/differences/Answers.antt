@@ -61,12 +61,10 @@ loop-k-smaller c = omega arith
 pub loop-k-preserved : goal.loop-k-preserved
 loop-k-preserved c =
     let answered : c.holds.result ≡ holds_for c.args.f (record_at c.args.f c.args.s.now c.loop-k.k) = c.holds.ensures ∙ ap (holds_for _) (part_is _ _ _ _ c.size-z.ensures) in
-    let t = c in
     let h = answered in
-    elim c.if-not-holds.branch [ then-not-holds w ↦ (omega arith, omega arith, w.count-is ∙ one_more _ _ _ t.loop-k.invariant.2 (sym h ∙ w.if-not-holds.true)) | else-not-holds w ↦ (omega arith, omega arith, w.count-is ∙ same_count _ _ _ t.loop-k.invariant.2 (sym h ∙ w.if-not-holds.false)) ]
+    elim c.if-not-holds.branch [ then-not-holds w ↦ (omega arith, omega arith, w.count-is ∙ one_more _ _ _ c.loop-k.invariant.2 (sym h ∙ w.if-not-holds.true)) | else-not-holds w ↦ (omega arith, omega arith, w.count-is ∙ same_count _ _ _ c.loop-k.invariant.2 (sym h ∙ w.if-not-holds.false)) ]
 
 pub returns : goal.returns
 returns c =
-    let r = c in
-    let e : c.loop-k.k ≡ leaf_records r.args.f r.args.s.now = omega (arith, r.records-n.ensures.0) in
+    let e : c.loop-k.k ≡ leaf_records c.args.f c.args.s.now = omega (arith, c.records-n.ensures.0) in
     rw e at c.loop-k.invariant.2

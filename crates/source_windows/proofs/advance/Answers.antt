@@ -1,5 +1,4 @@
 -- `source_windows::advance` meets its contract. Assumes nothing.
-use borrow.Author.Rules.{rules}
 use Rattle.source_windows.specs.Back.{advance_of}
 use Rattle.source_windows.proofs.advance.Goals as goal
 

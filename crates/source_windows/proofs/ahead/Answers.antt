@@ -1,5 +1,4 @@
 -- `source_windows::ahead` meets its contract. Assumes nothing.
-use borrow.Author.Rules.{rules}
 use Rattle.source_windows.specs.Segment.{ahead_of}
 use Rattle.source_windows.proofs.ahead.Goals as goal
 

@@ -1,5 +1,4 @@
 -- `source_windows::behind` meets its contract. Assumes nothing.
-use borrow.Author.Rules.{rules}
 use Rattle.source_windows.specs.Wedge.{behind_of}
 use Rattle.source_windows.proofs.behind.Goals as goal
 

@@ -1,5 +1,4 @@
 -- `source_windows::feet` meets its contract. Assumes nothing.
-use borrow.Author.Rules.{rules}
 use Rattle.source_windows.specs.Segment.{feet_of}
 use Rattle.source_windows.proofs.feet.Goals as goal
 

@@ -1,5 +1,4 @@
 -- `source_windows::goes_back` meets its contract. Assumes nothing.
-use borrow.Author.Rules.{rules}
 use Rattle.source_windows.specs.Back.{goes_back_along}
 use Rattle.source_windows.proofs.goes_back.Goals as goal
 

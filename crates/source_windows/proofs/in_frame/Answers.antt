@@ -1,5 +1,4 @@
 -- `source_windows::in_frame` meets its contract. Assumes nothing.
-use borrow.Author.Rules.{rules}
 use Rattle.source_windows.specs.Segment.{in_frame_of}
 use Rattle.source_windows.proofs.in_frame.Goals as goal
 

@@ -1,5 +1,4 @@
 -- `source_windows::narrow` meets its contract. Assumes nothing.
-use borrow.Author.Rules.{rules}
 use Rattle.source_windows.specs.Wedge.{narrow_of}
 use Rattle.source_windows.proofs.narrow.Goals as goal
 

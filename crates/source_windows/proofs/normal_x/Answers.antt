@@ -1,5 +1,4 @@
 -- `source_windows::normal_x` meets its contract. Assumes nothing.
-use borrow.Author.Rules.{rules}
 use Rattle.source_windows.specs.Segment.{nx_of}
 use Rattle.source_windows.proofs.normal_x.Goals as goal
 

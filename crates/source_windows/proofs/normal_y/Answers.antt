@@ -1,5 +1,4 @@
 -- `source_windows::normal_y` meets its contract. Assumes nothing.
-use borrow.Author.Rules.{rules}
 use Rattle.source_windows.specs.Segment.{ny_of}
 use Rattle.source_windows.proofs.normal_y.Goals as goal
 

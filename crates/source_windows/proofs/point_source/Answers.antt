@@ -1,5 +1,4 @@
 -- `source_windows::point_source` meets its contract. Assumes nothing.
-use borrow.Author.Rules.{rules}
 use Rattle.source_windows.specs.Wedge.{point_source_of}
 use Rattle.source_windows.proofs.point_source.Goals as goal
 

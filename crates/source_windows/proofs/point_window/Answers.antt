@@ -1,5 +1,4 @@
 -- `source_windows::point_window` meets its contract. Assumes nothing.
-use borrow.Author.Rules.{rules}
 use Rattle.source_windows.specs.Wedge.{point_window_of}
 use Rattle.source_windows.proofs.point_window.Goals as goal
 

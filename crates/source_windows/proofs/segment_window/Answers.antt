@@ -1,5 +1,4 @@
 -- `source_windows::segment_window` meets its contract. Assumes nothing.
-use borrow.Author.Rules.{rules}
 use Rattle.source_windows.specs.Segment.{segment_window_of}
 use Rattle.source_windows.proofs.segment_window.Goals as goal
 

@@ -1,5 +1,4 @@
 -- `source_windows::side_window` meets its contract. Assumes nothing.
-use borrow.Author.Rules.{rules}
 use Rattle.source_windows.specs.Segment.{side_window_of}
 use Rattle.source_windows.proofs.side_window.Goals as goal
 

@@ -1,5 +1,4 @@
 -- `source_windows::unfolded` meets its contract. Assumes nothing.
-use borrow.Author.Rules.{rules}
 use Rattle.source_windows.specs.Wedge.{unfolded_of}
 use Rattle.source_windows.proofs.unfolded.Goals as goal
 

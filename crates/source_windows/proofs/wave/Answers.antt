@@ -1,5 +1,4 @@
 -- `source_windows::wave` meets its contract. Assumes nothing.
-use borrow.Author.Rules.{rules}
 use Rattle.source_windows.specs.Segment.{wave_of}
 use Rattle.source_windows.proofs.wave.Goals as goal
 

@@ -5,35 +5,27 @@ use mathlib.Core.Path.{refl, ◌∙◌}
 use Rattle.spread_offers.specs.of_cut_lists.Buffers.{cut_buffers}
 use Rattle.spread_offers.specs.of_trim.Buffers.{slices}
 use Rattle.spread_offers.proofs.laws_of_offers.Walks.{sizes_same}
-use Rattle.spread_offers.proofs.laws_of_offers.Loop.{LoopInv, loop_start, loop_fits, loop_next, loop_stopped, loop_over}
+use Rattle.spread_offers.proofs.laws_of_offers.Loop.{loop_start, loop_fits, loop_next, loop_stopped, loop_over}
 use Rattle.spread.proofs.Laws.{reads_spread, read_first}
-use borrow.Author.Rules.{rules}
 use Rattle.spread.proofs.spread.Goals as goal
 
 pub loop-i-init : goal.loop-i-init
 loop-i-init c =
-    let face = c in
-    let start = face in
-    let a = start.args in
-    loop_start a.limit a.vertex_words.now (reads_spread a.vertices.now a.triangles.now a.edge_reals.now a.triangle_words.now a.triangle_reals.now a.vertex_words.now a.round.now a.s a.edge_words.now face.find_opposite-o.result) a.counts
+    let a = c.args in
+    loop_start a.limit a.vertex_words.now (reads_spread a.vertices.now a.triangles.now a.edge_reals.now a.triangle_words.now a.triangle_reals.now a.vertex_words.now a.round.now a.s a.edge_words.now c.find_opposite-o.result) a.counts
     (slices a.edge_words.now a.words.now a.reals.now a.keys.now a.events.now a.vertex.now) (cut_buffers a.pts.now a.out.now a.keep.now a.next.now)
-    start.requires.0
+    c.requires.0
 
 pub offer-added-requires : goal.offer-added-requires
 offer-added-requires c =
-    let read = c in
-    let tested = read in
-    let loop = tested in
-    let face = loop in
-    let start = face in
-    let a = start.args in
-    let l = loop.loop-i in (
-      loop_fits a.limit a.vertex_words.now (reads_spread a.vertices.now a.triangles.now a.edge_reals.now a.triangle_words.now a.triangle_reals.now a.vertex_words.now a.round.now a.s a.edge_words.now face.find_opposite-o.result) a.counts
+    let a = c.args in
+    let l = c.loop-i in (
+      loop_fits a.limit a.vertex_words.now (reads_spread a.vertices.now a.triangles.now a.edge_reals.now a.triangle_words.now a.triangle_reals.now a.vertex_words.now a.round.now a.s a.edge_words.now c.find_opposite-o.result) a.counts
           (slices a.edge_words.now a.words.now a.reals.now a.keys.now a.events.now a.vertex.now) (cut_buffers a.pts.now a.out.now a.keep.now a.next.now)
           (slices l.edge_words l.words l.reals l.keys l.events l.vertex) (cut_buffers l.pts l.out l.keep l.next) l.now l.i l.invariant
-          (omega (arith, tested.loop-i-test.true, loop.spread_count-n.ensures)),
+          (omega (arith, c.loop-i-test.true, c.spread_count-n.ensures)),
       sizes_same (slices a.edge_words.now a.words.now a.reals.now a.keys.now a.events.now a.vertex.now) (slices l.edge_words l.words l.reals l.keys l.events l.vertex) (cut_buffers a.pts.now a.out.now a.keep.now a.next.now) (cut_buffers l.pts l.out l.keep l.next)
-          l.invariant.same start.requires.1,
+          l.invariant.same c.requires.1,
     )
 
 pub shape_of-edge_words-in-Stopped : goal.shape_of-edge_words-in-Stopped
@@ -68,20 +60,15 @@ shape_of-next-in-Stopped c = let offered = c in offered.offer-added.auto.next �
 
 pub returns-in-Stopped : goal.returns-in-Stopped
 returns-in-Stopped c =
-    let offered = c in
-    let read = offered in
-    let tested = read in
-    let loop = tested in
-    let face = loop in
-    let a = face.args in
-    let l = loop.loop-i in
-    let r = offered.offer-added in
-    read_first a.vertices.now a.triangles.now a.edge_reals.now a.triangle_words.now a.triangle_reals.now a.vertex_words.now a.round.now a.s a.edge_words.now face.find_opposite-o.result face.find_opposite-o.ensures a.limit a.counts
+    let a = c.args in
+    let l = c.loop-i in
+    let r = c.offer-added in
+    read_first a.vertices.now a.triangles.now a.edge_reals.now a.triangle_words.now a.triangle_reals.now a.vertex_words.now a.round.now a.s a.edge_words.now c.find_opposite-o.result c.find_opposite-o.ensures a.limit a.counts
     (slices a.edge_words.now a.words.now a.reals.now a.keys.now a.events.now a.vertex.now) refl (cut_buffers a.pts.now a.out.now a.keep.now a.next.now) _ _
-    (loop_stopped a.limit a.vertex_words.now (reads_spread a.vertices.now a.triangles.now a.edge_reals.now a.triangle_words.now a.triangle_reals.now a.vertex_words.now a.round.now a.s a.edge_words.now face.find_opposite-o.result) a.counts
+    (loop_stopped a.limit a.vertex_words.now (reads_spread a.vertices.now a.triangles.now a.edge_reals.now a.triangle_words.now a.triangle_reals.now a.vertex_words.now a.round.now a.s a.edge_words.now c.find_opposite-o.result) a.counts
     (slices a.edge_words.now a.words.now a.reals.now a.keys.now a.events.now a.vertex.now) (cut_buffers a.pts.now a.out.now a.keep.now a.next.now)
     (slices l.edge_words l.words l.reals l.keys l.events l.vertex) (cut_buffers l.pts l.out l.keep l.next) l.now l.i l.invariant
-    (omega (arith, tested.loop-i-test.true, loop.spread_count-n.ensures)) read.spread_offer-x.result read.spread_offer-x.ensures c.in-Stopped.lack (slices r.new.edge_words r.new.words r.new.reals r.new.keys r.new.events r.new.vertex)
+    (omega (arith, c.loop-i-test.true, c.spread_count-n.ensures)) c.spread_offer-x.result c.spread_offer-x.ensures c.in-Stopped.lack (slices r.new.edge_words r.new.words r.new.reals r.new.keys r.new.events r.new.vertex)
     (cut_buffers r.new.pts r.new.out r.new.keep r.new.next)
     (rw c.in-Stopped.is at r.ensures))
 
@@ -93,18 +80,13 @@ loop-i-smaller c = let tested = c in omega (arith, tested.loop-i-test.true, test
 
 pub loop-i-preserved : goal.loop-i-preserved
 loop-i-preserved c =
-    let offered = c in
-    let read = offered in
-    let tested = read in
-    let loop = tested in
-    let face = loop in
-    let a = face.args in
-    let l = loop.loop-i in
-    let r = offered.offer-added in
-    loop_next a.limit a.vertex_words.now (reads_spread a.vertices.now a.triangles.now a.edge_reals.now a.triangle_words.now a.triangle_reals.now a.vertex_words.now a.round.now a.s a.edge_words.now face.find_opposite-o.result) a.counts
+    let a = c.args in
+    let l = c.loop-i in
+    let r = c.offer-added in
+    loop_next a.limit a.vertex_words.now (reads_spread a.vertices.now a.triangles.now a.edge_reals.now a.triangle_words.now a.triangle_reals.now a.vertex_words.now a.round.now a.s a.edge_words.now c.find_opposite-o.result) a.counts
     (slices a.edge_words.now a.words.now a.reals.now a.keys.now a.events.now a.vertex.now) (cut_buffers a.pts.now a.out.now a.keep.now a.next.now)
     (slices l.edge_words l.words l.reals l.keys l.events l.vertex) (cut_buffers l.pts l.out l.keep l.next) l.now l.i l.invariant
-    (omega (arith, tested.loop-i-test.true, loop.spread_count-n.ensures)) read.spread_offer-x.result read.spread_offer-x.ensures c.in-Went.c (slices r.new.edge_words r.new.words r.new.reals r.new.keys r.new.events r.new.vertex)
+    (omega (arith, c.loop-i-test.true, c.spread_count-n.ensures)) c.spread_offer-x.result c.spread_offer-x.ensures c.in-Went.c (slices r.new.edge_words r.new.words r.new.reals r.new.keys r.new.events r.new.vertex)
     (cut_buffers r.new.pts r.new.out r.new.keep r.new.next)
     (record { edges = r.auto.edge_words; words = r.auto.words; reals = r.auto.reals; keys = r.auto.keys; events = r.auto.events; vertex = r.auto.vertex; pts = r.auto.pts; out = r.auto.out; keep = r.auto.keep; next = r.auto.next })
     (rw c.in-Went.is at r.ensures)
@@ -141,13 +123,11 @@ shape_of-next c = c.loop-i.invariant.same.next
 
 pub returns : goal.returns
 returns c =
-    let loop = c in
-    let face = loop in
-    let a = face.args in
-    let l = loop.loop-i in
-    read_first a.vertices.now a.triangles.now a.edge_reals.now a.triangle_words.now a.triangle_reals.now a.vertex_words.now a.round.now a.s a.edge_words.now face.find_opposite-o.result face.find_opposite-o.ensures a.limit a.counts
+    let a = c.args in
+    let l = c.loop-i in
+    read_first a.vertices.now a.triangles.now a.edge_reals.now a.triangle_words.now a.triangle_reals.now a.vertex_words.now a.round.now a.s a.edge_words.now c.find_opposite-o.result c.find_opposite-o.ensures a.limit a.counts
     (slices a.edge_words.now a.words.now a.reals.now a.keys.now a.events.now a.vertex.now) refl (cut_buffers a.pts.now a.out.now a.keep.now a.next.now) _ _
-    (loop_over a.limit a.vertex_words.now (reads_spread a.vertices.now a.triangles.now a.edge_reals.now a.triangle_words.now a.triangle_reals.now a.vertex_words.now a.round.now a.s a.edge_words.now face.find_opposite-o.result) a.counts
+    (loop_over a.limit a.vertex_words.now (reads_spread a.vertices.now a.triangles.now a.edge_reals.now a.triangle_words.now a.triangle_reals.now a.vertex_words.now a.round.now a.s a.edge_words.now c.find_opposite-o.result) a.counts
     (slices a.edge_words.now a.words.now a.reals.now a.keys.now a.events.now a.vertex.now) (cut_buffers a.pts.now a.out.now a.keep.now a.next.now)
     (slices l.edge_words l.words l.reals l.keys l.events l.vertex) (cut_buffers l.pts l.out l.keep l.next) l.now l.i l.invariant
-    (omega (arith, c.loop-i-test.false, loop.spread_count-n.ensures)))
+    (omega (arith, c.loop-i-test.false, c.spread_count-n.ensures)))

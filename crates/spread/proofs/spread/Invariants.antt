@@ -1,12 +1,8 @@
 use Prim.Native.Nat.{◌-◌}
-use native.Mathlib.Omega.{arith}
-use mathlib.Core.Path.{refl, ◌∙◌}
 use Rattle.spread_offers.specs.of_cut_lists.Buffers.{cut_buffers}
 use Rattle.spread_offers.specs.of_trim.Buffers.{slices}
-use Rattle.spread_offers.proofs.laws_of_offers.Walks.{sizes_same}
-use Rattle.spread_offers.proofs.laws_of_offers.Loop.{LoopInv, loop_start, loop_fits, loop_next, loop_stopped, loop_over}
-use Rattle.spread.proofs.Laws.{reads_spread, read_first}
-use borrow.Author.Rules.{rules}
+use Rattle.spread_offers.proofs.laws_of_offers.Loop.{LoopInv}
+use Rattle.spread.proofs.Laws.{reads_spread}
 use Rattle.spread.proofs.spread.Given as goal
 
 abbrev pub invariant-loop-i : goal.invariant-loop-i

@@ -1,6 +1,5 @@
 -- `spread_offers::spread_offer` meets its contract. Assumes nothing.
 use Rattle.spread_offers.specs.Spreading.{spread_offer_at}
-use borrow.Author.Rules.{rules}
 use Rattle.spread_offers.proofs.spread_offer.Goals as goal
 
 pub returns-in-Window : goal.returns-in-Window

@@ -8,27 +8,16 @@ use Rattle.stl.proofs.is_not_finite.Goals as goal
 
 pub returns-then-not-is_finite : goal.returns-then-not-is_finite
 returns-then-not-is_finite c =
-    let test = c in
-    let read = test in
-    first_not _ _ (ap finite (sym read.coordinate_at.ensures) ∙ (sym test.is_finite.ensures ∙ not-true _ c.if-not-is_finite.true-raw))
+    first_not _ _ (ap finite (sym c.coordinate_at.ensures) ∙ (sym c.is_finite.ensures ∙ not-true _ c.if-not-is_finite.true-raw))
 
 pub returns-then-not-is_finite-2 : goal.returns-then-not-is_finite-2
 returns-then-not-is_finite-2 c =
-    let test = c in
-    let read = test in
-    let first = read in
-    second_not _ _ (ap finite (sym c.coordinate_at.ensures) ∙ (sym c.is_finite.ensures ∙ not-false _ c.if-not-is_finite.false-raw)) (ap finite (sym read.coordinate_at-2.ensures) ∙ (sym test.is_finite-2.ensures ∙ not-true _ c.if-not-is_finite-2.true-raw))
+    second_not _ _ (ap finite (sym c.coordinate_at.ensures) ∙ (sym c.is_finite.ensures ∙ not-false _ c.if-not-is_finite.false-raw)) (ap finite (sym c.coordinate_at-2.ensures) ∙ (sym c.is_finite-2.ensures ∙ not-true _ c.if-not-is_finite-2.true-raw))
 
 pub returns-then-not-is_finite-3 : goal.returns-then-not-is_finite-3
 returns-then-not-is_finite-3 c =
-    let test = c in
-    let read = test in
-    let second = read in
-    third_is _ _ false (ap finite (sym c.coordinate_at.ensures) ∙ (sym c.is_finite.ensures ∙ not-false _ c.if-not-is_finite.false-raw)) (ap finite (sym c.coordinate_at-2.ensures) ∙ (sym c.is_finite-2.ensures ∙ not-false _ c.if-not-is_finite-2.false-raw)) (ap finite (sym read.coordinate_at-3.ensures) ∙ (sym test.is_finite-3.ensures ∙ not-true _ c.if-not-is_finite-3.true-raw))
+    third_is _ _ false (ap finite (sym c.coordinate_at.ensures) ∙ (sym c.is_finite.ensures ∙ not-false _ c.if-not-is_finite.false-raw)) (ap finite (sym c.coordinate_at-2.ensures) ∙ (sym c.is_finite-2.ensures ∙ not-false _ c.if-not-is_finite-2.false-raw)) (ap finite (sym c.coordinate_at-3.ensures) ∙ (sym c.is_finite-3.ensures ∙ not-true _ c.if-not-is_finite-3.true-raw))
 
 pub returns : goal.returns
 returns c =
-    let test = c in
-    let read = test in
-    let second = read in
-    third_is _ _ true (ap finite (sym c.coordinate_at.ensures) ∙ (sym c.is_finite.ensures ∙ not-false _ c.if-not-is_finite.false-raw)) (ap finite (sym c.coordinate_at-2.ensures) ∙ (sym c.is_finite-2.ensures ∙ not-false _ c.if-not-is_finite-2.false-raw)) (ap finite (sym read.coordinate_at-3.ensures) ∙ (sym test.is_finite-3.ensures ∙ not-false _ c.if-not-is_finite-3.false-raw))
+    third_is _ _ true (ap finite (sym c.coordinate_at.ensures) ∙ (sym c.is_finite.ensures ∙ not-false _ c.if-not-is_finite.false-raw)) (ap finite (sym c.coordinate_at-2.ensures) ∙ (sym c.is_finite-2.ensures ∙ not-false _ c.if-not-is_finite-2.false-raw)) (ap finite (sym c.coordinate_at-3.ensures) ∙ (sym c.is_finite-3.ensures ∙ not-false _ c.if-not-is_finite-3.false-raw))

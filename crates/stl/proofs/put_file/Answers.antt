@@ -15,15 +15,9 @@ put_number-b-requires c = omega (arith, c.put_text-a.ensures.ends)
 
 pub put_records-requires : goal.put_records-requires
 put_records-requires c =
-    let number = c in
-    let text = number in
-    let start = text in
-    (omega (arith, number.put_number-b.ensures.ends, length_count (length start.args.triangles.now / 3), text.put_text-a.ensures.ends), (start.requires.0, start.requires.1))
+    (omega (arith, c.put_number-b.ensures.ends, length_count (length c.args.triangles.now / 3), c.put_text-a.ensures.ends), (c.requires.0, c.requires.1))
 
 pub returns : goal.returns
 unfolding file_of
 returns c =
-    let records = c in
-    let number = records in
-    let text = number in
-    puts_then (puts_then text.put_text-a.ensures number.put_number-b.ensures) records.put_records.ensures
+    puts_then (puts_then c.put_text-a.ensures c.put_number-b.ensures) c.put_records.ensures

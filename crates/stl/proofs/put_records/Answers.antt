@@ -14,23 +14,16 @@ loop-t-init c = (omega arith, (omega arith, (refl, puts_none _ _)))
 
 pub put_record-at-requires : goal.put_record-at-requires
 put_record-at-requires c =
-    let test = c in
-    let loop = test in
-    let start = loop in
-    (omega (arith, loop.loop-t.invariant.1.0, start.requires.0, start.requires.1.0), (omega (arith, test.loop-t-test.true), start.requires.1.1))
+    (omega (arith, c.loop-t.invariant.1.0, c.requires.0, c.requires.1.0), (omega (arith, c.loop-t-test.true), c.requires.1.1))
 
 pub loop-t-preserved : goal.loop-t-preserved
 unfolding records_bytes
 loop-t-preserved c =
-    let entry = c in
-    let test = entry in
-    let loop = test in
-    let put = entry.put_record-at.ensures in
-    (omega (arith, test.loop-t-test.true), (omega (arith, put.1, loop.loop-t.invariant.1.0), (puts_length put.0 ∙ loop.loop-t.invariant.1.1.0, rw add-one (puts_then loop.loop-t.invariant.1.1.1 put.0))))
+    let put = c.put_record-at.ensures in
+    (omega (arith, c.loop-t-test.true), (omega (arith, put.1, c.loop-t.invariant.1.0), (puts_length put.0 ∙ c.loop-t.invariant.1.1.0, rw add-one (puts_then c.loop-t.invariant.1.1.1 put.0))))
 
 pub returns : goal.returns
 returns c =
-    let loop = c in
-    let a = loop.args in
-    let e : loop.loop-t.t ≡ length a.triangles.now / 3 = omega (arith, c.loop-t-test.false, loop.loop-t.invariant.0) in
-    rw e at loop.loop-t.invariant.1.1.1
+    let a = c.args in
+    let e : c.loop-t.t ≡ length a.triangles.now / 3 = omega (arith, c.loop-t-test.false, c.loop-t.invariant.0) in
+    rw e at c.loop-t.invariant.1.1.1

@@ -7,8 +7,5 @@ use Rattle.stl.proofs.put_single.Goals as goal
 pub returns : goal.returns
 unfolding single_bytes
 returns c =
-    let put = c in
-    let bits = put in
-    let start = bits in
-    let e = bits.single_bits.ensures start.requires.1 in
-    (rw e at put.put_number.ensures, omega (arith, put.put_number.ensures.ends, length_count bits.single_bits.result))
+    let e = c.single_bits.ensures c.requires.1 in
+    (rw e at c.put_number.ensures, omega (arith, c.put_number.ensures.ends, length_count c.single_bits.result))

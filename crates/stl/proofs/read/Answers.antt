@@ -19,42 +19,29 @@ returns-then-s-lt84 c =
 pub returns-then-s-n : goal.returns-then-s-n
 unfolding after_reading
 returns-then-s-n c =
-    let word = c in
-    let first = word in
-    let a = first.args in
+    let a = c.args in
     let s = a.s.now in
-    answered s (mesh_lists a.vertices.now a.triangles.now) WrongLength (is_wrong s (length a.vertices.now / 3) (length a.triangles.now / 3) first.if-s-lt84.false (λ z. c.if-s-n.true (z ∙ ap (λ (k : ℕ). 84 + 50 * k) (sym word.word_at-n.ensures))))
+    answered s (mesh_lists a.vertices.now a.triangles.now) WrongLength (is_wrong s (length a.vertices.now / 3) (length a.triangles.now / 3) c.if-s-lt84.false (λ z. c.if-s-n.true (z ∙ ap (λ (k : ℕ). 84 + 50 * k) (sym c.word_at-n.ensures))))
 
 pub returns-then-any_not_finite : goal.returns-then-any_not_finite
 unfolding after_reading
 returns-then-any_not_finite c =
-    let any = c in
-    let second = any in
-    let word = second in
-    let first = word in
-    let a = first.args in
+    let a = c.args in
     let s = a.s.now in
-    answered s (mesh_lists a.vertices.now a.triangles.now) NotFinite (is_infinite s (length a.vertices.now / 3) (length a.triangles.now / 3) first.if-s-lt84.false (second.if-s-n.false ∙ ap (λ (k : ℕ). 84 + 50 * k) word.word_at-n.ensures) (subst (λ (k : ℕ). any_below (bytes_not_finite s) (3 * k) ≡ true) word.word_at-n.ensures (sym any.any_not_finite.ensures ∙ c.if-any_not_finite.true)))
+    answered s (mesh_lists a.vertices.now a.triangles.now) NotFinite (is_infinite s (length a.vertices.now / 3) (length a.triangles.now / 3) c.if-s-lt84.false (c.if-s-n.false ∙ ap (λ (k : ℕ). 84 + 50 * k) c.word_at-n.ensures) (subst (λ (k : ℕ). any_below (bytes_not_finite s) (3 * k) ≡ true) c.word_at-n.ensures (sym c.any_not_finite.ensures ∙ c.if-any_not_finite.true)))
 
 pub returns-then-n-gt131070 : goal.returns-then-n-gt131070
 unfolding after_reading
 returns-then-n-gt131070 c =
-    let any = c in
-    let second = any in
-    let word = second in
-    let first = word in
-    let a = first.args in
+    let a = c.args in
     let s = a.s.now in
-    answered s (mesh_lists a.vertices.now a.triangles.now) TooMany (is_many s (length a.vertices.now / 3) (length a.triangles.now / 3) first.if-s-lt84.false (second.if-s-n.false ∙ ap (λ (k : ℕ). 84 + 50 * k) word.word_at-n.ensures) (subst (λ (k : ℕ). any_below (bytes_not_finite s) (3 * k) ≡ false) word.word_at-n.ensures (sym any.any_not_finite.ensures ∙ c.if-any_not_finite.false)) (many_records s (rw word.word_at-n.ensures at c.if-n-gt131070.true)))
+    answered s (mesh_lists a.vertices.now a.triangles.now) TooMany (is_many s (length a.vertices.now / 3) (length a.triangles.now / 3) c.if-s-lt84.false (c.if-s-n.false ∙ ap (λ (k : ℕ). 84 + 50 * k) c.word_at-n.ensures) (subst (λ (k : ℕ). any_below (bytes_not_finite s) (3 * k) ≡ false) c.word_at-n.ensures (sym c.any_not_finite.ensures ∙ c.if-any_not_finite.false)) (many_records s (rw c.word_at-n.ensures at c.if-n-gt131070.true)))
 
 pub read_mesh-requires : goal.read_mesh-requires
 read_mesh-requires c =
-    let fourth = c in
-    let any = fourth in
-    let second = any in
     record {
-      counted = second.word_at-n.ensures;
-      long = second.if-s-n.false;
-      finite = sym any.any_not_finite.ensures ∙ fourth.if-any_not_finite.false;
-      few = fourth.if-n-gt131070.false;
+      counted = c.word_at-n.ensures;
+      long = c.if-s-n.false;
+      finite = sym c.any_not_finite.ensures ∙ c.if-any_not_finite.false;
+      few = c.if-n-gt131070.false;
     }

@@ -11,66 +11,54 @@ use Rattle.stl.proofs.read_mesh.Goals as goal
 pub returns-then-count-gt65535 : goal.returns-then-count-gt65535
 unfolding after_reading
 returns-then-count-gt65535 c =
-    let build = c in
-    let a = build.args in
+    let a = c.args in
     -- the elements of the file are bytes
     let bytes : Bytes a.s.now = λ i. omega (arith, c.type_inv.s i) in
-    let f = build.requires in
-    answered a.s.now (mesh_lists a.vertices.now a.triangles.now) TooMany (over_many a.s.now bytes a.n f build.build-count.result _ _ _ build.build-count.ensures (length a.vertices.now / 3) (length a.triangles.now / 3) c.if-count-gt65535.true)
+    let f = c.requires in
+    answered a.s.now (mesh_lists a.vertices.now a.triangles.now) TooMany (over_many a.s.now bytes a.n f c.build-count.result _ _ _ c.build-count.ensures (length a.vertices.now / 3) (length a.triangles.now / 3) c.if-count-gt65535.true)
 
 pub returns-then-vertices-count : goal.returns-then-vertices-count
 unfolding after_reading
 returns-then-vertices-count c =
-    let build = c in
-    let a = build.args in
+    let a = c.args in
     -- the elements of the file are bytes
     let bytes : Bytes a.s.now = λ i. omega (arith, c.type_inv.s i) in
-    let f = build.requires in
-    answered a.s.now (mesh_lists a.vertices.now a.triangles.now) ShortBuffer (no_vertices a.s.now bytes a.n f build.build-count.result _ _ _ build.build-count.ensures c.if-count-gt65535.false (length a.vertices.now / 3) (length a.triangles.now / 3) c.if-vertices-count.true)
+    let f = c.requires in
+    answered a.s.now (mesh_lists a.vertices.now a.triangles.now) ShortBuffer (no_vertices a.s.now bytes a.n f c.build-count.result _ _ _ c.build-count.ensures c.if-count-gt65535.false (length a.vertices.now / 3) (length a.triangles.now / 3) c.if-vertices-count.true)
 
 pub returns-then-triangles-n : goal.returns-then-triangles-n
 unfolding after_reading
 returns-then-triangles-n c =
-    let build = c in
-    let a = build.args in
+    let a = c.args in
     -- the elements of the file are bytes
     let bytes : Bytes a.s.now = λ i. omega (arith, c.type_inv.s i) in
-    let f = build.requires in
-    answered a.s.now (mesh_lists a.vertices.now a.triangles.now) ShortBuffer (no_triangles a.s.now bytes a.n f build.build-count.result _ _ _ build.build-count.ensures c.if-count-gt65535.false (length a.vertices.now / 3) (length a.triangles.now / 3) c.if-vertices-count.false c.if-triangles-n.true)
+    let f = c.requires in
+    answered a.s.now (mesh_lists a.vertices.now a.triangles.now) ShortBuffer (no_triangles a.s.now bytes a.n f c.build-count.result _ _ _ c.build-count.ensures c.if-count-gt65535.false (length a.vertices.now / 3) (length a.triangles.now / 3) c.if-vertices-count.false c.if-triangles-n.true)
 
 pub write_vertices-requires : goal.write_vertices-requires
 write_vertices-requires c =
-    let build = c in
-    let a = build.args in
+    let a = c.args in
     -- the elements of the file are bytes
     let bytes : Bytes a.s.now = λ i. omega (arith, c.type_inv.s i) in
-    let f = build.requires in
+    let f = c.requires in
     let l = c.if-count-gt65535.false in
-    (firsts_fit a.s.now bytes a.n f build.build-count.result _ _ _ build.build-count.ensures l, (omega (arith, c.if-vertices-count.false), there a.s.now bytes a.n f build.build-count.result _ _ _ build.build-count.ensures l))
+    (firsts_fit a.s.now bytes a.n f c.build-count.result _ _ _ c.build-count.ensures l, (omega (arith, c.if-vertices-count.false), there a.s.now bytes a.n f c.build-count.result _ _ _ c.build-count.ensures l))
 
 pub overflow_mul-n-2 : goal.overflow_mul-n-2
 overflow_mul-n-2 c = omega (arith, c.requires.few)
 
 pub write_triangles-requires : goal.write_triangles-requires
 write_triangles-requires c =
-    let build = c in
-    let a = build.args in
+    let a = c.args in
     -- the elements of the file are bytes
     let bytes : Bytes a.s.now = λ i. omega (arith, c.type_inv.s i) in
-    let f = build.requires in
-    (omega (arith, c.if-triangles-n.false), findable a.s.now bytes a.n f build.build-count.result _ _ _ build.build-count.ensures c.if-count-gt65535.false)
+    let f = c.requires in
+    (omega (arith, c.if-triangles-n.false), findable a.s.now bytes a.n f c.build-count.result _ _ _ c.build-count.ensures c.if-count-gt65535.false)
 
 pub returns : goal.returns
 returns c =
-    let triangles = c in
-    let vertices = triangles in
-    let third = vertices in
-    let second = third in
-    let first = second in
-    let build = first in
-    let start = build in
-    let a = start.args in
+    let a = c.args in
     -- the elements of the file are bytes
     let bytes : Bytes a.s.now = λ i. omega (arith, c.type_inv.s i) in
-    read_done a.s.now bytes a.n start.requires build.build-count.result _ _ _ build.build-count.ensures first.if-count-gt65535.false
-    (mesh_lists a.vertices.now a.triangles.now) _ _ second.if-vertices-count.false third.if-triangles-n.false vertices.write_vertices.ensures triangles.write_triangles.ensures
+    read_done a.s.now bytes a.n c.requires c.build-count.result _ _ _ c.build-count.ensures c.if-count-gt65535.false
+    (mesh_lists a.vertices.now a.triangles.now) _ _ c.if-vertices-count.false c.if-triangles-n.false c.write_vertices.ensures c.write_triangles.ensures

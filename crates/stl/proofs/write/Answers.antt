@@ -6,71 +6,38 @@ use Rattle.stl.proofs.write.Goals as goal
 
 pub returns-then-has_wrong_sizes : goal.returns-then-has_wrong_sizes
 returns-then-has_wrong_sizes c =
-    let sizes = c in
-    let a = sizes.args in
-    wrong a.vertices.now a.triangles.now a.out.now (sym sizes.has_wrong_sizes.ensures ∙ c.if-has_wrong_sizes.true)
+    let a = c.args in
+    wrong a.vertices.now a.triangles.now a.out.now (sym c.has_wrong_sizes.ensures ∙ c.if-has_wrong_sizes.true)
 
 pub returns-then-any_missing : goal.returns-then-any_missing
 returns-then-any_missing c =
-    let missing = c in
-    let first = missing in
-    let sizes = first in
-    let a = sizes.args in
-    names_none a.vertices.now a.triangles.now a.out.now (sym sizes.has_wrong_sizes.ensures ∙ first.if-has_wrong_sizes.false) (sym missing.any_missing.ensures ∙ c.if-any_missing.true)
+    let a = c.args in
+    names_none a.vertices.now a.triangles.now a.out.now (sym c.has_wrong_sizes.ensures ∙ c.if-has_wrong_sizes.false) (sym c.any_missing.ensures ∙ c.if-any_missing.true)
 
 pub returns-then-any_not_single : goal.returns-then-any_not_single
 returns-then-any_not_single c =
-    let single = c in
-    let second = single in
-    let missing = second in
-    let first = missing in
-    let sizes = first in
-    let a = sizes.args in
-    no_single a.vertices.now a.triangles.now a.out.now (sym sizes.has_wrong_sizes.ensures ∙ first.if-has_wrong_sizes.false) (sym missing.any_missing.ensures ∙ second.if-any_missing.false) (sym single.any_not_single.ensures ∙ c.if-any_not_single.true)
+    let a = c.args in
+    no_single a.vertices.now a.triangles.now a.out.now (sym c.has_wrong_sizes.ensures ∙ c.if-has_wrong_sizes.false) (sym c.any_missing.ensures ∙ c.if-any_missing.false) (sym c.any_not_single.ensures ∙ c.if-any_not_single.true)
 
 pub overflow_mul-n : goal.overflow_mul-n
 overflow_mul-n c =
-    let first = c in
-    let sizes = first in
-    omega (arith, few_triangles _ _ (sym sizes.has_wrong_sizes.ensures ∙ first.if-has_wrong_sizes.false))
+    omega (arith, few_triangles _ _ (sym c.has_wrong_sizes.ensures ∙ c.if-has_wrong_sizes.false))
 
 pub overflow_add-n : goal.overflow_add-n
 overflow_add-n c =
-    let first = c in
-    let sizes = first in
-    omega (arith, few_triangles _ _ (sym sizes.has_wrong_sizes.ensures ∙ first.if-has_wrong_sizes.false))
+    omega (arith, few_triangles _ _ (sym c.has_wrong_sizes.ensures ∙ c.if-has_wrong_sizes.false))
 
 pub returns-then-out-n : goal.returns-then-out-n
 returns-then-out-n c =
-    let third = c in
-    let single = third in
-    let second = single in
-    let missing = second in
-    let first = missing in
-    let sizes = first in
-    let a = sizes.args in
-    too_short a.vertices.now a.triangles.now a.out.now (sym sizes.has_wrong_sizes.ensures ∙ first.if-has_wrong_sizes.false) (sym missing.any_missing.ensures ∙ second.if-any_missing.false) (sym single.any_not_single.ensures ∙ third.if-any_not_single.false) c.if-out-n.true
+    let a = c.args in
+    too_short a.vertices.now a.triangles.now a.out.now (sym c.has_wrong_sizes.ensures ∙ c.if-has_wrong_sizes.false) (sym c.any_missing.ensures ∙ c.if-any_missing.false) (sym c.any_not_single.ensures ∙ c.if-any_not_single.false) c.if-out-n.true
 
 pub put_file-requires : goal.put_file-requires
 put_file-requires c =
-    let third = c in
-    let single = third in
-    let second = single in
-    let missing = second in
-    let first = missing in
-    let sizes = first in
-    let a = sizes.args in
-    (few_triangles _ _ (sym sizes.has_wrong_sizes.ensures ∙ first.if-has_wrong_sizes.false), writable a.vertices.now a.triangles.now (sym missing.any_missing.ensures ∙ second.if-any_missing.false) (sym single.any_not_single.ensures ∙ third.if-any_not_single.false))
+    let a = c.args in
+    (few_triangles _ _ (sym c.has_wrong_sizes.ensures ∙ c.if-has_wrong_sizes.false), writable a.vertices.now a.triangles.now (sym c.any_missing.ensures ∙ c.if-any_missing.false) (sym c.any_not_single.ensures ∙ c.if-any_not_single.false))
 
 pub returns : goal.returns
 returns c =
-    let put = c in
-    let fourth = put in
-    let third = fourth in
-    let single = third in
-    let second = single in
-    let missing = second in
-    let first = missing in
-    let sizes = first in
-    let a = sizes.args in
-    written a.vertices.now a.triangles.now a.out.now (sym sizes.has_wrong_sizes.ensures ∙ first.if-has_wrong_sizes.false) (sym missing.any_missing.ensures ∙ second.if-any_missing.false) (sym single.any_not_single.ensures ∙ third.if-any_not_single.false) fourth.if-out-n.false _ _ put.put_file.ensures
+    let a = c.args in
+    written a.vertices.now a.triangles.now a.out.now (sym c.has_wrong_sizes.ensures ∙ c.if-has_wrong_sizes.false) (sym c.any_missing.ensures ∙ c.if-any_missing.false) (sym c.any_not_single.ensures ∙ c.if-any_not_single.false) c.if-out-n.false _ _ c.put_file.ensures

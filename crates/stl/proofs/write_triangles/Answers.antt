@@ -17,26 +17,20 @@ find-requires c = c.requires.1 c.loop-h.h c.loop-h-test.true
 
 pub bounds-triangles-h : goal.bounds-triangles-h
 bounds-triangles-h c =
-    let test = c in
-    let loop = test in
-    omega (arith, test.loop-h-test.true, loop.loop-h.invariant.0, loop.requires.0)
+    omega (arith, c.loop-h-test.true, c.loop-h.invariant.0, c.requires.0)
 
 pub loop-h-smaller : goal.loop-h-smaller
 loop-h-smaller c = omega (arith, c.loop-h-test.true)
 
 pub loop-h-preserved : goal.loop-h-preserved
 loop-h-preserved c =
-    let test = c in
-    let loop = test in
-    let start = loop in
-    let a = start.args in
+    let a = c.args in
     let f : ℕ → ℕ = λ k. found_at a.s.now a.heads.now a.links.now a.firsts.now k - 1 in (
-      length-set loop.loop-h.triangles loop.loop-h.h _ ∙ loop.loop-h.invariant.0,
-      (omega (arith, test.loop-h-test.true), front_next f a.triangles.now loop.loop-h.triangles loop.loop-h.h _ (c.number_of.ensures ∙ ap (λ (k : ℕ). k - 1) c.find.ensures) (omega (arith, test.loop-h-test.true, start.requires.0)) loop.loop-h.invariant.1.1),
+      length-set c.loop-h.triangles c.loop-h.h _ ∙ c.loop-h.invariant.0,
+      (omega (arith, c.loop-h-test.true), front_next f a.triangles.now c.loop-h.triangles c.loop-h.h _ (c.number_of.ensures ∙ ap (λ (k : ℕ). k - 1) c.find.ensures) (omega (arith, c.loop-h-test.true, c.requires.0)) c.loop-h.invariant.1.1),
     )
 
 pub returns : goal.returns
 returns c =
-    let loop = c in
-    let e : loop.loop-h.h ≡ loop.args.n = omega (arith, c.loop-h-test.false, loop.loop-h.invariant.1.0) in
-    rw e at loop.loop-h.invariant.1.1
+    let e : c.loop-h.h ≡ c.args.n = omega (arith, c.loop-h-test.false, c.loop-h.invariant.1.0) in
+    rw e at c.loop-h.invariant.1.1

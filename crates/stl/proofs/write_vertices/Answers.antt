@@ -23,34 +23,25 @@ bounds-firsts-j c = omega (arith, c.loop-j-test.true, c.requires.0)
 
 pub coordinate_at-requires : goal.coordinate_at-requires
 coordinate_at-requires c =
-    let test = c in
-    let loop = test in
-    let start = loop in
-    let a = start.args in
-    (omega arith, subst (λ (p : ℕ). HasPoint a.s.now p) (sym c.wide.ensures) (start.requires.1.1 (loop.loop-j.j / 3) (omega (arith, test.loop-j-test.true))))
+    let a = c.args in
+    (omega arith, subst (λ (p : ℕ). HasPoint a.s.now p) (sym c.wide.ensures) (c.requires.1.1 (c.loop-j.j / 3) (omega (arith, c.loop-j-test.true))))
 
 pub bounds-vertices-j : goal.bounds-vertices-j
 bounds-vertices-j c =
-    let test = c in
-    let loop = test in
-    omega (arith, test.loop-j-test.true, loop.loop-j.invariant.0, loop.requires.1.0)
+    omega (arith, c.loop-j-test.true, c.loop-j.invariant.0, c.requires.1.0)
 
 pub loop-j-smaller : goal.loop-j-smaller
 loop-j-smaller c = omega (arith, c.loop-j-test.true)
 
 pub loop-j-preserved : goal.loop-j-preserved
 loop-j-preserved c =
-    let test = c in
-    let loop = test in
-    let start = loop in
-    let a = start.args in
+    let a = c.args in
     let f : ℕ → Float = λ k. coordinate a.s.now (get_or a.firsts.now (k / 3) 0) (k % 3) in (
-      length-set loop.loop-j.vertices loop.loop-j.j _ ∙ loop.loop-j.invariant.0,
-      (omega (arith, test.loop-j-test.true), front_next f a.vertices.now loop.loop-j.vertices loop.loop-j.j _ (c.coordinate_at.ensures ∙ ap (λ (p : ℕ). coordinate a.s.now p (loop.loop-j.j % 3)) c.wide.ensures) (omega (arith, test.loop-j-test.true, start.requires.1.0)) loop.loop-j.invariant.1.1),
+      length-set c.loop-j.vertices c.loop-j.j _ ∙ c.loop-j.invariant.0,
+      (omega (arith, c.loop-j-test.true), front_next f a.vertices.now c.loop-j.vertices c.loop-j.j _ (c.coordinate_at.ensures ∙ ap (λ (p : ℕ). coordinate a.s.now p (c.loop-j.j % 3)) c.wide.ensures) (omega (arith, c.loop-j-test.true, c.requires.1.0)) c.loop-j.invariant.1.1),
     )
 
 pub returns : goal.returns
 returns c =
-    let loop = c in
-    let e : loop.loop-j.j ≡ 3 * loop.args.n = omega (arith, c.loop-j-test.false, loop.loop-j.invariant.1.0) in
-    rw e at loop.loop-j.invariant.1.1
+    let e : c.loop-j.j ≡ 3 * c.args.n = omega (arith, c.loop-j-test.false, c.loop-j.invariant.1.0) in
+    rw e at c.loop-j.invariant.1.1

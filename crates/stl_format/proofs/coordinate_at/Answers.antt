@@ -9,7 +9,5 @@ use Rattle.stl_format.proofs.coordinate_at.Goals as goal
 pub returns : goal.returns
 unfolding coordinate
 returns c =
-    let word = c in
-    let point = word in
-    let a = point.args in
-    c.single_value.ensures ∙ ap (of_bits binary32) (word.word_at.ensures ∙ ap (λ (i : ℕ). number_from a.s.now (i + 4 * a.k)) point.point_from.ensures)
+    let a = c.args in
+    c.single_value.ensures ∙ ap (of_bits binary32) (c.word_at.ensures ∙ ap (λ (i : ℕ). number_from a.s.now (i + 4 * a.k)) c.point_from.ensures)

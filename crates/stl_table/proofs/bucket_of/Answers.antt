@@ -8,7 +8,5 @@ use Rattle.stl_table.proofs.bucket_of.Goals as goal
 pub returns : goal.returns
 unfolding key_bucket
 returns c =
-    let second = c in
-    let first = second in
-    let k = first.args.k in
-    (ap (λ (m : ℕ). m / 32768) (c.mix-3.ensures ∙ ap (λ (m : ℕ). mixed_key m k.z) (second.mix-2.ensures ∙ ap (λ (m : ℕ). mixed_key m k.y) first.mix.ensures)), search rules)
+    let k = c.args.k in
+    (ap (λ (m : ℕ). m / 32768) (c.mix-3.ensures ∙ ap (λ (m : ℕ). mixed_key m k.z) (c.mix-2.ensures ∙ ap (λ (m : ℕ). mixed_key m k.y) c.mix.ensures)), search rules)

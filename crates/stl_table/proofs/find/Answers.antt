@@ -8,15 +8,10 @@ use Rattle.stl_table.proofs.find.Goals as goal
 
 pub seek-requires : goal.seek-requires
 seek-requires c =
-    let bucket = c in
-    let key = bucket in
-    let start = key in
-    let a = start.args in
-    subst (λ (b : ℕ). Walkable a.s.now a.links.now a.firsts.now (get_or a.heads.now b 0)) (sym (bucket_is _ _ _ _ key.key_at-k.ensures bucket.bucket_of-b.ensures.0)) start.requires.1.1
+    let a = c.args in
+    subst (λ (b : ℕ). Walkable a.s.now a.links.now a.firsts.now (get_or a.heads.now b 0)) (sym (bucket_is _ _ _ _ c.key_at-k.ensures c.bucket_of-b.ensures.0)) c.requires.1.1
 
 pub returns : goal.returns
 returns c =
-    let bucket = c in
-    let key = bucket in
-    let a = key.args in
-    found_is a.s.now a.heads.now a.links.now a.firsts.now a.h _ _ _ key.key_at-k.ensures (bucket_is _ _ _ _ key.key_at-k.ensures bucket.bucket_of-b.ensures.0) c.seek.ensures
+    let a = c.args in
+    found_is a.s.now a.heads.now a.links.now a.firsts.now a.h _ _ _ c.key_at-k.ensures (bucket_is _ _ _ _ c.key_at-k.ensures c.bucket_of-b.ensures.0) c.seek.ensures

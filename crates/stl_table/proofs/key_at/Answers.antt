@@ -8,13 +8,10 @@ use Rattle.stl_table.proofs.key_at.Goals as goal
 pub returns : goal.returns
 unfolding key_at
 returns c =
-    let second = c in
-    let first = second in
-    let point = first in
-    let s = point.args.s.now in
-    let e = point.point_from-i.ensures in
+    let s = c.args.s.now in
+    let e = c.point_from-i.ensures in
     λ i. record {
-      x = (first.key_word.ensures ∙ ap (λ (j : ℕ). zero_unsigned (number_from s j)) e) i;
-      y = (second.key_word-2.ensures ∙ ap (λ (j : ℕ). zero_unsigned (number_from s (j + 4))) e) i;
+      x = (c.key_word.ensures ∙ ap (λ (j : ℕ). zero_unsigned (number_from s j)) e) i;
+      y = (c.key_word-2.ensures ∙ ap (λ (j : ℕ). zero_unsigned (number_from s (j + 4))) e) i;
       z = (c.key_word-3.ensures ∙ ap (λ (j : ℕ). zero_unsigned (number_from s (j + 8))) e) i;
     }

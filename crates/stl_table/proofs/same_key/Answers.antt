@@ -14,11 +14,9 @@ returns-then-a-b-2 c = rw (eq-eqb _ _ c.if-a-b.false, ne_eqb _ _ c.if-a-b-2.true
 pub returns-then-a-b-3 : goal.returns-then-a-b-3
 unfolding same_key
 returns-then-a-b-3 c =
-    let second = c in
-    rw (eq-eqb _ _ second.if-a-b.false, eq-eqb _ _ second.if-a-b-2.false, ne_eqb _ _ c.if-a-b-3.true)
+    rw (eq-eqb _ _ c.if-a-b.false, eq-eqb _ _ c.if-a-b-2.false, ne_eqb _ _ c.if-a-b-3.true)
 
 pub returns : goal.returns
 unfolding same_key
 returns c =
-    let second = c in
-    rw (eq-eqb _ _ second.if-a-b.false, eq-eqb _ _ second.if-a-b-2.false, eq-eqb _ _ c.if-a-b-3.false)
+    rw (eq-eqb _ _ c.if-a-b.false, eq-eqb _ _ c.if-a-b-2.false, eq-eqb _ _ c.if-a-b-3.false)

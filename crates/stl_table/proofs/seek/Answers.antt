@@ -19,39 +19,26 @@ key_at-requires c = c.requires.there (c.loop-at.at - 1) (omega arith)
 
 pub returns-then-same_key : goal.returns-then-same_key
 returns-then-same_key c =
-    let same = c in
-    let key = same in
-    let test = key in
-    let loop = test in
-    let start = loop in
-    let a = start.args in
-    found (passes a.s.now a.firsts.now a.k) a.links.now a.head start.requires.falling loop.loop-at.at test.loop-at-test.true loop.loop-at.invariant.0 loop.loop-at.invariant.1
-    (ap (λ z. same_key z a.k) (sym key.key_at.ensures) ∙ (sym same.same_key.ensures ∙ c.if-same_key.true))
+    let a = c.args in
+    found (passes a.s.now a.firsts.now a.k) a.links.now a.head c.requires.falling c.loop-at.at c.loop-at-test.true c.loop-at.invariant.0 c.loop-at.invariant.1
+    (ap (λ z. same_key z a.k) (sym c.key_at.ensures) ∙ (sym c.same_key.ensures ∙ c.if-same_key.true))
 
 pub bounds-links-i : goal.bounds-links-i
 bounds-links-i c = omega (arith, c.requires.links_fit)
 
 pub loop-at-smaller : goal.loop-at-smaller
 loop-at-smaller c =
-    let loop = c in
-    let start = loop in
-    omega (arith, start.requires.falling (loop.loop-at.at - 1) (omega arith))
+    omega (arith, c.requires.falling (c.loop-at.at - 1) (omega arith))
 
 pub loop-at-preserved : goal.loop-at-preserved
 loop-at-preserved c =
-    let same = c in
-    let key = same in
-    let test = key in
-    let loop = test in
-    let start = loop in
-    let a = start.args in (
-      omega (arith, start.requires.falling (loop.loop-at.at - 1) (omega arith)),
-      next (passes a.s.now a.firsts.now a.k) a.links.now a.head start.requires.falling loop.loop-at.at test.loop-at-test.true loop.loop-at.invariant.0 loop.loop-at.invariant.1
-          (ap (λ z. same_key z a.k) (sym key.key_at.ensures) ∙ (sym same.same_key.ensures ∙ c.if-same_key.false)),
+    let a = c.args in (
+      omega (arith, c.requires.falling (c.loop-at.at - 1) (omega arith)),
+      next (passes a.s.now a.firsts.now a.k) a.links.now a.head c.requires.falling c.loop-at.at c.loop-at-test.true c.loop-at.invariant.0 c.loop-at.invariant.1
+          (ap (λ z. same_key z a.k) (sym c.key_at.ensures) ∙ (sym c.same_key.ensures ∙ c.if-same_key.false)),
     )
 
 pub returns : goal.returns
 returns c =
-    let loop = c in
-    let a = loop.args in
-    missed (passes a.s.now a.firsts.now a.k) a.links.now loop.loop-at.at a.head loop.loop-at.invariant.1 c.loop-at-test.false
+    let a = c.args in
+    missed (passes a.s.now a.firsts.now a.k) a.links.now c.loop-at.at a.head c.loop-at.invariant.1 c.loop-at-test.false

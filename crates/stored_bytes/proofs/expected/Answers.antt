@@ -15,6 +15,4 @@ returns-then-s-from-2 c = none_stored _ _ _ _ c.if-i-n.false (omega (arith, c.if
 
 pub returns : goal.returns
 returns c =
-    let at-if3 = c in
-    let at-if2 = at-if3 in
-    c.u32_of_byte.ensures.0 ∙ stored_byte _ _ _ _ at-if2.if-i-n.false (omega (arith, at-if3.if-s-from-2.false, at-if2.if-s-from.false))
+    c.u32_of_byte.ensures.0 ∙ stored_byte _ _ _ _ c.if-i-n.false (omega (arith, c.if-s-from-2.false, c.if-s-from.false))

@@ -11,17 +11,11 @@ loop-i-init c = (search rules, none_yet _)
 
 pub returns-then-u32_of_byte-expected : goal.returns-then-u32_of_byte-expected
 returns-then-u32_of_byte-expected c =
-    let at-expected = c in
-    let at_byte = at-expected in
-    let at_test = at_byte in
-    sym (ap not (found _ _ _ at_test.loop-i-test.true (unexpected_byte _ _ _ _ _ (λ e. c.if-u32_of_byte-expected.true (at_byte.u32_of_byte.ensures.0 ∙ e ∙ sym at-expected.expected.ensures)))))
+    sym (ap not (found _ _ _ c.loop-i-test.true (unexpected_byte _ _ _ _ _ (λ e. c.if-u32_of_byte-expected.true (c.u32_of_byte.ensures.0 ∙ e ∙ sym c.expected.ensures)))))
 
 pub loop-i-preserved : goal.loop-i-preserved
 loop-i-preserved c =
-    let at-expected = c in
-    let at_byte = at-expected in
-    let at-loop = at_byte in
-    (search rules, none_more _ _ at-loop.loop-i.invariant.1 (expected_byte _ _ _ _ _ (sym at_byte.u32_of_byte.ensures.0 ∙ c.if-u32_of_byte-expected.false ∙ at-expected.expected.ensures)))
+    (search rules, none_more _ _ c.loop-i.invariant.1 (expected_byte _ _ _ _ _ (sym c.u32_of_byte.ensures.0 ∙ c.if-u32_of_byte-expected.false ∙ c.expected.ensures)))
 
 pub returns : goal.returns
 returns c = sym (ap not (none_at_all _ _ _ c.loop-i.invariant.0 c.loop-i-test.false c.loop-i.invariant.1))

@@ -14,28 +14,18 @@ loop-i-init c = (omega arith, refl)
 
 pub returns-then-pattern : goal.returns-then-pattern
 returns-then-pattern c =
-    let at-pattern2 = c in
-    let at-pattern = at-pattern2 in
-    let at-loop-test = at-pattern in
-    let at-loop = at-loop-test in
-    let start = at-loop in
-    let loop = at-loop.loop-i in
-    let a = start.args in
-    sym (loop.invariant.1 ∙ from_other nan (to_bits binary64) (to_bits binary64 a.x) loop.i a.s.now at-loop-test.loop-i-test.true
-    (λ q. c.if-pattern.true (at-pattern.pattern.ensures ∙ (q ∙ sym at-pattern2.pattern-in-loop-i.ensures))))
+    let loop = c.loop-i in
+    let a = c.args in
+    sym (loop.invariant.1 ∙ from_other nan (to_bits binary64) (to_bits binary64 a.x) loop.i a.s.now c.loop-i-test.true
+    (λ q. c.if-pattern.true (c.pattern.ensures ∙ (q ∙ sym c.pattern-in-loop-i.ensures))))
 
 pub loop-i-preserved : goal.loop-i-preserved
 loop-i-preserved c =
-    let at-pattern2 = c in
-    let at-pattern = at-pattern2 in
-    let at-loop-test = at-pattern in
-    let at-loop = at-loop-test in
-    let start = at-loop in
-    let loop = at-loop.loop-i in
-    let a = start.args in (
+    let loop = c.loop-i in
+    let a = c.args in (
       omega (arith, loop.invariant.0),
-      loop.invariant.1 ∙ (from_same nan (to_bits binary64) (to_bits binary64 a.x) loop.i a.s.now at-loop-test.loop-i-test.true
-          (sym at-pattern.pattern.ensures ∙ (c.if-pattern.false ∙ at-pattern2.pattern-in-loop-i.ensures)) ∙ ap (λ (k : ℕ). each_is (to_bits binary64) (to_bits binary64 a.x) (drop k a.s.now))
+      loop.invariant.1 ∙ (from_same nan (to_bits binary64) (to_bits binary64 a.x) loop.i a.s.now c.loop-i-test.true
+          (sym c.pattern.ensures ∙ (c.if-pattern.false ∙ c.pattern-in-loop-i.ensures)) ∙ ap (λ (k : ℕ). each_is (to_bits binary64) (to_bits binary64 a.x) (drop k a.s.now))
           (sym (add-one loop.i))),
     )
 

@@ -16,14 +16,11 @@ returns-then-s-i c = let a = c.args in sym (c.loop-i.invariant.1 ∙ from_other 
 
 pub loop-i-preserved : goal.loop-i-preserved
 loop-i-preserved c =
-    let at-loop-test = c in
-    let at-loop = at-loop-test in
-    let start = at-loop in
-    let loop = at-loop.loop-i in
-    let a = start.args in (
+    let loop = c.loop-i in
+    let a = c.args in (
       omega (arith, loop.invariant.0),
       loop.invariant.1 ∙
-          (from_same 0 (λ y. y) a.x loop.i a.s.now at-loop-test.loop-i-test.true c.if-s-i.false ∙ ap (λ (k : ℕ). each_is (λ y. y) a.x (drop k a.s.now))
+          (from_same 0 (λ y. y) a.x loop.i a.s.now c.loop-i-test.true c.if-s-i.false ∙ ap (λ (k : ℕ). each_is (λ y. y) a.x (drop k a.s.now))
           (sym (add-one loop.i))),
     )
 

@@ -16,13 +16,10 @@ loop-i-smaller c = simp length-set (omega arith)
 
 pub loop-i-preserved : goal.loop-i-preserved
 loop-i-preserved c =
-    let at-loop-test = c in
-    let at-loop = at-loop-test in
-    let start = at-loop in
     let double = c.double in
-    let loop-test = at-loop-test.loop-i-test in
-    let loop = at-loop.loop-i in
-    let a = start.args in (
+    let loop-test = c.loop-i-test in
+    let loop = c.loop-i in
+    let a = c.args in (
       length-set loop.to loop.i double.result ∙ loop.invariant.0,
       (
         omega (arith, loop-test.true, loop.invariant.0),

@@ -11,13 +11,12 @@ use Rattle.trim.proofs.add.Goals as goal
 
 pub returns-then-b1-b0 : goal.returns-then-b1-b0
 returns-then-b1-b0 c =
-    let start = c in
-    let a = start.args in
+    let a = c.args in
     let s = (window_slices a.edges.now a.words.now a.reals.now a.keys.now a.events.now) in
     let size = length a.pts.now in
     let p = snapshot_of s a.counts.made a.counts.queued 0 a.vertex.now in
     record {
-      bounded = start.requires.0.fits;
+      bounded = c.requires.0.fits;
       adds = add_narrow size (windows_of s) a.limit a.vertex_words.now a.e a.w p c.if-b1-b0.true;
       skips = λ z. unchanged a.counts
           (Buffers·slices a.edges.now a.words.now a.reals.now a.keys.now a.events.now a.vertex.now) (cut_buffers a.pts.now a.out.now a.keep.now a.next.now);
@@ -25,17 +24,14 @@ returns-then-b1-b0 c =
 
 pub returns-then-low-limit : goal.returns-then-low-limit
 returns-then-low-limit c =
-    let at-lowest = c in
-    let at-if1 = at-lowest in
-    let start = at-if1 in
-    let lowest = at-lowest.lowest-low in
-    let a = start.args in
+    let lowest = c.lowest-low in
+    let a = c.args in
     let s = (window_slices a.edges.now a.words.now a.reals.now a.keys.now a.events.now) in
     let size = length a.pts.now in
     let p = snapshot_of s a.counts.made a.counts.queued 0 a.vertex.now in
     record {
-      bounded = start.requires.0.fits;
-      adds = add_far size (windows_of s) a.limit a.vertex_words.now a.e a.w p lowest.result lowest.ensures at-if1.if-b1-b0.false
+      bounded = c.requires.0.fits;
+      adds = add_far size (windows_of s) a.limit a.vertex_words.now a.e a.w p lowest.result lowest.ensures c.if-b1-b0.false
           c.if-low-limit.true;
       skips = λ z. unchanged a.counts (Buffers·slices a.edges.now a.words.now a.reals.now a.keys.now a.events.now a.vertex.now)
           (cut_buffers a.pts.now a.out.now a.keep.now a.next.now);
@@ -46,20 +42,14 @@ admit-admitted-requires c = (c.requires.0, (c.requires.1, c.lowest-low.ensures))
 
 pub returns-in-Stopped : goal.returns-in-Stopped
 returns-in-Stopped c =
-    let at-admitted = c in
-    let at-admit = at-admitted in
-    let at-if2 = at-admit in
-    let at-lowest = at-if2 in
-    let at-if1 = at-lowest in
-    let start = at-if1 in
-    let if2 = at-if2.if-low-limit in
-    let lowest = at-lowest.lowest-low in
-    let if1 = at-if1.if-b1-b0 in
-    let a = start.args in
+    let if2 = c.if-low-limit in
+    let lowest = c.lowest-low in
+    let if1 = c.if-b1-b0 in
+    let a = c.args in
     let s = (window_slices a.edges.now a.words.now a.reals.now a.keys.now a.events.now) in
     let size = length a.pts.now in
     let p = snapshot_of s a.counts.made a.counts.queued 0 a.vertex.now in
-    let done = rw c.in-Stopped.is at at-admit.admit-admitted.ensures.1 in
+    let done = rw c.in-Stopped.is at c.admit-admitted.ensures.1 in
     record {
       bounded = tt;
       adds = add_admitted size (windows_of s) a.limit a.vertex_words.now a.e a.w p lowest.result lowest.ensures if1.false if2.false
@@ -70,17 +60,11 @@ returns-in-Stopped c =
 
 pub returns-in-Went : goal.returns-in-Went
 returns-in-Went c =
-    let at-admitted2 = c in
-    let at-admit = at-admitted2 in
-    let at-if2 = at-admit in
-    let at-lowest = at-if2 in
-    let at-if1 = at-lowest in
-    let start = at-if1 in
-    let admit = at-admit.admit-admitted in
-    let if2 = at-if2.if-low-limit in
-    let lowest = at-lowest.lowest-low in
-    let if1 = at-if1.if-b1-b0 in
-    let a = start.args in
+    let admit = c.admit-admitted in
+    let if2 = c.if-low-limit in
+    let lowest = c.lowest-low in
+    let if1 = c.if-b1-b0 in
+    let a = c.args in
     let s = (window_slices a.edges.now a.words.now a.reals.now a.keys.now a.events.now) in
     let size = length a.pts.now in
     let p = snapshot_of s a.counts.made a.counts.queued 0 a.vertex.now in

@@ -16,25 +16,19 @@ returns-then-pts-eq0 c =
 
 pub visits-visited-requires : goal.visits-visited-requires
 visits-visited-requires c =
-    let start = c in
     let pass-front = c.pass_front-before in (
-      record { fits = start.requires.0.fits; linked = pass-front.ensures.made; edge = omega (arith, start.requires.0.edge, pass-front.auto.edges) },
+      record { fits = c.requires.0.fits; linked = pass-front.ensures.made; edge = omega (arith, c.requires.0.edge, pass-front.auto.edges) },
       (
-        record { outs = start.requires.1.0.outs; keeps = omega (arith, start.requires.1.0.keeps, c.whole.auto.keep); nexts = start.requires.1.0.nexts },
+        record { outs = c.requires.1.0.outs; keeps = omega (arith, c.requires.1.0.keeps, c.whole.auto.keep); nexts = c.requires.1.0.nexts },
         omega (arith, c.if-pts-eq0.false),
       ),
     )
 
 pub keep_parts-requires : goal.keep_parts-requires
 keep_parts-requires c =
-    let at-visited2 = c in
-    let at-visits = at-visited2 in
-    let at-pass-front = at-visits in
-    let at-whole = at-pass-front in
-    let start = at-whole in
-    let visits = at-visits.visits-visited in
-    let pass-front = at-pass-front.pass_front-before in
-    let a = start.args in
+    let visits = c.visits-visited in
+    let pass-front = c.pass_front-before in
+    let a = c.args in
     let b = (rw c.in-Went.is at visits.ensures.0) in (
       seat_ready a.e.id.0 a.counts.made pass-front.result c.in-Went.c.made c.in-Went.field-1 c.in-Went.k (length a.pts.now)
           (window_slices a.edges.now a.words.now a.reals.now a.keys.now a.events.now)
@@ -45,46 +39,33 @@ keep_parts-requires c =
             reals = visits.auto.reals;
             keys = visits.auto.keys;
             events = visits.auto.events;
-          }) start.requires.0 pass-front.ensures.made b,
+          }) c.requires.0 pass-front.ensures.made b,
       (
         kept_fit (length a.pts.now) c.in-Went.k a.out.now a.keep.now a.next.now
-            visits.new.keep start.requires.1.0 (visits.auto.keep ∙ at-whole.whole.auto.keep) b.1.1.0,
-        start.requires.1.1,
+            visits.new.keep c.requires.1.0 (visits.auto.keep ∙ c.whole.auto.keep) b.1.1.0,
+        c.requires.1.1,
       ),
     )
 
 pub returns-in-Stopped : goal.returns-in-Stopped
 returns-in-Stopped c =
-    let at-visited = c in
-    let at-visits = at-visited in
-    let at-pass-front = at-visits in
-    let at-whole = at-pass-front in
-    let at-if1 = at-whole in
-    let start = at-if1 in
-    let visits = at-visits.visits-visited in
-    let pass-front = at-pass-front.pass_front-before in
-    let whole = at-whole.whole in
-    let a = start.args in (
+    let visits = c.visits-visited in
+    let pass-front = c.pass_front-before in
+    let whole = c.whole in
+    let a = c.args in (
       tt,
       admit_stopped (length a.pts.now) a.limit a.vertex_words.now a.e a.w a.counts.made a.counts.queued
-          (window_slices a.edges.now a.words.now a.reals.now a.keys.now a.events.now) a.vertex.now a.tiny at-if1.if-pts-eq0.false pass-front.result pass-front.new.edges
-          pass-front.ensures whole.new.keep whole.ensures c.in-Stopped.lack visits.new.keep (rw c.in-Stopped.is at visits.ensures.1) start.requires.1.1,
+          (window_slices a.edges.now a.words.now a.reals.now a.keys.now a.events.now) a.vertex.now a.tiny c.if-pts-eq0.false pass-front.result pass-front.new.edges
+          pass-front.ensures whole.new.keep whole.ensures c.in-Stopped.lack visits.new.keep (rw c.in-Stopped.is at visits.ensures.1) c.requires.1.1,
     )
 
 pub returns-in-Went : goal.returns-in-Went
 returns-in-Went c =
-    let at-keep-parts = c in
-    let at-visited2 = at-keep-parts in
-    let at-visits = at-visited2 in
-    let at-pass-front = at-visits in
-    let at-whole = at-pass-front in
-    let at-if1 = at-whole in
-    let start = at-if1 in
-    let keep-parts = at-keep-parts.keep_parts in
-    let visits = at-visits.visits-visited in
-    let pass-front = at-pass-front.pass_front-before in
-    let whole = at-whole.whole in
-    let a = start.args in
+    let keep-parts = c.keep_parts in
+    let visits = c.visits-visited in
+    let pass-front = c.pass_front-before in
+    let whole = c.whole in
+    let a = c.args in
     let the-slices-2 = window_slices a.edges.now a.words.now a.reals.now a.keys.now a.events.now in
     let the-slices = window_slices visits.new.edges visits.new.words visits.new.reals visits.new.keys visits.new.events in (
       bounded_in the-slices-2 the-slices keep-parts.result
@@ -96,7 +77,7 @@ returns-in-Went c =
             events = visits.auto.events;
           }) keep-parts.ensures.0,
       admit_seated (length a.pts.now) a.limit a.vertex_words.now a.e a.w a.counts.made a.counts.queued the-slices-2 a.vertex.now
-          a.tiny at-if1.if-pts-eq0.false pass-front.result pass-front.new.edges pass-front.ensures whole.new.keep whole.ensures c.in-Went.c c.in-Went.field-1
+          a.tiny c.if-pts-eq0.false pass-front.result pass-front.new.edges pass-front.ensures whole.new.keep whole.ensures c.in-Went.c c.in-Went.field-1
           c.in-Went.k the-slices visits.new.keep
           (record {
             edges = visits.auto.edges ∙ pass-front.auto.edges;
@@ -105,5 +86,5 @@ returns-in-Went c =
             keys = visits.auto.keys;
             events = visits.auto.events;
           }) (rw c.in-Went.is at visits.ensures.1) (made_end keep-parts.result (links keep-parts.new.edges keep-parts.new.words) keep-parts.new.reals
-          (queue keep-parts.new.keys keep-parts.new.events) keep-parts.new.vertex) keep-parts.ensures.1 start.requires.1.1,
+          (queue keep-parts.new.keys keep-parts.new.events) keep-parts.new.vertex) keep-parts.ensures.1 c.requires.1.1,
     )

@@ -3,7 +3,5 @@ use Rattle.trim_c.proofs.sirmolaat_trim_run.Goals as goal
 
 pub returns : goal.returns
 returns c =
-    let at-tell = c in
-    let at-run = at-tell in
-    let run = at-run.run-ran in
-    record { answer = run.result; runs = run.ensures; tells = at-tell.tell.ensures }
+    let run = c.run-ran in
+    record { answer = run.result; runs = run.ensures; tells = c.tell.ensures }

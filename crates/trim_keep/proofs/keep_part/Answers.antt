@@ -11,15 +11,10 @@ use Rattle.trim_keep.proofs.keep_part.Goals as goal
 
 pub returns-in_default : goal.returns-in_default
 returns-in_default c =
-    let at-touch-ends = c in
-    let at-part2 = at-touch-ends in
-    let at-make-part = at-part2 in
-    let at-seat-from = at-make-part in
-    let start = at-seat-from in
-    let touch-ends = at-touch-ends.touch_ends-touched in
-    let make-part = at-make-part.make_part-part in
-    let seat-from = at-seat-from.seat_from-seat in
-    let a = start.args in
+    let touch-ends = c.touch_ends-touched in
+    let make-part = c.make_part-part in
+    let seat-from = c.seat_from-seat in
+    let a = c.args in
     let the-windowsOf = windows_of (window_slices a.edges.now a.words.now a.reals.now a.keys.now a.events.now) in (
       tt,
       λ cuts k ks. seats_stop cuts the-windowsOf a.limit a.vertex_words.now a.e (live_of a.x k) (interval a.b0 a.b1) ks
@@ -33,29 +28,20 @@ returns-in_default c =
 
 pub returns-in-Stopped : goal.returns-in-Stopped
 returns-in-Stopped c =
-    let at_part = c in
-    let at-make-part = at_part in
-    let start = at-make-part in
-    let a = start.args in
+    let a = c.args in
     let the-slices = window_slices a.edges.now a.words.now a.reals.now a.keys.now a.events.now in (
       tt,
       λ cuts k ks. seats_full cuts (windows_of the-slices) a.limit a.vertex_words.now a.e (live_of a.x k) (interval a.b0 a.b1) ks
           (snapshot_of the-slices a.counts.made a.counts.queued a.before a.vertex.now) (lack_number c.in-Stopped.lack)
-          ((rw c.in-Stopped.is at at-make-part.make_part-part.ensures.1) cuts a.limit a.vertex_words.now a.vertex.now k),
+          ((rw c.in-Stopped.is at c.make_part-part.ensures.1) cuts a.limit a.vertex_words.now a.vertex.now k),
     )
 
 pub returns-in-Queued : goal.returns-in-Queued
 returns-in-Queued c =
-    let at-touched = c in
-    let at-touch-ends = at-touched in
-    let at-part2 = at-touch-ends in
-    let at-make-part = at-part2 in
-    let at-seat-from = at-make-part in
-    let start = at-seat-from in
-    let touch-ends = at-touch-ends.touch_ends-touched in
-    let make-part = at-make-part.make_part-part in
-    let seat-from = at-seat-from.seat_from-seat in
-    let a = start.args in
+    let touch-ends = c.touch_ends-touched in
+    let make-part = c.make_part-part in
+    let seat-from = c.seat_from-seat in
+    let a = c.args in
     let r = (rw c.in-Went.is at make-part.ensures.1) 0 a.limit a.vertex_words.now a.vertex.now 0 in
     let the-queue = queue touch-ends.new.keys touch-ends.new.events in
     let the-windowsOf = windows_of (window_slices a.edges.now a.words.now a.reals.now a.keys.now a.events.now) in (

@@ -29,87 +29,62 @@ loop-i-smaller-then-b1-b0 c = omega (arith, c.loop-i-test.true)
 
 pub loop-i-preserved-then-b1-b0 : goal.loop-i-preserved-then-b1-b0
 loop-i-preserved-then-b1-b0 c =
-    let at-to-of = c in
-    let at-from-of = at-to-of in
-    let at-loop-test = at-from-of in
-    let at-loop = at-loop-test in
-    let start = at-loop in
-    let to-of = at-to-of.to_of-b1 in
-    let from-of = at-from-of.from_of-b0 in
-    let loop = at-loop.loop-i in
-    let a = start.args in
+    let to-of = c.to_of-b1 in
+    let from-of = c.from_of-b0 in
+    let loop = c.loop-i in
+    let a = c.args in
     keep_skip a.limit a.vertex_words.now a.e a.x a.tiny (pairs a.k a.keep.now)
     (window_slices a.edges.now a.words.now a.reals.now a.keys.now a.events.now) a.vertex.now a.counts.made a.counts.queued a.before
     (window_slices loop.edges loop.words loop.reals loop.keys loop.events) loop.vertex loop.now.made loop.now.queued loop.last loop.i loop.invariant from-of.result
     to-of.result (here_is (drop loop.i (pairs a.k a.keep.now)) (drop (suc loop.i) (pairs a.k a.keep.now)) from-of.result to-of.result
-    (get_or a.keep.now (loop.i + loop.i) nan) (get_or a.keep.now (suc (loop.i + loop.i)) nan) (pairs_from a.keep.now a.k loop.i at-loop-test.loop-i-test.true)
+    (get_or a.keep.now (loop.i + loop.i) nan) (get_or a.keep.now (suc (loop.i + loop.i)) nan) (pairs_from a.keep.now a.k loop.i c.loop-i-test.true)
     from-of.ensures to-of.ensures) c.if-b1-b0.true
 
 pub keep_part-part-requires : goal.keep_part-part-requires
 keep_part-part-requires c =
-    let at-loop = c in
-    let start = at-loop in
-    let loop = at-loop.loop-i in
-    let a = start.args in (
+    let loop = c.loop-i in
+    let a = c.args in (
       keep_ready a.limit a.vertex_words.now a.e a.x a.tiny (pairs a.k a.keep.now)
           (window_slices a.edges.now a.words.now a.reals.now a.keys.now a.events.now) a.vertex.now a.counts.made a.counts.queued a.before
           (window_slices loop.edges loop.words loop.reals loop.keys loop.events) loop.vertex loop.now.made loop.now.queued loop.last loop.i loop.invariant,
-      start.requires.1.1,
+      c.requires.1.1,
     )
 
 pub returns-in-Stopped : goal.returns-in-Stopped
 returns-in-Stopped c =
-    let at_part = c in
-    let at-keep-part = at_part in
-    let at-if1 = at-keep-part in
-    let at-to-of = at-if1 in
-    let at-from-of = at-to-of in
-    let at-loop-test = at-from-of in
-    let at-loop = at-loop-test in
-    let start = at-loop in
-    let to-of = at-to-of.to_of-b1 in
-    let from-of = at-from-of.from_of-b0 in
-    let loop = at-loop.loop-i in
-    let a = start.args in (
+    let to-of = c.to_of-b1 in
+    let from-of = c.from_of-b0 in
+    let loop = c.loop-i in
+    let a = c.args in (
       tt,
       keep_stopped a.limit a.vertex_words.now a.e a.x a.tiny (pairs a.k a.keep.now)
           (window_slices a.edges.now a.words.now a.reals.now a.keys.now a.events.now) a.vertex.now a.counts.made a.counts.queued a.before
           (window_slices loop.edges loop.words loop.reals loop.keys loop.events) loop.vertex loop.now.made loop.now.queued loop.last loop.i loop.invariant from-of.result
           to-of.result (here_is (drop loop.i (pairs a.k a.keep.now)) (drop (suc loop.i) (pairs a.k a.keep.now)) from-of.result to-of.result
-          (get_or a.keep.now (loop.i + loop.i) nan) (get_or a.keep.now (suc (loop.i + loop.i)) nan) (pairs_from a.keep.now a.k loop.i at-loop-test.loop-i-test.true)
-          from-of.ensures to-of.ensures) at-if1.if-b1-b0.false (lack_number c.in-Stopped.lack) (rw c.in-Stopped.is at at-keep-part.keep_part-part.ensures.1),
+          (get_or a.keep.now (loop.i + loop.i) nan) (get_or a.keep.now (suc (loop.i + loop.i)) nan) (pairs_from a.keep.now a.k loop.i c.loop-i-test.true)
+          from-of.ensures to-of.ensures) c.if-b1-b0.false (lack_number c.in-Stopped.lack) (rw c.in-Stopped.is at c.keep_part-part.ensures.1),
     )
 
 pub overflow_add-i-in-Went : goal.overflow_add-i-in-Went
 overflow_add-i-in-Went c =
-    let at-loop-test = c in
-    let at-fits = at-loop-test in
-    omega (arith, at-loop-test.loop-i-test.true, at-fits.ranges.k)
+    omega (arith, c.loop-i-test.true, c.ranges.k)
 
 pub loop-i-smaller : goal.loop-i-smaller
 loop-i-smaller c = omega (arith, c.loop-i-test.true)
 
 pub loop-i-preserved : goal.loop-i-preserved
 loop-i-preserved c =
-    let at-part2 = c in
-    let at-keep-part = at-part2 in
-    let at-if1 = at-keep-part in
-    let at-to-of = at-if1 in
-    let at-from-of = at-to-of in
-    let at-loop-test = at-from-of in
-    let at-loop = at-loop-test in
-    let start = at-loop in
-    let keep-part = at-keep-part.keep_part-part in
-    let to-of = at-to-of.to_of-b1 in
-    let from-of = at-from-of.from_of-b0 in
-    let loop = at-loop.loop-i in
-    let a = start.args in
+    let keep-part = c.keep_part-part in
+    let to-of = c.to_of-b1 in
+    let from-of = c.from_of-b0 in
+    let loop = c.loop-i in
+    let a = c.args in
     keep_next a.limit a.vertex_words.now a.e a.x a.tiny (pairs a.k a.keep.now)
     (window_slices a.edges.now a.words.now a.reals.now a.keys.now a.events.now) a.vertex.now a.counts.made a.counts.queued a.before
     (window_slices loop.edges loop.words loop.reals loop.keys loop.events) loop.vertex loop.now.made loop.now.queued loop.last loop.i loop.invariant from-of.result
     to-of.result (here_is (drop loop.i (pairs a.k a.keep.now)) (drop (suc loop.i) (pairs a.k a.keep.now)) from-of.result to-of.result
-    (get_or a.keep.now (loop.i + loop.i) nan) (get_or a.keep.now (suc (loop.i + loop.i)) nan) (pairs_from a.keep.now a.k loop.i at-loop-test.loop-i-test.true)
-    from-of.ensures to-of.ensures) at-if1.if-b1-b0.false
+    (get_or a.keep.now (loop.i + loop.i) nan) (get_or a.keep.now (suc (loop.i + loop.i)) nan) (pairs_from a.keep.now a.k loop.i c.loop-i-test.true)
+    from-of.ensures to-of.ensures) c.if-b1-b0.false
     (window_slices keep-part.new.edges keep-part.new.words keep-part.new.reals keep-part.new.keys keep-part.new.events) keep-part.new.vertex
     c.in-Went.c.made c.in-Went.c.queued c.in-Went.l
     (record { edges = keep-part.auto.edges; words = keep-part.auto.words; reals = keep-part.auto.reals; keys = keep-part.auto.keys; events = keep-part.auto.events })
@@ -117,10 +92,8 @@ loop-i-preserved c =
 
 pub returns : goal.returns
 returns c =
-    let at-loop = c in
-    let start = at-loop in
-    let loop = at-loop.loop-i in
-    let a = start.args in (
+    let loop = c.loop-i in
+    let a = c.args in (
       (loop.invariant.fits, loop.invariant.linked),
       keep_over a.limit a.vertex_words.now a.e a.x a.tiny (pairs a.k a.keep.now)
           (window_slices a.edges.now a.words.now a.reals.now a.keys.now a.events.now) a.vertex.now a.counts.made a.counts.queued a.before

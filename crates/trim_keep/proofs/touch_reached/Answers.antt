@@ -9,16 +9,12 @@ use Rattle.trim_keep.proofs.touch_reached.Goals as goal
 
 pub returns-then-reached : goal.returns-then-reached
 returns-then-reached c = λ cuts windows made.
-    let touched = c in
-    let value = touched in
-    let known = value in
-    let reached = known in
-    let a = reached.args in
-    let t = touched.touch in
-    touched_yes cuts windows a.limit a.vertex_words.now a.reached reached.if-reached.true a.v.0 (eval_of a.win a.x zero64)
+    let a = c.args in
+    let t = c.touch in
+    touched_yes cuts windows a.limit a.vertex_words.now a.reached c.if-reached.true a.v.0 (eval_of a.win a.x zero64)
     (stock made a.n (queue a.keys.now a.events.now) a.vertex.now) made t.new.vertex (t.result, queue t.new.keys t.new.events)
     (sym (nearer_touches cuts windows a.limit a.vertex_words.now a.v.0 (stock made a.n (queue a.keys.now a.events.now) a.vertex.now) (eval_of a.win a.x zero64))
-    ∙ (rw (value.nearer-d.ensures ∙ ap (λ z. min_of z (eval_of a.win a.x zero64)) known.distance-known.ensures) at (t.ensures cuts windows made)))
+    ∙ (rw (c.nearer-d.ensures ∙ ap (λ z. min_of z (eval_of a.win a.x zero64)) c.distance-known.ensures) at (t.ensures cuts windows made)))
 
 pub returns : goal.returns
 returns c = λ cuts windows made.

@@ -23,10 +23,8 @@ to_of-b1-requires c = omega (arith, c.requires.1, c.loop-i-test.true)
 
 pub make_part-part-requires : goal.make_part-part-requires
 make_part-part-requires c =
-    let at-loop = c in
-    let start = at-loop in
-    let loop = at-loop.loop-i in
-    let a = start.args in (
+    let loop = c.loop-i in
+    let a = c.args in (
       parts_ready a.e.0 a.x (pairs a.n a.pieces.now) (window_slices a.edges.now a.words.now a.reals.now a.keys.now a.events.now) a.counts.made
           a.counts.queued a.before (window_slices loop.edges loop.words loop.reals loop.keys loop.events) loop.now.made loop.now.queued loop.last loop.i loop.invariant,
       c.lowest-low.ensures,
@@ -34,54 +32,38 @@ make_part-part-requires c =
 
 pub returns-in-Stopped : goal.returns-in-Stopped
 returns-in-Stopped c =
-    let at_part = c in
-    let at-make-part = at_part in
-    let at-to-of = at-make-part in
-    let at-from-of = at-to-of in
-    let at-loop-test = at-from-of in
-    let at-loop = at-loop-test in
-    let start = at-loop in
-    let make-part = at-make-part.make_part-part in
-    let to-of = at-to-of.to_of-b1 in
-    let from-of = at-from-of.from_of-b0 in
-    let loop = at-loop.loop-i in
-    let a = start.args in (
+    let make-part = c.make_part-part in
+    let to-of = c.to_of-b1 in
+    let from-of = c.from_of-b0 in
+    let loop = c.loop-i in
+    let a = c.args in (
       tt,
       parts_stopped a.e.0 a.x (pairs a.n a.pieces.now) (window_slices a.edges.now a.words.now a.reals.now a.keys.now a.events.now) a.counts.made
           a.counts.queued a.before (window_slices loop.edges loop.words loop.reals loop.keys loop.events) loop.now.made loop.now.queued loop.last loop.i loop.invariant
           from-of.result to-of.result (here_is (drop loop.i (pairs a.n a.pieces.now)) (drop (suc loop.i) (pairs a.n a.pieces.now)) from-of.result to-of.result
-          (get_or a.pieces.now (loop.i + loop.i) nan) (get_or a.pieces.now (suc (loop.i + loop.i)) nan) (pairs_from a.pieces.now a.n loop.i at-loop-test.loop-i-test.true)
+          (get_or a.pieces.now (loop.i + loop.i) nan) (get_or a.pieces.now (suc (loop.i + loop.i)) nan) (pairs_from a.pieces.now a.n loop.i c.loop-i-test.true)
           from-of.ensures to-of.ensures) (window_slices make-part.new.edges make-part.new.words make-part.new.reals make-part.new.keys make-part.new.events)
           (lack_number c.in-Stopped.lack) (rw c.in-Stopped.is at make-part.ensures.1),
     )
 
 pub overflow_add-i : goal.overflow_add-i
 overflow_add-i c =
-    let at-loop-test = c in
-    let at-fits = at-loop-test in
-    omega (arith, at-loop-test.loop-i-test.true, at-fits.ranges.n)
+    omega (arith, c.loop-i-test.true, c.ranges.n)
 
 pub loop-i-smaller : goal.loop-i-smaller
 loop-i-smaller c = omega (arith, c.loop-i-test.true)
 
 pub loop-i-preserved : goal.loop-i-preserved
 loop-i-preserved c =
-    let at-part2 = c in
-    let at-make-part = at-part2 in
-    let at-to-of = at-make-part in
-    let at-from-of = at-to-of in
-    let at-loop-test = at-from-of in
-    let at-loop = at-loop-test in
-    let start = at-loop in
-    let make-part = at-make-part.make_part-part in
-    let to-of = at-to-of.to_of-b1 in
-    let from-of = at-from-of.from_of-b0 in
-    let loop = at-loop.loop-i in
-    let a = start.args in
+    let make-part = c.make_part-part in
+    let to-of = c.to_of-b1 in
+    let from-of = c.from_of-b0 in
+    let loop = c.loop-i in
+    let a = c.args in
     parts_next a.e.0 a.x (pairs a.n a.pieces.now) (window_slices a.edges.now a.words.now a.reals.now a.keys.now a.events.now) a.counts.made
     a.counts.queued a.before (window_slices loop.edges loop.words loop.reals loop.keys loop.events) loop.now.made loop.now.queued loop.last loop.i loop.invariant
     from-of.result to-of.result (here_is (drop loop.i (pairs a.n a.pieces.now)) (drop (suc loop.i) (pairs a.n a.pieces.now)) from-of.result to-of.result
-    (get_or a.pieces.now (loop.i + loop.i) nan) (get_or a.pieces.now (suc (loop.i + loop.i)) nan) (pairs_from a.pieces.now a.n loop.i at-loop-test.loop-i-test.true)
+    (get_or a.pieces.now (loop.i + loop.i) nan) (get_or a.pieces.now (suc (loop.i + loop.i)) nan) (pairs_from a.pieces.now a.n loop.i c.loop-i-test.true)
     from-of.ensures to-of.ensures) (window_slices make-part.new.edges make-part.new.words make-part.new.reals make-part.new.keys make-part.new.events)
     (record { edges = make-part.auto.edges; words = make-part.auto.words; reals = make-part.auto.reals; keys = make-part.auto.keys; events = make-part.auto.events })
     c.in-Went.c.made c.in-Went.c.queued c.in-Went.l (loop.i + 1) (rw c.in-Went.is at make-part.ensures.0) refl
@@ -89,10 +71,8 @@ loop-i-preserved c =
 
 pub returns : goal.returns
 returns c =
-    let at-loop = c in
-    let start = at-loop in
-    let loop = at-loop.loop-i in
-    let a = start.args in
+    let loop = c.loop-i in
+    let a = c.args in
     let none = pairs_past a.pieces.now a.n loop.i c.loop-i-test.false in
     let the-slices-2 = window_slices loop.edges loop.words loop.reals loop.keys loop.events in
     let the-slices = window_slices a.edges.now a.words.now a.reals.now a.keys.now a.events.now in (

@@ -17,20 +17,16 @@ use Rattle.trim_split.proofs.split_window.Goals as goal
 
 pub kill_window-requires : goal.kill_window-requires
 kill_window-requires c =
-    let start = c in
-    (omega (arith, start.requires.0.fits), (start.requires.0.edge, (start.requires.0.linked, start.requires.1.0)))
+    (omega (arith, c.requires.0.fits), (c.requires.0.edge, (c.requires.0.linked, c.requires.1.0)))
 
 pub returns-then-n-eq0 : goal.returns-then-n-eq0
 returns-then-n-eq0 c =
-    let at-kill-window = c in
-    let at-if1 = at-kill-window in
-    let start = at-if1 in
-    let kill-window = at-kill-window.kill_window in
-    let if1 = at-if1.if-n-eq0 in
-    let a = start.args in (
+    let kill-window = c.kill_window in
+    let if1 = c.if-n-eq0 in
+    let a = c.args in (
       omega (arith, pairs_length a.n a.pieces.now, if1.true),
       split_killed a.e.0 a.x a.id.0 a.counts.made a.counts.queued a.before
-          (window_slices a.edges.now a.words.now a.reals.now a.keys.now a.events.now) start.requires.0.fits (pairs a.n a.pieces.now) start.requires.0.linked
+          (window_slices a.edges.now a.words.now a.reals.now a.keys.now a.events.now) c.requires.0.fits (pairs a.n a.pieces.now) c.requires.0.linked
           (none_of a.n a.pieces.now if1.true) kill-window.new.edges kill-window.new.words kill-window.ensures,
     )
 
@@ -45,53 +41,39 @@ trim_window-requires c = omega (arith, c.requires.0.fits, c.requires.1.0)
 
 pub overflow_add-id : goal.overflow_add-id
 overflow_add-id c =
-    let start = c in
-    omega (arith, start.requires.0.fits, start.requires.1.0)
+    omega (arith, c.requires.0.fits, c.requires.1.0)
 
 pub make_parts-requires : goal.make_parts-requires
 make_parts-requires c =
-    let at-trim-window = c in
-    let at-trimmed = at-trim-window in
-    let at-to-of = at-trimmed in
-    let at-from-of = at-to-of in
-    let at-if1 = at-from-of in
-    let start = at-if1 in
-    let trim-window = at-trim-window.trim_window in
-    let trimmed = at-trimmed.trimmed-first in
-    let to-of = at-to-of.to_of-b1 in
-    let from-of = at-from-of.from_of-b0 in
-    let a = start.args in (
+    let trim-window = c.trim_window in
+    let trimmed = c.trimmed-first in
+    let to-of = c.to_of-b1 in
+    let from-of = c.from_of-b0 in
+    let a = c.args in (
       trimmed_ready a.e.0 a.x a.id.0 a.counts.made a.counts.queued a.before (window_slices a.edges.now a.words.now a.reals.now a.keys.now a.events.now)
-          start.requires.0.fits (pairs a.n a.pieces.now) start.requires.1.0 from-of.result to-of.result trimmed.result.low (ap (λ (w : Win). w.low) trimmed.ensures)
+          c.requires.0.fits (pairs a.n a.pieces.now) c.requires.1.0 from-of.result to-of.result trimmed.result.low (ap (λ (w : Win). w.low) trimmed.ensures)
           trim-window.new.reals trim-window.ensures trim-window.auto.reals
           (here_is (pairs a.n a.pieces.now) (drop 1 (pairs a.n a.pieces.now)) from-of.result to-of.result (get_or a.pieces.now 0 nan) (get_or a.pieces.now 1 nan)
-          (pairs_from a.pieces.now a.n 0 (omega (arith, at-if1.if-n-eq0.false))) from-of.ensures to-of.ensures) start.requires.0.edge (a.id.0 + 1) (add-one a.id.0),
-      start.requires.1.1,
+          (pairs_from a.pieces.now a.n 0 (omega (arith, c.if-n-eq0.false))) from-of.ensures to-of.ensures) c.requires.0.edge (a.id.0 + 1) (add-one a.id.0),
+      c.requires.1.1,
     )
 
 pub returns : goal.returns
 returns c =
-    let at-make-parts = c in
-    let at-trim-window = at-make-parts in
-    let at-trimmed = at-trim-window in
-    let at-to-of = at-trimmed in
-    let at-from-of = at-to-of in
-    let at-if1 = at-from-of in
-    let start = at-if1 in
-    let make-parts = at-make-parts.make_parts in
-    let trim-window = at-trim-window.trim_window in
-    let trimmed = at-trimmed.trimmed-first in
-    let to-of = at-to-of.to_of-b1 in
-    let from-of = at-from-of.from_of-b0 in
-    let a = start.args in
+    let make-parts = c.make_parts in
+    let trim-window = c.trim_window in
+    let trimmed = c.trimmed-first in
+    let to-of = c.to_of-b1 in
+    let from-of = c.from_of-b0 in
+    let a = c.args in
     let r = make-parts.result in (
       counted_as r (a.counts.made + length (drop 1 (pairs a.n a.pieces.now))) (a.counts.made + pred (length (pairs a.n a.pieces.now)))
           (ap (λ (j : ℕ). a.counts.made + j) (but_first (pairs a.n a.pieces.now))) make-parts.ensures.0,
       split_made a.e.0 a.x a.id.0 a.counts.made a.counts.queued
-          a.before (window_slices a.edges.now a.words.now a.reals.now a.keys.now a.events.now) start.requires.0.fits (pairs a.n a.pieces.now) start.requires.1.0
+          a.before (window_slices a.edges.now a.words.now a.reals.now a.keys.now a.events.now) c.requires.0.fits (pairs a.n a.pieces.now) c.requires.1.0
           from-of.result to-of.result trimmed.result.low (ap (λ (w : Win). w.low) trimmed.ensures) trim-window.new.reals trim-window.ensures trim-window.auto.reals
           (here_is (pairs a.n a.pieces.now) (drop 1 (pairs a.n a.pieces.now)) from-of.result to-of.result (get_or a.pieces.now 0 nan) (get_or a.pieces.now 1 nan)
-          (pairs_from a.pieces.now a.n 0 (omega (arith, at-if1.if-n-eq0.false))) from-of.ensures to-of.ensures) (a.id.0 + 1) (add-one a.id.0)
+          (pairs_from a.pieces.now a.n 0 (omega (arith, c.if-n-eq0.false))) from-of.ensures to-of.ensures) (a.id.0 + 1) (add-one a.id.0)
           (made_end r (links make-parts.new.edges make-parts.new.words) make-parts.new.reals (queue make-parts.new.keys make-parts.new.events))
           make-parts.ensures.1,
     )

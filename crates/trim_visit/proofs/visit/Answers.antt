@@ -14,143 +14,101 @@ use Rattle.trim_visit.proofs.visit.Goals as goal
 
 pub returns-then-hi-lo : goal.returns-then-hi-lo
 returns-then-hi-lo c =
-    let at-if1 = c in
-    let at-min = at-if1 in
-    let at-max = at-min in
-    let start = at-max in
-    let if1 = at-if1.if-hi-lo in
-    let min = at-min.min-hi in
-    let max = at-max.max-lo in
-    let a = start.args in
+    let if1 = c.if-hi-lo in
+    let min = c.min-hi in
+    let max = c.max-lo in
+    let a = c.args in
     let the-cuts = cut_buffers a.pts.now a.out.now a.keep.now a.next.now in
     let the-slices = window_slices a.edges.now a.words.now a.reals.now a.keys.now a.events.now in (
-      keeps_passes a.e.0 a.tiny a.w a.x a.id.0 a.counts.made a.counts.queued a.before a.k the-slices the-cuts start.requires.0.fits start.requires.1.0
-          max.result min.result max.ensures min.ensures if1.true start.requires.1.1.1 nan,
+      keeps_passes a.e.0 a.tiny a.w a.x a.id.0 a.counts.made a.counts.queued a.before a.k the-slices the-cuts c.requires.0.fits c.requires.1.0
+          max.result min.result max.ensures min.ensures if1.true c.requires.1.1.1 nan,
       visit_passes a.e.0 a.tiny a.w a.x a.id.0 a.counts.made
-          a.counts.queued a.before a.k the-slices the-cuts start.requires.0.fits start.requires.1.0 max.result min.result max.ensures min.ensures if1.true
+          a.counts.queued a.before a.k the-slices the-cuts c.requires.0.fits c.requires.1.0 max.result min.result max.ensures min.ensures if1.true
           (a.id.0 + 1) (add-one a.id.0),
     )
 
 pub returns-in_default : goal.returns-in_default
 returns-in_default c =
-    let at_cut = c in
-    let at-if1 = at_cut in
-    let at-min = at-if1 in
-    let at-max = at-min in
-    let start = at-max in
-    let min = at-min.min-hi in
-    let max = at-max.max-lo in
-    let a = start.args in (
+    let min = c.min-hi in
+    let max = c.max-lo in
+    let a = c.args in (
       tt,
       visit_full a.e.0 a.tiny a.w a.x a.id.0 a.counts.made a.counts.queued a.before a.k
-          (window_slices a.edges.now a.words.now a.reals.now a.keys.now a.events.now) (cut_buffers a.pts.now a.out.now a.keep.now a.next.now) start.requires.0.fits
-          start.requires.1.0 max.result min.result max.ensures min.ensures at-if1.if-hi-lo.false (rw c.in_default.is at at_cut.cut-met.ensures),
+          (window_slices a.edges.now a.words.now a.reals.now a.keys.now a.events.now) (cut_buffers a.pts.now a.out.now a.keep.now a.next.now) c.requires.0.fits
+          c.requires.1.0 max.result min.result max.ensures min.ensures c.if-hi-lo.false (rw c.in_default.is at c.cut-met.ensures),
     )
 
 pub overflow_add-result-then-lost-eq0 : goal.overflow_add-result-then-lost-eq0
 overflow_add-result-then-lost-eq0 c =
-    let start = c in
-    omega (arith, start.requires.1.0, start.requires.0.fits)
+    omega (arith, c.requires.1.0, c.requires.0.fits)
 
 pub returns-then-lost-eq0 : goal.returns-then-lost-eq0
 returns-then-lost-eq0 c =
-    let at-if2 = c in
-    let at-met = at-if2 in
-    let at_cut = at-met in
-    let at-if1 = at_cut in
-    let at-min = at-if1 in
-    let at-max = at-min in
-    let start = at-max in
-    let if2 = at-if2.if-lost-eq0 in
-    let cut = at_cut.cut-met in
-    let if1 = at-if1.if-hi-lo in
-    let min = at-min.min-hi in
-    let max = at-max.max-lo in
-    let a = start.args in
+    let if2 = c.if-lost-eq0 in
+    let cut = c.cut-met in
+    let if1 = c.if-hi-lo in
+    let min = c.min-hi in
+    let max = c.max-lo in
+    let a = c.args in
     let the-cut = cut.new.next in
     let the-cuts = cut_buffers a.pts.now a.out.now a.keep.now a.next.now in
     let the-slices = window_slices a.edges.now a.words.now a.reals.now a.keys.now a.events.now in (
-      keeps_none a.e.0 a.tiny a.w a.x a.id.0 a.counts.made a.counts.queued a.before a.k the-slices the-cuts start.requires.0.fits start.requires.1.0
+      keeps_none a.e.0 a.tiny a.w a.x a.id.0 a.counts.made a.counts.queued a.before a.k the-slices the-cuts c.requires.0.fits c.requires.1.0
           max.result min.result max.ensures min.ensures if1.false c.in-Left.kept c.in-Left.lost c.in-Left.pieces cut.new.keep the-cut
           (rw c.in-Left.is at cut.ensures) if2.true nan,
       visit_none a.e.0 a.tiny a.w a.x a.id.0 a.counts.made a.counts.queued a.before a.k the-slices
-          the-cuts start.requires.0.fits start.requires.1.0 max.result min.result max.ensures min.ensures if1.false c.in-Left.kept c.in-Left.lost
+          the-cuts c.requires.0.fits c.requires.1.0 max.result min.result max.ensures min.ensures if1.false c.in-Left.kept c.in-Left.lost
           c.in-Left.pieces cut.new.keep the-cut (rw c.in-Left.is at cut.ensures) if2.true (a.id.0 + 1) (add-one a.id.0),
     )
 
 pub split_window-left-requires : goal.split_window-left-requires
 split_window-left-requires c =
-    let at-if2 = c in
-    let at-met = at-if2 in
-    let at_cut = at-met in
-    let at-if1 = at_cut in
-    let at-min = at-if1 in
-    let at-max = at-min in
-    let start = at-max in
-    let cut = at_cut.cut-met in
-    let min = at-min.min-hi in
-    let max = at-max.max-lo in
-    let a = start.args in (
-      start.requires.0,
+    let cut = c.cut-met in
+    let min = c.min-hi in
+    let max = c.max-lo in
+    let a = c.args in (
+      c.requires.0,
       (
-        start.requires.1.0,
+        c.requires.1.0,
         pieces_fit a.e.0 a.tiny a.w a.x a.id.0 a.counts.made a.counts.queued a.before a.k
-            (window_slices a.edges.now a.words.now a.reals.now a.keys.now a.events.now) (cut_buffers a.pts.now a.out.now a.keep.now a.next.now) start.requires.0.fits
-            start.requires.1.0 max.result min.result max.ensures min.ensures at-if1.if-hi-lo.false c.in-Left.kept c.in-Left.lost c.in-Left.pieces
-            cut.new.keep cut.new.next (rw c.in-Left.is at cut.ensures) at-if2.if-lost-eq0.false
-            (cut.auto.next ∙ start.requires.1.1.0.nexts),
+            (window_slices a.edges.now a.words.now a.reals.now a.keys.now a.events.now) (cut_buffers a.pts.now a.out.now a.keep.now a.next.now) c.requires.0.fits
+            c.requires.1.0 max.result min.result max.ensures min.ensures c.if-hi-lo.false c.in-Left.kept c.in-Left.lost c.in-Left.pieces
+            cut.new.keep cut.new.next (rw c.in-Left.is at cut.ensures) c.if-lost-eq0.false
+            (cut.auto.next ∙ c.requires.1.1.0.nexts),
       ),
     )
 
 pub returns-in-Stopped : goal.returns-in-Stopped
 returns-in-Stopped c =
-    let at_left = c in
-    let at-split-window = at_left in
-    let at-if2 = at-split-window in
-    let at-met = at-if2 in
-    let at_cut = at-met in
-    let at-if1 = at_cut in
-    let at-min = at-if1 in
-    let at-max = at-min in
-    let start = at-max in
-    let cut = at_cut.cut-met in
-    let min = at-min.min-hi in
-    let max = at-max.max-lo in
-    let a = start.args in (
+    let cut = c.cut-met in
+    let min = c.min-hi in
+    let max = c.max-lo in
+    let a = c.args in (
       tt,
       visit_split a.e.0 a.tiny a.w a.x a.id.0 a.counts.made a.counts.queued a.before a.k
-          (window_slices a.edges.now a.words.now a.reals.now a.keys.now a.events.now) (cut_buffers a.pts.now a.out.now a.keep.now a.next.now) start.requires.0.fits
-          start.requires.1.0 max.result min.result max.ensures min.ensures at-if1.if-hi-lo.false c.in-Left.kept c.in-Left.lost c.in-Left.pieces
-          cut.new.keep cut.new.next (rw c.in-Left.is at cut.ensures) at-if2.if-lost-eq0.false
-          (λ (vertex : List Float). stopped (lack_number c.in-Stopped.lack)) (rw c.in-Stopped.is at at-split-window.split_window-left.ensures.1),
+          (window_slices a.edges.now a.words.now a.reals.now a.keys.now a.events.now) (cut_buffers a.pts.now a.out.now a.keep.now a.next.now) c.requires.0.fits
+          c.requires.1.0 max.result min.result max.ensures min.ensures c.if-hi-lo.false c.in-Left.kept c.in-Left.lost c.in-Left.pieces
+          cut.new.keep cut.new.next (rw c.in-Left.is at cut.ensures) c.if-lost-eq0.false
+          (λ (vertex : List Float). stopped (lack_number c.in-Stopped.lack)) (rw c.in-Stopped.is at c.split_window-left.ensures.1),
     )
 
 pub returns-in-Went : goal.returns-in-Went
 returns-in-Went c =
-    let at-left2 = c in
-    let at-split-window = at-left2 in
-    let at-if2 = at-split-window in
-    let at-met = at-if2 in
-    let at_cut = at-met in
-    let at-if1 = at_cut in
-    let at-min = at-if1 in
-    let at-max = at-min in
-    let start = at-max in
-    let split-window = at-split-window.split_window-left in
-    let if2 = at-if2.if-lost-eq0 in
-    let cut = at_cut.cut-met in
-    let if1 = at-if1.if-hi-lo in
-    let min = at-min.min-hi in
-    let max = at-max.max-lo in
-    let a = start.args in
+    let split-window = c.split_window-left in
+    let if2 = c.if-lost-eq0 in
+    let cut = c.cut-met in
+    let if1 = c.if-hi-lo in
+    let min = c.min-hi in
+    let max = c.max-lo in
+    let a = c.args in
     let the-cut = cut.new.next in
     let the-cuts = cut_buffers a.pts.now a.out.now a.keep.now a.next.now in
     let the-slices = window_slices a.edges.now a.words.now a.reals.now a.keys.now a.events.now in (
-      keeps_split a.e.0 a.tiny a.w a.x a.id.0 a.counts.made a.counts.queued a.before a.k the-slices the-cuts start.requires.0.fits start.requires.1.0
+      keeps_split a.e.0 a.tiny a.w a.x a.id.0 a.counts.made a.counts.queued a.before a.k the-slices the-cuts c.requires.0.fits c.requires.1.0
           max.result min.result max.ensures min.ensures if1.false c.in-Left.kept c.in-Left.lost c.in-Left.pieces cut.new.keep the-cut
           (rw c.in-Left.is at cut.ensures) if2.false c.in-Went.c.made (rw c.in-Went.is at split-window.ensures.0) nan,
       visit_split a.e.0 a.tiny a.w a.x
-          a.id.0 a.counts.made a.counts.queued a.before a.k the-slices the-cuts start.requires.0.fits start.requires.1.0 max.result min.result max.ensures
+          a.id.0 a.counts.made a.counts.queued a.before a.k the-slices the-cuts c.requires.0.fits c.requires.1.0 max.result min.result max.ensures
           min.ensures if1.false c.in-Left.kept c.in-Left.lost c.in-Left.pieces cut.new.keep the-cut (rw c.in-Left.is at cut.ensures)
           if2.false (λ (vertex : List Float). at
           (snapshot_of (window_slices split-window.new.edges split-window.new.words split-window.new.reals split-window.new.keys split-window.new.events)

@@ -11,19 +11,15 @@ use Rattle.trim_visit.proofs.visits.Goals as goal
 
 pub loop-left-init : goal.loop-left-init
 loop-left-init c =
-    let start = c in
-    let a = start.args in
+    let a = c.args in
     visits_start a.e.0 a.tiny (live_of a.w 0) (window_slices a.edges.now a.words.now a.reals.now a.keys.now a.events.now)
-    (cut_buffers a.pts.now a.out.now a.keep.now a.next.now) a.counts.made a.counts.queued a.before a.k start.requires.0 start.requires.1.0 start.requires.1.1
+    (cut_buffers a.pts.now a.out.now a.keep.now a.next.now) a.counts.made a.counts.queued a.before a.k c.requires.0 c.requires.1.0 c.requires.1.1
 
 pub returns-then-link-eq0 : goal.returns-then-link-eq0
 returns-then-link-eq0 c =
-    let at-next-link = c in
-    let at-loop = at-next-link in
-    let start = at-loop in
-    let next-link = at-next-link.next_link-link in
-    let loop = at-loop.loop-left in
-    let a = start.args in (
+    let next-link = c.next_link-link in
+    let loop = c.loop-left in
+    let a = c.args in (
       (loop.invariant.fits, (loop.invariant.linked, (loop.invariant.few, loop.invariant.grown))),
       visits_end a.e.0 a.tiny (live_of a.w 0)
           (window_slices a.edges.now a.words.now a.reals.now a.keys.now a.events.now) (cut_buffers a.pts.now a.out.now a.keep.now a.next.now) a.counts.made
@@ -36,28 +32,19 @@ overflow_sub-id c = omega (arith, c.if-link-eq0.false)
 
 pub load-x-requires : goal.load-x-requires
 load-x-requires c =
-    let at-if1 = c in
-    let at-next-link = at-if1 in
-    let at-loop = at-next-link in
-    let start = at-loop in
-    let a = start.args in
-    let l = at-loop.loop-left in
+    let a = c.args in
+    let l = c.loop-left in
     let r = visits_ready a.e.0 a.tiny (live_of a.w 0) (window_slices a.edges.now a.words.now a.reals.now a.keys.now a.events.now)
     (cut_buffers a.pts.now a.out.now a.keep.now a.next.now) a.counts.made a.counts.queued a.before a.k
     (window_slices l.edges l.words l.reals l.keys l.events) (cut_buffers l.pts l.out l.keep l.next) l.now l.last l.kept l.left l.invariant in
-    omega (arith, r.fits, at-next-link.next_link-link.ensures.made, at-if1.if-link-eq0.false)
+    omega (arith, r.fits, c.next_link-link.ensures.made, c.if-link-eq0.false)
 
 pub visit-visited-requires : goal.visit-visited-requires
 visit-visited-requires c =
-    let at_load = c in
-    let at-if1 = at_load in
-    let at-next-link = at-if1 in
-    let at-loop = at-next-link in
-    let start = at-loop in
-    let load = at_load.load-x in
-    let next-link = at-next-link.next_link-link in
-    let loop = at-loop.loop-left in
-    let a = start.args in
+    let load = c.load-x in
+    let next-link = c.next_link-link in
+    let loop = c.loop-left in
+    let a = c.args in
     let the-cuts-2 = cut_buffers loop.pts loop.out loop.keep loop.next in
     let the-cuts = cut_buffers a.pts.now a.out.now a.keep.now a.next.now in
     let the-slices-2 = window_slices loop.edges loop.words loop.reals loop.keys loop.events in
@@ -67,7 +54,7 @@ visit-visited-requires c =
       (
         visits_inside a.e.0 a.tiny (live_of a.w 0) the-slices the-cuts a.counts.made a.counts.queued a.before
             a.k the-slices-2 the-cuts-2 loop.now loop.last loop.kept loop.left loop.invariant next-link.result next-link.ensures (next-link.result - 1)
-            (omega (arith, at-if1.if-link-eq0.false)) load.result load.ensures,
+            (omega (arith, c.if-link-eq0.false)) load.result load.ensures,
         (
           visits_sizes a.e.0 a.tiny (live_of a.w 0) the-slices the-cuts a.counts.made a.counts.queued
               a.before a.k the-slices-2 the-cuts-2 loop.now loop.last loop.kept loop.left loop.invariant,
@@ -79,8 +66,7 @@ visit-visited-requires c =
 
 pub returns-in-Stopped : goal.returns-in-Stopped
 returns-in-Stopped c =
-    let at-visited = c in
-    let at-visit = at-visited
+    let at-visit = c
     in
     let at-if2 = at-visit in
     let at_load = at-if2 in
@@ -109,56 +95,40 @@ loop-left-smaller c = omega (arith, c.loop-left-test.true)
 
 pub loop-left-preserved : goal.loop-left-preserved
 loop-left-preserved c =
-    let at-visited2 = c in
-    let at-visit = at-visited2 in
-    let at-if2 = at-visit in
-    let at_load = at-if2 in
-    let at-if1 = at_load in
-    let at-next-link = at-if1 in
-    let at-loop-test = at-next-link in
-    let at-loop = at-loop-test in
-    let start = at-loop in
-    let visit = at-visit.visit-visited in
-    let load = at_load.load-x in
-    let next-link = at-next-link.next_link-link in
-    let loop = at-loop.loop-left in
-    let a = start.args in
+    let visit = c.visit-visited in
+    let load = c.load-x in
+    let next-link = c.next_link-link in
+    let loop = c.loop-left in
+    let a = c.args in
     visits_next a.e.0 a.tiny (live_of a.w 0) (window_slices a.edges.now a.words.now a.reals.now a.keys.now a.events.now)
     (cut_buffers a.pts.now a.out.now a.keep.now a.next.now) a.counts.made a.counts.queued a.before a.k
     (window_slices loop.edges loop.words loop.reals loop.keys loop.events) (cut_buffers loop.pts loop.out loop.keep loop.next) loop.now loop.last loop.kept
-    loop.left loop.invariant next-link.result next-link.ensures (next-link.result - 1) (omega (arith, at-if1.if-link-eq0.false)) load.result load.ensures at-if2.if-old-end.true
+    loop.left loop.invariant next-link.result next-link.ensures (next-link.result - 1) (omega (arith, c.if-link-eq0.false)) load.result load.ensures c.if-old-end.true
     (window_slices visit.new.edges visit.new.words visit.new.reals visit.new.keys visit.new.events)
     (cut_buffers visit.new.pts visit.new.out visit.new.keep visit.new.next) c.in-Went.c
     c.in-Went.l c.in-Went.j (loop.left - 1)
     (record { edges = visit.auto.edges; words = visit.auto.words; reals = visit.auto.reals; keys = visit.auto.keys; events = visit.auto.events })
     (record { keep = visit.auto.keep; pts = visit.auto.pts; out = visit.auto.out; next = visit.auto.next })
-    at-loop-test.loop-left-test.true refl (rw c.in-Went.is at visit.ensures.0) (rw c.in-Went.is at visit.ensures.1) nan
+    c.loop-left-test.true refl (rw c.in-Went.is at visit.ensures.0) (rw c.in-Went.is at visit.ensures.1) nan
 
 pub returns-else-old-end : goal.returns-else-old-end
 returns-else-old-end c =
-    let at_load = c in
-    let at-if1 = at_load in
-    let at-next-link = at-if1 in
-    let at-loop = at-next-link in
-    let start = at-loop in
-    let load = at_load.load-x in
-    let next-link = at-next-link.next_link-link in
-    let loop = at-loop.loop-left in
-    let a = start.args in (
+    let load = c.load-x in
+    let next-link = c.next_link-link in
+    let loop = c.loop-left in
+    let a = c.args in (
       (loop.invariant.fits, (loop.invariant.linked, (loop.invariant.few, loop.invariant.grown))),
       visits_over a.e.0 a.tiny (live_of a.w 0)
           (window_slices a.edges.now a.words.now a.reals.now a.keys.now a.events.now) (cut_buffers a.pts.now a.out.now a.keep.now a.next.now) a.counts.made
           a.counts.queued a.before a.k (window_slices loop.edges loop.words loop.reals loop.keys loop.events) (cut_buffers loop.pts loop.out loop.keep loop.next)
-          loop.now loop.last loop.kept loop.left loop.invariant next-link.result next-link.ensures (next-link.result - 1) (omega (arith, at-if1.if-link-eq0.false)) load.result
+          loop.now loop.last loop.kept loop.left loop.invariant next-link.result next-link.ensures (next-link.result - 1) (omega (arith, c.if-link-eq0.false)) load.result
           load.ensures c.if-old-end.false,
     )
 
 pub returns : goal.returns
 returns c =
-    let at-loop = c in
-    let start = at-loop in
-    let loop = at-loop.loop-left in
-    let a = start.args in (
+    let loop = c.loop-left in
+    let a = c.args in (
       (loop.invariant.fits, (loop.invariant.linked, (loop.invariant.few, loop.invariant.grown))),
       visits_spent a.e.0 a.tiny (live_of a.w 0)
           (window_slices a.edges.now a.words.now a.reals.now a.keys.now a.events.now) (cut_buffers a.pts.now a.out.now a.keep.now a.next.now) a.counts.made

@@ -45,10 +45,9 @@ loop-j-preserved c =
     let fewer : (256 * c.loop-j.r + c.u64_of_byte.result + 1) * 2 ^ (8 * (c.loop-j.j - 1)) ≤ 2 ^ 64 = let t = c in
     let byte : c.u64_of_byte.result < 256 = omega (arith, c.u64_of_byte.ensures, c.shared_slice_known-in-loop-j-1.given (8 * t.args.k + (t.loop-j.j - 1))) in
     bounded_step t.loop-j.r c.u64_of_byte.result (t.loop-j.j - 1) t.loop-j.j (2 ^ 64) byte (omega arith) t.loop-j.invariant.2 in
-    let t = c in
-    let j = t.loop-j.j in
-    let i = 8 * t.args.k in
-    (omega arith, ap (λ (b : ℕ). 256 * t.loop-j.r + b) c.u64_of_byte.ensures ∙ byte_below _ (i + (j - 1)) (i + j) (8 - j) (8 - (j - 1)) _ (omega arith) (omega arith) (omega arith) t.loop-j.invariant.1, fewer)
+    let j = c.loop-j.j in
+    let i = 8 * c.args.k in
+    (omega arith, ap (λ (b : ℕ). 256 * c.loop-j.r + b) c.u64_of_byte.ensures ∙ byte_below _ (i + (j - 1)) (i + j) (8 - j) (8 - (j - 1)) _ (omega arith) (omega arith) (omega arith) c.loop-j.invariant.1, fewer)
 
 pub returns : goal.returns
 unfolding word_at

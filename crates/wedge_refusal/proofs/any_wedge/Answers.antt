@@ -37,25 +37,18 @@ overflow_mul-pieces c = record { fits = omega (arith, c.requires) }
 
 pub returns-then-wedge_at : goal.returns-then-wedge_at
 returns-then-wedge_at c =
-    let said = c in
-    let more = said in
-    let at = more in
-    let a = at.args in
-    any_found a.vertices.now a.edge_words.now a.edge_reals.now a.triangle_words.now a.triangle_reals.now a.vertex_words.now a.triangles.now a.kinds.now a.faces.now a.coords.now a.words.now at.loop-e.e more.loop-e-test.true said.wedge_at.ensures c.if-wedge_at.true
+    let a = c.args in
+    any_found a.vertices.now a.edge_words.now a.edge_reals.now a.triangle_words.now a.triangle_reals.now a.vertex_words.now a.triangles.now a.kinds.now a.faces.now a.coords.now a.words.now c.loop-e.e c.loop-e-test.true c.wedge_at.ensures c.if-wedge_at.true
 
 pub overflow_add-e : goal.overflow_add-e
 overflow_add-e c = omega (arith, c.requires)
 
 pub loop-e-preserved : goal.loop-e-preserved
 loop-e-preserved c =
-    let said = c in
-    let more = said in
-    let at = more in
-    let a = at.args in
-    (search rules, none_more (wedge_at a.vertices.now a.edge_words.now a.edge_reals.now a.triangle_words.now a.triangle_reals.now a.vertex_words.now a.triangles.now a.kinds.now a.faces.now a.coords.now a.words.now (length a.kinds.now)) at.loop-e.e at.loop-e.invariant.1 (sym said.wedge_at.ensures ∙ c.if-wedge_at.false))
+    let a = c.args in
+    (search rules, none_more (wedge_at a.vertices.now a.edge_words.now a.edge_reals.now a.triangle_words.now a.triangle_reals.now a.vertex_words.now a.triangles.now a.kinds.now a.faces.now a.coords.now a.words.now (length a.kinds.now)) c.loop-e.e c.loop-e.invariant.1 (sym c.wedge_at.ensures ∙ c.if-wedge_at.false))
 
 pub returns : goal.returns
 returns c =
-    let at = c in
-    let a = at.args in
-    any_none a.vertices.now a.edge_words.now a.edge_reals.now a.triangle_words.now a.triangle_reals.now a.vertex_words.now a.triangles.now a.kinds.now a.faces.now a.coords.now a.words.now at.loop-e.e at.loop-e.invariant.0 c.loop-e-test.false at.loop-e.invariant.1
+    let a = c.args in
+    any_none a.vertices.now a.edge_words.now a.edge_reals.now a.triangle_words.now a.triangle_reals.now a.vertex_words.now a.triangles.now a.kinds.now a.faces.now a.coords.now a.words.now c.loop-e.e c.loop-e.invariant.0 c.loop-e-test.false c.loop-e.invariant.1

@@ -6,28 +6,15 @@ use Rattle.wedge_refusal.proofs.wedge_at.Goals as goal
 
 pub returns-then-not-is_first : goal.returns-then-not-is_first
 returns-then-not-is_first c =
-    let first = c in
-    let a = first.args in
-    met_before a.vertices.now a.edge_words.now a.edge_reals.now a.triangle_words.now a.triangle_reals.now a.vertex_words.now a.triangles.now a.kinds.now a.faces.now a.coords.now a.words.now a.pieces a.e (sym first.is_first.ensures ∙ not-true _ c.if-not-is_first.true-raw)
+    let a = c.args in
+    met_before a.vertices.now a.edge_words.now a.edge_reals.now a.triangle_words.now a.triangle_reals.now a.vertex_words.now a.triangles.now a.kinds.now a.faces.now a.coords.now a.words.now a.pieces a.e (sym c.is_first.ensures ∙ not-true _ c.if-not-is_first.true-raw)
 
 pub returns-then-not-over_two : goal.returns-then-not-over_two
 returns-then-not-over_two c =
-    let over = c in
-    let point = over in
-    let face = point in
-    let branch = face in
-    let first = branch in
-    let a = first.args in
-    few_carriers a.vertices.now a.edge_words.now a.edge_reals.now a.triangle_words.now a.triangle_reals.now a.vertex_words.now a.triangles.now a.kinds.now a.faces.now a.coords.now a.words.now a.pieces a.e (sym first.is_first.ensures ∙ not-false _ branch.if-not-is_first.false-raw) _ _ _ face.face_of-f.ensures point.end_point-p.ensures over.over_two.ensures (not-true _ c.if-not-over_two.true-raw)
+    let a = c.args in
+    few_carriers a.vertices.now a.edge_words.now a.edge_reals.now a.triangle_words.now a.triangle_reals.now a.vertex_words.now a.triangles.now a.kinds.now a.faces.now a.coords.now a.words.now a.pieces a.e (sym c.is_first.ensures ∙ not-false _ c.if-not-is_first.false-raw) _ _ _ c.face_of-f.ensures c.end_point-p.ensures c.over_two.ensures (not-true _ c.if-not-over_two.true-raw)
 
 pub returns : goal.returns
 returns c =
-    let nearest = c in
-    let many = nearest in
-    let over = many in
-    let point = over in
-    let face = point in
-    let branch = face in
-    let first = branch in
-    let a = first.args in
-    many_carriers a.vertices.now a.edge_words.now a.edge_reals.now a.triangle_words.now a.triangle_reals.now a.vertex_words.now a.triangles.now a.kinds.now a.faces.now a.coords.now a.words.now a.pieces a.e (sym first.is_first.ensures ∙ not-false _ branch.if-not-is_first.false-raw) _ _ _ face.face_of-f.ensures point.end_point-p.ensures over.over_two.ensures _ _ (not-false _ many.if-not-over_two.false-raw) nearest.nearest_vertex-k.ensures c.any_round.ensures
+    let a = c.args in
+    many_carriers a.vertices.now a.edge_words.now a.edge_reals.now a.triangle_words.now a.triangle_reals.now a.vertex_words.now a.triangles.now a.kinds.now a.faces.now a.coords.now a.words.now a.pieces a.e (sym c.is_first.ensures ∙ not-false _ c.if-not-is_first.false-raw) _ _ _ c.face_of-f.ensures c.end_point-p.ensures c.over_two.ensures _ _ (not-false _ c.if-not-over_two.false-raw) c.nearest_vertex-k.ensures c.any_round.ensures

@@ -16,68 +16,37 @@ loop-i-init c = (omega arith, (row_start _ _, (row_start _ _, (stored_start _ _,
 
 pub window_answer-answer-requires : goal.window_answer-answer-requires
 window_answer-answer-requires c =
-    let s = c in
-    (s.requires.0, s.requires.1.0)
+    (c.requires.0, c.requires.1.0)
 
 pub put_window-requires : goal.put_window-requires
 put_window-requires c =
-    let put = c in
-    let id = put in
-    let first = id in
-    let number = first in
-    let read = number in
-    let l = read.loop-i in
-    let s = read in
-    let a = s.args in
-    still_there _ _ _ _ _ _ read.loop-i-test.true s.requires.1.1
+    let l = c.loop-i in
+    let a = c.args in
+    still_there _ _ _ _ _ _ c.loop-i-test.true c.requires.1.1
     (words_row _ _ a.edges.now a.places.now l.i a.window_words.now l.window_words l.invariant.1.1.1.0)
     (reals_row _ _ a.edges.now a.places.now l.i a.window_reals.now l.window_reals l.invariant.1.1.1.1)
 
 pub overflow_add-i : goal.overflow_add-i
 overflow_add-i c =
-    let stored = c in
-    let put = stored in
-    let id = put in
-    let first = id in
-    let number = first in
-    let answer = number in
-    let place = answer in
-    let read = place in
-    omega (arith, read.loop-i-test.true, read.requires.1.1)
+    omega (arith, c.loop-i-test.true, c.requires.1.1)
 
 pub loop-i-smaller : goal.loop-i-smaller
 loop-i-smaller c =
-    let stored = c in
-    let put = stored in
-    let id = put in
-    let first = id in
-    let number = first in
-    let answer = number in
-    let place = answer in
-    let read = place in
-    omega (arith, read.loop-i-test.true)
+    omega (arith, c.loop-i-test.true)
 
 pub loop-i-preserved : goal.loop-i-preserved
 loop-i-preserved c =
-    let stored = c in
-    let put = stored in
-    let id = put in
-    let first = id in
-    let number = first in
-    let answer = number in
-    let place = answer in
-    let read = place in
-    let l = read.loop-i in
-    let a = read.args in
-    let told = answer.window_answer-answer.ensures ∙ (λ j. window_answer a.n (field_slices a.edge_words.now a.edge_reals.now a.triangle_words.now a.triangle_reals.now a.vertex.now a.words.now a.reals.now a.entry_words.now) ((read.read_u32.ensures ∙ ap (λ (k : ℕ). get_or a.edges.now k 0) (one_slot l.i)) j) ((place.read_u32-place.ensures ∙ ap (λ (k : ℕ). get_or a.places.now k 0) (one_slot l.i)) j)) in (
-      omega (arith, read.loop-i-test.true),
+    let l = c.loop-i in
+    let a = c.args in
+    let told = c.window_answer-answer.ensures ∙ (λ j. window_answer a.n (field_slices a.edge_words.now a.edge_reals.now a.triangle_words.now a.triangle_reals.now a.vertex.now a.words.now a.reals.now a.entry_words.now) ((c.read_u32.ensures ∙ ap (λ (k : ℕ). get_or a.edges.now k 0) (one_slot l.i)) j) ((c.read_u32-place.ensures ∙ ap (λ (k : ℕ). get_or a.places.now k 0) (one_slot l.i)) j)) in (
+      omega (arith, c.loop-i-test.true),
       (
-        row_next _ _ l.i l.numbers _ number.window_number-number.result l.invariant.1.0 first.write_u32.ensures (number.window_number-number.ensures ∙ ap window_answer_number told),
+        row_next _ _ l.i l.numbers _ c.window_number-number.result l.invariant.1.0 c.write_u32.ensures (c.window_number-number.ensures ∙ ap window_answer_number told),
         (
-          row_next _ _ l.i l.ids _ id.window_id-id.result l.invariant.1.1.0 put.write_u32-in-loop-i.ensures (id.window_id-id.ensures ∙ ap window_id told),
+          row_next _ _ l.i l.ids _ c.window_id-id.result l.invariant.1.1.0 c.write_u32-in-loop-i.ensures (c.window_id-id.ensures ∙ ap window_id told),
           (
-            stored_next _ _ l.i l.window_words _ l.invariant.1.1.1.0 (stored.put_window.ensures.0 ∙ ap (λ (z : WindowAnswer). words_put z l.i l.window_words) told),
-            stored_next _ _ l.i l.window_reals _ l.invariant.1.1.1.1 (stored.put_window.ensures.1 ∙ ap (λ (z : WindowAnswer). reals_put z l.i l.window_reals) told),
+            stored_next _ _ l.i l.window_words _ l.invariant.1.1.1.0 (c.put_window.ensures.0 ∙ ap (λ (z : WindowAnswer). words_put z l.i l.window_words) told),
+            stored_next _ _ l.i l.window_reals _ l.invariant.1.1.1.1 (c.put_window.ensures.1 ∙ ap (λ (z : WindowAnswer). reals_put z l.i l.window_reals) told),
           ),
         ),
       ),

@@ -21,58 +21,31 @@ returns-then-is_unsound c = rw c.in-Field.is (taken _ _ _ (sym c.is_unsound.ensu
 pub returns-then-short_for : goal.returns-then-short_for
 unfolding window_row
 returns-then-short_for c =
-    let test = c in
-    let four = test in
-    let three = four in
-    let two = three in
-    let one = two in
-    let sound = one in
-    rw sound.in-Field.is
-    (left _ _ _ _ (sym sound.is_unsound.ensures ∙ sound.if-is_unsound.false) (taken _ _ _ ((λ i. short_for (sym one.slots-count.ensures i) (sym two.slots-others.ensures i) (sym three.slots-room.ensures i) (sym four.slots-rest.ensures i)) ∙ sym test.short_for.ensures ∙ c.if-short_for.true)))
+    rw c.in-Field.is
+    (left _ _ _ _ (sym c.is_unsound.ensures ∙ c.if-is_unsound.false) (taken _ _ _ ((λ i. short_for (sym c.slots-count.ensures i) (sym c.slots-others.ensures i) (sym c.slots-room.ensures i) (sym c.slots-rest.ensures i)) ∙ sym c.short_for.ensures ∙ c.if-short_for.true)))
 
 pub returns-then-held-count : goal.returns-then-held-count
 unfolding window_row
 returns-then-held-count c =
-    let held = c in
-    let fits = held in
-    let test = fits in
-    let four = test in
-    let three = four in
-    let two = three in
-    let one = two in
-    let sound = one in
-    rw sound.in-Field.is
-    (left _ _ _ _ (sym sound.is_unsound.ensures ∙ sound.if-is_unsound.false)
-    (left _ _ _ _ ((λ i. short_for (sym one.slots-count.ensures i) (sym two.slots-others.ensures i) (sym three.slots-room.ensures i) (sym four.slots-rest.ensures i)) ∙ sym test.short_for.ensures ∙ fits.if-short_for.false)
-    (taken _ _ _ ((λ i. ltb (sym held.count-held.ensures i) (sym one.slots-count.ensures i)) ∙ lt-ltb _ _ c.if-held-count.true))))
+    rw c.in-Field.is
+    (left _ _ _ _ (sym c.is_unsound.ensures ∙ c.if-is_unsound.false)
+    (left _ _ _ _ ((λ i. short_for (sym c.slots-count.ensures i) (sym c.slots-others.ensures i) (sym c.slots-room.ensures i) (sym c.slots-rest.ensures i)) ∙ sym c.short_for.ensures ∙ c.if-short_for.false)
+    (taken _ _ _ ((λ i. ltb (sym c.count-held.ensures i) (sym c.slots-count.ensures i)) ∙ lt-ltb _ _ c.if-held-count.true))))
 
 pub answer_windows-requires : goal.answer_windows-requires
 answer_windows-requires c =
-    let room = c in
-    let held = room in
-    let sound = held in
-    let e = enough _ _ _ (sym sound.is_unsound.ensures ∙ sound.if-is_unsound.false) in
-    (e.0, (e.1, omega (arith, room.if-held-count.false, held.count-held.ensures)))
+    let e = enough _ _ _ (sym c.is_unsound.ensures ∙ c.if-is_unsound.false) in
+    (e.0, (e.1, omega (arith, c.if-held-count.false, c.count-held.ensures)))
 
 pub returns : goal.returns
 unfolding window_row
 returns c =
-    let done = c in
-    let room = done in
-    let held = room in
-    let fits = held in
-    let test = fits in
-    let four = test in
-    let three = four in
-    let two = three in
-    let one = two in
-    let sound = one in
-    let said = done.answer_windows.ensures in
-    let count = one.slots-count.ensures in
+    let said = c.answer_windows.ensures in
+    let count = c.slots-count.ensures in
     let a = c.args in
     let b = field_slices a.edge_words.now a.edge_reals.now a.triangle_words.now a.triangle_reals.now a.vertex.now a.words.now a.reals.now a.entry_words.now in
-    rw sound.in-Field.is
-    (left _ _ _ _ (sym sound.is_unsound.ensures ∙ sound.if-is_unsound.false)
-    (left _ _ _ _ ((λ i. short_for (sym one.slots-count.ensures i) (sym two.slots-others.ensures i) (sym three.slots-room.ensures i) (sym four.slots-rest.ensures i)) ∙ sym test.short_for.ensures ∙ fits.if-short_for.false)
-    (left _ _ _ _ ((λ i. ltb (sym held.count-held.ensures i) (sym count i)) ∙ le-ltb _ _ room.if-held-count.false)
+    rw c.in-Field.is
+    (left _ _ _ _ (sym c.is_unsound.ensures ∙ c.if-is_unsound.false)
+    (left _ _ _ _ ((λ i. short_for (sym c.slots-count.ensures i) (sym c.slots-others.ensures i) (sym c.slots-room.ensures i) (sym c.slots-rest.ensures i)) ∙ sym c.short_for.ensures ∙ c.if-short_for.false)
+    (left _ _ _ _ ((λ i. ltb (sym c.count-held.ensures i) (sym count i)) ∙ le-ltb _ _ c.if-held-count.false)
     (result_is _ _ _ _ _ _ _ _ _ (row_count _ _ _ _ _ said.numbers_value count) (row_count _ _ _ _ _ said.ids_value count) (stored_count (window_words_of c.in-Field.n b a.edges.now a.places.now) a.window_words.now _ _ _ said.window_words_value count) (stored_count (window_reals_of c.in-Field.n b a.edges.now a.places.now) a.window_reals.now _ _ _ said.window_reals_value count)))))

@@ -4,62 +4,52 @@ use mathlib.Core.Path.{sym}
 use lib.Seq.{length-take-le}
 use Rattle.cut_slots.specs.of_cut_lists.Buffers.{cut_buffers}
 use Rattle.cut_slots.proofs.Parts.{pts_fit, out_fit, keep_fit, next_fit, parts_sizes}
-use borrow.Author.Rules.{rules}
 use Rattle.work_parts.proofs.work_parts.Goals as goal
 
 pub slice_bounds-work-end : goal.slice_bounds-work-end
 slice_bounds-work-end c =
-    let start = c in
-    let a = start.args in
-    pts_fit (cut_buffers a.pts.now a.out.now a.keep.now a.next.now) a.x start.requires.1.1.1
+    let a = c.args in
+    pts_fit (cut_buffers a.pts.now a.out.now a.keep.now a.next.now) a.x c.requires.1.1.1
 
 pub slice_bounds-work-end-2 : goal.slice_bounds-work-end-2
 slice_bounds-work-end-2 c =
-    let start = c in
-    let a = start.args in
-    sym (length-take-le a.x a.pts.now (pts_fit (cut_buffers a.pts.now a.out.now a.keep.now a.next.now) a.x start.requires.1.1.1))
+    let a = c.args in
+    sym (length-take-le a.x a.pts.now (pts_fit (cut_buffers a.pts.now a.out.now a.keep.now a.next.now) a.x c.requires.1.1.1))
 
 pub slice_bounds-work-end-3 : goal.slice_bounds-work-end-3
 slice_bounds-work-end-3 c =
-    let start = c in
-    let a = start.args in
-    out_fit (cut_buffers a.pts.now a.out.now a.keep.now a.next.now) a.x start.requires.1.1.1
+    let a = c.args in
+    out_fit (cut_buffers a.pts.now a.out.now a.keep.now a.next.now) a.x c.requires.1.1.1
 
 pub slice_bounds-work-end-4 : goal.slice_bounds-work-end-4
 slice_bounds-work-end-4 c =
-    let start = c in
-    let a = start.args in
-    sym (length-take-le (2 * a.x) a.out.now (out_fit (cut_buffers a.pts.now a.out.now a.keep.now a.next.now) a.x start.requires.1.1.1))
+    let a = c.args in
+    sym (length-take-le (2 * a.x) a.out.now (out_fit (cut_buffers a.pts.now a.out.now a.keep.now a.next.now) a.x c.requires.1.1.1))
 
 pub slice_bounds-work-end-5 : goal.slice_bounds-work-end-5
 slice_bounds-work-end-5 c =
-    let start = c in
-    let a = start.args in
-    keep_fit (cut_buffers a.pts.now a.out.now a.keep.now a.next.now) a.x start.requires.1.1.1
+    let a = c.args in
+    keep_fit (cut_buffers a.pts.now a.out.now a.keep.now a.next.now) a.x c.requires.1.1.1
 
 pub slice_bounds-work-end-6 : goal.slice_bounds-work-end-6
 slice_bounds-work-end-6 c =
-    let start = c in
-    let a = start.args in
-    sym (length-take-le (2 * a.x) a.keep.now (keep_fit (cut_buffers a.pts.now a.out.now a.keep.now a.next.now) a.x start.requires.1.1.1))
+    let a = c.args in
+    sym (length-take-le (2 * a.x) a.keep.now (keep_fit (cut_buffers a.pts.now a.out.now a.keep.now a.next.now) a.x c.requires.1.1.1))
 
 pub slice_bounds-work-end-7 : goal.slice_bounds-work-end-7
 slice_bounds-work-end-7 c =
-    let start = c in
-    let a = start.args in
-    next_fit (cut_buffers a.pts.now a.out.now a.keep.now a.next.now) a.x start.requires.1.1.1
+    let a = c.args in
+    next_fit (cut_buffers a.pts.now a.out.now a.keep.now a.next.now) a.x c.requires.1.1.1
 
 pub slice_bounds-work-end-8 : goal.slice_bounds-work-end-8
 slice_bounds-work-end-8 c =
-    let start = c in
-    let a = start.args in
-    sym (length-take-le (2 * a.x) a.next.now (next_fit (cut_buffers a.pts.now a.out.now a.keep.now a.next.now) a.x start.requires.1.1.1))
+    let a = c.args in
+    sym (length-take-le (2 * a.x) a.next.now (next_fit (cut_buffers a.pts.now a.out.now a.keep.now a.next.now) a.x c.requires.1.1.1))
 
 pub work-requires : goal.work-requires
 work-requires c =
-    let start = c in
-    let a = start.args in
-    (start.requires.0, (start.requires.1.0, (start.requires.1.1.0, parts_sizes (cut_buffers a.pts.now a.out.now a.keep.now a.next.now) a.x start.requires.1.1.1)))
+    let a = c.args in
+    (c.requires.0, (c.requires.1.0, (c.requires.1.1.0, parts_sizes (cut_buffers a.pts.now a.out.now a.keep.now a.next.now) a.x c.requires.1.1.1)))
 
 pub shape_of-edge_words : goal.shape_of-edge_words
 shape_of-edge_words c = c.work.auto.edge_words

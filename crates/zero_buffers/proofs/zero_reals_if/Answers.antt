@@ -1,4 +1,3 @@
-use borrow.Author.Rules.{rules}
 use Rattle.zero_buffers.proofs.zero_reals_if.Goals as goal
 
 pub returns-then-stop : goal.returns-then-stop
