@@ -21,7 +21,6 @@ returns-in_default c =
 
 pub next_keep-left-requires : goal.next_keep-left-requires
 next_keep-left-requires c =
-    let a = c.args in
     let h = (rw c.in-Entries.is at (answers_of _ _ _ _ _ _ c.better-better.ensures.out_after)) in
     (omega (arith, c.requires.0.keeps, c.requires.1), h.1.0)
 

@@ -19,7 +19,6 @@ returns-then-number-gt0 c =
 
 pub work_parts-worked-requires : goal.work_parts-worked-requires
 work_parts-worked-requires c =
-    let a = c.args in
     let none = c.if-number-gt0.false in
     let fits = c.requires (omega (arith, none)) in
     (fits.0, (fits.1.0, (fits.1.1.0, c.cut_count-x.ensures)))
