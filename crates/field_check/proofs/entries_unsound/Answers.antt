@@ -18,14 +18,14 @@ unfolding entries_unsound
 returns-then-walked c =
     let l = c.loop-f in
     let a = c.args in
-    sym (unsound_there (next_entry_of a.entry_words.now) (λ (before i : ℕ). entry_outside a.pieces a.entry_words.now c) (first_entry_of a.triangle_words.now) (entry_capacity (length a.entry_words.now)) l.left l.f l.invariant.1 c.walk_entries-walked.result (c.walk_entries-walked.ensures ∙ ap (walk_of (next_entry_of a.entry_words.now) (λ (before i : ℕ). entry_outside a.pieces a.entry_words.now c) l.left 0) c.read_u32-first.ensures) c.if-walked.true a.triangles c.loop-f-test.true)
+    sym (unsound_there (next_entry_of a.entry_words.now) (λ (before i : ℕ). entry_outside a.pieces a.entry_words.now i) (first_entry_of a.triangle_words.now) (entry_capacity (length a.entry_words.now)) l.left l.f l.invariant.1 c.walk_entries-walked.result (c.walk_entries-walked.ensures ∙ ap (walk_of (next_entry_of a.entry_words.now) (λ (before i : ℕ). entry_outside a.pieces a.entry_words.now i) l.left 0) c.read_u32-first.ensures) c.if-walked.true a.triangles c.loop-f-test.true)
 
 pub loop-f-preserved : goal.loop-f-preserved
 loop-f-preserved c =
     let l = c.loop-f in
     let a = c.args in (
       omega (arith, c.loop-f-test.true),
-      sound_on (next_entry_of a.entry_words.now) (λ (before i : ℕ). entry_outside a.pieces a.entry_words.now c) (first_entry_of a.triangle_words.now) (entry_capacity (length a.entry_words.now)) l.left l.f l.invariant.1 c.walk_entries-walked.result (c.walk_entries-walked.ensures ∙ ap (walk_of (next_entry_of a.entry_words.now) (λ (before i : ℕ). entry_outside a.pieces a.entry_words.now c) l.left 0) c.read_u32-first.ensures) c.if-walked.false,
+      sound_on (next_entry_of a.entry_words.now) (λ (before i : ℕ). entry_outside a.pieces a.entry_words.now i) (first_entry_of a.triangle_words.now) (entry_capacity (length a.entry_words.now)) l.left l.f l.invariant.1 c.walk_entries-walked.result (c.walk_entries-walked.ensures ∙ ap (walk_of (next_entry_of a.entry_words.now) (λ (before i : ℕ). entry_outside a.pieces a.entry_words.now i) l.left 0) c.read_u32-first.ensures) c.if-walked.false,
     )
 
 pub returns : goal.returns
@@ -33,4 +33,4 @@ unfolding entries_unsound
 returns c =
     let l = c.loop-f in
     let a = c.args in
-    sym (sound_all (next_entry_of a.entry_words.now) (λ (before i : ℕ). entry_outside a.pieces a.entry_words.now c) (first_entry_of a.triangle_words.now) (entry_capacity (length a.entry_words.now)) l.left l.f a.triangles l.invariant.1 l.invariant.0 c.loop-f-test.false)
+    sym (sound_all (next_entry_of a.entry_words.now) (λ (before i : ℕ). entry_outside a.pieces a.entry_words.now i) (first_entry_of a.triangle_words.now) (entry_capacity (length a.entry_words.now)) l.left l.f a.triangles l.invariant.1 l.invariant.0 c.loop-f-test.false)
