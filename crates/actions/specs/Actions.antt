@@ -1,5 +1,5 @@
 -- What the Rust's `add` does beside the list of its edge, one action after the other in the Rust's order, and what stops it. Definitions only.
-use Rattle.std.specs.Prelude.{ℕ, suc, ◌+◌, ◌*◌, ◌&&◌, ltb, leb, length, get_or, set, Float, if◌then◌else◌}
+use Rattle.std.specs.Prelude.{ℕ, suc, ◌+◌, ◌*◌, ◌&&◌, ltb, leb, length, get_or, set, Float, if◌then◌else◌, Err, Ok}
 use Rattle.std.proofs.Math.Bool.{cond}
 use mathlib.Core.List.{List, [], ◌∷◌, ◌++◌}
 use Rattle.std.proofs.Math.Dec.{eqb}
@@ -11,10 +11,8 @@ use Rattle.buffers.specs.Lack.{lack_number}
 use Rattle.windows.specs.declared.WindowRecord.{WindowRecord}
 use Rattle.windows.specs.Windows.{trimmed, dead, adjust}
 use Rattle.heap.specs.declared.Event.{Event}
-use Rattle.heap.specs.declared.Pushed.{Pushed}
-use Rattle.heap.specs.declared.Pushed.TheVariants.{Full, Queued}
 use Rattle.heap.specs.declared.Item.TheVariants.{Vertex}
-use Rattle.heap.specs.Queue.{Queue, pushing, pushed_number}
+use Rattle.heap.specs.Queue.{Queue, pushing, Pushed}
 
 pub data Action : Type 0 where
   list : ℕ → Action  -- one of the lists `pts`, `out`, `keep`, `next` and `pieces` comes to so many entries
@@ -48,8 +46,8 @@ with_distance vertex v d = set vertex (reals_per_vertex * v + vertex_distance) d
 
 -- what a push answers
 unfoldable pub queueing : ℕ → List Float → Pushed × Queue → Outcome
-queueing made vertex (Full, q) = stopped (pushed_number Full)
-queueing made vertex (Queued n, q) = went (stock made n q vertex)
+queueing made vertex (Err l, q) = stopped (lack_number l)
+queueing made vertex (Ok n, q) = went (stock made n q vertex)
 
 unfoldable pub and_then : Outcome → (Stock → Outcome) → Outcome
 and_then (stopped n) next = stopped n

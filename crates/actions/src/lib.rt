@@ -8,8 +8,7 @@ ghost use Rattle.actions.specs.Actions.{stock, distance_of, queueing, act};
 ghost use Rattle.actions.specs.Actions.{touch as Action·touch};
 ghost use Rattle.buffers.specs.Lent.{given, left};
 
-use buffers::{VertexId, read_u32, write_f64};
-use heap::Pushed;
+use buffers::{Lack, VertexId, read_u32, write_f64};
 use layout::{REALS_PER_VERTEX, VERTEX_DISTANCE, VERTEX_EMITTED, VERTEX_FLAG, WORDS_PER_VERTEX};
 
 // Whether vertex v passes distances round itself.
@@ -44,7 +43,7 @@ pub fn touch(
     limit: f64,
     v: VertexId,
     d: f64,
-) -> Pushed
+) -> Result<u32, Lack>
     ensures { (cuts windows made : ℕ) → act cuts windows limit vertex_words.now (Action·touch v.0 d) (stock made n (queue (given keys) (given events)) (given vertex))
         ≡ queueing made (left vertex) (result, queue (left keys) (left events)) }
 {
@@ -56,5 +55,5 @@ pub fn touch(
             }
         }
     }
-    Pushed::Queued(n)
+    Ok(n)
 }

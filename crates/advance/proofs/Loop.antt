@@ -20,11 +20,12 @@ use Rattle.insertion.specs.of_trim.Buffers.{Slices}
 use Rattle.insertion.specs.of_trim.Adding.{snapshot_at}
 use Rattle.insertion.specs.of_offers.Offers.{and_next}
 use Rattle.insertion.proofs.laws_of_offers.Walks.{mesh_kept, SameSizes, same_refl, same_trans, windows_in, windows_same}
-use Rattle.field_step.specs.declared.Stepped.{Stepped}
-use Rattle.field_step.specs.declared.Stepped.TheVariants.{Idle, Stopped, Went}
+use Rattle.std.specs.declared.option.Option.{Option}
+use Rattle.std.specs.declared.option.Option.TheVariants.{Some, None}
+use Rattle.std.specs.declared.result.Result.{Result as Result₁}
+use Rattle.std.specs.declared.result.Result.TheVariants.{Ok, Err}
 use Rattle.field_step.specs.Step.{step_of, is_empty, idle_of, step_candidates}
 use Rattle.field_step.specs.Contract.{FieldMesh, FieldStands, FieldEnds, stepped_end, is_idle, StepsOnce}
-use Rattle.advance.specs.declared.Advanced.TheVariants.{Stopped as Advanced-as-Stopped, Went as Advanced-as-Went}
 use Rattle.advance.specs.Advance.{of_state, advance_of, steps_of, advance_candidates}
 use Rattle.advance.specs.Contract.{AdvancesTo}
 use Rattle.advance.proofs.More.{step_idle, no_candidates, advance_idle, candidates_idle, steps_idle, advance_one, candidates_one, steps_one, advance_more, candidates_more, steps_more}
@@ -84,13 +85,13 @@ module _ (limit : Float) (n most : ℕ) (v : List Float) (buffer vw round : List
     );
   }
 
-  pub loop_over : (B' : Slices) (c' : Cuts) (now : Counts) (i : ℕ) → LoopInv B' c' now i → most ≤ i → AdvancesTo limit n most v buffer vw round er tw tr counts B c (Advanced-as-Went now i) B'
+  pub loop_over : (B' : Slices) (c' : Cuts) (now : Counts) (i : ℕ) → LoopInv B' c' now i → most ≤ i → AdvancesTo limit n most v buffer vw round er tw tr counts B c (Ok (record { counts = now; steps = most })) B'
   loop_over B' c' now i inv end =
       let z : i ≡ most = omega (arith, end, inv.few) in
       record {
         bounded = inv.fits;
         advances = λ triangles F past s S.
-            let d = subst (λ (k : ℕ). FieldEnds limit v triangles n (past ++ advance_candidates cuts (windows_in B) limit vw v triangles k s) (snapshot_at counts B) (running.at (snapshot_at now B')) (advance_of cuts (windows_in B) limit vw v triangles k s) × (steps_of cuts (windows_in B) limit vw v triangles k s ≡ i)) z (inv.done triangles F past s S) in
+            let d = subst (λ (k : ℕ). FieldEnds limit v triangles n (past ++ advance_candidates cuts (windows_in B) limit vw v triangles k s) (snapshot_at counts B) (running.at (snapshot_at now B')) (advance_of cuts (windows_in B) limit vw v triangles k s) × (steps_of cuts (windows_in B) limit vw v triangles k s ≡ k)) z (inv.done triangles F past s S) in
             (d.0, sym d.1);
       }
 
@@ -103,7 +104,7 @@ module _ (limit : Float) (n most : ℕ) (v : List Float) (buffer vw round : List
     loop_fits = subst (λ (z : ℕ). now.made ≤ z) (sym windows₁) inv.fits
 
     -- what the turn did
-    module _ (r : Stepped) (B₂ : Slices) (h : StepsOnce limit n v buffer vw round er tw tr now B₁ c₁ r B₂) (triangles : List ℕ) (F : Mesh triangles B.edges) (past : List Candidate) (s : State) (S : FieldStands limit v triangles n past s (snapshot_at counts B)) where
+    module _ (r : Result₁ (Option Counts) Lack) (B₂ : Slices) (h : StepsOnce limit n v buffer vw round er tw tr now B₁ c₁ r B₂) (triangles : List ℕ) (F : Mesh triangles B.edges) (past : List Candidate) (s : State) (S : FieldStands limit v triangles n past s (snapshot_at counts B)) where
       abbrev D : Did triangles past s i (snapshot_at now B₁)
       D = inv.done triangles F past s S
 
@@ -132,28 +133,28 @@ module _ (limit : Float) (n most : ℕ) (v : List Float) (buffer vw round : List
           append_assoc past sofar (step_candidates limit v triangles t)
           ∙ ap (λ (l : List Candidate). past ++ l) (ap (λ (l : List Candidate). sofar ++ l) e ∙ sym (candidates_then cuts (windows_in B) limit vw v triangles i j s t D.0.is))
 
-    pub loop_next : (now₂ : Counts) (B₂ : Slices) (c₂ : Cuts) → SameSizes B₁ B₂ c₁ c₂ → StepsOnce limit n v buffer vw round er tw tr now B₁ c₁ (Went now₂) B₂ → LoopInv B₂ c₂ now₂ (i + 1)
+    pub loop_next : (now₂ : Counts) (B₂ : Slices) (c₂ : Cuts) → SameSizes B₁ B₂ c₁ c₂ → StepsOnce limit n v buffer vw round er tw tr now B₁ c₁ (Ok (Some now₂)) B₂ → LoopInv B₂ c₂ now₂ (i + 1)
     loop_next now₂ B₂ c₂ same h = record {
       same = same_trans B B₁ B₂ c c₁ c₂ inv.same same;
       fits = subst (λ (z : ℕ). now₂.made ≤ z) windows₁ h.bounded;
       few = omega (arith, q);
       done = λ triangles F past s S.
           let d = inv.done triangles F past s S in
-          let u = turned (Went now₂) B₂ h triangles F past s S in
+          let u = turned (Ok (Some now₂)) B₂ h triangles F past s S in
           let t = d.0.state in (
             record {
               state = u.state;
               is = advance_then cuts (windows_in B) limit vw v triangles i 1 s t d.0.is ∙ advance_one cuts (windows_in B) limit vw v triangles t ∙ u.is;
               field = subst (λ (l : List Candidate). FieldStands limit v triangles n l u.state (snapshot_at now₂ B₂))
-                  (candidates_on (Went now₂) B₂ h triangles F past s S 1 (sym (candidates_one cuts (windows_in B) limit vw v triangles t))) u.field;
+                  (candidates_on (Ok (Some now₂)) B₂ h triangles F past s S 1 (sym (candidates_one cuts (windows_in B) limit vw v triangles t))) u.field;
               untouched = untouched_then (λ e. Unit {0}) (snapshot_at counts B) (snapshot_at now B₁) (snapshot_at now₂ B₂) d.0.untouched u.untouched;
             },
-            steps_then cuts (windows_in B) limit vw v triangles i 1 s t d.0.is d.1 ∙ ap (λ (k : ℕ). i + k) (steps_one cuts (windows_in B) limit vw v triangles t (idle_is (Went now₂) B₂ h triangles F past s S)),
+            steps_then cuts (windows_in B) limit vw v triangles i 1 s t d.0.is d.1 ∙ ap (λ (k : ℕ). i + k) (steps_one cuts (windows_in B) limit vw v triangles t (idle_is (Ok (Some now₂)) B₂ h triangles F past s S)),
           );
     }
 
     -- there is no slot for something
-    pub loop_stopped : (lack : Lack) (B₂ : Slices) → StepsOnce limit n v buffer vw round er tw tr now B₁ c₁ (Stopped lack) B₂ → AdvancesTo limit n most v buffer vw round er tw tr counts B c (Advanced-as-Stopped lack) B₂
+    pub loop_stopped : (lack : Lack) (B₂ : Slices) → StepsOnce limit n v buffer vw round er tw tr now B₁ c₁ (Err lack) B₂ → AdvancesTo limit n most v buffer vw round er tw tr counts B c (Err lack) B₂
     unfolding advance_of and_next
     loop_stopped lack B₂ h = record {
       bounded = tt;
@@ -163,20 +164,20 @@ module _ (limit : Float) (n most : ℕ) (v : List Float) (buffer vw round : List
           let z : i + suc j ≡ most = omega (arith, q) in (
             subst (λ (k : ℕ). advance_of cuts (windows_in B) limit vw v triangles k s ≡ stopped (lack_number lack)) z
                 (advance_then cuts (windows_in B) limit vw v triangles i (suc j) s d.0.state d.0.is
-                ∙ ap (λ (x : Result). and_next x (advance_of cuts (windows_in B) limit vw v triangles j)) (turned (Stopped lack) B₂ h triangles F past s S)),
+                ∙ ap (λ (x : Result). and_next x (advance_of cuts (windows_in B) limit vw v triangles j)) (turned (Err lack) B₂ h triangles F past s S)),
             tt,
           );
     }
 
     -- the queue is empty
-    pub loop_idle : (B₂ : Slices) → StepsOnce limit n v buffer vw round er tw tr now B₁ c₁ Idle B₂ → AdvancesTo limit n most v buffer vw round er tw tr counts B c (Advanced-as-Went now i) B₂
+    pub loop_idle : (B₂ : Slices) → StepsOnce limit n v buffer vw round er tw tr now B₁ c₁ (Ok None) B₂ → AdvancesTo limit n most v buffer vw round er tw tr counts B c (Ok (record { counts = now; steps = i })) B₂
     loop_idle B₂ h = record {
       bounded = inv.fits;
       advances = λ triangles F past s S.
           let d = inv.done triangles F past s S in
-          let u = turned Idle B₂ h triangles F past s S in
+          let u = turned (Ok None) B₂ h triangles F past s S in
           let t = d.0.state in
-          let idle = idle_is Idle B₂ h triangles F past s S in
+          let idle = idle_is (Ok None) B₂ h triangles F past s S in
           let j = most - i in
           let z : i + j ≡ most = omega (arith, q) in
           subst (λ (k : ℕ). FieldEnds limit v triangles n (past ++ advance_candidates cuts (windows_in B) limit vw v triangles k s) (snapshot_at counts B) (running.at (snapshot_at now B₂)) (advance_of cuts (windows_in B) limit vw v triangles k s) × (i ≡ steps_of cuts (windows_in B) limit vw v triangles k s)) z (
@@ -184,7 +185,7 @@ module _ (limit : Float) (n most : ℕ) (v : List Float) (buffer vw round : List
               state = u.state;
               is = advance_then cuts (windows_in B) limit vw v triangles i j s t d.0.is ∙ advance_idle cuts (windows_in B) limit vw v triangles t idle j ∙ sym (step_idle cuts (windows_in B) limit vw v triangles t idle) ∙ u.is;
               field = subst (λ (l : List Candidate). FieldStands limit v triangles n l u.state (snapshot_at now B₂))
-                  (candidates_on Idle B₂ h triangles F past s S j (no_candidates cuts (windows_in B) limit vw v triangles t idle ∙ sym (candidates_idle cuts (windows_in B) limit vw v triangles t idle j))) u.field;
+                  (candidates_on (Ok None) B₂ h triangles F past s S j (no_candidates cuts (windows_in B) limit vw v triangles t idle ∙ sym (candidates_idle cuts (windows_in B) limit vw v triangles t idle j))) u.field;
               untouched = untouched_then (λ e. Unit {0}) (snapshot_at counts B) (snapshot_at now B₁) (snapshot_at now B₂) d.0.untouched u.untouched;
             },
             let k = steps_idle cuts (windows_in B) limit vw v triangles t idle j in

@@ -6,9 +6,8 @@ use mathlib.Core.List.{List, [], ◌++◌, append-nil, append_assoc}
 use mathlib.Core.Path.{◌≡◌, refl, sym, ap, subst, ◌∙◌}
 use lib.Dec.{T}
 use lib.Ieee.{Float}
-use Rattle.heap.specs.declared.Popped.{Popped}
-use Rattle.heap.specs.declared.Popped.TheVariants.{Empty, First}
-use Rattle.heap.specs.Queue.{Queue, popping}
+use Rattle.std.specs.Prelude.{None, Some}
+use Rattle.heap.specs.Queue.{Queue, popping, Popped}
 use Rattle.insertion.specs.of_trim_model.Model.{Candidate}
 use Rattle.field_step.specs.of_trim_state.State.{State, Result, stopped, went}
 use Rattle.insertion.specs.of_offers.Offers.{and_next}
@@ -31,13 +30,13 @@ module _ (cuts windows : ℕ) (limit : Float) (flags : List ℕ) (v : List Float
   -- ---- the queue is empty
   empty_step : (s : State) (p : Popped × Queue) → is_empty p.0 ≡ true → step_with cuts windows limit flags v triangles s p ≡ went s
   unfolding step_with is_empty
-  empty_step s (Empty, q) h = refl
-  empty_step s (First x k, q) h = absurd (subst T (sym h) tt)
+  empty_step s (None, q) h = refl
+  empty_step s (Some (x, k), q) h = absurd (subst T (sym h) tt)
 
   empty_candidates : (s : State) (p : Popped) → is_empty p ≡ true → candidates_with limit v triangles s p ≡ []
   unfolding candidates_with is_empty
-  empty_candidates s Empty h = refl
-  empty_candidates s (First x k) h = absurd (subst T (sym h) tt)
+  empty_candidates s None h = refl
+  empty_candidates s (Some (x, k)) h = absurd (subst T (sym h) tt)
 
   module _ (s : State) (idle : idle_of s ≡ true) where
     pub step_idle : step s ≡ went s

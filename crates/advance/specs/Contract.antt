@@ -1,5 +1,6 @@
 -- What a run of turns does to the buffers. Definitions only.
-use Rattle.std.specs.Prelude.{ℕ, ◌≤◌, List, ◌++◌, ◌≡◌, length, Float}
+use Rattle.std.specs.Prelude.{ℕ, ◌≤◌, List, ◌++◌, ◌≡◌, length, Float, Result, Ok, Err}
+use Rattle.buffers.specs.declared.Lack.{Lack}
 use Rattle.buffers.specs.Lack.{lack_number}
 use Rattle.windows.specs.Windows.{capacity_of}
 use Rattle.insertion.specs.of_trim_model.Model.{Candidate}
@@ -11,26 +12,25 @@ use Rattle.insertion.specs.of_trim.Buffers.{Slices}
 use Rattle.insertion.specs.of_trim.Adding.{snapshot_at}
 use Rattle.field_step.specs.Contract.{FieldMesh, FieldStands, FieldEnds}
 use Rattle.advance.specs.declared.Advanced.{Advanced}
-use Rattle.advance.specs.declared.Advanced.TheVariants.{Stopped, Went}
 use Rattle.advance.specs.Advance.{advance_of, steps_of, advance_candidates}
 
-abbrev pub advanced_end : Advanced → Slices → End
-advanced_end (Stopped lack) b = stopped (lack_number lack)
-advanced_end (Went c steps) b = at (snapshot_at c b)
+abbrev pub advanced_end : Result Advanced Lack → Slices → End
+advanced_end (Err lack) b = stopped (lack_number lack)
+advanced_end (Ok a) b = at (snapshot_at a.counts b)
 
 -- if it was not stopped, the windows are within the buffer
-abbrev pub AdvancedWithin : ℕ → Advanced → Type 0
-AdvancedWithin windows (Stopped lack) = Unit {0}
-AdvancedWithin windows (Went c steps) = c.made ≤ windows
+abbrev pub AdvancedWithin : ℕ → Result Advanced Lack → Type 0
+AdvancedWithin windows (Err lack) = Unit {0}
+AdvancedWithin windows (Ok a) = a.counts.made ≤ windows
 
 -- and so many events were popped
-abbrev pub StepsTold : Advanced → ℕ → Type 0
-StepsTold (Stopped lack) k = Unit {0}
-StepsTold (Went c steps) k = steps ≡ k
+abbrev pub StepsTold : Result Advanced Lack → ℕ → Type 0
+StepsTold (Err lack) k = Unit {0}
+StepsTold (Ok a) k = a.steps ≡ k
 
 -- buffers b and c at the call, b' at the return; at most `most` turns
 pub record AdvancesTo (limit : Float) (n most : ℕ) (v : List Float) (buffer vertex_words round : List ℕ) (edge_reals : List Float) (triangle_words : List ℕ) (triangleReals : List Float)
-    (counts : Counts) (b : Slices) (c : Cuts) (r : Advanced) (b' : Slices) : Type 0 where
+    (counts : Counts) (b : Slices) (c : Cuts) (r : Result Advanced Lack) (b' : Slices) : Type 0 where
   -- no more windows are made than the buffer has slots for
   pub bounded : AdvancedWithin (capacity_of (length b.words) (length b.reals)) r
   -- the buffers come to hold the state after the turns, of every mesh and state that they hold; or what there is no slot for is told

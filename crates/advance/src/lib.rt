@@ -9,18 +9,17 @@ ghost use Rattle.insertion.specs.of_trim.Buffers.{before, after};
 ghost use Rattle.advance.specs.Contract.{AdvancesTo};
 
 use buffers::Lack;
-use field_step::Stepped;
 pub use insertion as of_insertion;
 use insertion::of_trim_split::Counts;
 
-// There is no slot for something; or so many windows and events there are now, after so many steps. Every pop is a step, skipped ones included.
+// How many windows and events there are now, after so many steps. Every pop is a step, skipped ones included.
 #[derive(Clone, Copy)]
-pub enum Advanced {
-    Stopped(Lack),
-    Went(Counts, u32),
+pub struct Advanced {
+    pub counts: Counts,
+    pub steps: u32,
 }
 
-// At most `most` turns, in a mesh of n vertices.
+// At most `most` turns, in a mesh of n vertices; or what there is no slot for.
 pub fn advance(
     vertices: &[f64],
     triangles: &[u32],
@@ -43,14 +42,13 @@ pub fn advance(
     n: u32,
     most: u32,
     limit: f64,
-) -> Advanced
+) -> Result<Advanced, Lack>
     requires { (counts.made ≤ capacity_of (length words.old) (length reals.old)) × Sizes (length pts.old) out.old keep.old next.old }
     ensures { AdvancesTo limit n most vertices.now triangles.now vertex_words.now round.now edge_reals.now triangle_words.now triangle_reals.now
         counts (before edge_words words reals keys events vertex) (cuts_before pts out keep next) result (after edge_words words reals keys events vertex) }
 {
     let mut now = counts;
-    let mut steps = 0;
-    while steps < most {
+    for steps in 0..most {
         let stepped = field_step::step(
             vertices,
             triangles,
@@ -72,15 +70,16 @@ pub fn advance(
             now,
             n,
             limit,
-        );
+        )?;
         match stepped {
-            Stepped::Idle => return Advanced::Went(now, steps),
-            Stepped::Stopped(lack) => return Advanced::Stopped(lack),
-            Stepped::Went(c) => {
+            None => return Ok(Advanced { counts: now, steps }),
+            Some(c) => {
                 now = c;
-                steps += 1;
             }
         }
     }
-    Advanced::Went(now, steps)
+    Ok(Advanced {
+        counts: now,
+        steps: most,
+    })
 }

@@ -17,7 +17,8 @@ use Rattle.advance.specs.of_cut_lists.Buffers.{Cuts}
 use Rattle.finish.specs.of_trim.Buffers.{Slices}
 use Rattle.advance.specs.of_trim_split.declared.Counts.{Counts}
 use Rattle.advance.specs.declared.Advanced.{Advanced}
-use Rattle.advance.specs.declared.Advanced.TheVariants.{Stopped, Went}
+use Rattle.std.specs.declared.result.Result.{Result}
+use Rattle.std.specs.declared.result.Result.TheVariants.{Ok, Err}
 use Rattle.advance.specs.Contract.{AdvancesTo}
 use Rattle.finish.specs.Finish.{FinishesTo}
 use Rattle.advance_c.specs.Turns.{told_counts, turns_told, turns_fit, turns_fit_in, TurnsAnswer, finish_fits, finish_fits_in, FinishAnswer}
@@ -38,14 +39,14 @@ pub counts_told : (t : List ℕ) {a b : ℕ} → a ≡ get_or t 0 0 → b ≡ ge
 unfolding told_counts
 counts_told t a b = λ i. record { made = a i; queued = b i }
 
-module _ (t : List ℕ) {x : Advanced} where
-  pub told_stopped : (lack : Lack) {n : ℕ} → x ≡ Stopped lack → n ≡ lack_number lack → (n, t) ≡ turns_told x t
+module _ (t : List ℕ) {x : Result Advanced Lack} where
+  pub told_stopped : (lack : Lack) {n : ℕ} → x ≡ Err lack → n ≡ lack_number lack → (n, t) ≡ turns_told x t
   unfolding turns_told
   told_stopped lack h e = (λ i. (e i, t)) ∙ (λ i. turns_told (sym h i) t)
 
-  pub told_went : (c : Counts) (k : ℕ) {t₁ t₂ t₃ : List ℕ} → x ≡ Went c k → t₁ ≡ set t 0 c.made → t₂ ≡ set t₁ 1 c.queued → t₃ ≡ set t₂ 2 k → (0, t₃) ≡ turns_told x t
+  pub told_went : (a : Advanced) {t₁ t₂ t₃ : List ℕ} → x ≡ Ok a → t₁ ≡ set t 0 a.counts.made → t₂ ≡ set t₁ 1 a.counts.queued → t₃ ≡ set t₂ 2 a.steps → (0, t₃) ≡ turns_told x t
   unfolding turns_told
-  told_went c k h a b d = (λ i. (0, (d ∙ (λ j. set ((b ∙ (λ l. set (a l) 1 c.queued)) j) 2 k)) i)) ∙ (λ i. turns_told (sym h i) t)
+  told_went a h f b d = (λ i. (0, (d ∙ (λ j. set ((b ∙ (λ l. set (f l) 1 a.counts.queued)) j) 2 a.steps)) i)) ∙ (λ i. turns_told (sym h i) t)
 
 -- ---- tests
 pub is_double_true : (one two : ℕ) → two ≡ one + one → true ≡ eqb two (one + one)
@@ -132,7 +133,7 @@ module _ {limit : Float} {n most : ℕ} {v : List Float} {buffer vertex_words ro
     turned = λ g. not_both t (same_test told b c e test ∙ g) h;
   }
 
-  pub turns_turned : {r : ℕ} {b' : Slices} {c' : Cuts} {told' : List ℕ} (x : Advanced) → t ≡ true
+  pub turns_turned : {r : ℕ} {b' : Slices} {c' : Cuts} {told' : List ℕ} (x : Result Advanced Lack) → t ≡ true
       → AdvancesTo limit n most v buffer vertex_words round edge_reals triangle_words triangleReals counts b c x b' → (r, told') ≡ turns_told x told
       → TurnsAnswer limit n most v buffer vertex_words round edge_reals triangle_words triangleReals told b c r b' c' told'
   turns_turned {b' = b'} x h a q = record {

@@ -1,6 +1,7 @@
 -- What a caller in C or Rust is told of some turns of a job's main loop, and of its finish. Definitions only.
-use Rattle.std.specs.Prelude.{ℕ, ◌+◌, Bool, true, false, ◌&&◌, List, ◌≡◌, leb, eqb, Float, length, get_or, set}
+use Rattle.std.specs.Prelude.{ℕ, ◌+◌, Bool, true, false, ◌&&◌, List, ◌≡◌, leb, eqb, Float, length, get_or, set, Result, Ok, Err}
 use Rattle.layout.specs.Layout.{words_per_edge}
+use Rattle.buffers.specs.declared.Lack.{Lack}
 use Rattle.buffers.specs.Lack.{lack_number}
 use Rattle.buffers.specs.Slots.{slots_of}
 use Rattle.windows.specs.Windows.{capacity_of}
@@ -8,7 +9,6 @@ use Rattle.advance.specs.of_cut_lists.Buffers.{Cuts}
 use Rattle.finish.specs.of_trim.Buffers.{Slices}
 use Rattle.advance.specs.of_trim_split.declared.Counts.{Counts}
 use Rattle.advance.specs.declared.Advanced.{Advanced}
-use Rattle.advance.specs.declared.Advanced.TheVariants.{Stopped, Went}
 use Rattle.advance.specs.Contract.{AdvancesTo}
 use Rattle.finish.specs.Finish.{FinishesTo}
 
@@ -17,9 +17,9 @@ unfoldable pub told_counts : List ℕ → Counts
 told_counts t = record { made = get_or t 0 0; queued = get_or t 1 0 }
 
 -- the number that is answered; the windows made, the events queued and the steps of these turns
-unfoldable pub turns_told : Advanced → List ℕ → ℕ × List ℕ
-turns_told (Stopped lack) t = (lack_number lack, t)
-turns_told (Went c steps) t = (0, set (set (set t 0 c.made) 1 c.queued) 2 steps)
+unfoldable pub turns_told : Result Advanced Lack → List ℕ → ℕ × List ℕ
+turns_told (Err lack) t = (lack_number lack, t)
+turns_told (Ok a) t = (0, set (set (set t 0 a.counts.made) 1 a.counts.queued) 2 a.steps)
 
 -- slices of these lengths have a slot for each window made, and the lists of an addition have as many slots each
 unfoldable pub turns_fit : ℕ → ℕ → ℕ → ℕ → ℕ → ℕ → ℕ → Bool
@@ -33,7 +33,7 @@ module _ (limit : Float) (n most : ℕ) (v : List Float) (buffer vertex_words ro
     (told : List ℕ) (b : Slices) (c : Cuts) (r : ℕ) (b' : Slices) (c' : Cuts) (told' : List ℕ) where
   -- the turns are those of `advance`, from the counts that were told
   pub record Turned : Type 0 where
-    pub answer : Advanced
+    pub answer : Result Advanced Lack
     pub advances : AdvancesTo limit n most v buffer vertex_words round edge_reals triangle_words triangleReals (told_counts told) b c answer b'
     pub tells : (r, told') ≡ turns_told answer told
 

@@ -8,7 +8,7 @@ ghost use Rattle.finish.specs.of_trim.Buffers.{before, after, slices};
 ghost use Rattle.advance_c.specs.Turns.{told_counts, turns_told, turns_fit, TurnsAnswer, finish_fits, FinishAnswer};
 
 use advance::Advanced;
-use buffers::{read_u32, write_u32};
+use buffers::{Lack, read_u32, write_u32};
 use finish::of_trim_split::Counts;
 use layout::{REALS_PER_WINDOW, WORDS_PER_EDGE, WORDS_PER_WINDOW};
 
@@ -21,15 +21,16 @@ fn told_counts(told: &[u32]) -> Counts
     }
 }
 
-fn tell_turns(advanced: Advanced, told: &mut [u32]) -> u32
+fn tell_turns(advanced: Result<Advanced, Lack>, told: &mut [u32]) -> u32
     ensures { (result, told.new) ≡ turns_told advanced told.old }
 {
     match advanced {
-        Advanced::Stopped(lack) => buffers::lack_number(lack),
-        Advanced::Went(counts, steps) => {
+        Err(lack) => buffers::lack_number(lack),
+        Ok(done) => {
+            let counts = done.counts;
             write_u32(told, 3, 0, 0, counts.made);
             write_u32(told, 3, 0, 1, counts.queued);
-            write_u32(told, 3, 0, 2, steps);
+            write_u32(told, 3, 0, 2, done.steps);
             0
         }
     }

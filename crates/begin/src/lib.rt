@@ -26,10 +26,8 @@ fn leave_unreached(vertex: &mut [f64], v: u32)
 pub fn begin_vertices(vertex: &mut [f64], n: u32)
     ensures { left vertex ≡ vertex_reals n (length (given vertex)) }
 {
-    let mut v: u32 = 0;
-    while v < n {
+    for v in 0..n {
         leave_unreached(vertex, v);
-        v += 1;
     }
     zero_f64_from(vertex, (REALS_PER_VERTEX as usize) * (n as usize));
 }

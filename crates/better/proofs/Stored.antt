@@ -1,25 +1,24 @@
 -- Intervals over the front of a buffer. Assumes nothing.
 --     stored_pairs   a buffer that holds m of them and is else as it was
 --     stored_short   those that it has no entries for are not written
---     copied_next, copied_full     a copy of one more, and of one that there is no entry for
+--     copied, copied_full     a copy, and one that there are no entries for
 --     short, answers, said    what `better` ensures; answers_of, spared: what follows
+use Rattle.std.specs.Prelude.{Option, Some, None}
 use Prim.Native.Nat.{ℕ, zero, suc, ◌+◌, ◌*◌, ◌≤◌, ◌<◌}
 use native.Mathlib.Omega.{arith}
-use native.Mathlib.Numerals.{add-one}
 use mathlib.Core.Path.{◌≡◌, refl, sym, ap, ◌∙◌, subst}
 use mathlib.Core.Bool.{Bool, true, false, cond, ◌&&◌}
 use mathlib.Core.Logic.{inl, inr}
 use mathlib.Core.List.{List, [], ◌∷◌, ◌++◌}
 use borrow.Author.Tests.{le-leb, lt-leb, leb-true, leb-false}
 use lib.Dec.{leb}
-use lib.ListN.{length, drop, get_or, set, take-append-drop}
-use lib.Seq.{drop-drop, drop-set-lt}
+use Rattle.std.proofs.lemmas.List.{length-take-le}
+use Rattle.std.proofs.lemmas.Slice.{drop-append-drop}
+use lib.ListN.{length, take, drop, get_or, length-append, length-drop, take-append-drop}
 use lib.Ieee.{Float, nan}
-use Rattle.better.specs.declared.Listed.{Listed}
-use Rattle.better.specs.declared.Listed.TheVariants.{Full, Entries}
 use Rattle.better.specs.Stretches.{Interval, interval}
 use Rattle.better.specs.Buffers.{pairs, HoldsPairs, Answers, listed_number, stored, has_entries, bettering}
-use Rattle.better.proofs.Pairs.{pairs_length, pairs_take, pairs_push}
+use Rattle.better.proofs.Pairs.{pairs_length, pairs_take, pairs_front}
 
 pairs_cons : (m : ℕ) (a b : Float) (l : List Float) → pairs (suc m) (a ∷ b ∷ l) ≡ interval a b ∷ pairs m l
 pairs_cons zero a b l = refl
@@ -49,21 +48,12 @@ stored_short (g ∷ gs) hs [] h = refl
 stored_short (g ∷ gs) hs (a ∷ []) h = refl
 stored_short (g ∷ gs) hs (a ∷ b ∷ out) h = ap (λ (z : List Float). g.from ∷ g.to ∷ z) (stored_short gs hs out (omega arith))
 
--- one more
-pub copied_next : (i e : ℕ) (from first after : List Float) → e ≡ 2 * i → e + 1 < length after → pairs i after ≡ pairs i from → drop (i + i) after ≡ drop (i + i) first
-    → let next = set (set after e (get_or from e nan)) (e + 1) (get_or from (e + 1) nan) in (pairs (i + 1) next ≡ pairs (i + 1) from) × (drop (i + 1 + (i + 1)) next ≡ drop (i + 1 + (i + 1)) first)
-copied_next i e from first after s h f d =
-    let t : e ≡ i + i = omega arith in
-    let u : i + 1 + (i + 1) ≡ i + i + 2 = omega arith in
-    let v : e + 1 ≡ suc (i + i) = omega arith in
-    let x0 = get_or from e nan in
-    let x1 = get_or from (e + 1) nan in (
-      pairs_push after x0 x1 i e t h ∙ rw (f, add-one i, t, add-one (i + i)),
-      drop-set-lt (i + 1 + (i + 1)) (set after e x0) (e + 1) x1 (omega arith)
-          ∙ drop-set-lt (i + 1 + (i + 1)) after e x0 (omega arith)
-          ∙ rw u
-          (sym (drop-drop 2 (i + i) after) ∙ ap (drop 2) d ∙ drop-drop 2 (i + i) first),
-    )
+-- k of those in front of `pts` are put over `out`
+pub copied : (k : ℕ) (pts out : List Float) → k + k ≤ length pts → k + k ≤ length out
+    → let after = take (2 * k) pts ++ drop (2 * k) out in (length after ≡ length out) × (pairs k after ≡ pairs k pts) × (drop (k + k) after ≡ drop (k + k) out)
+copied k pts out h g =
+    let taken : length (take (2 * k) pts) ≡ 2 * k = length-take-le (2 * k) pts (omega arith) in
+    (rw length-append (omega (arith, taken, length-drop (2 * k) out)), pairs_front k (2 * k) pts (drop (2 * k) out) (omega arith) (omega arith), drop-append-drop (2 * k) out (take (2 * k) pts) (k + k) (omega arith) taken)
 
 -- i of the m in front of `from` were put over `first`, and there is no entry for one more
 pub copied_full : (m i : ℕ) (from first after : List Float) → i < m → length after ≡ length first → i + i ≤ length after → length after < suc (suc (i + i)) → pairs i after ≡ pairs i from → drop (i + i) after ≡ drop (i + i) first
@@ -79,36 +69,36 @@ copied_full m i from first after h l b f e d =
     )
 
 -- what `better` answers: where the points outgrow their buffer, and else from what its loop does
-pub short : (size : ℕ) (before pts : List Float) (gs : List Interval) → size < length pts → (Full, before) ≡ bettering size before pts gs
+pub short : (size : ℕ) (before pts : List Float) (gs : List Interval) → size < length pts → (None, before) ≡ bettering size before pts gs
 unfolding bettering
 short size before pts gs h = rw (lt-leb (length pts) size h) refl
 
-pub answers : (r : Listed) (size : ℕ) (before after pts : List Float) (gs : List Interval) → length after ≡ length before → length pts ≤ size → HoldsPairs r after gs → after ≡ stored gs before
+pub answers : (r : Option ℕ) (size : ℕ) (before after pts : List Float) (gs : List Interval) → length after ≡ length before → length pts ≤ size → HoldsPairs r after gs → after ≡ stored gs before
     → (r, after) ≡ bettering size before pts gs
 unfolding bettering
-answers Full size before after pts gs l b h s =
-    rw (le-leb (length pts) size b, lt-leb (length gs + length gs) (length before) (omega (arith, h, l))) (λ t. (Full, s t))
-answers (Entries m) size before after pts gs l b h s =
+answers None size before after pts gs l b h s =
+    rw (le-leb (length pts) size b, lt-leb (length gs + length gs) (length before) (omega (arith, h, l))) (λ t. (None, s t))
+answers (Some m) size before after pts gs l b h s =
     let n : length gs ≡ m = sym (ap length h.1) ∙ pairs_length m after in
-    rw (le-leb (length pts) size b, le-leb (length gs + length gs) (length before) (omega (arith, h.0, l, n)), n) (λ t. (Entries m, s t))
+    rw (le-leb (length pts) size b, le-leb (length gs + length gs) (length before) (omega (arith, h.0, l, n)), n) (λ t. (Some m, s t))
 
 -- its number in document 01
 number_of : (size : ℕ) (out pts : List Float) (gs : List Interval) → listed_number (bettering size out pts gs).0 ≡ cond (leb (length pts) size && has_entries gs out) 0 14
 unfolding bettering
 number_of size out pts gs = go (leb (length pts) size) (has_entries gs out) where
-  go : (s t : Bool) → listed_number (cond {A = Listed × List Float} s (cond t (Entries (length gs)) Full, stored gs out) (Full, out)).0 ≡ cond (s && t) 0 14
+  go : (s t : Bool) → listed_number (cond {A = Option ℕ × List Float} s (cond t (Some (length gs)) None, stored gs out) (None, out)).0 ≡ cond (s && t) 0 14
   go true true = refl
   go true false = refl
   go false t = refl
 
-pub said : (r : Listed) (size : ℕ) (before after pts : List Float) (gs : List Interval) → (r, after) ≡ bettering size before pts gs
+pub said : (r : Option ℕ) (size : ℕ) (before after pts : List Float) (gs : List Interval) → (r, after) ≡ bettering size before pts gs
     → ((r, after) ≡ bettering size before pts gs) × (listed_number r ≡ cond (leb (length pts) size && has_entries gs before) 0 14)
-said r size before after pts gs e = (e, ap (λ (a : Listed × List Float). listed_number a.0) e ∙ number_of size before pts gs)
+said r size before after pts gs e = (e, ap (λ (a : Option ℕ × List Float). listed_number a.0) e ∙ number_of size before pts gs)
 
 -- the number of a list that stands in a buffer or outgrew it
-pub numbered : (r : Listed) (before after : List Float) (gs : List Interval) → length after ≡ length before → HoldsPairs r after gs → HoldsPairs r after gs × (listed_number r ≡ cond (has_entries gs before) 0 14)
-numbered Full before after gs l h = (h, rw (lt-leb (length gs + length gs) (length before) (omega (arith, h, l))) refl)
-numbered (Entries m) before after gs l h =
+pub numbered : (r : Option ℕ) (before after : List Float) (gs : List Interval) → length after ≡ length before → HoldsPairs r after gs → HoldsPairs r after gs × (listed_number r ≡ cond (has_entries gs before) 0 14)
+numbered None before after gs l h = (h, rw (lt-leb (length gs + length gs) (length before) (omega (arith, h, l))) refl)
+numbered (Some m) before after gs l h =
     let n : length gs ≡ m = sym (ap length h.1) ∙ pairs_length m after in
     (h, rw (le-leb (length gs + length gs) (length before) (omega (arith, h.0, l, n))) refl)
 
@@ -141,29 +131,29 @@ module _ (size : ℕ) (out pts : List Float) (gs : List Interval) where
   unfolding bettering
   meant = go (leb (length pts) size) (has_entries gs out) refl refl where
     go : (s t : Bool) → leb (length pts) size ≡ s → has_entries gs out ≡ t
-        → let a = cond {A = Listed × List Float} s (cond t (Entries (length gs)) Full, stored gs out) (Full, out) in Answers a.0 size a.1 pts gs
+        → let a = cond {A = Option ℕ × List Float} s (cond t (Some (length gs)) None, stored gs out) (None, out) in Answers a.0 size a.1 pts gs
     go true true x y =
         let b : length gs + length gs ≤ length out = leb-true (length gs + length gs) (length out) y in
         (leb-true (length pts) size x, (omega (arith, b, stored_length gs out), pairs_stored gs out b))
     go true false x y = inr (omega (arith, leb-false (length gs + length gs) (length out) y, stored_length gs out))
     go false t x y = inl (leb-false (length pts) size x)
 
-  pub answers_of : (r : Listed) (after : List Float) → (r, after) ≡ bettering size out pts gs → Answers r size after pts gs
-  answers_of r after e = subst (λ (a : Listed × List Float). Answers a.0 size a.1 pts gs) (sym e) meant
+  pub answers_of : (r : Option ℕ) (after : List Float) → (r, after) ≡ bettering size out pts gs → Answers r size after pts gs
+  answers_of r after e = subst (λ (a : Option ℕ × List Float). Answers a.0 size a.1 pts gs) (sym e) meant
 
   -- behind the entries nothing changes
-  Spared : Listed × List Float → Type 0
-  Spared (Full, after) = Unit {0}
-  Spared (Entries m, after) = drop (m + m) after ≡ drop (m + m) out
+  Spared : Option ℕ × List Float → Type 0
+  Spared (None, after) = Unit {0}
+  Spared (Some m, after) = drop (m + m) after ≡ drop (m + m) out
 
   spares : Spared (bettering size out pts gs)
   unfolding Spared bettering
   spares = go (leb (length pts) size) (has_entries gs out) refl where
-    go : (s t : Bool) → has_entries gs out ≡ t → Spared (cond s (cond t (Entries (length gs)) Full, stored gs out) (Full, out))
+    go : (s t : Bool) → has_entries gs out ≡ t → Spared (cond s (cond t (Some (length gs)) None, stored gs out) (None, out))
     go true true y = drop_stored gs out (leb-true (length gs + length gs) (length out) y)
     go true false y = tt
     go false t y = tt
 
-  pub spared : (m : ℕ) (after : List Float) → (Entries m, after) ≡ bettering size out pts gs → drop (m + m) after ≡ drop (m + m) out
+  pub spared : (m : ℕ) (after : List Float) → (Some m, after) ≡ bettering size out pts gs → drop (m + m) after ≡ drop (m + m) out
   unfolding Spared
   spared m after e = subst Spared (sym e) spares

@@ -1,12 +1,10 @@
 -- Where one source is shorter than another: the Rust's `better`. Definitions only.
-use Rattle.std.specs.Prelude.{Bool, false, List, [], ◌∷◌, Float, if◌then◌else◌}
+use Rattle.std.specs.Prelude.{Bool, false, List, [], ◌∷◌, Float, if◌then◌else◌, Option, Some, None}
 use Rattle.std.specs.Float.Ieee.{le, eq}
 use Rattle.float64.specs.Scalar.{two}
 use Rattle.float64.specs.Notation.{◌⊕◌, ◌⊘◌}
 use Rattle.source.specs.declared.Src.{Src}
 use Rattle.source.specs.Distance.{edge_of}
-use Rattle.better.specs.declared.Cut.{Cut}
-use Rattle.better.specs.declared.Cut.TheVariants.{Nowhere, At}
 use Rattle.better.specs.declared.Resolved.{Resolved}
 use Rattle.better.specs.declared.Resolved.TheVariants.{Settled, CutAt}
 use Rattle.better.specs.Cutting.{shorter, cut_of}
@@ -34,9 +32,9 @@ shorter_between p q x0 x1 =
     shorter (edge_of p m) (edge_of q m)
 
 -- a turn of the walk and of the loop over neighbours, between x0 and x1: the cut, if there is one; else p is shorter there or not
-abbrev pub settling : Cut → Bool → Resolved
-settling Nowhere b = Settled b
-settling (At c) b = CutAt c
+abbrev pub settling : Option Float → Bool → Resolved
+settling None b = Settled b
+settling (Some c) b = CutAt c
 
 unfoldable pub turn_between : Src → Src → Float → Float → Resolved
 turn_between p q x0 x1 = settling (cut_of p q x0 x1) (shorter_between p q x0 x1)

@@ -1,11 +1,9 @@
 -- What the stored cases of `better` say. A record is packed, from byte i on: two sources of 25 bytes, lo and hi, the capacity of the lists, the refusal (0 or 14) at byte 70,
 -- the count of stretches at byte 71, and from byte 75 on their ends. Definitions only.
-use Rattle.std.specs.Prelude.{◌≡◌, List, Bool, ◌&&◌, ℕ, ◌+◌, ◌*◌, ◌/◌, ◌%◌, ◌≤◌, length, get_or, eqb, Float}
+use Rattle.std.specs.Prelude.{◌≡◌, List, Bool, ◌&&◌, ℕ, ◌+◌, ◌*◌, ◌/◌, ◌%◌, ◌≤◌, length, get_or, eqb, Float, Option, Some, None}
 use Rattle.std.specs.Float.{nan}
 use Rattle.vectors.specs.Records.{agrees, failing}
 use Rattle.source_records.specs.Records.{word_from, float_from, src_from}
-use Rattle.better.specs.declared.Listed.{Listed}
-use Rattle.better.specs.declared.Listed.TheVariants.{Full, Entries}
 use Rattle.better.specs.Points.{pts_of, walk_of}
 use Rattle.better.specs.Stretches.{better_of}
 use Rattle.better.specs.Buffers.{Answers}
@@ -22,18 +20,18 @@ abbrev pub other_floats : List Float → List ℕ → ℕ → ℕ → ℕ
 other_floats out s i n = failing (λ k. agrees (get_or out k nan) (word_from s (i + 8 * k))) n
 
 -- whether an answer, with its stretches in front of out, is the one that the record at byte i says
-unfoldable pub same_listed : Listed → List Float → List ℕ → ℕ → Bool
-same_listed Full out s i = eqb (get_or s (i + 70) 0) 14
-same_listed (Entries m) out s i = eqb (get_or s (i + 70) 0) 0 && (eqb m (stretches_of s i) && eqb (other_floats out s (i + 75) (2 * m)) 0)
+unfoldable pub same_listed : Option ℕ → List Float → List ℕ → ℕ → Bool
+same_listed None out s i = eqb (get_or s (i + 70) 0) 14
+same_listed (Some m) out s i = eqb (get_or s (i + 70) 0) 0 && (eqb m (stretches_of s i) && eqb (other_floats out s (i + 75) (2 * m)) 0)
 
 -- the stretches of an answer are within its buffer
-abbrev pub FitsOut : Listed → List Float → Type 0
-FitsOut Full out = Unit {0}
-FitsOut (Entries m) out = m + m ≤ length out
+abbrev pub FitsOut : Option ℕ → List Float → Type 0
+FitsOut None out = Unit {0}
+FitsOut (Some m) out = m + m ≤ length out
 
 -- b says whether the right answer to the record's case, in lists of `size` points and of out's stretches, is the record's
 pub record Decides (s : List ℕ) (i size : ℕ) (out : List Float) (b : Bool) : Type 0 where
-  pub answer : Listed
+  pub answer : Option ℕ
   pub right :
       Answers answer size out
       (walk_of (src_from s i) (src_from s (i + 25)) (pts_of (src_from s i) (src_from s (i + 25)) (float_from s (i + 50)) (float_from s (i + 58))))

@@ -7,7 +7,6 @@ ghost use Rattle.std.specs.Prelude.{◌≡◌, ◌+◌, ◌*◌, ◌≤◌, ◌<
 ghost use Rattle.source_records.specs.Records.{word_from, float_from, src_from};
 ghost use Rattle.better_vectors.specs.Replay.{slot_count_of, stretches_of, other_floats, same_listed, FitsOut, Decides, Replays};
 
-use better::Listed;
 use source_records::{float_from, read_records, src_from, word_from};
 use std::io;
 use std::rt::Files;
@@ -34,25 +33,23 @@ fn other_floats(out: &[f64], s: &[u8], i: usize, n: usize) -> u64
     ensures { result ≡ other_floats out.now s.now i n }
 {
     let mut count: u64 = 0;
-    let mut k: usize = 0;
-    while k < n {
+    for k in 0..n {
         if !vectors::agrees(out[k], word_from(s, i + 8 * k)) {
             count += 1;
         }
-        k += 1;
     }
     count
 }
 
 // Whether an answer of `better` is the one that the record at byte i says.
-fn same_listed(listed: Listed, out: &[f64], s: &[u8], i: usize) -> bool
+fn same_listed(listed: Option<usize>, out: &[f64], s: &[u8], i: usize) -> bool
     requires { (i + 75 + 16 * stretches_of s.now i ≤ length s.now) × FitsOut listed out.now }
     ensures { result ≡ same_listed listed out.now s.now i }
 {
     let refusal = s[i + 70];
     match listed {
-        Listed::Full => refusal == 14,
-        Listed::Entries(m) => {
+        None => refusal == 14,
+        Some(m) => {
             if refusal != 0 {
                 return false;
             }

@@ -105,28 +105,16 @@ pub fn count(m: usize, s: u32, n: usize, t: u32) -> u32
 pub fn zero_u32_from(s: &mut [u32], n: usize)
     ensures { s.new ≡ zero_from 0 n s.old }
 {
-    if s.len() <= n {
-        return;
-    }
-    let last = s.len() - 1;
-    let mut i = n;
-    while i <= last {
+    for i in n..s.len() {
         s[i] = 0;
-        i += 1;
     }
 }
 
 pub fn zero_f64_from(s: &mut [f64], n: usize)
     ensures { s.new ≡ zero_from zero64 n s.old }
 {
-    if s.len() <= n {
-        return;
-    }
-    let last = s.len() - 1;
-    let mut k = n;
-    while k <= last {
-        s[k] = 0.0;
-        k += 1;
+    for i in n..s.len() {
+        s[i] = 0.0;
     }
 }
 

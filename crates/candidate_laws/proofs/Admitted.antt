@@ -1,6 +1,7 @@
 -- A candidate window whose start is from 0 on and whose end is up to its edge's length, infinities among them, is proper where it is admitted: its width as
 -- computed is above tiny then, so both ends are finite. For whatever is offered that way: by insertion, by a vertex and by propagation. Assumes nothing.
 --     admitted_inside, admitted_proper; offered_proper (what source_windows and propagation offer), clipped_proper (x.max(0.) and y.min(l)), whole_proper (the whole edge, 0 and l); length_point (of an edge of a checked mesh)
+use Rattle.std.specs.Prelude.{Option, Some}
 use Prim.Native.Nat.{ℕ}
 use mathlib.Core.Bool.{not}
 use lib.Dec.{T}
@@ -10,8 +11,7 @@ use Rattle.float64.specs.Scalar.{zero64, min_of, max_of}
 use Rattle.source.specs.Distance.{lowest_of}
 use Rattle.source_windows.specs.Ends.{EndsOn}
 use Rattle.source_windows.proofs.Ends.{ends_of}
-use Rattle.source_windows.specs.declared.CandidateRange.{CandidateRange}
-use Rattle.source_windows.specs.declared.CandidateRange.TheVariants.{Window}
+use Rattle.source_windows.specs.declared.CandidateWindow.{CandidateWindow}
 use Rattle.better.specs.Claim.{Point}
 use Rattle.float_bounds.specs.Within.{Start, ClippedEnd, Inside}
 use Rattle.float_bounds.proofs.Ends.{start_zero, max_start, end_length, min_end, wide_inside}
@@ -55,5 +55,5 @@ module _ (limit : Float) (len : ℕ → Float) (c : Candidate) (long : Point (le
   whole_proper s e = admitted_proper (subst Start (sym s) start_zero) (subst (ClippedEnd (len c.edge)) (sym e) (end_length (len c.edge) long.number long.double))
 
   -- what insertion, a vertex or propagation offers an edge, by the laws of source_windows and propagation
-  pub offered_proper : {r : CandidateRange} → EndsOn (len c.edge) r → r ≡ Window c.b0 c.b1 c.src → Proper len c
+  pub offered_proper : {r : Option CandidateWindow} → EndsOn (len c.edge) r → r ≡ Some (record { b0 = c.b0; b1 = c.b1; src = c.src }) → Proper len c
   offered_proper on is = let ends = ends_of on is in admitted_proper ends.0 ends.1

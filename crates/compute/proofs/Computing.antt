@@ -1,4 +1,5 @@
 -- The answer of `compute` and what it leaves, from what the functions that it calls answer and leave: the mesh refused, the work refused, a field. Assumes nothing.
+use Rattle.std.specs.Prelude.{Result}
 use Prim.Native.Nat.{ℕ, zero, suc, ◌≤◌, ◌<◌}
 use native.Mathlib.Omega.{arith}
 use mathlib.Core.Bool.{Bool, true, false, cond}
@@ -18,7 +19,7 @@ use Rattle.job_checks.proofs.Any.{first_past}
 use Rattle.job_checks.proofs.Sound.{refusals_numbered}
 use Rattle.topology.specs.Edges.{edges, shared_by_three}
 use Rattle.field_model.specs.of_mesh.declared.OtherCounts.{OtherCounts}
-use Rattle.field_model.specs.of_mesh.declared.Meshed.{Meshed}
+use Rattle.field_model.specs.of_mesh.declared.Refusal.{Refusal}
 use Rattle.field_model.specs.of_mesh.Topology.{MeshBuffers, topology_of}
 use Rattle.field_model.specs.of_mesh.Answer.{meshed_number, counts_in, mesh_refusals, mesh_refusal, afterwards, Answered}
 use Rattle.field_model.specs.of_cut_lists.Buffers.{Cuts}
@@ -103,7 +104,7 @@ mesh_stays (suc k) m t l = refl
 
 -- ---- the mesh answered with a number, over slices whose slots were counted
 module _ (v : List Float) (triangles flags kinds faces : List ℕ) (coords : List Float) (limit : Float) (b : FieldBuffers) (most : ℕ) (o : OtherCounts) (counts : o ≡ other_counts b)
-    (a : Meshed) (m : MeshBuffers) (built : Answered (job v triangles flags kinds faces coords limit) o a b.mesh m) (number count : ℕ) (number_is : number ≡ meshed_number a) (count_is : count ≡ edges_answered a) where
+    (a : Result ℕ Refusal) (m : MeshBuffers) (built : Answered (job v triangles flags kinds faces coords limit) o a b.mesh m) (number count : ℕ) (number_is : number ≡ meshed_number a) (count_is : count ≡ edges_answered a) where
   abbrev j : Job
   j = job v triangles flags kinds faces coords limit
 

@@ -1,11 +1,10 @@
 -- What the parts of `compute` answer. Definitions only: the contract is `ComputesOver` of field_model.
-use Rattle.std.specs.Prelude.{ℕ, min, Bool, true, false, ltb}
+use Rattle.std.specs.Prelude.{ℕ, min, Bool, true, false, ltb, Result, Ok, Err}
 use Rattle.layout.specs.Layout.{coordinates_per_vertex, vertices_per_triangle, reals_per_vertex, words_per_piece, reals_per_piece}
 use Rattle.buffers.specs.Slots.{slots_of}
 use Rattle.windows.specs.Windows.{capacity_of}
 use Rattle.field_model.specs.of_mesh.declared.OtherCounts.{OtherCounts}
-use Rattle.field_model.specs.of_mesh.declared.Meshed.{Meshed}
-use Rattle.field_model.specs.of_mesh.declared.Meshed.TheVariants as meshed
+use Rattle.field_model.specs.of_mesh.declared.Refusal.{Refusal}
 use Rattle.make_field.specs.of_run_steps.declared.FieldWork.{FieldWork}
 use Rattle.make_field.specs.of_run_steps.declared.FieldWork.TheVariants.{Refused, Done}
 use Rattle.computed.specs.declared.Computed.{Computed}
@@ -21,10 +20,9 @@ other_counts_of pw pr vertex words reals scratch other = record {
   other_scratch = slots_of other 1;
 }
 
-abbrev pub edges_answered : Meshed → ℕ
-edges_answered (meshed.Edges n) = n
-edges_answered (meshed.Refused c) = 0
-edges_answered meshed.ThirdFace = 0
+abbrev pub edges_answered : Result ℕ Refusal → ℕ
+edges_answered (Ok n) = n
+edges_answered (Err e) = 0
 
 -- whether every buffer is zeroed: by the refusals from 10 on
 abbrev pub zeroes : FieldWork → Bool

@@ -11,7 +11,7 @@ ghost use Rattle.compute.specs.Answers.{other_counts_of, edges_answered, zeroes,
 use buffers::slots;
 use computed::{Computed, Field};
 use field_model::of_mesh;
-use field_model::of_mesh::{Meshed, OtherCounts};
+use field_model::of_mesh::{OtherCounts, Refusal};
 use field_model::of_zero_buffers::{
     zero_cuts_if, zero_mesh_if, zero_pieces_if, zero_windows_if, zero_words_if,
 };
@@ -42,14 +42,10 @@ fn other_counts(
     }
 }
 
-fn edge_count(meshed: Meshed) -> u32
+fn edge_count(meshed: Result<u32, Refusal>) -> u32
     ensures { result ≡ edges_answered meshed }
 {
-    match meshed {
-        Meshed::Edges(edges) => edges,
-        Meshed::Refused(_) => 0,
-        Meshed::ThirdFace => 0,
-    }
+    meshed.unwrap_or(0)
 }
 
 // Refusals above 9 leave zeros everywhere.

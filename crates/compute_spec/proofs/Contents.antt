@@ -1,4 +1,5 @@
 -- Where the work on a job ends in a field, `finish` leaves every buffer as the definition has it. Assumes nothing.
+use Rattle.std.specs.Prelude.{Result}
 use Prim.Native.Nat.{ℕ, ◌≤◌}
 use mathlib.Core.List.{List}
 use mathlib.Core.Path.{◌≡◌, refl, sym, ap, subst, ◌∙◌}
@@ -7,7 +8,7 @@ use lib.Ieee.{Float}
 use Rattle.windows.specs.Windows.{capacity_of}
 use Rattle.job_checks.specs.Job.{Job}
 use Rattle.topology.specs.Edges.{edges}
-use Rattle.field_work.specs.of_mesh.declared.Meshed.{Meshed}
+use Rattle.field_work.specs.of_mesh.declared.Refusal.{Refusal}
 use Rattle.field_work.specs.of_mesh.Topology.{MeshBuffers}
 use Rattle.field_work.specs.of_mesh.Answer.{counts_in, mesh_refusal, Answered}
 use Rattle.finish.proofs.laws_of_mesh.Fields.{held, fresh}
@@ -55,7 +56,7 @@ after_work b built pw pr z t c = record {
   other_scratch = zero_words b.other_scratch;
 }
 
-module _ (j : Job) (b : FieldBuffers) (meshed : Meshed) (built : MeshBuffers) (answered : Answered j (other_counts b) meshed b.mesh built)
+module _ (j : Job) (b : FieldBuffers) (meshed : Result ℕ Refusal) (built : MeshBuffers) (answered : Answered j (other_counts b) meshed b.mesh built)
     (passed : mesh_refusal j (counts_in b.mesh (other_counts b)) ≡ 0) (c₀ : Cuts) (most : ℕ)
     (pw : List ℕ) (pr : List Float) (z : Slices) (t : EntryBuffers) (c : Cuts)
     (pieces : pw ≡ piece_words_of j.kinds j.coords (length b.piece_words)) (directions : pr ≡ piece_reals_of j.kinds j.coords (length b.piece_reals))
@@ -93,7 +94,7 @@ module _ (j : Job) (b : FieldBuffers) (meshed : Meshed) (built : MeshBuffers) (a
       z' c' ends
 
 -- the whole job's answer and what it leaves, where the cut lists were cut to what all four have slots for
-module _ (j : Job) (b : FieldBuffers) (meshed : Meshed) (built : MeshBuffers) (answered : Answered j (other_counts b) meshed b.mesh built)
+module _ (j : Job) (b : FieldBuffers) (meshed : Result ℕ Refusal) (built : MeshBuffers) (answered : Answered j (other_counts b) meshed b.mesh built)
     (passed : mesh_refusal j (counts_in b.mesh (other_counts b)) ≡ 0) (most : ℕ) where
   abbrev cuts_lent : Cuts
   cuts_lent = cut_to (cut_count b.cuts) b.cuts

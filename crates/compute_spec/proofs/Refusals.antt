@@ -1,4 +1,5 @@
 -- The refusals of a mesh come first, and a mesh that passed them stands in its buffers as the definition has it. Assumes nothing.
+use Rattle.std.specs.Prelude.{Result}
 use Prim.Native.Nat.{ℕ, suc}
 use native.Mathlib.Omega.{arith}
 use mathlib.Core.Bool.{false}
@@ -11,7 +12,7 @@ use Rattle.job_checks.proofs.Any.{both_passed, passed_here}
 use Rattle.job_checks.proofs.Sound.{refusals_numbered}
 use Rattle.topology.specs.Edges.{shared_by_three}
 use Rattle.field_work.specs.of_mesh.declared.OtherCounts.{OtherCounts}
-use Rattle.field_work.specs.of_mesh.declared.Meshed.{Meshed}
+use Rattle.field_work.specs.of_mesh.declared.Refusal.{Refusal}
 use Rattle.field_work.specs.of_mesh.Topology.{MeshBuffers, filled, topology_of}
 use Rattle.field_work.specs.of_mesh.Answer.{counts_in, mesh_refusals, mesh_refusal, afterwards, Answered}
 use Rattle.field_work.specs.of_run_steps.Run.{WorkResult, refused}
@@ -38,7 +39,7 @@ filled_then : (v : List Float) (triangles flags : List ℕ) (m after : MeshBuffe
 unfolding afterwards topology_of
 filled_then v triangles flags m after k z s e = e ∙ rw (z, s) refl
 
-pub built_is : (j : Job) (others : OtherCounts) (meshed : Meshed) (before built : MeshBuffers) → Answered j others meshed before built → mesh_refusal j (counts_in before others) ≡ 0 → built ≡ filled j.vertices j.triangles j.flags before
+pub built_is : (j : Job) (others : OtherCounts) (meshed : Result ℕ Refusal) (before built : MeshBuffers) → Answered j others meshed before built → mesh_refusal j (counts_in before others) ≡ 0 → built ≡ filled j.vertices j.triangles j.flags before
 unfolding mesh_refusals
 built_is j others meshed before built answered passed =
     let p = both_passed ((10, shared_by_three j.triangles) ∷ []) (refusals j (counts_in before others)) (refusals_numbered j (counts_in before others)) passed in

@@ -13,9 +13,7 @@ pub fn forget(edges: &mut [u32])
     ensures { left edges ≡ forgotten (length (given edges) / words_per_edge) (given edges) }
 {
     let n = edges.len() / (WORDS_PER_EDGE as usize);
-    let mut e: usize = 0;
-    while e < n {
+    for e in 0..n {
         edges[(WORDS_PER_EDGE as usize) * e + (EDGE_SCRATCH as usize)] = 0;
-        e += 1;
     }
 }

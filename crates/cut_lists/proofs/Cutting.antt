@@ -1,4 +1,5 @@
 -- The ways that a cut can go. Assumes nothing.
+use Rattle.std.specs.Prelude.{Some, None}
 use Prim.Native.Nat.{ℕ, ◌+◌, ◌≤◌, ◌<◌}
 use mathlib.Core.List.{List, [], ◌∷◌}
 use mathlib.Core.Logic.{inl, inr, ⊎_elim}
@@ -11,7 +12,6 @@ use Rattle.better.specs.Points.{pts_of, walk_of}
 use Rattle.better.specs.Stretches.{Interval, better_of}
 use Rattle.better.specs.Buffers.{pairs, Answers, HoldsPairs}
 use Rattle.better.specs.Claim.{All}
-use Rattle.better.specs.declared.Listed.TheVariants.{Full, Entries}
 use Rattle.better.proofs.Pairs.{pairs_length}
 use Rattle.trim_model.specs.Intervals.{next, pieces}
 use Rattle.trim_model.specs.Claim.{Any}
@@ -48,25 +48,25 @@ module _ (p q : Src) (lo hi b0 b1 tiny : Float) (size : ℕ) (keep : List Interv
   abbrev TooLong : Type 0
   TooLong = Any (λ (l : ℕ). size < l) (lengths p q lo hi b0 b1 tiny keep)
 
-  pub full_better : (out : List Float) → length out ≡ size + size → Answers Full size out points better → TooLong
+  pub full_better : (out : List Float) → length out ≡ size + size → Answers None size out points better → TooLong
   unfolding lengths
   full_better out e h = ⊎_elim (λ a. inl a) (λ b. inr (inl (many out size (length better) e b))) h
 
   -- the stretches stand in `out`
-  module _ (out : List Float) (m : ℕ) (answer : Answers (Entries m) size out points better) where
+  module _ (out : List Float) (m : ℕ) (answer : Answers (Some m) size out points better) where
     module _ (l : List Float) (e : length l ≡ size + size) where
-      pub full_next : HoldsPairs Full l (next lo hi (pairs m out) keep) → TooLong
+      pub full_next : HoldsPairs None l (next lo hi (pairs m out) keep) → TooLong
       unfolding lengths
       full_next h = inr (inr (inl (many l size (length (next lo hi better keep)) e (rw answer.1.1 at h))))
 
-      pub full_pieces : 0 < m → HoldsPairs Full l (pieces tiny b0 b1 (pairs m out)) → TooLong
+      pub full_pieces : 0 < m → HoldsPairs None l (pieces tiny b0 b1 (pairs m out)) → TooLong
       unfolding lengths
       full_pieces z h =
           let g = pairs_count m out better answer.1.1 in
           inr (inr (inr (loss_full b0 b1 tiny size better (omega arith) (many l size (length (pieces tiny b0 b1 better)) e (rw answer.1.1 at h)))))
 
     -- the new `keep` stood in `next`, and is copied
-    module _ (e : length out ≡ size + size) (l keep' : List Float) (el : length l ≡ size + size) (k : ℕ) (isNext : HoldsPairs (Entries k) l (next lo hi (pairs m out) keep)) (isKeep : pairs k keep' ≡ pairs k l) where
+    module _ (e : length out ≡ size + size) (l keep' : List Float) (el : length l ≡ size + size) (k : ℕ) (isNext : HoldsPairs (Some k) l (next lo hi (pairs m out) keep)) (isKeep : pairs k keep' ≡ pairs k l) where
       kept : pairs k keep' ≡ next lo hi better keep
       kept = isKeep ∙ (rw answer.1.1 at isNext.1)
 
@@ -85,7 +85,7 @@ module _ (p q : Src) (lo hi b0 b1 tiny : Float) (size : ℕ) (keep : List Interv
             rest = λ x. let y : ⊥ = omega arith in absurd y;
           }
 
-      pub some_lost : (l' : List Float) → length l' ≡ size + size → (n : ℕ) → HoldsPairs (Entries n) l' (pieces tiny b0 b1 (pairs m out)) → LeavesLists p q lo hi b0 b1 tiny size keep k m n keep' l'
+      pub some_lost : (l' : List Float) → length l' ≡ size + size → (n : ℕ) → HoldsPairs (Some n) l' (pieces tiny b0 b1 (pairs m out)) → LeavesLists p q lo hi b0 b1 tiny size keep k m n keep' l'
       unfolding lengths
       some_lost l' el' n isPieces =
           let g = pairs_count m out better answer.1.1 in

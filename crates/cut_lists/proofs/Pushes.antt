@@ -2,21 +2,19 @@
 --     pushed_full, then_full  a list that outgrows a buffer does so with more behind it
 --     apart, left_full, inner_full, right_held  the ways out of `push_next`
 --     cuts_turn, next_turn, pieces_turn  a turn of a loop; cuts_full .., where it outgrows the buffer; cuts_done .., the loop's end
---     copy_turn, copy_done  the same of `copy`
+use Rattle.std.specs.Prelude.{Option, None}
 use Prim.Native.Nat.{ℕ, suc, ◌+◌, ◌≤◌, ◌<◌}
 use native.Mathlib.Omega.{arith}
 use native.Mathlib.Numerals.{add-one}
-use mathlib.Core.Path.{◌≡◌, refl, ◌∙◌}
+use mathlib.Core.Path.{◌≡◌, refl}
 use mathlib.Core.Bool.{true, false}
 use mathlib.Core.List.{List, [], ◌∷◌, ◌++◌, append_assoc, append-nil}
-use lib.ListN.{length, drop, get_or, set, length-append}
-use lib.Ieee.{Float, nan, lt, le}
+use lib.ListN.{length, drop, length-append}
+use lib.Ieee.{Float, lt, le}
 use Rattle.float64.specs.Scalar.{min_of, max_of}
 use Rattle.better.specs.Stretches.{Interval, interval}
 use Rattle.better.specs.Buffers.{pairs, HoldsPairs}
-use Rattle.better.specs.declared.Listed.{Listed}
-use Rattle.better.specs.declared.Listed.TheVariants.{Full}
-use Rattle.better.proofs.Pairs.{pairs_length, pairs_push}
+use Rattle.better.proofs.Pairs.{pairs_length}
 use Rattle.trim_model.specs.Intervals.{width, push_if, cuts_within, next_of, next, pieces}
 use Rattle.cut_lists.proofs.Entries.{entry, pairs_from, pairs_past}
 
@@ -24,7 +22,7 @@ use Rattle.cut_lists.proofs.Entries.{entry, pairs_from, pairs_past}
 abbrev pub Outgrows : ℕ → List Interval → Type 0
 Outgrows size gs = size < length gs + length gs
 
-pub pushed_full : (n : ℕ) (b : List Float) (x0 x1 : Float) → length b < suc n + suc n → HoldsPairs Full b (pairs n b ++ (interval x0 x1 ∷ []))
+pub pushed_full : (n : ℕ) (b : List Float) (x0 x1 : Float) → length b < suc n + suc n → HoldsPairs None b (pairs n b ++ (interval x0 x1 ∷ []))
 pushed_full n b x0 x1 h = rw length-append (omega (arith, pairs_length n b))
 
 pub then_full : (size : ℕ) (gs hs : List Interval) → Outgrows size gs → Outgrows size (gs ++ hs)
@@ -57,7 +55,7 @@ pieces_nil tiny at b1 = refl
 
 -- what one entry of `keep` leaves, pushed behind gs
 module _ (lo hi : Float) (better : List Interval) (k0 k1 o0 o1 : Float) (e0 : o0 ≡ max_of k0 lo) (e1 : o1 ≡ min_of k1 hi) (gs : List Interval) where
-  pub apart : (r : Listed) (b : List Float) → le o1 o0 ≡ true → HoldsPairs r b (gs ++ (interval k0 k1 ∷ [])) → HoldsPairs r b (gs ++ next_of lo hi better (interval k0 k1))
+  pub apart : (r : Option ℕ) (b : List Float) → le o1 o0 ≡ true → HoldsPairs r b (gs ++ (interval k0 k1 ∷ [])) → HoldsPairs r b (gs ++ next_of lo hi better (interval k0 k1))
   unfolding next_of
   apart r b t h = rw (← e0, ← e1, t) h
 
@@ -77,7 +75,7 @@ module _ (lo hi : Float) (better : List Interval) (k0 k1 o0 o1 : Float) (e0 : o0
       let right = push_if (lt o1 k1) (interval o1 k1) in
       rw (overlapping t, ← append_assoc gs left (cuts_within o0 o1 better ++ right), ← ea, ← append_assoc ls (cuts_within o0 o1 better) right) (then_full size (ls ++ cuts_within o0 o1 better) right h)
 
-  pub right_held : (r : Listed) (b : List Float) (ls is : List Interval) → le o1 o0 ≡ false → ls ≡ gs ++ push_if (lt k0 o0) (interval k0 o0) → is ≡ ls ++ cuts_within o0 o1 better → HoldsPairs r b (is ++ push_if (lt o1 k1) (interval o1 k1)) → HoldsPairs r b (gs ++ next_of lo hi better (interval k0 k1))
+  pub right_held : (r : Option ℕ) (b : List Float) (ls is : List Interval) → le o1 o0 ≡ false → ls ≡ gs ++ push_if (lt k0 o0) (interval k0 o0) → is ≡ ls ++ cuts_within o0 o1 better → HoldsPairs r b (is ++ push_if (lt o1 k1) (interval o1 k1)) → HoldsPairs r b (gs ++ next_of lo hi better (interval k0 k1))
   right_held r b ls is t ea eb h =
       let left = push_if (lt k0 o0) (interval k0 o0) in
       let right = push_if (lt o1 k1) (interval o1 k1) in
@@ -118,11 +116,3 @@ module _ (b : List Float) (m i : ℕ) (gs : List Interval) where
 
   pub pieces_done : (tiny at b1 : Float) → m ≤ i → gs ++ pieces tiny at b1 (drop i (pairs m b)) ≡ gs ++ push_if (lt tiny (width at b1)) (interval at b1)
   pieces_done tiny at b1 h = rw (pairs_past b m i h, pieces_nil tiny at b1)
-
--- ---- a copy, interval by interval
-module _ (from to : List Float) where
-  pub copy_turn : (i e : ℕ) → e ≡ i + i → e + 1 < length to → pairs i to ≡ pairs i from → pairs (i + 1) (set (set to e (get_or from e nan)) (e + 1) (get_or from (e + 1) nan)) ≡ pairs (i + 1) from
-  copy_turn i e p b h = pairs_push to (get_or from e nan) (get_or from (e + 1) nan) i e p b ∙ rw (h, add-one i, add-one e, p)
-
-  pub copy_done : (n i : ℕ) → i ≤ n → n ≤ i → pairs i to ≡ pairs i from → pairs n to ≡ pairs n from
-  copy_done n i a b h = let e : n ≡ i = omega arith in rw e h

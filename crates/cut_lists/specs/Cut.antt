@@ -1,5 +1,5 @@
 -- What is computed where a new window meets an existing one, in buffers of a fixed size. Definitions only.
-use Rattle.std.specs.Prelude.{ℕ, ◌+◌, ◌≤◌, ◌<◌, List, [], ◌∷◌, ◌≡◌, Float}
+use Rattle.std.specs.Prelude.{ℕ, ◌+◌, ◌≤◌, ◌<◌, List, [], ◌∷◌, ◌≡◌, Float, Option, Some, None}
 use Rattle.std.proofs.Math.ListN.{length}
 use Rattle.source.specs.declared.Src.{Src}
 use Rattle.better.specs.Points.{pts_of, walk_of}
@@ -8,8 +8,7 @@ use Rattle.better.specs.Buffers.{pairs}
 use Rattle.better.specs.Claim.{All}
 use Rattle.trim_model.specs.Intervals.{next, pieces}
 use Rattle.trim_model.specs.Claim.{Any}
-use Rattle.cut_lists.specs.declared.Met.{Met}
-use Rattle.cut_lists.specs.declared.Met.TheVariants.{Full, Left}
+use Rattle.cut_lists.specs.declared.CutCounts.{CutCounts}
 
 -- the buffers of the lists have so many slots each, two numbers to a slot but for `pts`
 pub record Sizes (size : ℕ) (out keep next : List Float) : Type 0 where
@@ -40,6 +39,6 @@ module _ (p q : Src) (lo hi b0 b1 tiny : Float) where
     pub rest : 0 < m → (n ≤ size) × (pairs n next' ≡ pieces tiny b0 b1 (better_of p q lo hi))
 
   -- 01's refusal 14, or what is left
-  abbrev pub Meets : ℕ → List Interval → Met → List Float → List Float → Type 0
-  Meets size keep Full keep' next' = Any (λ (l : ℕ). size < l) (lengths keep)
-  Meets size keep (Left k m n) keep' next' = LeavesLists size keep k m n keep' next'
+  abbrev pub Meets : ℕ → List Interval → Option CutCounts → List Float → List Float → Type 0
+  Meets size keep None keep' next' = Any (λ (l : ℕ). size < l) (lengths keep)
+  Meets size keep (Some c) keep' next' = LeavesLists size keep c.kept c.lost c.pieces keep' next'

@@ -22,7 +22,7 @@ use Rattle.topology.proofs.Find.{entered, find_at, find_last}
 use Rattle.topology.proofs.Edges.{numbered, few_edges, number_kept}
 use Rattle.topology.proofs.Faces.{OfSide, listed_face}
 use Rattle.topology.proofs.Growth.{other_edge, faces_more, faces_same, faces_none, faces_some, third_face}
-use Rattle.edge_table.specs.declared.Table.TheVariants.{Edges, ThirdFace}
+use Rattle.std.specs.Prelude.{Ok, Err}
 use Rattle.edge_table.specs.Words.{bucket_of, last_in, head_word, triangle_word}
 use Rattle.edge_table.specs.Table.{Mesh, TableFits}
 use Rattle.edge_table.specs.Sides.{HoldsWords, linked_row, linked_word, Partial, Turned, Falling, faces_so_far, number_so_far, seek}
@@ -360,7 +360,7 @@ module _ (triangles : List ℕ) (size h : ℕ) (heads edge triangle : List ℕ) 
   module _ (heads' edge' triangle' : List ℕ) where
     pub new_done : (low high bucket count : ℕ) → length (edges_of triangles h) ≤ find (side_edge triangles h) (edges_of triangles h) → record { low = low; high = high } ≡ side_edge triangles h → bucket ≡ bucket_of size (record { low = low; high = high }) → count ≡ length (edges_of triangles h)
         → heads' ≡ set heads (words_per_round * bucket + round_head) (count + 1) → edge' ≡ fill words_per_edge edge count 0 (low ∷ high ∷ h / 3 ∷ no_face ∷ 0 ∷ get_or heads (words_per_round * bucket + round_head) 0 ∷ []) → triangle' ≡ set triangle (words_per_triangle * (h / 3) + h % 3) count
-        → Turned triangles size (h + 1) heads' edge' triangle' (Edges (count + 1))
+        → Turned triangles size (h + 1) heads' edge' triangle' (Ok (count + 1))
     unfolding Turned
     new_done low high bucket count fresh q eb ec ev ee et =
         let b : bucket ≡ bucket_of size (side_edge triangles h) = eb ∙ ap (bucket_of size) q in
@@ -371,12 +371,12 @@ module _ (triangles : List ℕ) (size h : ℕ) (heads edge triangle : List ℕ) 
 
     pub found_done : (e count : ℕ) → (find (side_edge triangles h) (edges_of triangles h) < length (edges_of triangles h)) × (e ≡ find (side_edge triangles h) (edges_of triangles h)) → count ≡ length (edges_of triangles h) → (s : ℕ) → s ≡ get_or edge (words_per_edge * e + edge_second_face) 0 → s ≡ no_face
         → heads' ≡ heads → edge' ≡ set edge (words_per_edge * e + edge_second_face) (h / 3) → triangle' ≡ set triangle (words_per_triangle * (h / 3) + h % 3) e
-        → Turned triangles size (h + 1) heads' edge' triangle' (Edges count)
+        → Turned triangles size (h + 1) heads' edge' triangle' (Ok count)
     unfolding Turned
     found_done e count f ec s es vacant ev ee et =
         let k : e < length (edges_of triangles h) = omega arith in
         rw (add-one h, ev, ee, et) (ec ∙ ap length (sym (same_edges e (sym f.1) k)), found_turn e (sym f.1) k (sym es ∙ vacant))
 
-    pub third_done : (e : ℕ) → (find (side_edge triangles h) (edges_of triangles h) < length (edges_of triangles h)) × (e ≡ find (side_edge triangles h) (edges_of triangles h)) → (s : ℕ) → s ≡ get_or edge (words_per_edge * e + edge_second_face) 0 → s ≢ no_face → Turned triangles size (h + 1) heads' edge' triangle' ThirdFace
+    pub third_done : (e : ℕ) → (find (side_edge triangles h) (edges_of triangles h) < length (edges_of triangles h)) × (e ≡ find (side_edge triangles h) (edges_of triangles h)) → (s : ℕ) → s ≡ get_or edge (words_per_edge * e + edge_second_face) 0 → s ≢ no_face → Turned triangles size (h + 1) heads' edge' triangle' (Err (record {}))
     unfolding Turned
     third_done e f s es ne = third_turn e (sym f.1) (omega arith) (λ z. ne (es ∙ z))

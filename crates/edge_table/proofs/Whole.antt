@@ -10,8 +10,8 @@ use lib.ListN.{length, replicate}
 use Rattle.layout.specs.Layout.{words_per_round, words_per_edge, words_per_triangle}
 use Rattle.topology.specs.Edges.{edges_of, edges, tri_edge, edge_faces, shared_by_three}
 use Rattle.topology.proofs.Growth.{no_third_face}
-use Rattle.edge_table.specs.declared.Table.{Table}
-use Rattle.edge_table.specs.declared.Table.TheVariants.{Edges, ThirdFace}
+use Rattle.edge_table.specs.declared.ThirdFace.{ThirdFace}
+use Rattle.std.specs.Prelude.{Result, Ok, Err}
 use Rattle.edge_table.specs.Words.{last_in, head_word, edge_word, triangle_word}
 use Rattle.edge_table.specs.Table.{TableFits, Built, table_of, head_words, edge_words, triangle_words}
 use Rattle.edge_table.specs.Sides.{linked_word, without_links, Partial, Turned, faces_so_far, number_so_far}
@@ -49,7 +49,7 @@ module _ (triangles : List ℕ) (size : ℕ) where
   none_counted = refl
 
   -- an edge had a third face
-  pub built_third : (heads₀ edge₀ triangle₀ heads edge triangle : List ℕ) → shared_by_three triangles ≡ true → heads ≡ replicate (length heads₀) 0 → edge ≡ replicate (length edge₀) 0 → triangle ≡ replicate (length triangle₀) 0 → Built triangles ThirdFace heads₀ edge₀ triangle₀ heads edge triangle
+  pub built_third : (heads₀ edge₀ triangle₀ heads edge triangle : List ℕ) → shared_by_three triangles ≡ true → heads ≡ replicate (length heads₀) 0 → edge ≡ replicate (length edge₀) 0 → triangle ≡ replicate (length triangle₀) 0 → Built triangles (Err (record {})) heads₀ edge₀ triangle₀ heads edge triangle
   unfolding table_of
   built_third heads₀ edge₀ triangle₀ heads edge triangle q eh ee et = record { answer = rw q refl; head_words_held = rw q eh; edge_words_held = rw q ee; triangle_words_held = rw q et }
 
@@ -59,7 +59,7 @@ module _ (triangles : List ℕ) (size : ℕ) where
     unfolding edges edge_faces faces_so_far
     two = no_third_face triangles p.two_faces
 
-    pub built_all : (count : ℕ) → count ≡ length (edges_of triangles (length triangles)) → edge' ≡ without_links count edge → Built triangles (Edges count) heads₀ edge₀ triangle₀ heads edge' triangle
+    pub built_all : (count : ℕ) → count ≡ length (edges_of triangles (length triangles)) → edge' ≡ without_links count edge → Built triangles (Ok count) heads₀ edge₀ triangle₀ heads edge' triangle
     unfolding table_of edges edge_faces tri_edge faces_so_far number_so_far head_words edge_words triangle_words
     built_all count e z =
         let z' : edge' ≡ without_links (length (edges triangles)) edge = z ∙ rw e refl in
@@ -74,21 +74,21 @@ module _ (triangles : List ℕ) (size : ℕ) where
         }
 
   -- the answer after all sides
-  pub third_turned : (h : ℕ) (heads edge triangle : List ℕ) → shared_by_three triangles ≡ true → Turned triangles size h heads edge triangle ThirdFace
+  pub third_turned : (h : ℕ) (heads edge triangle : List ℕ) → shared_by_three triangles ≡ true → Turned triangles size h heads edge triangle (Err (record {}))
   unfolding Turned
   third_turned h heads edge triangle q = q
 
-  pub all_turned : (h k count : ℕ) (heads edge triangle : List ℕ) → h ≡ k → count ≡ length (edges_of triangles h) → Partial triangles size h heads edge triangle → Turned triangles size k heads edge triangle (Edges count)
+  pub all_turned : (h k count : ℕ) (heads edge triangle : List ℕ) → h ≡ k → count ≡ length (edges_of triangles h) → Partial triangles size h heads edge triangle → Turned triangles size k heads edge triangle (Ok count)
   unfolding Turned
   all_turned h k count heads edge triangle q e p = rw (← q) (e, p)
 
   -- What a side's answer says.
-  module _ (h : ℕ) (heads edge triangle : List ℕ) (r : Table) (said : Turned triangles size h heads edge triangle r) where
-    pub turned_third : r ≡ ThirdFace → shared_by_three triangles ≡ true
+  module _ (h : ℕ) (heads edge triangle : List ℕ) (r : Result ℕ ThirdFace) (said : Turned triangles size h heads edge triangle r) where
+    pub turned_third : (e : ThirdFace) → r ≡ Err e → shared_by_three triangles ≡ true
     unfolding Turned
-    turned_third q = rw q at said
+    turned_third e q = rw q at said
 
-    pub turned_on : (n : ℕ) → r ≡ Edges n → (n ≡ length (edges_of triangles h)) × Partial triangles size h heads edge triangle
+    pub turned_on : (n : ℕ) → r ≡ Ok n → (n ≡ length (edges_of triangles h)) × Partial triangles size h heads edge triangle
     unfolding Turned
     turned_on n q = rw q at said
 

@@ -1,9 +1,8 @@
 -- The table side by side: what the contracts of the private functions cite. Definitions only.
-use Rattle.std.specs.Prelude.{ℕ, zero, suc, ◌+◌, ◌*◌, ◌<◌, ◌≤◌, ◌≡◌, true, cond, ◌&&◌, List, [], ◌∷◌, ltb, eqb, length, get_or, set}
+use Rattle.std.specs.Prelude.{ℕ, zero, suc, ◌+◌, ◌*◌, ◌<◌, ◌≤◌, ◌≡◌, true, cond, ◌&&◌, List, [], ◌∷◌, ltb, eqb, length, get_or, set, Result, Ok, Err}
 use Rattle.layout.specs.Layout.{words_per_round, words_per_edge, edge_low, edge_high, edge_scratch, words_per_triangle}
 use Rattle.topology.specs.Edges.{EndPair, no_edge, no_face, side_edge, find, edges_of, faces_among, shared_by_three}
-use Rattle.edge_table.specs.declared.Table.{Table}
-use Rattle.edge_table.specs.declared.Table.TheVariants.{Edges, ThirdFace}
+use Rattle.edge_table.specs.declared.ThirdFace.{ThirdFace}
 use Rattle.edge_table.specs.Words.{bucket_of, last_in, head_word, triangle_word}
 use Rattle.edge_table.specs.Table.{Mesh, TableFits}
 
@@ -60,9 +59,9 @@ pub record Blank (triangles heads edge triangle : List ℕ) : Type 0 where
   pub words : Partial triangles (length triangles) 0 heads edge triangle
 
 -- The answer after h sides.
-unfoldable pub Turned : List ℕ → ℕ → ℕ → List ℕ → List ℕ → List ℕ → Table → Type 0
-Turned triangles size h heads edge triangle (Edges n) = (n ≡ length (edges_of triangles h)) × Partial triangles size h heads edge triangle
-Turned triangles size h heads edge triangle ThirdFace = shared_by_three triangles ≡ true
+unfoldable pub Turned : List ℕ → ℕ → ℕ → List ℕ → List ℕ → List ℕ → Result ℕ ThirdFace → Type 0
+Turned triangles size h heads edge triangle (Ok n) = (n ≡ length (edges_of triangles h)) × Partial triangles size h heads edge triangle
+Turned triangles size h heads edge triangle (Err e) = shared_by_three triangles ≡ true
 
 -- The links of edges fall: each leads to an earlier edge.
 abbrev pub Falling : List ℕ → Type 0

@@ -1,9 +1,8 @@
 -- The edge table of a mesh: the answer and the three buffers. Definitions only.
-use Rattle.std.specs.Prelude.{ℕ, ◌*◌, ◌/◌, ◌<◌, ◌≤◌, ◌≡◌, cond, List, length, get_or, replicate}
+use Rattle.std.specs.Prelude.{ℕ, ◌*◌, ◌/◌, ◌<◌, ◌≤◌, ◌≡◌, cond, List, length, get_or, replicate, Result, Ok, Err}
 use Rattle.layout.specs.Layout.{words_per_round, words_per_edge, words_per_triangle}
 use Rattle.topology.specs.Edges.{edges, tri_edge, edge_faces, shared_by_three}
-use Rattle.edge_table.specs.declared.Table.{Table}
-use Rattle.edge_table.specs.declared.Table.TheVariants.{Edges, ThirdFace}
+use Rattle.edge_table.specs.declared.ThirdFace.{ThirdFace}
 use Rattle.edge_table.specs.Words.{slot_words, head_word, edge_word, triangle_word}
 
 -- What is asked of a mesh: three vertex numbers for each triangle, each below v, and no more of both than document 01 allows.
@@ -19,8 +18,9 @@ pub record TableFits (triangles : List ℕ) (heads edge triangle : ℕ) : Type 0
   pub edges_fit : words_per_edge * length triangles ≤ edge
   pub triangles_fit : words_per_triangle * (length triangles / 3) ≤ triangle
 
-unfoldable pub table_of : List ℕ → Table
-table_of triangles = cond (shared_by_three triangles) ThirdFace (Edges (length (edges triangles)))
+-- how many edges there are, unless one lies in more than two triangles
+unfoldable pub table_of : List ℕ → Result ℕ ThirdFace
+table_of triangles = cond (shared_by_three triangles) (Err (record {})) (Ok (length (edges triangles)))
 
 -- The three buffers, of n words each.
 unfoldable pub triangle_words : List ℕ → ℕ → List ℕ
@@ -37,7 +37,7 @@ abbrev pub unless_third : List ℕ → ℕ → (List ℕ → ℕ → List ℕ) �
 unless_third triangles n words = cond (shared_by_three triangles) (replicate n 0) (words triangles n)
 
 -- The answer, and what the buffers hold against what they held before, which counts by its length alone.
-pub record Built (triangles : List ℕ) (r : Table) (heads₀ edge₀ triangle₀ heads edge triangle : List ℕ) : Type 0 where
+pub record Built (triangles : List ℕ) (r : Result ℕ ThirdFace) (heads₀ edge₀ triangle₀ heads edge triangle : List ℕ) : Type 0 where
   pub answer : r ≡ table_of triangles
   pub head_words_held : heads ≡ unless_third triangles (length heads₀) head_words
   pub edge_words_held : edge ≡ unless_third triangles (length edge₀) edge_words

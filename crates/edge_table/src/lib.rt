@@ -19,12 +19,9 @@ use layout::{
     VERTICES_PER_TRIANGLE, WORDS_PER_EDGE, WORDS_PER_ROUND, WORDS_PER_TRIANGLE,
 };
 
-// How many edges there are, or document 01's refusal 10: an edge lies in more than two triangles.
-#[derive(Clone, Copy)]
-pub enum Table {
-    Edges(u32),
-    ThirdFace,
-}
+// Document 01's refusal 10: an edge lies in more than two triangles.
+#[derive(Clone, Copy, Debug, PartialEq, Eq)]
+pub struct ThirdFace;
 
 fn bucket_of(low: u32, high: u32, size: u32) -> u32
     requires { (low ≤ high) × ((high < 65535) × ((0 < size) × (size ≤ 393210))) }
@@ -86,7 +83,7 @@ fn add_edge(
     write_u32(heads, WORDS_PER_ROUND, bucket, ROUND_HEAD, e + 1);
 }
 
-// Side h: its edge is found or entered, and has the side's triangle as its next face. `count` is how many edges there are.
+// Side h: its edge is found or entered, and has the side's triangle as its next face. `count` is how many edges there are before, the answer how many after.
 fn enter_side(
     triangles: &[u32],
     heads: &mut [u32],
@@ -94,7 +91,7 @@ fn enter_side(
     triangle_words: &mut [u32],
     h: u32,
     count: u32,
-) -> Table
+) -> Result<u32, ThirdFace>
     requires { ReadyForSide triangles.now h count heads.old edge_words.old triangle_words.old }
     ensures { Turned triangles.now (length triangles.now) (h + 1) (left heads) (left edge_words) (left triangle_words) result }
 {
@@ -110,63 +107,52 @@ fn enter_side(
     if link == 0 {
         add_edge(heads, edge_words, bucket, count, low, high, f);
         write_u32(triangle_words, WORDS_PER_TRIANGLE, f, k, count);
-        return Table::Edges(count + 1);
+        return Ok(count + 1);
     }
     let e = link - 1;
     let none = no_face();
     if read_u32(edge_words, WORDS_PER_EDGE, e, EDGE_SECOND_FACE) != none.0 {
-        return Table::ThirdFace;
+        return Err(ThirdFace);
     }
     write_u32(edge_words, WORDS_PER_EDGE, e, EDGE_SECOND_FACE, f);
     write_u32(triangle_words, WORDS_PER_TRIANGLE, f, k, e);
-    Table::Edges(count)
+    Ok(count)
 }
 
-// All sides, in buffers that are zero.
+// All sides, in buffers that are zero: how many edges there are.
 fn enter_sides(
     triangles: &[u32],
     heads: &mut [u32],
     edge_words: &mut [u32],
     triangle_words: &mut [u32],
-) -> Table
+) -> Result<u32, ThirdFace>
     requires { Blank triangles.now heads.old edge_words.old triangle_words.old }
     ensures { Turned triangles.now (length triangles.now) (length triangles.now) (left heads) (left edge_words) (left triangle_words) result }
 {
     let sides = triangles.len() as u32;
     let mut count: u32 = 0;
-    let mut h: u32 = 0;
-    while h < sides {
-        match enter_side(triangles, heads, edge_words, triangle_words, h, count) {
-            Table::Edges(n) => {
-                count = n;
-            }
-            Table::ThirdFace => {
-                return Table::ThirdFace;
-            }
-        }
-        h += 1;
+    for h in 0..sides {
+        count = enter_side(triangles, heads, edge_words, triangle_words, h, count)?;
     }
-    Table::Edges(count)
+    Ok(count)
 }
 
 // The links of the first `count` edges, which are wanted no longer.
 fn clear_links(edge_words: &mut [u32], count: u32)
     ensures { left edge_words ≡ without_links count (given edge_words) }
 {
-    let mut e: u32 = 0;
-    while e < count {
+    for e in 0..count {
         write_u32(edge_words, WORDS_PER_EDGE, e, EDGE_SCRATCH, 0);
-        e += 1;
     }
 }
 
-// The table of a mesh whose triangles were checked. Where an edge lies in more than two triangles the buffers are zero.
+// The table of a mesh whose triangles were checked: how many edges there are. Where an edge lies in more than two triangles the buffers are zero.
 pub fn build(
     triangles: &[u32],
     heads: &mut [u32],
     edge_words: &mut [u32],
     triangle_words: &mut [u32],
-) -> Table
+) -> Result<u32, ThirdFace>
     requires { Mesh triangles.now 65535
         × TableFits triangles.now (length heads.old) (length edge_words.old) (length triangle_words.old) }
     ensures { Built triangles.now result
@@ -177,15 +163,15 @@ pub fn build(
     zero_u32(edge_words);
     zero_u32(triangle_words);
     match enter_sides(triangles, heads, edge_words, triangle_words) {
-        Table::Edges(count) => {
+        Ok(count) => {
             clear_links(edge_words, count);
-            Table::Edges(count)
+            Ok(count)
         }
-        Table::ThirdFace => {
+        Err(third_face) => {
             zero_u32(heads);
             zero_u32(edge_words);
             zero_u32(triangle_words);
-            Table::ThirdFace
+            Err(third_face)
         }
     }
 }

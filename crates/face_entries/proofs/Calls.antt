@@ -9,12 +9,13 @@ use mathlib.Core.Path.{◌≡◌, refl, ap, ◌∙◌}
 use borrow.Author.Tests.{lt-ltb, le-ltb}
 use lib.Dec.{ltb}
 use lib.ListN.{length, set}
+use Rattle.buffers.specs.declared.Lack.{Lack}
 use Rattle.buffers.specs.declared.Lack.TheVariants.{Entries}
 use Rattle.buffers.specs.Lack.{lack_number}
 use Rattle.chains.specs.Chains.{link_in}
 use Rattle.face_entries.specs.declared.PiecePart.{PiecePart}
-use Rattle.face_entries.specs.declared.Entered.{Entered}
-use Rattle.face_entries.specs.declared.Entered.TheVariants.{Full, Count}
+use Rattle.std.specs.declared.result.Result.{Result}
+use Rattle.std.specs.declared.result.Result.TheVariants.{Ok, Err}
 use Rattle.layout.specs.Layout.{words_per_triangle, triangle_first_entry, triangle_last_entry, words_per_entry, entry_link}
 use Rattle.face_entries.specs.Buffers.{EntryBuffers, entry_buffers, entry_capacity, last_entry_of, stored_in, linked_in, entered_in, entering, entered_number}
 
@@ -33,27 +34,27 @@ module _ (b : EntryBuffers) (f : ℕ) where
       λ i. entry_buffers (d i) ((e ∙ ap (λ (j : ℕ). set b.words (words_per_entry * j + entry_link) link) z) i)
 
 module _ (b : EntryBuffers) (count f : ℕ) (x : PiecePart) where
-  pub enter_full : entry_capacity (length b.words) ≤ count → (Full, b) ≡ entering b count f x
+  pub enter_full : entry_capacity (length b.words) ≤ count → (Err Entries, b) ≡ entering b count f x
   unfolding entering
   enter_full h = rw (le-ltb count (entry_capacity (length b.words)) h) refl
 
   pub enter_done : (w : List ℕ) (read last : ℕ) (b' : EntryBuffers) → count < entry_capacity (length b.words) → w ≡ stored_in b.words count x → read ≡ last_entry_of b.triangles f
-      → last ≡ link_in count read → b' ≡ linked_in (entry_buffers b.triangles w) f last (count + 1) → (Count (count + 1), b') ≡ entering b count f x
+      → last ≡ link_in count read → b' ≡ linked_in (entry_buffers b.triangles w) f last (count + 1) → (Ok (count + 1), b') ≡ entering b count f x
   unfolding entering entered_in
   enter_done w read last b' h d r l e =
       rw (lt-ltb count (entry_capacity (length b.words)) h)
       (λ i. (
-        Count (add-one count i),
+        Ok (add-one count i),
         (e ∙ (λ j. linked_in (entry_buffers b.triangles (d j)) f ((l ∙ ap (link_in count) r) j) (add-one count j))) i,
       ))
 
   refusal : entered_number (entering b count f x).0 ≡ cond (ltb count (entry_capacity (length b.words))) 0 (lack_number Entries)
   unfolding entering
   refusal = go (ltb count (entry_capacity (length b.words))) where
-    go : (c : Bool) → entered_number (cond {A = Entered × EntryBuffers} c (Count (suc count), entered_in b count f x) (Full, b)).0 ≡ cond c 0 (lack_number Entries)
+    go : (c : Bool) → entered_number (cond {A = Result ℕ Lack × EntryBuffers} c (Ok (suc count), entered_in b count f x) (Err Entries, b)).0 ≡ cond c 0 (lack_number Entries)
     go true = refl
     go false = refl
 
-  pub enter_said : {r : Entered} {p : EntryBuffers} → (r, p) ≡ entering b count f x
+  pub enter_said : {r : Result ℕ Lack} {p : EntryBuffers} → (r, p) ≡ entering b count f x
       → ((r, p) ≡ entering b count f x) × (entered_number r ≡ cond (ltb count (entry_capacity (length b.words))) 0 (lack_number Entries))
-  enter_said h = (h, ap (λ (a : Entered × EntryBuffers). entered_number a.0) h ∙ refusal)
+  enter_said h = (h, ap (λ (a : Result ℕ Lack × EntryBuffers). entered_number a.0) h ∙ refusal)

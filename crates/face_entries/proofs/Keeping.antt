@@ -18,8 +18,10 @@ use Rattle.chains.proofs.Turns.{link_in_lem, link_le}
 use Rattle.mesh.specs.Topology.{MeshBuffers}
 use Rattle.mesh.specs.Held.{Fresh}
 use Rattle.face_entries.specs.declared.PiecePart.{PiecePart}
-use Rattle.face_entries.specs.declared.Entered.{Entered}
-use Rattle.face_entries.specs.declared.Entered.TheVariants.{Full, Count}
+use Rattle.buffers.specs.declared.Lack.{Lack}
+use Rattle.buffers.specs.declared.Lack.TheVariants.{Entries}
+use Rattle.std.specs.declared.result.Result.{Result}
+use Rattle.std.specs.declared.result.Result.TheVariants.{Ok, Err}
 use Rattle.layout.specs.Layout.{words_per_triangle, triangle_first_entry, triangle_last_entry, words_per_entry, entry_link}
 use Rattle.face_entries.specs.Buffers.{EntryBuffers, entry_buffers, entry_capacity, first_entry_of, last_entry_of, next_entry_of, stored_in, linked_in, entered_in, entering}
 use Rattle.face_entries.specs.Entries.{FaceEntry, entry_numbers_from, numbers_of, final_link, EntryChain, HasEntry, StoredFrom, HoldsEntries, HoldsOnly}
@@ -54,7 +56,7 @@ module _ (b : EntryBuffers) (count f : ℕ) (x : PiecePart) where
   pub enter_others : (i : ℕ) → ((g : ℕ) → (i ≢ words_per_triangle * g + triangle_first_entry) × (i ≢ words_per_triangle * g + triangle_last_entry)) → get_or (entering b count f x).1.triangles i 0 ≡ get_or b.triangles i 0
   unfolding entering
   enter_others i ne = go (ltb count (entry_capacity (length b.words))) where
-    go : (c : Bool) → get_or (cond {A = Entered × EntryBuffers} c (Count (suc count), entered_in b count f x) (Full, b)).1.triangles i 0 ≡ get_or b.triangles i 0
+    go : (c : Bool) → get_or (cond {A = Result ℕ Lack × EntryBuffers} c (Ok (suc count), entered_in b count f x) (Err Entries, b)).1.triangles i 0 ≡ get_or b.triangles i 0
     go true = entered_others i ne
     go false = refl
 

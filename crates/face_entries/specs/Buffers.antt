@@ -1,5 +1,6 @@
 -- The buffers of triangles and of face entries, as an entry is put into them and read. A link is an entry's number plus one, and 0 is none. Definitions only.
-use Rattle.std.specs.Prelude.{ℕ, zero, suc, ◌+◌, ◌*◌, cond, List, [], ◌∷◌, eqb, ltb, length, get_or, set}
+use Rattle.std.specs.Prelude.{ℕ, zero, suc, ◌+◌, ◌*◌, cond, List, [], ◌∷◌, eqb, ltb, length, get_or, set, Result, Ok, Err}
+use Rattle.buffers.specs.declared.Lack.{Lack}
 use Rattle.buffers.specs.declared.Lack.TheVariants.{Entries}
 use Rattle.buffers.specs.Lack.{lack_number}
 use Rattle.buffers.specs.Slots.{fill, slots_of}
@@ -7,8 +8,6 @@ use Rattle.chains.specs.Chains.{link_in}
 use Rattle.face_entries.specs.declared.Part.{Part}
 use Rattle.face_entries.specs.declared.Part.TheVariants.{EndA, EndB, Whole}
 use Rattle.face_entries.specs.declared.PiecePart.{PiecePart}
-use Rattle.face_entries.specs.declared.Entered.{Entered}
-use Rattle.face_entries.specs.declared.Entered.TheVariants.{Full, Count}
 use Rattle.layout.specs.Layout.{words_per_triangle, triangle_first_entry, triangle_last_entry, words_per_entry, entry_piece, entry_part, entry_link}
 
 -- a part as a word; of a word above 2 it is the whole
@@ -62,10 +61,10 @@ unfoldable pub entered_in : EntryBuffers → ℕ → ℕ → PiecePart → Entry
 entered_in b count f x = linked_in (entry_buffers b.triangles (stored_in b.words count x)) f (link_in count (last_entry_of b.triangles f)) (suc count)
 
 -- the answer and the buffers: where there is no slot, nothing is written
-unfoldable pub entering : EntryBuffers → ℕ → ℕ → PiecePart → Entered × EntryBuffers
-entering b count f x = cond (ltb count (entry_capacity (length b.words))) (Count (suc count), entered_in b count f x) (Full, b)
+unfoldable pub entering : EntryBuffers → ℕ → ℕ → PiecePart → Result ℕ Lack × EntryBuffers
+entering b count f x = cond (ltb count (entry_capacity (length b.words))) (Ok (suc count), entered_in b count f x) (Err Entries, b)
 
 -- the number in document 01 of an answer; 0 is no refusal
-abbrev pub entered_number : Entered → ℕ
-entered_number Full = lack_number Entries
-entered_number (Count n) = 0
+abbrev pub entered_number : Result ℕ Lack → ℕ
+entered_number (Err lack) = lack_number lack
+entered_number (Ok n) = 0

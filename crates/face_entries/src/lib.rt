@@ -8,7 +8,7 @@ ghost use Rattle.buffers.specs.Lack.{lack_number};
 ghost use Rattle.buffers.specs.Lent.{given, left};
 ghost use Rattle.face_entries.specs.Buffers.{part_number, part_of_number, first_entry_of, next_entry_of, part_at, entry_capacity, stored_in, entry_buffers, linked_in, entering, entered_number};
 
-use buffers::{FaceId, read_u32, write_u32};
+use buffers::{FaceId, Lack, read_u32, write_u32};
 use layout::{
     ENTRY_LINK, ENTRY_PART, ENTRY_PIECE, TRIANGLE_FIRST_ENTRY, TRIANGLE_LAST_ENTRY,
     WORDS_PER_ENTRY, WORDS_PER_TRIANGLE,
@@ -29,13 +29,6 @@ pub enum Part {
 pub struct PiecePart {
     pub piece: u32,
     pub part: Part,
-}
-
-// The answer of `enter`: refusal 17, or how many entries there are now.
-#[derive(Clone, Copy)]
-pub enum Entered {
-    Full,
-    Count(u32),
 }
 
 pub fn part_number(part: Part) -> u32
@@ -109,6 +102,7 @@ fn put_behind(
 }
 
 // A part of a piece is entered behind the entries of a face, where there are `count` entries in all (the Rust's `in_face.entry(g).or_default().push(..)`).
+// The answer is how many there are now, or that there is no slot for one more.
 pub fn enter(
     triangle_words: &mut [u32],
     entry_words: &mut [u32],
@@ -116,13 +110,13 @@ pub fn enter(
     face: FaceId,
     piece: u32,
     part: Part,
-) -> Entered
+) -> Result<u32, Lack>
     ensures entry_words_value { (result, entry_buffers (left triangle_words) (left entry_words))
         ≡ entering (entry_buffers (given triangle_words) (given entry_words)) count face.0 (record { piece = piece; part = part }) }
     ensures result_value { entered_number result ≡ cond (ltb count (entry_capacity (length (given entry_words)))) 0 (lack_number Entries) }
 {
     if capacity(entry_words) <= count {
-        return Entered::Full;
+        return Err(Lack::Entries);
     }
     let x = PiecePart { piece, part };
     store(entry_words, count, x);
@@ -134,7 +128,7 @@ pub fn enter(
     );
     let last = chains::within(read, count);
     put_behind(triangle_words, entry_words, face, last, count + 1);
-    Entered::Count(count + 1)
+    Ok(count + 1)
 }
 
 // The link of a face's first entry: its number plus one, or 0 where it has none.

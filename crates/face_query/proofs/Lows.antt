@@ -1,12 +1,14 @@
 -- Where the least `low` of an edge's windows fails the Rust's test, no window of the edge passes it, since a sum rises with its operands and d does not change: the edge is passed over. Assumes nothing.
 use Prim.Native.Nat.{ℕ, ◌-◌, ◌<◌}
-use mathlib.Core.Bool.{Bool, true, false, cond}
+use mathlib.Core.Bool.{true, false}
 use mathlib.Core.List.{List, [], ◌∷◌}
 use mathlib.Core.Logic.{◌≢◌}
 use mathlib.Core.Path.{◌≡◌, refl, sym, ap, ◌∙◌}
 use lib.Dec.{T, not_T}
 use lib.Ieee.{Float, nan, inf, fin, binary64, add, lt, le, is_nan}
 use lib.Ieee.Bits.{is_false}
+use Rattle.std.specs.declared.option.Option.{Option}
+use Rattle.std.specs.declared.option.Option.TheVariants.{Some, None}
 use Rattle.float64.specs.Scalar.{min_of}
 use Rattle.float64.specs.Notation.{◌⊕◌}
 use Rattle.float_laws.proofs.Order.{Number, le_refl, le_trans, le_number_l, lt_number_l, lt_number_r, lt_not_le, le_lt_trans, past_infinity}
@@ -21,37 +23,37 @@ use Rattle.last_pass.specs.Buffers.{chain_behind}
 use Rattle.last_pass.proofs.Chains.{chain_end, chain_next, chain_out}
 use Rattle.face_query.specs.declared.LowWalk.{LowWalk}
 use Rattle.face_query.specs.FaceDistance.{through_windows, records_on}
-use Rattle.face_query.specs.Lows.{low_in, least_low, side_low, walk_low}
+use Rattle.face_query.specs.Lows.{low_in, least_low, side_low, still_behind, walk_low}
 use Rattle.face_query.proofs.Steps.{window_far}
 
 -- ---- the turns of a walk
 module _ (made : ℕ) (b : Links) (f : List Float) (e : ℕ) where
   -- the walk is over: nothing is left of it, or it may not go on
-  pub walk_over : (left : ℕ) (s : LowWalk) → s.more ≡ false → walk_low made b f e left s ≡ s.low
+  pub walk_over : (left : ℕ) (s : LowWalk) → s.before ≡ None → walk_low made b f e left s ≡ s.low
   unfolding least_low
-  walk_over left s h = ap (λ (t : Bool). least_low f s.low (cond t (chain_behind made b e left s.before) [])) h
+  walk_over left s h = ap (λ (t : Option ℕ). least_low f s.low (still_behind made b e left t)) h
 
   pub walk_out : (left : ℕ) (s : LowWalk) → left ≡ 0 → walk_low made b f e left s ≡ s.low
   unfolding least_low
-  walk_out left s h = go s.more where
-    go : (t : Bool) → least_low f s.low (cond t (chain_behind made b e left s.before) []) ≡ s.low
-    go true = ap (least_low f s.low) (chain_out made b e left s.before h)
-    go false = refl
+  walk_out left s h = go s.before where
+    go : (t : Option ℕ) → least_low f s.low (still_behind made b e left t) ≡ s.low
+    go None = refl
+    go (Some k) = ap (least_low f s.low) (chain_out made b e left k h)
 
-  module _ (s : LowWalk) (m : s.more ≡ true) (r : ℕ) (read : r ≡ link_in made (link_at b e s.before)) (left : ℕ) (p : 0 < left) where
-    going : walk_low made b f e left s ≡ least_low f s.low (chain_behind made b e left s.before)
-    going = ap (λ (t : Bool). least_low f s.low (cond t (chain_behind made b e left s.before) [])) m
+  module _ (s : LowWalk) (k : ℕ) (m : s.before ≡ Some k) (r : ℕ) (read : r ≡ link_in made (link_at b e k)) (left : ℕ) (p : 0 < left) where
+    going : walk_low made b f e left s ≡ least_low f s.low (chain_behind made b e left k)
+    going = ap (λ (t : Option ℕ). least_low f s.low (still_behind made b e left t)) m
 
-    pub walk_ends : r ≡ 0 → walk_low made b f e (left - 1) (record { before = s.before; low = s.low; more = false }) ≡ walk_low made b f e left s
-    walk_ends z = sym (going ∙ ap (least_low f s.low) (chain_end made b e left s.before r read z))
+    pub walk_ends : r ≡ 0 → walk_low made b f e (left - 1) (record { low = s.low; before = None }) ≡ walk_low made b f e left s
+    walk_ends z = sym (going ∙ ap (least_low f s.low) (chain_end made b e left k r read z))
 
-    pub walk_on_lem : r ≢ 0 → (low : Float) → low ≡ min_of s.low (low_in f (r - 1)) → walk_low made b f e (left - 1) (record { before = r; low = low; more = true }) ≡ walk_low made b f e left s
+    pub walk_on_lem : r ≢ 0 → (low : Float) → low ≡ min_of s.low (low_in f (r - 1)) → walk_low made b f e (left - 1) (record { low = low; before = Some r }) ≡ walk_low made b f e left s
     unfolding least_low
     walk_on_lem q low h =
         ap (λ (v : Float). least_low f v (chain_behind made b e (left - 1) r)) h
-        ∙ sym (going ∙ ap (least_low f s.low) (chain_next made b e left s.before r read p q))
+        ∙ sym (going ∙ ap (least_low f s.low) (chain_next made b e left k r read p q))
 
-  pub walk_stays : (s : LowWalk) → s.more ≡ false → (left : ℕ) → walk_low made b f e (left - 1) s ≡ walk_low made b f e left s
+  pub walk_stays : (s : LowWalk) → s.before ≡ None → (left : ℕ) → walk_low made b f e (left - 1) s ≡ walk_low made b f e left s
   walk_stays s h left = walk_over (left - 1) s h ∙ sym (walk_over left s h)
 
 -- ---- what the least value says of the windows

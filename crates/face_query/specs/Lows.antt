@@ -1,5 +1,5 @@
 -- The least `low` of the windows on a chain. Definitions only: `far_side` in proofs/Lows.antt says that no window is looked at where it fails the Rust's test.
-use Rattle.std.specs.Prelude.{ℕ, ◌+◌, ◌-◌, ◌*◌, ◌<◌, false, List, [], ◌∷◌, ◌≡◌, Float, get_or, if◌then◌else◌}
+use Rattle.std.specs.Prelude.{ℕ, ◌+◌, ◌-◌, ◌*◌, ◌<◌, false, List, [], ◌∷◌, ◌≡◌, Float, Option, Some, None, get_or}
 use Rattle.std.specs.Float.{nan, inf}
 use Rattle.layout.specs.Layout.{reals_per_window, window_low}
 use Rattle.float64.specs.Scalar.{min_of}
@@ -20,9 +20,14 @@ least_low f low (i ∷ is) = least_low f (min_of low (low_in f i)) is
 abbrev pub side_low : List ℕ → List ℕ → List ℕ → List Float → ℕ → ℕ → ℕ → Float
 side_low edge_words triangle_words words reals made f i = least_low reals (inf false) (chain_behind made (links edge_words words) (side_in triangle_words f i) made 0)
 
+-- the windows behind a link, if there may be more, and at most so many
+abbrev pub still_behind : ℕ → Links → ℕ → ℕ → Option ℕ → List ℕ
+still_behind made b e left None = []
+still_behind made b e left (Some k) = chain_behind made b e left k
+
 -- what a walk comes to when it goes on for at most so many windows
 abbrev pub walk_low : ℕ → Links → List Float → ℕ → ℕ → LowWalk → Float
-walk_low made b f e left s = least_low f s.low (if s.more then chain_behind made b e left s.before else [])
+walk_low made b f e left s = least_low f s.low (still_behind made b e left s.before)
 
 -- r is a walk one window further on than s, or as far where there is none: it comes to the same with one window less to go
 abbrev pub WalksOn : ℕ → Links → List Float → ℕ → LowWalk → LowWalk → Type 0

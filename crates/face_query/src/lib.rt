@@ -2,7 +2,7 @@
 // for more entries than the buffer counts for.
 #![tactic(auto)]
 
-ghost use Rattle.std.specs.Prelude.{◌≡◌, false, not, cond, ◌||◌, ◌-◌, ◌≤◌, ◌<◌, length};
+ghost use Rattle.std.specs.Prelude.{◌≡◌, false, cond, is_none, ◌&&◌, ◌-◌, ◌≤◌, ◌<◌, length};
 ghost use Rattle.std.specs.Float.{inf};
 ghost use Rattle.windows.specs.Windows.{capacity_of, window_at};
 ghost use Rattle.chains.specs.Chains.{links, link_in, link_at};
@@ -104,28 +104,18 @@ fn through_chain(
     d
 }
 
-// A walk along the chain of an edge for the least `low` of its windows: the link before the next one, what it has come to, and whether there may be more.
+// A walk along the chain of an edge for the least `low` of its windows: what it has come to, and the link before the next one (0: that is the head), if there may be more.
 #[derive(Clone, Copy)]
 pub struct LowWalk {
-    pub before: u32,
     pub low: f64,
-    pub more: bool,
+    pub before: Option<u32>,
 }
 
 // None of three walks has more.
 fn over(a: LowWalk, b: LowWalk, c: LowWalk) -> bool
-    ensures { result ≡ not (a.more || (b.more || c.more)) }
+    ensures { result ≡ (is_none a.before && (is_none b.before && is_none c.before)) }
 {
-    if a.more {
-        return false;
-    }
-    if b.more {
-        return false;
-    }
-    if c.more {
-        return false;
-    }
-    true
+    a.before.is_none() && b.before.is_none() && c.before.is_none()
 }
 
 // The next window of the chain, if there is one.
@@ -139,23 +129,21 @@ fn pass_low(
 ) -> LowWalk
     ensures { WalksOn made (links edge_words.now words.now) reals.now e.0 s result }
 {
-    if s.more {
-        let at = link_behind(edge_words, words, made, e, s.before);
-        if at == 0 {
-            return LowWalk {
-                before: s.before,
-                low: s.low,
-                more: false,
-            };
-        }
-        let low = float64::min(s.low, read_f64(reals, REALS_PER_WINDOW, at - 1, WINDOW_LOW));
+    let Some(before) = s.before else {
+        return s;
+    };
+    let at = link_behind(edge_words, words, made, e, before);
+    if at == 0 {
         return LowWalk {
-            before: at,
-            low,
-            more: true,
+            low: s.low,
+            before: None,
         };
     }
-    s
+    let low = float64::min(s.low, read_f64(reals, REALS_PER_WINDOW, at - 1, WINDOW_LOW));
+    LowWalk {
+        low,
+        before: Some(at),
+    }
 }
 
 // The least `low` on each side of a face.
@@ -181,9 +169,8 @@ fn side_lows(
         × (result.third ≡ least_low reals.now (inf false) (chain_behind made (links edge_words.now words.now) e2.0 made 0))) }
 {
     let mut a = LowWalk {
-        before: 0,
         low: 1.0 / 0.0,
-        more: true,
+        before: Some(0),
     };
     let mut b = a;
     let mut c = a;

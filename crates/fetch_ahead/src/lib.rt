@@ -99,14 +99,12 @@ fn over(s: Walks) -> bool {
 fn walk(words: &[u32], reals: &[f64], made: u32, first: Walks) -> f64 {
     let mut s = first;
     let mut x = 0.0;
-    let mut left = made;
-    while 0 < left {
+    for _ in 0..made {
         if over(s) {
             return x;
         }
         x = least_start(reals, s, x);
         s = on(words, made, s);
-        left -= 1;
     }
     x
 }

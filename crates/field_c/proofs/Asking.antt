@@ -8,6 +8,7 @@ use borrow.Author.Tests.{leb-true, le-leb, lt-leb}
 use lib.Dec.{leb}
 use lib.Ieee.{Float}
 use lib.ListN.{set}
+use Rattle.std.specs.declared.result.Result.{Result}
 use Rattle.layout.specs.Layout.{words_per_edge}
 use Rattle.buffers.specs.Slots.{slots_of}
 use Rattle.vec3.specs.declared.Vec3.{Vec3}
@@ -15,8 +16,8 @@ use Rattle.windows.specs.Windows.{capacity_of}
 use Rattle.computed.specs.declared.Computed.TheVariants.{Field as isField}
 use Rattle.computed.specs.declared.Field.{Field}
 use Rattle.queries.specs.of_field_check.FieldCheck.{JobSlices, FieldSlices, field_unsound}
-use Rattle.queries.specs.declared.FaceDistance.{FaceDistance}
-use Rattle.queries.specs.declared.EdgeDistance.{EdgeDistance}
+use Rattle.queries.specs.declared.FaceRefusal.{FaceRefusal}
+use Rattle.queries.specs.declared.EdgeRefusal.{EdgeRefusal}
 use Rattle.queries.specs.Answers.{face_answer_number, edge_answer_number, face_value, edge_value}
 use Rattle.queries.specs.Queries.{face_answer, edge_answer, face_query, edge_query}
 use Rattle.queries.proofs.Checked.{enough, taken, left}
@@ -58,7 +59,7 @@ module _ (n : Field) (a w r : ℕ) where
 -- the question is answered, or the slices have too few slots
 module _ (j : JobSlices) (b : FieldSlices) (d : List Float) {m n : Field} (told : m ≡ n) {t : Bool} (test : t ≡ field_fits_in m b) where
   module _ (f : ℕ) (p : Vec3) where
-    pub face_told : {x : FaceDistance} {k : ℕ} {v : Float} {d' : List Float} → t ≡ true → x ≡ face_answer m b j f p → v ≡ face_value x → d' ≡ set d 0 v → k ≡ face_answer_number x → (k, d') ≡ asked_face n j b f p d
+    pub face_told : {x : Result Float FaceRefusal} {k : ℕ} {v : Float} {d' : List Float} → t ≡ true → x ≡ face_answer m b j f p → v ≡ face_value x → d' ≡ set d 0 v → k ≡ face_answer_number x → (k, d') ≡ asked_face n j b f p d
     unfolding asked_face
     face_told h e v s k = (λ i. ((k ∙ ap face_answer_number e) i, (s ∙ ap (λ (z : Float). set d 0 z) (v ∙ ap face_value e)) i)) ∙ taken _ _ _ (sym test ∙ h) ∙ ap (λ (z : Field). asked_face z j b f p d) told
 
@@ -67,7 +68,7 @@ module _ (j : JobSlices) (b : FieldSlices) (d : List Float) {m n : Field} (told 
     face_unfit h = left _ _ _ _ (sym test ∙ h) refl ∙ ap (λ (z : Field). asked_face z j b f p d) told
 
   module _ (e : ℕ) (x : Float) where
-    pub edge_told : {y : EdgeDistance} {k : ℕ} {v : Float} {d' : List Float} → t ≡ true → y ≡ edge_answer m b e x → v ≡ edge_value y → d' ≡ set d 0 v → k ≡ edge_answer_number y → (k, d') ≡ asked_edge n j b e x d
+    pub edge_told : {y : Result Float EdgeRefusal} {k : ℕ} {v : Float} {d' : List Float} → t ≡ true → y ≡ edge_answer m b e x → v ≡ edge_value y → d' ≡ set d 0 v → k ≡ edge_answer_number y → (k, d') ≡ asked_edge n j b e x d
     unfolding asked_edge
     edge_told h q v s k = (λ i. ((k ∙ ap edge_answer_number q) i, (s ∙ ap (λ (z : Float). set d 0 z) (v ∙ ap edge_value q)) i)) ∙ taken _ _ _ (sym test ∙ h) ∙ ap (λ (z : Field). asked_edge z j b e x d) told
 

@@ -4,34 +4,22 @@ use mathlib.Core.List.{List}
 use mathlib.Core.Path.{◌≡◌, sym, ap, ◌∙◌, subst}
 use lib.Ieee.{Float}
 use lib.ListN.{set}
-use Rattle.slip.specs.declared.Slip.{Slip}
+use Rattle.std.specs.Prelude.{Result, Ok, Err}
 use Rattle.slip.specs.declared.SlipJob.{SlipJob}
-use Rattle.slip.specs.declared.Slip.TheVariants.{TooShort, LeftOver, UnknownKind, TooMany}
-use Rattle.slip.specs.declared.Slip.TheVariants as slip
+use Rattle.slip.specs.declared.SlipRefusal.{SlipRefusal}
+use Rattle.slip.specs.Format.{refusal_number}
 use Rattle.computed.specs.declared.Computed.{Computed}
 use Rattle.text_out.specs.Text.{Puts}
 use Rattle.print_out.specs.PrintOut.{live_count, text_of}
 use Rattle.field_c.specs.Slips.{slip_told}
 use Rattle.field_c.proofs.Told.{set_both}
 
-module _ (t : List ℕ) (l : List Float) {x : Slip} where
-  pub told_short : x ≡ TooShort → (30, (t, l)) ≡ slip_told x t l
+module _ (t : List ℕ) (l : List Float) {x : Result SlipJob SlipRefusal} where
+  pub told_refusal : (why : SlipRefusal) {r : ℕ} → x ≡ Err why → r ≡ refusal_number why → (r, (t, l)) ≡ slip_told x t l
   unfolding slip_told
-  told_short h = λ i. slip_told (sym h i) t l
+  told_refusal why h e = (λ i. (e i, (t, l))) ∙ (λ i. slip_told (sym h i) t l)
 
-  pub told_over : x ≡ LeftOver → (31, (t, l)) ≡ slip_told x t l
-  unfolding slip_told
-  told_over h = λ i. slip_told (sym h i) t l
-
-  pub told_kind : x ≡ UnknownKind → (32, (t, l)) ≡ slip_told x t l
-  unfolding slip_told
-  told_kind h = λ i. slip_told (sym h i) t l
-
-  pub told_many : x ≡ TooMany → (33, (t, l)) ≡ slip_told x t l
-  unfolding slip_told
-  told_many h = λ i. slip_told (sym h i) t l
-
-  pub told_job : (j : SlipJob) {t₁ t₂ t₃ : List ℕ} {l₁ : List Float} → x ≡ slip.Job j → t₁ ≡ set t 0 j.vertices → t₂ ≡ set t₁ 1 j.triangles → t₃ ≡ set t₂ 2 j.pieces → l₁ ≡ set l 0 j.limit
+  pub told_job : (j : SlipJob) {t₁ t₂ t₃ : List ℕ} {l₁ : List Float} → x ≡ Ok j → t₁ ≡ set t 0 j.vertices → t₂ ≡ set t₁ 1 j.triangles → t₃ ≡ set t₂ 2 j.pieces → l₁ ≡ set l 0 j.limit
       → (0, (t₃, l₁)) ≡ slip_told x t l
   unfolding slip_told
   told_job j h a b c d = (λ i. (0, (set_both 2 j.pieces c (set_both 1 j.triangles b a) i, d i))) ∙ (λ i. slip_told (sym h i) t l)

@@ -17,8 +17,7 @@ use buffers::{EdgeId, FaceId, read_u32, write_f64, write_u32};
 use computed::{Computed, Field};
 use layout::{REALS_PER_WINDOW, WORDS_PER_EDGE, WORDS_PER_WINDOW};
 use queries::{told_answer, told_field};
-use slip::Slip;
-use slip_write::Written;
+use slip::{SlipJob, SlipRefusal};
 use vec3::Vec3;
 
 // The number of this interface: another one where a name, the order of arguments or the layout of a buffer is another.
@@ -232,15 +231,12 @@ pub extern "C" fn sirmolaat_edge_at(
     20
 }
 
-fn tell_slip(slip: Slip, told: &mut [u32], limit: &mut [f64]) -> u32
+fn tell_slip(slip: Result<SlipJob, SlipRefusal>, told: &mut [u32], limit: &mut [f64]) -> u32
     ensures { (result, (told.new, limit.new)) ≡ slip_told slip told.old limit.old }
 {
     match slip {
-        Slip::TooShort => 30,
-        Slip::LeftOver => 31,
-        Slip::UnknownKind => 32,
-        Slip::TooMany => 33,
-        Slip::Job(job) => {
+        Err(why) => slip::refusal_number(why),
+        Ok(job) => {
             write_u32(told, 3, 0, 0, job.vertices);
             write_u32(told, 3, 0, 1, job.triangles);
             write_u32(told, 3, 0, 2, job.pieces);
@@ -250,12 +246,12 @@ fn tell_slip(slip: Slip, told: &mut [u32], limit: &mut [f64]) -> u32
     }
 }
 
-fn length_told(written: Written) -> usize
+fn length_told(written: Option<usize>) -> usize
     ensures { result ≡ length_told written }
 {
     match written {
-        Written::Length(n) => n,
-        Written::TooShort => 0,
+        Some(n) => n,
+        None => 0,
     }
 }
 

@@ -12,33 +12,34 @@ use lib.Dec.{ltb}
 use lib.ListN.{length}
 use Rattle.job_checks.specs.Any.{any_below}
 use Rattle.job_checks.proofs.Any.{none_yet, none_more, found}
-use Rattle.field_check.specs.declared.ChainWalk.{ChainWalk}
-use Rattle.field_check.specs.Chains.{unsound_walk, sound_walk, links_from, any_bad, walk_of, chain_of, link_total, chains_unsound}
+use Rattle.std.specs.declared.option.Option.{Option}
+use Rattle.std.specs.declared.option.Option.TheVariants.{Some, None}
+use Rattle.field_check.specs.Chains.{links_from, any_bad, walk_of, chain_of, link_total, chains_unsound}
 
 module _ (next : ℕ → ℕ) (bad : ℕ → ℕ → Bool) where
   -- ---- the turns of one walk
   module _ (left before at : ℕ) where
-    pub walk_end : at ≡ 0 → walk_of next bad left before at ≡ sound_walk left
+    pub walk_end : at ≡ 0 → walk_of next bad left before at ≡ Some left
     unfolding walk_of
     walk_end h = go left at h where
-      go : (left at : ℕ) → at ≡ 0 → walk_of next bad left before at ≡ sound_walk left
+      go : (left at : ℕ) → at ≡ 0 → walk_of next bad left before at ≡ Some left
       go zero at h = rw h refl
       go (suc left) at h = rw h refl
 
-    pub walk_over : left ≡ 0 → 0 < at → walk_of next bad left before at ≡ unsound_walk
+    pub walk_over : left ≡ 0 → 0 < at → walk_of next bad left before at ≡ None
     unfolding walk_of
     walk_over h m = go left at h m where
-      go : (left at : ℕ) → left ≡ 0 → 0 < at → walk_of next bad left before at ≡ unsound_walk
+      go : (left at : ℕ) → left ≡ 0 → 0 < at → walk_of next bad left before at ≡ None
       go left zero h m = absurd (omega arith)
       go left (suc i) h m = rw h refl
 
-    pub walk_bad : 0 < at → bad before (at - 1) ≡ true → walk_of next bad left before at ≡ unsound_walk
+    pub walk_bad : 0 < at → bad before (at - 1) ≡ true → walk_of next bad left before at ≡ None
     unfolding walk_of
     walk_bad m h = go left at m h where
-      go : (left at : ℕ) → 0 < at → bad before (at - 1) ≡ true → walk_of next bad left before at ≡ unsound_walk
+      go : (left at : ℕ) → 0 < at → bad before (at - 1) ≡ true → walk_of next bad left before at ≡ None
       go left zero m h = absurd (omega arith)
       go zero (suc i) m h = refl
-      go (suc left) (suc i) m h = let e : suc i - 1 ≡ i = omega arith in ap (λ (b : Bool). cond b unsound_walk (walk_of next bad left (suc i) (next i))) (rw e at h)
+      go (suc left) (suc i) m h = let e : suc i - 1 ≡ i = omega arith in ap (λ (b : Bool). cond b None (walk_of next bad left (suc i) (next i))) (rw e at h)
 
     pub walk_on_lem : left ≢ 0 → 0 < at → bad before (at - 1) ≡ false → walk_of next bad (left - 1) at (next (at - 1)) ≡ walk_of next bad left before at
     unfolding walk_of
@@ -49,7 +50,7 @@ module _ (next : ℕ → ℕ) (bad : ℕ → ℕ → Bool) where
       go (suc left) (suc i) q m h =
           let e : suc i - 1 ≡ i = omega arith in
           let g : suc left - 1 ≡ left = omega arith in
-          (λ j. walk_of next bad (g j) (suc i) (next (e j))) ∙ sym (ap (λ (b : Bool). cond b unsound_walk (walk_of next bad left (suc i) (next i))) (rw e at h))
+          (λ j. walk_of next bad (g j) (suc i) (next (e j))) ∙ sym (ap (λ (b : Bool). cond b None (walk_of next bad left (suc i) (next i))) (rw e at h))
 
   -- where the link before does not count, any will do
   pub walk_any : ((k m i : ℕ) → bad k i ≡ bad m i) → (n k m l : ℕ) → walk_of next bad n k l ≡ walk_of next bad n m l
@@ -57,25 +58,22 @@ module _ (next : ℕ → ℕ) (bad : ℕ → ℕ → Bool) where
   walk_any same zero k m zero = refl
   walk_any same zero k m (suc i) = refl
   walk_any same (suc n) k m zero = refl
-  walk_any same (suc n) k m (suc i) = ap (λ (b : Bool). cond b unsound_walk (walk_of next bad n (suc i) (next i))) (same k m i)
+  walk_any same (suc n) k m (suc i) = ap (λ (b : Bool). cond b None (walk_of next bad n (suc i) (next i))) (same k m i)
 
   -- ---- what it tells of the list of the chain
-  abbrev TellsBy : ℕ → ℕ → List ℕ → ℕ → Bool → Type 0
-  TellsBy n before is left true = (n < length is) ⊎ (any_bad next bad before is ≡ true)
-  TellsBy n before is left false = (n ≡ left + length is) × (any_bad next bad before is ≡ false)
-
-  abbrev Tells : ℕ → ℕ → List ℕ → ChainWalk → Type 0
-  Tells n before is r = TellsBy n before is r.left r.unsound
+  abbrev Tells : ℕ → ℕ → List ℕ → Option ℕ → Type 0
+  Tells n before is None = (n < length is) ⊎ (any_bad next bad before is ≡ true)
+  Tells n before is (Some left) = (n ≡ left + length is) × (any_bad next bad before is ≡ false)
 
   or_true_right : (a : Bool) {b : Bool} → b ≡ true → (a || b) ≡ true
   or_true_right true h = refl
   or_true_right false h = h
 
-  more : (n before i : ℕ) (is : List ℕ) (left : ℕ) (u : Bool) → bad before i ≡ false → TellsBy n (suc i) is left u → TellsBy (suc n) before (i ∷ is) left u
+  more : (n before i : ℕ) (is : List ℕ) (r : Option ℕ) → bad before i ≡ false → Tells n (suc i) is r → Tells (suc n) before (i ∷ is) r
   unfolding any_bad
-  more n before i is left false h t = (omega (arith, t.0), ap (λ (b : Bool). b || any_bad next bad (suc i) is) h ∙ t.1)
-  more n before i is left true h (inl m) = inl (omega arith)
-  more n before i is left true h (inr e) = inr (or_true_right (bad before i) e)
+  more n before i is (Some left) h t = (omega (arith, t.0), ap (λ (b : Bool). b || any_bad next bad (suc i) is) h ∙ t.1)
+  more n before i is None h (inl m) = inl (omega arith)
+  more n before i is None h (inr e) = inr (or_true_right (bad before i) e)
 
   walk_tells : (most n before l : ℕ) → n < most → Tells n before (links_from next bad most l) (walk_of next bad n before l)
   unfolding links_from any_bad walk_of
@@ -85,9 +83,9 @@ module _ (next : ℕ → ℕ) (bad : ℕ → ℕ → Bool) where
   walk_tells (suc most) zero before (suc i) m = inl (omega arith)
   walk_tells (suc most) (suc n) before (suc i) m = go (bad before i) refl (walk_tells most n (suc i) (next i) (omega arith)) where
     go : (b : Bool) → bad before i ≡ b → Tells n (suc i) (links_from next bad most (next i)) (walk_of next bad n (suc i) (next i))
-        → Tells (suc n) before (i ∷ links_from next bad most (next i)) (cond b unsound_walk (walk_of next bad n (suc i) (next i)))
+        → Tells (suc n) before (i ∷ links_from next bad most (next i)) (cond b None (walk_of next bad n (suc i) (next i)))
     go true h t = inr (ap (λ (b : Bool). b || any_bad next bad (suc i) (links_from next bad most (next i))) h)
-    go false h t = more n before i (links_from next bad most (next i)) (walk_of next bad n (suc i) (next i)).left (walk_of next bad n (suc i) (next i)).unsound h t
+    go false h t = more n before i (links_from next bad most (next i)) (walk_of next bad n (suc i) (next i)) h t
 
   -- ---- the chains one after the other, with so many links left of `count` before chain k
   module _ (head : ℕ → ℕ) (count : ℕ) where
@@ -113,18 +111,18 @@ module _ (next : ℕ → ℕ) (bad : ℕ → ℕ → Bool) where
       go (yes g) below = omega (arith, below g, total_suc m)
       go (no g) below = let e : k ≡ suc m = omega arith in rw e (omega arith)
 
-    module _ (left k : ℕ) (s : SoundSoFar left k) (r : ChainWalk) (is : r ≡ walk_of next bad left 0 (head k)) where
+    module _ (left k : ℕ) (s : SoundSoFar left k) (r : Option ℕ) (is : r ≡ walk_of next bad left 0 (head k)) where
       tells : Tells left 0 (chain_of next bad head count k) r
-      tells = subst (λ (z : ChainWalk). Tells left 0 (chain_of next bad head count k) z) (sym is) (walk_tells (suc count) left 0 (head k) (omega (arith, s.total)))
+      tells = subst (λ (z : Option ℕ). Tells left 0 (chain_of next bad head count k) z) (sym is) (walk_tells (suc count) left 0 (head k) (omega (arith, s.total)))
 
-      pub sound_on : r.unsound ≡ false → SoundSoFar r.left (k + 1)
-      sound_on e =
-          let t = subst (λ (u : Bool). TellsBy left 0 (chain_of next bad head count k) r.left u) e tells in
+      pub sound_on : (rest : ℕ) → r ≡ Some rest → SoundSoFar rest (k + 1)
+      sound_on rest e =
+          let t = subst (λ (z : Option ℕ). Tells left 0 (chain_of next bad head count k) z) e tells in
           record { total = rw (add-one k, total_suc k) (omega (arith, t.0, s.total)); none = none_more bad_chain k s.none t.1 }
 
-      pub unsound_there : r.unsound ≡ true → (m : ℕ) → k < m → chains_unsound next bad head count m ≡ true
+      pub unsound_there : r ≡ None → (m : ℕ) → k < m → chains_unsound next bad head count m ≡ true
       unfolding chains_unsound
-      unsound_there e m h = elim (subst (λ (u : Bool). TellsBy left 0 (chain_of next bad head count k) r.left u) e tells) [
+      unsound_there e m h = elim (subst (λ (z : Option ℕ). Tells left 0 (chain_of next bad head count k) z) e tells) [
         | inl g ↦ ap (λ (b : Bool). b || any_below bad_chain m) (lt-ltb count (link_total next bad head count m) (omega (arith, g, s.total, total_suc k, total_mono (suc k) m h)))
         | inr f ↦ or_true_right (ltb count (link_total next bad head count m)) (found bad_chain k m h f)
       ]

@@ -1,17 +1,9 @@
 -- Chains of numbers through a buffer, of which a link is a number plus one and 0 is none: how many links they have, and a test of every number on them. Definitions only.
 use Prim.Native.Nat.{ℕ, zero, suc, ◌+◌}
-use Rattle.std.specs.Prelude.{Bool, true, false, cond, ◌||◌, List, [], ◌∷◌}
+use Rattle.std.specs.Prelude.{Bool, false, cond, ◌||◌, List, [], ◌∷◌, Option, Some, None}
 use Rattle.std.proofs.Math.Dec.{ltb}
 use Rattle.std.proofs.Math.ListN.{length}
 use Rattle.job_checks.specs.Any.{any_below}
-use Rattle.field_check.specs.declared.ChainWalk.{ChainWalk}
-
--- what a walk comes to: a chain that is no field's, or so many links left
-abbrev pub unsound_walk : ChainWalk
-unsound_walk = record { unsound = true; left = 0 }
-
-abbrev pub sound_walk : ℕ → ChainWalk
-sound_walk n = record { unsound = false; left = n }
 
 -- `next` is the link behind a number; `bad` tests a number, given the link that led to the one before it, 0 at the start of a chain
 module _ (next : ℕ → ℕ) (bad : ℕ → ℕ → Bool) where
@@ -26,11 +18,11 @@ module _ (next : ℕ → ℕ) (bad : ℕ → ℕ → Bool) where
   any_bad before (i ∷ is) = bad before i || any_bad (suc i) is
 
   -- one walk along a chain: how many links are left of n, or that a number is bad or the chain has more than n
-  unfoldable pub walk_of : ℕ → ℕ → ℕ → ChainWalk
-  walk_of zero before zero = sound_walk 0
-  walk_of zero before (suc i) = unsound_walk
-  walk_of (suc n) before zero = sound_walk (suc n)
-  walk_of (suc n) before (suc i) = cond (bad before i) unsound_walk (walk_of n (suc i) (next i))
+  unfoldable pub walk_of : ℕ → ℕ → ℕ → Option ℕ
+  walk_of zero before zero = Some 0
+  walk_of zero before (suc i) = None
+  walk_of (suc n) before zero = Some (suc n)
+  walk_of (suc n) before (suc i) = cond (bad before i) None (walk_of n (suc i) (next i))
 
   -- the chains that start at `head` of 0, 1, .. in a buffer of so many places; none is followed for more links than one above those
   module _ (head : ℕ → ℕ) (count : ℕ) where

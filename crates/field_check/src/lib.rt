@@ -22,13 +22,6 @@ use layout::{
 };
 pub use mesh_readers as of_mesh_readers;
 
-// What a walk along a chain comes to: that it is no field's, or how many more links there may be.
-#[derive(Clone, Copy)]
-pub struct ChainWalk {
-    pub unsound: bool,
-    pub left: u32,
-}
-
 fn either(a: bool, b: bool) -> bool
     ensures { result ≡ (a || b) }
 {
@@ -151,12 +144,10 @@ fn counts_differ(
 fn any_above_one(kinds: &[u8]) -> bool
     ensures { result ≡ any_below (above_one kinds.now) (length kinds.now) }
 {
-    let mut i = 0;
-    while i < kinds.len() {
-        if kinds[i] > 1 {
+    for &kind in kinds {
+        if kind > 1 {
             return true;
         }
-        i += 1;
     }
     false
 }
@@ -209,12 +200,10 @@ fn edge_outside(n: Field, edge_words: &[u32], e: u32) -> bool
 fn any_edge_outside(n: Field, edges: u32, edge_words: &[u32]) -> bool
     ensures { result ≡ any_below (edge_outside n edge_words.now) edges }
 {
-    let mut e: u32 = 0;
-    while e < edges {
+    for e in 0..edges {
         if edge_outside(n, edge_words, e) {
             return true;
         }
-        e += 1;
     }
     false
 }
@@ -239,12 +228,10 @@ fn triangle_outside(n: Field, entries: u32, triangle_words: &[u32], f: u32) -> b
 fn any_triangle_outside(n: Field, triangles: u32, entries: u32, triangle_words: &[u32]) -> bool
     ensures { result ≡ any_below (triangle_outside n entries triangle_words.now) triangles }
 {
-    let mut f: u32 = 0;
-    while f < triangles {
+    for f in 0..triangles {
         if triangle_outside(n, entries, triangle_words, f) {
             return true;
         }
-        f += 1;
     }
     false
 }
@@ -264,12 +251,10 @@ fn window_outside(n: Field, words: &[u32], i: u32) -> bool
 fn any_window_outside(n: Field, made: u32, words: &[u32]) -> bool
     ensures { result ≡ any_below (window_outside n words.now) made }
 {
-    let mut i: u32 = 0;
-    while i < made {
+    for i in 0..made {
         if window_outside(n, words, i) {
             return true;
         }
-        i += 1;
     }
     false
 }
@@ -294,8 +279,8 @@ fn window_unsound(reals: &[f64], before: u32, i: u32) -> bool
     either(a, not_rising(reals, before, start))
 }
 
-// Along the list of an edge, of which `head` is the first link.
-fn walk_windows(words: &[u32], reals: &[f64], head: u32, most: u32) -> ChainWalk
+// Along the list of an edge, of which `head` is the first link: how many more links there may be, if the list is a field's.
+fn walk_windows(words: &[u32], reals: &[f64], head: u32, most: u32) -> Option<u32>
     ensures { result ≡ walk_of (link_of words.now) (window_unsound reals.now) most 0 head }
 {
     let mut before = 0;
@@ -303,40 +288,28 @@ fn walk_windows(words: &[u32], reals: &[f64], head: u32, most: u32) -> ChainWalk
     let mut left = most;
     while 0 < at {
         if left == 0 {
-            return ChainWalk {
-                unsound: true,
-                left: 0,
-            };
+            return None;
         }
         if window_unsound(reals, before, at - 1) {
-            return ChainWalk {
-                unsound: true,
-                left: 0,
-            };
+            return None;
         }
         before = at;
         at = read_u32(words, WORDS_PER_WINDOW, at - 1, WINDOW_LINK);
         left -= 1;
     }
-    ChainWalk {
-        unsound: false,
-        left,
-    }
+    Some(left)
 }
 
 fn windows_unsound(edge_words: &[u32], words: &[u32], reals: &[f64], made: u32, edges: u32) -> bool
     ensures { result ≡ windows_unsound edge_words.now words.now reals.now made edges }
 {
     let mut left = made;
-    let mut e: u32 = 0;
-    while e < edges {
+    for e in 0..edges {
         let head = read_u32(edge_words, WORDS_PER_EDGE, e, EDGE_HEAD);
-        let walked = walk_windows(words, reals, head, left);
-        if walked.unsound {
+        let Some(rest) = walk_windows(words, reals, head, left) else {
             return true;
-        }
-        left = walked.left;
-        e += 1;
+        };
+        left = rest;
     }
     false
 }
@@ -357,8 +330,8 @@ fn entry_outside(entry_words: &[u32], pieces: u32, entries: u32, i: u32) -> bool
     either(a, either(b, c))
 }
 
-// Along the entries of a face, of which `first` is the first link.
-fn walk_entries(entry_words: &[u32], pieces: u32, first: u32, most: u32) -> ChainWalk
+// Along the entries of a face, of which `first` is the first link: how many more links there may be, if they are a field's.
+fn walk_entries(entry_words: &[u32], pieces: u32, first: u32, most: u32) -> Option<u32>
     ensures { result ≡ walk_of (next_entry_of entry_words.now) (λ (before i : ℕ). entry_outside pieces entry_words.now i) most 0 first }
 {
     let entries = face_entries::capacity(entry_words);
@@ -366,39 +339,27 @@ fn walk_entries(entry_words: &[u32], pieces: u32, first: u32, most: u32) -> Chai
     let mut left = most;
     while 0 < at {
         if left == 0 {
-            return ChainWalk {
-                unsound: true,
-                left: 0,
-            };
+            return None;
         }
         if entry_outside(entry_words, pieces, entries, at - 1) {
-            return ChainWalk {
-                unsound: true,
-                left: 0,
-            };
+            return None;
         }
         at = read_u32(entry_words, WORDS_PER_ENTRY, at - 1, ENTRY_LINK);
         left -= 1;
     }
-    ChainWalk {
-        unsound: false,
-        left,
-    }
+    Some(left)
 }
 
 fn entries_unsound(triangle_words: &[u32], entry_words: &[u32], pieces: u32, triangles: u32) -> bool
     ensures { result ≡ entries_unsound triangle_words.now entry_words.now pieces triangles }
 {
     let mut left = face_entries::capacity(entry_words);
-    let mut f: u32 = 0;
-    while f < triangles {
+    for f in 0..triangles {
         let first = read_u32(triangle_words, WORDS_PER_TRIANGLE, f, TRIANGLE_FIRST_ENTRY);
-        let walked = walk_entries(entry_words, pieces, first, left);
-        if walked.unsound {
+        let Some(rest) = walk_entries(entry_words, pieces, first, left) else {
             return true;
-        }
-        left = walked.left;
-        f += 1;
+        };
+        left = rest;
     }
     false
 }
@@ -415,14 +376,10 @@ fn points_outside(
         || (any_below (triangle_outside n (entry_capacity (length entry_words.now)) triangle_words.now) n.triangles
         || any_below (window_outside n words.now) n.windows)) }
 {
-    if any_edge_outside(n, n.edges, edge_words) {
-        return true;
-    }
     let entries = face_entries::capacity(entry_words);
-    if any_triangle_outside(n, n.triangles, entries, triangle_words) {
-        return true;
-    }
-    any_window_outside(n, n.windows, words)
+    any_edge_outside(n, n.edges, edge_words)
+        || any_triangle_outside(n, n.triangles, entries, triangle_words)
+        || any_window_outside(n, n.windows, words)
 }
 
 fn lists_unsound(
@@ -436,13 +393,12 @@ fn lists_unsound(
     ensures { result ≡ (windows_unsound edge_words.now words.now reals.now n.windows n.edges || entries_unsound triangle_words.now entry_words.now n.pieces
         n.triangles) }
 {
-    if windows_unsound(edge_words, words, reals, n.windows, n.edges) {
-        return true;
-    }
-    entries_unsound(triangle_words, entry_words, n.pieces, n.triangles)
+    windows_unsound(edge_words, words, reals, n.windows, n.edges)
+        || entries_unsound(triangle_words, entry_words, n.pieces, n.triangles)
 }
 
 // Refusal 20 of a field that a job returned, with the job's mesh and pieces and the field's buffers as they are lent to a query.
+#[tactic(auto, unfolding(crate::specs::FieldCheck::field_unsound, crate::specs::FieldCheck::points_outside, crate::specs::FieldCheck::lists_unsound))]
 pub fn is_unsound(
     n: Field,
     vertices: &[f64],
@@ -462,7 +418,7 @@ pub fn is_unsound(
     ensures { result ≡ field_unsound n (job_slices vertices.now triangles.now kinds.now faces.now coords.now)
         (field_slices edge_words.now edge_reals.now triangle_words.now triangle_reals.now vertex.now words.now reals.now entry_words.now) }
 {
-    if too_few_slots(
+    too_few_slots(
         n,
         edge_words,
         edge_reals,
@@ -472,17 +428,8 @@ pub fn is_unsound(
         words,
         reals,
         entry_words,
-    ) {
-        return true;
-    }
-    if counts_differ(n, vertices, triangles, kinds, faces, coords) {
-        return true;
-    }
-    if meets_refusal(vertices, triangles, kinds, faces, coords) {
-        return true;
-    }
-    if points_outside(n, edge_words, triangle_words, words, entry_words) {
-        return true;
-    }
-    lists_unsound(n, edge_words, triangle_words, words, reals, entry_words)
+    ) || counts_differ(n, vertices, triangles, kinds, faces, coords)
+        || meets_refusal(vertices, triangles, kinds, faces, coords)
+        || points_outside(n, edge_words, triangle_words, words, entry_words)
+        || lists_unsound(n, edge_words, triangle_words, words, reals, entry_words)
 }

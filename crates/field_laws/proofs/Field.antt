@@ -17,9 +17,8 @@ use Rattle.nat_laws.proofs.Lists.{length_list_of, get_d_list_of}
 use Rattle.work_laws.specs.of_better.Claim.{All, Point}
 use Rattle.buffers.specs.declared.EdgeId.{EdgeId}
 use Rattle.buffers.specs.declared.FaceId.{FaceId}
-use Rattle.heap.specs.declared.Popped.{Popped}
-use Rattle.heap.specs.declared.Popped.TheVariants.{Empty, First}
-use Rattle.heap.specs.Queue.{Queue, at, slots, popped, popping}
+use Rattle.std.specs.Prelude.{None, Some}
+use Rattle.heap.specs.Queue.{Queue, at, slots, popped, popping, Popped}
 use Rattle.heap.specs.Model.{weight_of}
 use Rattle.windows.specs.declared.WindowRecord.{WindowRecord}
 use Rattle.windows.specs.Windows.{capacity_of, window_at, edge_stored, into_of}
@@ -74,7 +73,7 @@ queue_empty : (q : Queue) (n : ℕ) → n ≤ slots q → is_empty (popping q n)
 unfolding is_empty
 queue_empty q zero h e = refl
 queue_empty q (suc n) h e =
-    let z : (popping q (suc n)).0 ≡ First (at q 0) (suc n - 1) = (λ i. (cond {A = Popped × Queue} (lt-ltb 0 (suc n) (omega arith) i && le-leb (suc n) (slots q) h i) (First (at q 0) (suc n - 1), popped q (suc n - 1)) (Empty, q)).0) in
+    let z : (popping q (suc n)).0 ≡ Some (at q 0, suc n - 1) = (λ i. (cond {A = Popped × Queue} (lt-ltb 0 (suc n) (omega arith) i && le-leb (suc n) (slots q) h i) (Some (at q 0, suc n - 1), popped q (suc n - 1)) (None, q)).0) in
     absurd (subst T (sym (sym (ap is_empty z) ∙ e)) tt)
 
 -- so none of the windows that have events where they are queued is queued

@@ -1,4 +1,5 @@
 -- A job that comes to a field passed refusals 1 to 10; its state has the laws of the work, and its mesh stands in the buffers. Assumes nothing.
+use Rattle.std.specs.Prelude.{Result, Ok}
 use Prim.Native.Nat.{ℕ, zero, suc, ◌/◌, ◌≤◌, ◌<◌}
 use native.Mathlib.Omega.{arith}
 use mathlib.Core.Bool.{true, false}
@@ -19,8 +20,7 @@ use Rattle.topology.specs.Edges.{edges, shared_by_three}
 use Rattle.topology.specs.Frames.{len}
 use Rattle.work_laws.specs.of_mesh_laws.Bounds.{EdgeLength}
 use Rattle.work_laws.proofs.laws_of_mesh_laws.Frames.{len_bounds}
-use Rattle.work_laws.specs.of_mesh.declared.Meshed.{Meshed}
-use Rattle.work_laws.specs.of_mesh.declared.Meshed.TheVariants.{Edges}
+use Rattle.work_laws.specs.of_mesh.declared.Refusal.{Refusal}
 use Rattle.work_laws.specs.of_mesh.Topology.{MeshBuffers, filled, topology_of}
 use Rattle.work_laws.specs.of_mesh.Answer.{counts_in, mesh_refusals, mesh_refusal, afterwards, Answered}
 use Rattle.work_laws.specs.of_mesh.Held.{Held, Fresh}
@@ -89,8 +89,8 @@ module _ (j : Job) (b : FieldBuffers) (most : ℕ) (x : Inserted) (n : ℕ) (is 
   worked : work_of j built.vertex_words_held (work_slices_in b) lent_cuts most ≡ field x n
   worked = sym (compute_worked j b most passed) ∙ is
 
-  abbrev told : Meshed
-  told = Edges (length (edges j.triangles))
+  abbrev told : Result ℕ Refusal
+  told = Ok (length (edges j.triangles))
 
   answered : Answered j (other_counts b) told b.mesh built
   unfolding mesh_refusals

@@ -5,9 +5,8 @@ use mathlib.Core.List.{List, [], ◌++◌}
 use mathlib.Core.Path.{◌≡◌, refl, sym, ap, ◌∙◌}
 use lib.Ieee.{Float}
 use Rattle.heap.specs.declared.Event.{Event}
-use Rattle.heap.specs.declared.Popped.{Popped}
-use Rattle.heap.specs.declared.Popped.TheVariants.{First}
-use Rattle.heap.specs.Queue.{Queue, popping}
+use Rattle.std.specs.Prelude.{Some}
+use Rattle.heap.specs.Queue.{Queue, popping, Popped}
 use Rattle.heap.specs.Model.{TakenFrom, taking}
 use Rattle.compute_spec.specs.of_trim_model.Model.{Candidate}
 use Rattle.compute_spec.specs.of_trim_state.State.{State, Result}
@@ -58,8 +57,8 @@ module _ (Q : QueueKind) (L : LeastFirst Q) (slots : Slots) (small : slots.windo
         go _ reached _ is (no_event heap) ih = sym (candidates_idle slots.cuts slots.windows limit flags v triangles s (idle_of_lem Q L slots small limit pseudo flags v triangles named xs s heap is) (suc k))
         go _ reached _ is (one_event x t n heap same) ih =
             (λ i. turn_candidates limit v triangles (turn_same Q L slots small limit pseudo flags v triangles named x.item x.key s xs q i) ++ or_none (over k) (event_in Q slots limit pseudo v triangles x t (like Q L slots s xs q)))
-            ∙ ap (λ (l : List Candidate). candidates_with limit v triangles s (First x n) ++ l) (later_same k xs ih (event_in Q slots limit pseudo v triangles x t (like Q L slots s xs q)) (step s (First x n, heap)) (event_meets Q L slots small limit pseudo flags v triangles named x n heap s xs q t reached same a))
-            ∙ sym (more_heaped k s (First x n, heap) is)
+            ∙ ap (λ (l : List Candidate). candidates_with limit v triangles s (Some (x, n)) ++ l) (later_same k xs ih (event_in Q slots limit pseudo v triangles x t (like Q L slots s xs q)) (step s (Some (x, n), heap)) (event_meets Q L slots small limit pseudo flags v triangles named x n heap s xs q t reached same a))
+            ∙ sym (more_heaped k s (Some (x, n), heap) is)
 
   -- after insertion
   pub offered_same : (k : ℕ) (r : Reply (FieldState Q.State)) (o : InsertResult) → MeetsInserted Q L slots r o → or_none (over k) r ≡ then_offered o (λ (x : Inserted). heaped k x.state)

@@ -1,4 +1,5 @@
 -- The ends of the edges of a job whose mesh passed: their numbers are small, and the vertices' words have their flags as the job has them. Assumes nothing.
+use Rattle.std.specs.Prelude.{Ok}
 use Prim.Native.Nat.{ℕ, zero, suc, ◌+◌, ◌*◌, ◌/◌, ◌<◌}
 use native.Mathlib.Omega.{arith}
 use mathlib.Core.Bool.{Bool, true, false}
@@ -17,7 +18,6 @@ use Rattle.topology.specs.Edges.{EndPair, no_edge, edges, shared_by_three}
 use Rattle.topology.proofs.Checked.{edge_ends}
 use Rattle.vertex_faces.specs.Ranges.{with_ranges, with_flags}
 use Rattle.compute_spec.specs.of_mesh.declared.OtherCounts.{OtherCounts}
-use Rattle.compute_spec.specs.of_mesh.declared.Meshed.TheVariants.{Edges}
 use Rattle.compute_spec.specs.of_mesh.Topology.{MeshBuffers, vertex_words, filled, topology_of}
 use Rattle.compute_spec.specs.of_mesh.Answer.{counts_in, mesh_refusals, mesh_refusal, afterwards, Answered}
 use Rattle.compute_spec.proofs.laws_of_mesh.Fields.{held}
@@ -52,7 +52,7 @@ module _ (j : Job) (others : OtherCounts) (before : MeshBuffers) (passed : mesh_
   checked : Sound j (counts_in before others)
   checked = sound j (counts_in before others) both.0
 
-  answered : Answered j others (Edges (length (edges j.triangles))) before built
+  answered : Answered j others (Ok (length (edges j.triangles))) before built
   answered = record {
     number = sym passed;
     edge_count_held = λ h. refl;
@@ -67,7 +67,7 @@ module _ (j : Job) (others : OtherCounts) (before : MeshBuffers) (passed : mesh_
 
   there : (k : ℕ) → k < vertex_count j → Here k
   there k l =
-      flagged k ((held j others (Edges (length (edges j.triangles))) before built answered (length (edges j.triangles)) refl).flag k l) (omega (arith, l, checked.whole.few_vertices))
+      flagged k ((held j others (Ok (length (edges j.triangles))) before built answered (length (edges j.triangles)) refl).flag k l) (omega (arith, l, checked.whole.few_vertices))
 
   -- what stands where there is no edge has vertex 0 for its ends
   first : (n : ℕ) → vertex_count j ≡ n → Here 0

@@ -6,9 +6,8 @@ use mathlib.Core.List.{List}
 use mathlib.Core.Path.{◌≡◌, refl, sym, ap, ◌∙◌}
 use lib.Ieee.{Float}
 use Rattle.heap.specs.declared.Event.{Event}
-use Rattle.heap.specs.declared.Popped.{Popped}
-use Rattle.heap.specs.declared.Popped.TheVariants.{Empty, First}
-use Rattle.heap.specs.Queue.{Queue, popping}
+use Rattle.std.specs.Prelude.{None, Some}
+use Rattle.heap.specs.Queue.{Queue, popping, Popped}
 use Rattle.heap.specs.Model.{TakenFrom, taking}
 use Rattle.compute_spec.specs.of_trim_state.State.{State, Result}
 use Rattle.compute_spec.specs.of_offers.Offers.{and_next}
@@ -55,11 +54,11 @@ module _ (Q : QueueKind) (L : LeastFirst Q) (slots : Slots) (small : slots.windo
       let none : steps + taken k s ≡ steps = omega (arith, steps_idle slots.cuts slots.windows limit flags v triangles s idle k) in
       (λ i. finished_of (budgeted xs (none i) (advance_idle slots.cuts slots.windows limit flags v triangles s idle k i))) ∙ rw idle refl
 
-  pub idle_of_lem : (s : State) (heap : Queue) → popping s.stock.queue s.stock.queued ≡ (Empty, heap) → idle_of s ≡ true
+  pub idle_of_lem : (s : State) (heap : Queue) → popping s.stock.queue s.stock.queued ≡ (None, heap) → idle_of s ≡ true
   unfolding is_empty
   idle_of_lem s heap is = ap (λ (p : Popped × Queue). is_empty p.0) is
 
-  busy_of : (s : State) (x : Event) (k : ℕ) (heap : Queue) → popping s.stock.queue s.stock.queued ≡ (First x k, heap) → idle_of s ≡ false
+  busy_of : (s : State) (x : Event) (k : ℕ) (heap : Queue) → popping s.stock.queue s.stock.queued ≡ (Some (x, k), heap) → idle_of s ≡ false
   unfolding is_empty
   busy_of s x k heap is = ap (λ (p : Popped × Queue). is_empty p.0) is
 
@@ -95,5 +94,5 @@ module _ (Q : QueueKind) (L : LeastFirst Q) (slots : Slots) (small : slots.windo
         → and_go (taking (gives (like Q L slots s xs q, steps)) (λ (x : Event) (r : Q.State). and_go (event_in Q slots limit pseudo v triangles x r (like Q L slots s xs q)) (loop_in Q slots limit pseudo v triangles k (suc steps))) t) finished ≡ heaped (suc k) steps s
     go _ reached _ is (no_event heap) ih = unfold and_go in sym (idle_end s (idle_of_lem s heap is) (suc k) steps)
     go _ reached _ is (one_event x t n heap same) ih =
-        then_same k steps ih (event_in Q slots limit pseudo v triangles x t (like Q L slots s xs q)) (step s (First x n, heap)) (event_meets Q L slots small limit pseudo flags v triangles named x n heap s xs q t reached same a)
-        ∙ sym (more_heaped k steps s (First x n, heap) is (busy_of s x n heap is))
+        then_same k steps ih (event_in Q slots limit pseudo v triangles x t (like Q L slots s xs q)) (step s (Some (x, n), heap)) (event_meets Q L slots small limit pseudo flags v triangles named x n heap s xs q t reached same a)
+        ∙ sym (more_heaped k steps s (Some (x, n), heap) is (busy_of s x n heap is))

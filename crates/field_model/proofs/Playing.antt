@@ -10,10 +10,10 @@ use lib.ListN.{length, get_or, length-append}
 use lib.Ieee.{Float, lt, le}
 use Rattle.heap.specs.declared.Event.{Event}
 use Rattle.heap.specs.declared.Item.TheVariants.{Vertex as Item-as-Vertex}
-use Rattle.heap.specs.declared.Pushed.{Pushed}
-use Rattle.heap.specs.declared.Pushed.TheVariants.{Full, Queued}
+use Rattle.std.specs.Prelude.{Err, Ok}
+use Rattle.buffers.specs.declared.Lack.TheVariants.{Events}
 use Rattle.heap.specs.Order.{item_number}
-use Rattle.heap.specs.Queue.{Queue, pushed, slots, pushing}
+use Rattle.heap.specs.Queue.{Queue, pushed, slots, pushing, Pushed}
 use Rattle.heap.specs.Model.{WellFormed}
 use Rattle.windows.specs.declared.WindowRecord.{WindowRecord}
 use Rattle.windows.specs.Windows.{adjust, trimmed, dead}
@@ -80,11 +80,11 @@ module _ (Q : QueueKind) (L : LeastFirst Q) (slots : Slots) where
         let cap = slots.events in
         let put : Reply (FieldState Q.State) = gives (field_at wins live xs vertex (Q.put e q)) in
         subst (λ (n : ℕ). Meets wins live xs (cond (ltb n cap) put (refused 13)) (queueing made vertex (pushing heap queued e))) (sym (count_same cap (Q.events q) queued heap a.same))
-        (subst (λ (n : ℕ). Meets wins live xs (cond (ltb queued cap) put (refused 13)) (queueing made vertex (cond {A = Pushed × Queue} (ltb queued n) (Queued (queued + 1), pushed heap queued e) (Full, heap)))) (sym a.same.room)
+        (subst (λ (n : ℕ). Meets wins live xs (cond (ltb queued cap) put (refused 13)) (queueing made vertex (cond {A = Pushed × Queue} (ltb queued n) (Ok (queued + 1), pushed heap queued e) (Err Events, heap)))) (sym a.same.room)
         (go (ltb queued cap) refl))
       where
         go : (b : Bool) → ltb queued slots.events ≡ b
-            → Meets wins live xs (cond b (gives (field_at wins live xs vertex (Q.put e q))) (refused 13)) (queueing made vertex (cond {A = Pushed × Queue} b (Queued (queued + 1), pushed heap queued e) (Full, heap)))
+            → Meets wins live xs (cond b (gives (field_at wins live xs vertex (Q.put e q))) (refused 13)) (queueing made vertex (cond {A = Pushed × Queue} b (Ok (queued + 1), pushed heap queued e) (Err Events, heap)))
         go true l = both_go (stock made (queued + 1) (pushed heap queued e) vertex) (Q.put e q) (record {
           counted = a.counted;
           few = a.few;

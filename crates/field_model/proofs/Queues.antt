@@ -8,10 +8,9 @@ use borrow.Author.Tests.{lt-ltb, le-leb}
 use lib.ListN.{length}
 use Rattle.nat_laws.specs.Lists.{All}
 use Rattle.heap.specs.declared.Event.{Event}
-use Rattle.heap.specs.declared.Popped.{Popped}
-use Rattle.heap.specs.declared.Popped.TheVariants.{Empty, First}
+use Rattle.std.specs.Prelude.{None, Some}
 use Rattle.heap.specs.Order.{order}
-use Rattle.heap.specs.Queue.{Queue, at, HasSlots, pushed, popped, slots, popping}
+use Rattle.heap.specs.Queue.{Queue, at, HasSlots, pushed, popped, slots, popping, Popped}
 use Rattle.heap.specs.Model.{WellFormed, insert_event, sum, weight_of, SameEvents, TakenFrom, nothing, event, TakesLeast, none, one}
 use Rattle.heap.proofs.SameAnswers.{order_same, sum_insert, mark, mark_own, found_list, Holds, empty_holds, push_holds, pop_holds, push_slots, pop_slots, has_slots}
 
@@ -58,8 +57,8 @@ push_same cap c d n q e l p t s =
 -- ---- a pop
 -- both answer that there is nothing, or both the same event, and hold the same then
 pub data SamePop {S : Type 0} (events : S → List Event) (cap : ℕ) : TakenFrom S → Popped × Queue → Type 1 where
-  no_event : (q : Queue) → SamePop events cap nothing (Empty, q)
-  one_event : (x : Event) (t : S) (k : ℕ) (q : Queue) → SameQueue cap (events t) k q → SamePop events cap (event x t) (First x k, q)
+  no_event : (q : Queue) → SamePop events cap nothing (None, q)
+  one_event : (x : Event) (t : S) (k : ℕ) (q : Queue) → SameQueue cap (events t) k q → SamePop events cap (event x t) (Some (x, k), q)
 
 -- x is least in c, which has the events of y and l, y the least of these: they are one
 first_is : (c d : List Event) (x y : Event) (l : List Event) → All (λ (z : Event). order x ≤ order z) c → SameEvents c (x ∷ d) → All WellFormed c → ((w : Event → ℕ) → sum w c ≡ sum w (y ∷ l))
@@ -79,7 +78,7 @@ none_heaped : (cap n : ℕ) (q : Queue) → SameQueue cap [] (suc n) q → ⊥
 none_heaped cap n q s = omega (arith, count_same cap [] (suc n) q s)
 
 -- what a pop of suc n events answers
-pop_is : (cap : ℕ) (c : List Event) (n : ℕ) (q : Queue) → SameQueue cap c (suc n) q → popping q (suc n) ≡ (First (at q 0) n, popped q n)
+pop_is : (cap : ℕ) (c : List Event) (n : ℕ) (q : Queue) → SameQueue cap c (suc n) q → popping q (suc n) ≡ (Some (at q 0, n), popped q n)
 pop_is cap c n q s =
     let e : suc n - 1 ≡ n = omega arith in
     rw (lt-ltb 0 (suc n) (omega arith), le-leb (suc n) (slots q) (omega (arith, s.within, s.room)), e) refl
@@ -87,7 +86,7 @@ pop_is cap c n q s =
 module _ {S : Type 0} (events : S → List Event) (cap : ℕ) (s : S) where
   -- the heap's list is not empty, and its first is the event that was taken
   rest_same : (n : ℕ) (q : Queue) (x : Event) (t : S) → All (λ (z : Event). order x ≤ order z) (events s) → SameEvents (events s) (x ∷ events t) → (h : SameQueue cap (events s) (suc n) q)
-      → (l : List Event) → h.ordered ≡ l → SamePop events cap (event x t) (First (at q 0) n, popped q n)
+      → (l : List Event) → h.ordered ≡ l → SamePop events cap (event x t) (Some (at q 0, n), popped q n)
   unfolding sum
   rest_same n q x t least same h [] is = absurd (omega (arith, same.sums (λ (e : Event). 1), h.sums (λ (e : Event). 1), ap (sum (λ (e : Event). 1)) is))
   rest_same n q x t least same h (y ∷ l) is =
@@ -95,7 +94,7 @@ module _ {S : Type 0} (events : S → List Event) (cap : ℕ) (s : S) where
       let sums : (w : Event → ℕ) → sum w (events s) ≡ sum w (y ∷ l) = λ w. h.sums w ∙ ap (sum w) is in
       let first : x ≡ y = first_is (events s) (events t) x y l least same h.proper sums k.sorted.0 k.listed.0 in
       let p = pop_holds n q y l (has_slots (n + 1) q (omega (arith, h.within, h.room))) k in
-      subst (λ (z : Event). SamePop events cap (event x t) (First z n, popped q n)) (first ∙ sym p.0)
+      subst (λ (z : Event). SamePop events cap (event x t) (Some (z, n), popped q n)) (first ∙ sym p.0)
       (one_event x t n (popped q n) (record {
         ordered = l;
         holds = p.1;

@@ -1,4 +1,6 @@
 -- One turn of the main loop over any queue and over the heap. Assumes nothing.
+use Rattle.std.specs.declared.option.Option.{Option}
+use Rattle.std.specs.declared.option.Option.TheVariants.{None, Some}
 use Prim.Native.Nat.{ℕ, ◌<◌, ◌≤◌}
 use mathlib.Core.Bool.{Bool}
 use mathlib.Core.List.{List}
@@ -8,7 +10,7 @@ use lib.Ieee.{Float}
 use Rattle.heap.specs.declared.Event.{Event}
 use Rattle.heap.specs.declared.Item.{Item}
 use Rattle.heap.specs.declared.Item.TheVariants.{Window as Item-as-Window, Vertex as Item-as-Vertex}
-use Rattle.heap.specs.declared.Popped.TheVariants.{First}
+use Rattle.std.specs.Prelude.{Some}
 use Rattle.heap.specs.Queue.{Queue}
 use Rattle.windows.specs.declared.WindowRecord.{WindowRecord}
 use Rattle.compute_spec.specs.of_trim_state.State.{State}
@@ -16,8 +18,7 @@ use Rattle.compute_spec.specs.of_pop.State.{claimed_win, wins_claimed, after_pop
 use Rattle.compute_spec.specs.of_offers.Walks.{edge_data}
 use Rattle.compute_spec.specs.of_spread_offers.Spreading.{spread_candidates}
 use Rattle.compute_spec.specs.of_face_entries.Entries.{FaceEntry}
-use Rattle.compute_spec.specs.of_field_step.declared.Turn.{Turn}
-use Rattle.compute_spec.specs.of_field_step.declared.Turn.TheVariants.{Skip, Pass}
+use Rattle.compute_spec.specs.of_spread_offers.declared.Spread.{Spread}
 use Rattle.compute_spec.specs.of_field_step.Step.{turn_of, marked, after_turn, step_with}
 use Rattle.field_model.specs.Queue.{QueueKind, LeastFirst}
 use Rattle.field_model.specs.Field.{Slots, turn_in, pass_in, event_in}
@@ -37,14 +38,14 @@ module _ (Q : QueueKind) (L : LeastFirst Q) (slots : Slots) (small : slots.windo
   turn_same (Item-as-Window id) key s xs q = refl
   turn_same (Item-as-Vertex k) key s xs q = refl
 
-  pass_meets : (t : Turn) (s : State) (xs : List FaceEntry) (q : Q.State) → AlikeIn Q L slots s q
+  pass_meets : (t : Option Spread) (s : State) (xs : List FaceEntry) (q : Q.State) → AlikeIn Q L slots s q
       → MeetsIn Q L slots xs (pass_in Q slots limit pseudo v triangles t (like Q L slots s xs q)) (after_turn slots.cuts slots.windows limit flags v triangles t s)
   unfolding pass_in after_turn
-  pass_meets Skip s xs q a = both_went s q a
-  pass_meets (Pass c) s xs q a = all_meets Q L slots small limit pseudo flags v triangles named (spread_candidates v triangles c) (marked c s) xs q (record { counted = a.counted; few = a.few; reached = a.reached; same = a.same })
+  pass_meets None s xs q a = both_went s q a
+  pass_meets (Some c) s xs q a = all_meets Q L slots small limit pseudo flags v triangles named (spread_candidates v triangles c) (marked c s) xs q (record { counted = a.counted; few = a.few; reached = a.reached; same = a.same })
 
   -- the event is taken out of both
-  popped_alike : (x : Event) (k : ℕ) (heap : Queue) (s : State) (q t : Q.State) → L.Reached t → SameQueue slots.events (Q.events t) k heap → AlikeIn Q L slots s q → AlikeIn Q L slots (after_pop s (First x k, heap)) t
+  popped_alike : (x : Event) (k : ℕ) (heap : Queue) (s : State) (q t : Q.State) → L.Reached t → SameQueue slots.events (Q.events t) k heap → AlikeIn Q L slots s q → AlikeIn Q L slots (after_pop s (Some (x, k), heap)) t
   unfolding after_pop
   popped_alike x k heap s q t reached same a = record {
     counted = a.counted ∙ sym (claimed_length x.item s.wins);
@@ -54,9 +55,9 @@ module _ (Q : QueueKind) (L : LeastFirst Q) (slots : Slots) (small : slots.windo
   }
 
   pub event_meets : (x : Event) (k : ℕ) (heap : Queue) (s : State) (xs : List FaceEntry) (q t : Q.State) → L.Reached t → SameQueue slots.events (Q.events t) k heap → AlikeIn Q L slots s q
-      → MeetsIn Q L slots xs (event_in Q slots limit pseudo v triangles x t (like Q L slots s xs q)) (step_with slots.cuts slots.windows limit flags v triangles s (First x k, heap))
+      → MeetsIn Q L slots xs (event_in Q slots limit pseudo v triangles x t (like Q L slots s xs q)) (step_with slots.cuts slots.windows limit flags v triangles s (Some (x, k), heap))
   unfolding step_with after_pop
   event_meets x k heap s xs q t reached same a =
-      subst (λ (turn : Turn). MeetsIn Q L slots xs (pass_in Q slots limit pseudo v triangles turn (like Q L slots (after_pop s (First x k, heap)) xs t)) (step_with slots.cuts slots.windows limit flags v triangles s (First x k, heap)))
+      subst (λ (turn : Option Spread). MeetsIn Q L slots xs (pass_in Q slots limit pseudo v triangles turn (like Q L slots (after_pop s (Some (x, k), heap)) xs t)) (step_with slots.cuts slots.windows limit flags v triangles s (Some (x, k), heap)))
       (sym (turn_same x.item x.key s xs q))
-      (pass_meets (turn_of limit x.item x.key s) (after_pop s (First x k, heap)) xs t (popped_alike x k heap s q t reached same a))
+      (pass_meets (turn_of limit x.item x.key s) (after_pop s (Some (x, k), heap)) xs t (popped_alike x k heap s q t reached same a))

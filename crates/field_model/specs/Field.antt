@@ -2,7 +2,7 @@
 -- none of. Its queue is any that pops the least event of 01's order (module 5, `Event`) and leaves the rest: no buffer of it is spoken of, only how many events it has slots for.
 -- Definitions only: proofs/ says that the heap in its buffers comes to the same.
 use Prim.Native.Nat.{ℕ, zero, suc}
-use Rattle.std.specs.Prelude.{Bool, ◌&&◌, get_or, Float, if◌then◌else◌}
+use Rattle.std.specs.Prelude.{Bool, ◌&&◌, get_or, Float, if◌then◌else◌, Option, None, Some}
 use mathlib.Core.List.{List, [], ◌∷◌, ◌++◌}
 use Rattle.std.proofs.Math.Dec.{ltb, leb}
 use Rattle.std.proofs.Math.ListN.{length}
@@ -29,8 +29,7 @@ use Rattle.compute_spec.specs.of_face_entries.Entries.{FaceEntry}
 use Rattle.compute_spec.specs.of_source_inserts.declared.Insert.{Insert}
 use Rattle.compute_spec.specs.of_source_inserts.declared.Insert.TheVariants.{Entry, Offer}
 use Rattle.compute_spec.specs.of_spread_offers.Spreading.{spread_candidates}
-use Rattle.compute_spec.specs.of_field_step.declared.Turn.{Turn}
-use Rattle.compute_spec.specs.of_field_step.declared.Turn.TheVariants.{Skip, Pass}
+use Rattle.compute_spec.specs.of_spread_offers.declared.Spread.{Spread}
 use Rattle.compute_spec.specs.of_field_step.Step.{no_window, vertex_turn, window_turn, marked_vertex, turn_candidates}
 use Rattle.field_model.specs.Queue.{QueueKind}
 
@@ -149,10 +148,10 @@ module _ (Q : QueueKind) (slots : Slots) (limit : Float) (pseudo : ℕ → Bool)
 
   -- ---- the main loop
   -- `if vertex { let d = field.vertex[id]; .. }`, or `let w = field.wins[id]; if !w.alive || !w.queued { continue; } ..`
-  unfoldable pub turn_in : Item → Float → FieldState Q.State → Turn
+  unfoldable pub turn_in : Item → Float → FieldState Q.State → Option Spread
   turn_in (Item-as-Window id) key f =
       let w = get_or f.wins id.0 no_window in
-      if w.alive && w.carried.queued then window_turn limit w else Skip
+      if w.alive && w.carried.queued then window_turn limit w else None
   turn_in (Item-as-Vertex k) key f = vertex_turn f.vertex k.0 key
 
   -- the queue is q then, and `field.wins[id].queued = false` of a live window that the event names
@@ -160,10 +159,10 @@ module _ (Q : QueueKind) (slots : Slots) (limit : Float) (pseudo : ℕ → Bool)
   without_event x q f = record { wins = wins_claimed x f.wins; live = λ (e : ℕ). live_claimed x (f.live e); vertex = f.vertex; entries = f.entries; queue = q }
 
   -- `continue`, or `field.emitted[id] = d; field.emit(id, d)`, or `field.propagate(w)`
-  unfoldable pub pass_in : Turn → Change Q
+  unfoldable pub pass_in : Option Spread → Change Q
   unfolding add_all_in
-  pass_in Skip f = gives f
-  pass_in (Pass c) f = add_all_in (spread_candidates v triangles c) (with_vertex (marked_vertex c f.vertex) f)
+  pass_in None f = gives f
+  pass_in (Some c) f = add_all_in (spread_candidates v triangles c) (with_vertex (marked_vertex c f.vertex) f)
 
   -- one turn of `while let Some(Event(key, id, vertex)) = field.queue.pop()`: x is that event, and q is left of the queue
   abbrev pub event_in : Event → Q.State → Change Q

@@ -1,4 +1,6 @@
 -- The ways that a turn can go: step_idle, step_skip, step_pass. Assumes nothing.
+use Rattle.std.specs.declared.option.Option.{Option}
+use Rattle.std.specs.declared.option.Option.TheVariants.{None, Some}
 use Prim.Native.Nat.{ℕ, ◌*◌, ◌≤◌, ◌<◌}
 use native.Mathlib.Omega.{arith}
 use mathlib.Core.Bool.{Bool, false}
@@ -8,9 +10,8 @@ use lib.ListN.{length, drop}
 use lib.Ieee.{Float}
 use Rattle.layout.specs.Layout.{words_per_window}
 use Rattle.heap.specs.declared.Event.{Event}
-use Rattle.heap.specs.declared.Popped.{Popped}
-use Rattle.heap.specs.declared.Popped.TheVariants.{Empty, First}
-use Rattle.heap.specs.Queue.{Queue, queue, popping}
+use Rattle.heap.specs.Queue.{Queue, queue, popping, Popped}
+use Rattle.buffers.specs.declared.Lack.{Lack}
 use Rattle.windows.specs.Windows.{capacity_of}
 use Rattle.chains.specs.Chains.{links}
 use Rattle.actions.specs.Actions as actions
@@ -28,10 +29,9 @@ use Rattle.spread.specs.of_trim_split.Running.{Snapshot, Untouched}
 use Rattle.spread.proofs.laws_of_trim_split.Untouched.{untouched_then}
 use Rattle.spread.specs.of_trim.Buffers.{Slices, slices}
 use Rattle.spread.specs.of_trim.Adding.{AddedWithin, snapshot_at, added_end_in}
-use Rattle.spread.specs.of_trim.declared.Added.{Added}
-use Rattle.spread.specs.of_trim.declared.Added.TheVariants.{Stopped as Added-as-Stopped, Went as Added-as-Went}
+use Rattle.std.specs.declared.result.Result.{Result}
+use Rattle.std.specs.declared.result.Result.TheVariants.{Ok, Err}
 use Rattle.windows_there.specs.of_pop.declared.Taken.{Taken}
-use Rattle.windows_there.specs.of_pop.declared.Taken.TheVariants.{Empty as Taken-as-Empty, First as Taken-as-First}
 use Rattle.windows_there.specs.of_pop.Words.{item_pending, item_claimed, taken_of, words_after}
 use Rattle.windows_there.specs.of_pop.State.{wins_claimed, live_claimed, after_pop}
 use Rattle.windows_there.proofs.laws_of_pop.Claimed.{item_holds, item_words}
@@ -47,9 +47,6 @@ use Rattle.windows_there.proofs.Kept.{there_stock, there_all, there_pop}
 use Rattle.windows_there.proofs.Events.{events_all, events_pop, popped_there}
 use Rattle.windows_there.proofs.Sides.{into_ends}
 use Rattle.windows_there.proofs.Passed.{spread_into}
-use Rattle.field_step.specs.declared.Turn.{Turn}
-use Rattle.field_step.specs.declared.Turn.TheVariants.{Skip, Pass}
-use Rattle.field_step.specs.declared.Stepped.TheVariants.{Idle, Went}
 use Rattle.field_step.specs.Step.{turn_of, marked_vertex, marked, after_turn, step_with, step_of, is_empty, turn_candidates, candidates_with, step_candidates}
 use Rattle.field_step.specs.Contract.{turn_at, SlotFor, stepped_of, FieldMesh, FieldStands, FieldEnds, counts_after, stepped_end, is_idle, StepsOnce}
 use Rattle.field_step.proofs.Turns.{slot_there, turn_held, turn_there}
@@ -65,14 +62,14 @@ module _ (limit : Float) (n : ℕ) (v : List Float) (buffer vw round : List ℕ)
   p₀ = snapshot_at counts b
 
   -- ---- what the pop did
-  module _ (fits : counts.made ≤ windows) (words' : List ℕ) (keys' : List Float) (events' : List ℕ) (t : Taken) (isT : t ≡ taken_of counts.made b.words P.0)
+  module _ (fits : counts.made ≤ windows) (words' : List ℕ) (keys' : List Float) (events' : List ℕ) (t : Option Taken) (isT : t ≡ taken_of counts.made b.words P.0)
       (isW : words' ≡ words_after counts.made b.words P.0) (isQ : queue keys' events' ≡ P.1) where
     abbrev b₁ : Slices
     b₁ = slices b.edges words' b.reals keys' events' b.vertex
 
     -- the queue was empty
-    module _ (h : t ≡ Taken-as-Empty) where
-      none : P.0 ≡ Empty
+    module _ (h : t ≡ None) where
+      none : P.0 ≡ None
       none = taken_none counts.made b.words P.0 (sym h ∙ isT)
 
       words_same : words' ≡ b.words
@@ -86,7 +83,7 @@ module _ (limit : Float) (n : ℕ) (v : List Float) (buffer vw round : List ℕ)
           → FieldEnds limit v triangles n (past ++ step_candidates limit v triangles s) p₀ (running.at (snapshot_at counts b₁)) (step_of (length c.pts) windows limit vw v triangles s)
       unfolding step_with candidates_with
       idle_steps triangles past s S =
-          let same : popping s.stock.queue s.stock.queued ≡ (Empty, P.1) = ap (λ (k : Stock). popping k.queue k.queued) S.stands.stock ∙ (λ i. (none i, P.1)) in
+          let same : popping s.stock.queue s.stock.queued ≡ (None, P.1) = ap (λ (k : Stock). popping k.queue k.queued) S.stands.stock ∙ (λ i. (none i, P.1)) in
           let cs : past ≡ past ++ step_candidates limit v triangles s = sym (append-nil past) ∙ ap (λ (z : Popped × Queue). past ++ candidates_with limit v triangles s z.0) (sym same) in
           record {
             state = s;
@@ -103,7 +100,7 @@ module _ (limit : Float) (n : ℕ) (v : List Float) (buffer vw round : List ℕ)
             untouched = record { more = omega arith; edges = λ i z. refl; words = ap (drop (words_per_window * counts.made)) words_same; reals = refl };
           }
 
-      pub step_idle : StepsOnce limit n v buffer vw round er tw tr counts b c Idle b₁
+      pub step_idle : StepsOnce limit n v buffer vw round er tw tr counts b c (Ok None) b₁
       unfolding is_empty
       step_idle = record {
         bounded = fits;
@@ -112,18 +109,18 @@ module _ (limit : Float) (n : ℕ) (v : List Float) (buffer vw round : List ℕ)
       }
 
     -- an event was taken
-    module _ (x : Event) (k : ℕ) (pending : Bool) (h : t ≡ Taken-as-First x k pending) where
+    module _ (x : Event) (k : ℕ) (pending : Bool) (h : t ≡ Some (record { event = x; queued = k; pending = pending })) where
       abbrev now : Counts
       now = record { made = counts.made; queued = k }
 
       abbrev p₁ : Snapshot
       p₁ = snapshot_at now b₁
 
-      first : P.0 ≡ First x k
-      first = (taken_one counts.made b.words P.0 x k pending (sym h ∙ isT)).0
+      first : P.0 ≡ Some (x, k)
+      first = (taken_one counts.made b.words P.0 (record { event = x; queued = k; pending = pending }) (sym h ∙ isT)).0
 
       pending_is : pending ≡ item_pending counts.made b.words x.item
-      pending_is = (taken_one counts.made b.words P.0 x k pending (sym h ∙ isT)).1
+      pending_is = (taken_one counts.made b.words P.0 (record { event = x; queued = k; pending = pending }) (sym h ∙ isT)).1
 
       words_are : words' ≡ item_claimed counts.made b.words x.item
       unfolding words_after
@@ -135,19 +132,19 @@ module _ (limit : Float) (n : ℕ) (v : List Float) (buffer vw round : List ℕ)
       popped_untouched : Untouched (λ e. Unit {0}) p₀ p₁
       popped_untouched = record { more = omega arith; edges = λ i z. refl; words = ap (drop (words_per_window * counts.made)) words_are ∙ item_words counts.made b.words x.item; reals = refl }
 
-      module _ (turn : Turn) (isTurn : turn ≡ turn_at limit n words' b.reals b.vertex x.item x.key pending) where
+      module _ (turn : Option Spread) (isTurn : turn ≡ turn_at limit n words' b.reals b.vertex x.item x.key pending) where
         module _ (triangles : List ℕ) (past : List Candidate) (s : State) (S : FieldStands limit v triangles n past s p₀) where
           abbrev s₁ : State
-          s₁ = after_pop s (First x k, P.1)
+          s₁ = after_pop s (Some (x, k), P.1)
 
-          same_pop : popping s.stock.queue s.stock.queued ≡ (First x k, P.1)
+          same_pop : popping s.stock.queue s.stock.queued ≡ (Some (x, k), P.1)
           same_pop = ap (λ (z : Stock). popping z.queue z.queued) S.stands.stock ∙ (λ i. (first i, P.1))
 
           item_there : ItemThere (λ i. i < n) x.item
           item_there = popped_there n s S.events x k P.1 (sym same_pop)
 
           popped_events : EventsThere n s₁
-          popped_events = events_pop n s S.events (First x k, P.1) (sym same_pop)
+          popped_events = events_pop n s S.events (Some (x, k), P.1) (sym same_pop)
 
           turn_is : turn ≡ turn_of limit x.item x.key s
           turn_is =
@@ -157,7 +154,7 @@ module _ (limit : Float) (n : ℕ) (v : List Float) (buffer vw round : List ℕ)
 
           step_is : step_of (length c.pts) windows limit vw v triangles s ≡ after_turn (length c.pts) windows limit vw v triangles turn s₁
           unfolding step_with
-          step_is = ap (step_with (length c.pts) windows limit vw v triangles s) same_pop ∙ ap (λ (z : Turn). after_turn (length c.pts) windows limit vw v triangles z s₁) (sym turn_is)
+          step_is = ap (step_with (length c.pts) windows limit vw v triangles s) same_pop ∙ ap (λ (z : Option Spread). after_turn (length c.pts) windows limit vw v triangles z s₁) (sym turn_is)
 
           candidates_are : step_candidates limit v triangles s ≡ turn_candidates limit v triangles turn
           unfolding candidates_with
@@ -173,18 +170,18 @@ module _ (limit : Float) (n : ℕ) (v : List Float) (buffer vw round : List ℕ)
           }
 
           popped_windows : WindowsThere (GoesInto triangles) s₁
-          popped_windows = there_pop (GoesInto triangles) s S.there (First x k, P.1)
+          popped_windows = there_pop (GoesInto triangles) s S.there (Some (x, k), P.1)
 
         -- and it is out of date
-        module _ (out : turn ≡ Skip) where
+        module _ (out : turn ≡ None) where
           skip_steps : (triangles : List ℕ) (past : List Candidate) (s : State) → FieldStands limit v triangles n past s p₀
               → FieldEnds limit v triangles n (past ++ step_candidates limit v triangles s) p₀ (running.at p₁) (step_of (length c.pts) windows limit vw v triangles s)
           unfolding after_turn turn_candidates
           skip_steps triangles past s S =
-              let cs : past ≡ past ++ step_candidates limit v triangles s = sym (append-nil past) ∙ ap (λ (z : Turn). past ++ turn_candidates limit v triangles z) (sym out) ∙ ap (λ (l : List Candidate). past ++ l) (sym (candidates_are triangles past s S)) in
+              let cs : past ≡ past ++ step_candidates limit v triangles s = sym (append-nil past) ∙ ap (λ (z : Option Spread). past ++ turn_candidates limit v triangles z) (sym out) ∙ ap (λ (l : List Candidate). past ++ l) (sym (candidates_are triangles past s S)) in
               record {
                 state = s₁ triangles past s S;
-                is = step_is triangles past s S ∙ ap (λ (z : Turn). after_turn (length c.pts) windows limit vw v triangles z (s₁ triangles past s S)) out;
+                is = step_is triangles past s S ∙ ap (λ (z : Option Spread). after_turn (length c.pts) windows limit vw v triangles z (s₁ triangles past s S)) out;
                 field = record {
                   stands = subst (λ (l : List Candidate). StandsFor limit (edge_data v triangles) l (s₁ triangles past s S) p₁) cs (popped_stands triangles past s S);
                   there = popped_windows triangles past s S;
@@ -193,7 +190,7 @@ module _ (limit : Float) (n : ℕ) (v : List Float) (buffer vw round : List ℕ)
                 untouched = popped_untouched;
               }
 
-          pub step_skip : StepsOnce limit n v buffer vw round er tw tr counts b c (Went now) b₁
+          pub step_skip : StepsOnce limit n v buffer vw round er tw tr counts b c (Ok (Some now)) b₁
           unfolding is_empty
           step_skip = record {
             bounded = fits;
@@ -202,7 +199,7 @@ module _ (limit : Float) (n : ℕ) (v : List Float) (buffer vw round : List ℕ)
           }
 
         -- or something is passed on
-        module _ (p : Spread) (on : turn ≡ Pass p) (vertex' : List Float) (isV : vertex' ≡ marked_vertex p b.vertex) where
+        module _ (p : Spread) (on : turn ≡ Some p) (vertex' : List Float) (isV : vertex' ≡ marked_vertex p b.vertex) where
           abbrev b₂ : Slices
           b₂ = slices b.edges words' b.reals keys' events' vertex'
 
@@ -224,7 +221,7 @@ module _ (limit : Float) (n : ℕ) (v : List Float) (buffer vw round : List ℕ)
 
             passed_is : step_of (length c.pts) windows limit vw v triangles s ≡ add_all (length c.pts) windows limit vw (edge_data v triangles) (spread_candidates v triangles p) s₂
             unfolding after_turn
-            passed_is = step_is triangles past s S ∙ ap (λ (z : Turn). after_turn (length c.pts) windows limit vw v triangles z (s₁ triangles past s S)) on
+            passed_is = step_is triangles past s S ∙ ap (λ (z : Option Spread). after_turn (length c.pts) windows limit vw v triangles z (s₁ triangles past s S)) on
 
             passed_candidates : step_candidates limit v triangles s ≡ spread_candidates v triangles p
             unfolding turn_candidates
@@ -232,15 +229,15 @@ module _ (limit : Float) (n : ℕ) (v : List Float) (buffer vw round : List ℕ)
 
             module _ (F : FieldMesh v triangles n buffer b.edges er tw tr vw round) where
               passed_of : SpreadOf triangles n p
-              passed_of = turn_there triangles n F.mesh.mesh.valid limit s S.there x.item (item_there triangles past s S) x.key (Pass p) (sym on ∙ turn_is triangles past s S)
+              passed_of = turn_there triangles n F.mesh.mesh.valid limit s S.there x.item (item_there triangles past s S) x.key (Some p) (sym on ∙ turn_is triangles past s S)
 
               spread_in : SpreadIn buffer vw round p triangles n
               spread_in = record { same = F.same; rounds = F.rounds; there = passed_of }
 
-              passed_ends : (r : Added) (b' : Slices) → OfferEnds limit (edge_data v triangles) (past ++ spread_candidates v triangles p) p₂ (added_end_in r b') (add_all (length c.pts) windows limit vw (edge_data v triangles) (spread_candidates v triangles p) s₂)
+              passed_ends : (r : Result Counts Lack) (b' : Slices) → OfferEnds limit (edge_data v triangles) (past ++ spread_candidates v triangles p) p₂ (added_end_in r b') (add_all (length c.pts) windows limit vw (edge_data v triangles) (spread_candidates v triangles p) s₂)
                   → FieldEnds limit v triangles n (past ++ step_candidates limit v triangles s) p₀ (added_end_in r b') (step_of (length c.pts) windows limit vw v triangles s)
-              passed_ends (Added-as-Stopped lack) b' e = passed_is ∙ e
-              passed_ends (Added-as-Went m) b' e = record {
+              passed_ends (Err lack) b' e = passed_is ∙ e
+              passed_ends (Ok m) b' e = record {
                 state = e.state;
                 is = passed_is ∙ e.is;
                 field = record {
@@ -254,19 +251,19 @@ module _ (limit : Float) (n : ℕ) (v : List Float) (buffer vw round : List ℕ)
                 untouched = untouched_then (λ e. Unit {0}) p₀ p₂ (snapshot_at m b') (record { more = popped_untouched.more; edges = popped_untouched.edges; words = popped_untouched.words; reals = popped_untouched.reals }) e.untouched;
               }
 
-          step_ends : (r : Added) (b' : Slices) (Q : running.End → Type 0) → Q (added_end_in r b') → Q (stepped_end counts (stepped_of r) b')
-          step_ends (Added-as-Stopped lack) b' Q h = h
-          step_ends (Added-as-Went m) b' Q h = h
+          step_ends : (r : Result Counts Lack) (b' : Slices) (Q : running.End → Type 0) → Q (added_end_in r b') → Q (stepped_end counts (stepped_of r) b')
+          step_ends (Err lack) b' Q h = h
+          step_ends (Ok m) b' Q h = h
 
-          step_bounded : length words' ≡ length b.words → (r : Added) → AddedWithin (capacity_of (length words') (length b.reals)) r → (counts_after counts (stepped_of r)).made ≤ windows
-          step_bounded long (Added-as-Stopped lack) h = fits
-          step_bounded long (Added-as-Went m) h = subst (λ (z : ℕ). m.made ≤ capacity_of z (length b.reals)) long h
+          step_bounded : length words' ≡ length b.words → (r : Result Counts Lack) → AddedWithin (capacity_of (length words') (length b.reals)) r → (counts_after counts (stepped_of r)).made ≤ windows
+          step_bounded long (Err lack) h = fits
+          step_bounded long (Ok m) h = subst (λ (z : ℕ). m.made ≤ capacity_of z (length b.reals)) long h
 
-          not_idle : (r : Added) → is_idle (stepped_of r) ≡ false
-          not_idle (Added-as-Stopped lack) = refl
-          not_idle (Added-as-Went m) = refl
+          not_idle : (r : Result Counts Lack) → is_idle (stepped_of r) ≡ false
+          not_idle (Err lack) = refl
+          not_idle (Ok m) = refl
 
-          pub step_pass : length words' ≡ length b.words → (r : Added) (b' : Slices)
+          pub step_pass : length words' ≡ length b.words → (r : Result Counts Lack) (b' : Slices)
               → AddsCandidates limit vw v er tw tr (SpreadIn buffer vw round p) (λ triangles. spread_candidates v triangles p) now b₂ c r b'
               → StepsOnce limit n v buffer vw round er tw tr counts b c (stepped_of r) b'
           unfolding is_empty

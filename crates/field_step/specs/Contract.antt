@@ -1,5 +1,6 @@
 -- What a turn does to the buffers. Definitions only: first what is read of a popped event, then the mesh and the state in the buffers, then the contract.
-use Rattle.std.specs.Prelude.{ℕ, ◌≤◌, ◌<◌, Bool, true, false, cond, List, ◌++◌, ◌≡◌, ltb, length, Float}
+use Rattle.std.specs.Prelude.{ℕ, ◌≤◌, ◌<◌, Bool, true, false, cond, List, ◌++◌, ◌≡◌, ltb, length, Float, Option, Some, None, Result, Ok, Err}
+use Rattle.buffers.specs.declared.Lack.{Lack}
 use Rattle.buffers.specs.Lack.{lack_number}
 use Rattle.heap.specs.declared.Item.{Item}
 use Rattle.heap.specs.declared.Item.TheVariants.{Window as Item-as-Window, Vertex as Item-as-Vertex}
@@ -10,37 +11,33 @@ use Rattle.topology.specs.Frames.{len}
 use Rattle.spread.specs.of_mesh_laws.Bounds.{EdgeLength}
 use Rattle.spread.specs.of_mesh_readers.Held.{HoldsRound}
 use Rattle.windows_there.specs.of_trim_model.Model.{Candidate}
-use Rattle.windows_there.specs.of_trim_state.State.{State, Result, stopped, went}
+use Rattle.windows_there.specs.of_trim_state.State as state
+use Rattle.windows_there.specs.of_trim_state.State.{State, stopped, went}
 use Rattle.spread.specs.of_cut_lists.Buffers.{Cuts}
 use Rattle.spread.specs.of_trim_split.declared.Counts.{Counts}
 use Rattle.spread.specs.of_trim_split.Running as running
 use Rattle.spread.specs.of_trim_split.Running.{Snapshot, End, Untouched}
 use Rattle.spread.specs.of_trim.Buffers.{Slices}
 use Rattle.spread.specs.of_trim.Adding.{snapshot_at}
-use Rattle.spread.specs.of_trim.declared.Added.{Added}
-use Rattle.spread.specs.of_trim.declared.Added.TheVariants.{Stopped as Added-as-Stopped, Went as Added-as-Went}
 use Rattle.spread.specs.of_offers.Offers.{StandsFor}
 use Rattle.spread.specs.of_offers.Walks.{MeshIn, edge_data}
 use Rattle.windows_there.specs.There.{GoesInto, WindowsThere, EventsThere}
-use Rattle.field_step.specs.declared.Turn.{Turn}
-use Rattle.field_step.specs.declared.Turn.TheVariants.{Skip}
-use Rattle.field_step.specs.declared.Stepped.{Stepped}
-use Rattle.field_step.specs.declared.Stepped.TheVariants.{Idle, Stopped, Went}
+use Rattle.spread.specs.of_spread_offers.declared.Spread.{Spread}
 use Rattle.field_step.specs.Step.{vertex_turn, window_turn, step_of, step_candidates, is_empty}
 
 -- ---- as the buffers are read, once the event is popped: `pending` says whether its window was alive and queued; a vertex past the first n is passed over
-unfoldable pub turn_at : Float → ℕ → List ℕ → List Float → List Float → Item → Float → Bool → Turn
-turn_at limit n words reals vertex (Item-as-Window id) key pending = cond pending (window_turn limit (window_at words reals id.0)) Skip
-turn_at limit n words reals vertex (Item-as-Vertex k) key pending = cond (ltb k.0 n) (vertex_turn vertex k.0 key) Skip
+unfoldable pub turn_at : Float → ℕ → List ℕ → List Float → List Float → Item → Float → Bool → Option Spread
+turn_at limit n words reals vertex (Item-as-Window id) key pending = cond pending (window_turn limit (window_at words reals id.0)) None
+turn_at limit n words reals vertex (Item-as-Vertex k) key pending = cond (ltb k.0 n) (vertex_turn vertex k.0 key) None
 
 -- a window that is pending has a slot
 unfoldable pub SlotFor : ℕ → Item → Bool → Type 0
 SlotFor windows (Item-as-Window id) pending = pending ≡ true → id.0 < windows
 SlotFor windows (Item-as-Vertex k) pending = Unit {0}
 
-abbrev pub stepped_of : Added → Stepped
-stepped_of (Added-as-Stopped lack) = Stopped lack
-stepped_of (Added-as-Went c) = Went c
+abbrev pub stepped_of : Result Counts Lack → Result (Option Counts) Lack
+stepped_of (Err lack) = Err lack
+stepped_of (Ok c) = Ok (Some c)
 
 -- ---- the mesh in its buffers, whose edges are as long as a checked one's; it has n vertices, and `buffer` has its triangles
 pub record FieldMesh (v : List Float) (triangles : List ℕ) (n : ℕ) (buffer edge_words : List ℕ) (edge_reals : List Float) (triangle_words : List ℕ) (triangleReals : List Float) (vertex_words round : List ℕ) : Type 0 where
@@ -58,35 +55,35 @@ module _ (limit : Float) (v : List Float) (triangles : List ℕ) (n : ℕ) where
     pub events : EventsThere n s
 
   -- from p₀ to p the buffers have come to hold a result
-  pub record FieldComesTo (past : List Candidate) (p₀ p : Snapshot) (r : Result) : Type 0 where
+  pub record FieldComesTo (past : List Candidate) (p₀ p : Snapshot) (r : state.Result) : Type 0 where
     pub state : State
     pub is : r ≡ went state
     pub field : FieldStands past state p
     pub untouched : Untouched (λ e. Unit {0}) p₀ p
 
-  abbrev pub FieldEnds : List Candidate → Snapshot → End → Result → Type 0
+  abbrev pub FieldEnds : List Candidate → Snapshot → End → state.Result → Type 0
   FieldEnds past p₀ (running.stopped k) r = r ≡ stopped k
   FieldEnds past p₀ (running.at p) r = FieldComesTo past p₀ p r
 
 -- ---- the contract: buffers b and c at the call, b' at the return
 -- so many windows and events there are then
-abbrev pub counts_after : Counts → Stepped → Counts
-counts_after counts Idle = counts
-counts_after counts (Stopped lack) = counts
-counts_after counts (Went c) = c
+abbrev pub counts_after : Counts → Result (Option Counts) Lack → Counts
+counts_after counts (Ok None) = counts
+counts_after counts (Err lack) = counts
+counts_after counts (Ok (Some c)) = c
 
-abbrev pub stepped_end : Counts → Stepped → Slices → End
-stepped_end counts Idle b = running.at (snapshot_at counts b)
-stepped_end counts (Stopped lack) b = running.stopped (lack_number lack)
-stepped_end counts (Went c) b = running.at (snapshot_at c b)
+abbrev pub stepped_end : Counts → Result (Option Counts) Lack → Slices → End
+stepped_end counts (Ok None) b = running.at (snapshot_at counts b)
+stepped_end counts (Err lack) b = running.stopped (lack_number lack)
+stepped_end counts (Ok (Some c)) b = running.at (snapshot_at c b)
 
-abbrev pub is_idle : Stepped → Bool
-is_idle Idle = true
-is_idle (Stopped lack) = false
-is_idle (Went c) = false
+abbrev pub is_idle : Result (Option Counts) Lack → Bool
+is_idle (Ok None) = true
+is_idle (Err lack) = false
+is_idle (Ok (Some c)) = false
 
 pub record StepsOnce (limit : Float) (n : ℕ) (v : List Float) (buffer vertex_words round : List ℕ) (edge_reals : List Float) (triangle_words : List ℕ) (triangleReals : List Float)
-    (counts : Counts) (b : Slices) (c : Cuts) (r : Stepped) (b' : Slices) : Type 0 where
+    (counts : Counts) (b : Slices) (c : Cuts) (r : Result (Option Counts) Lack) (b' : Slices) : Type 0 where
   -- no more windows are made than the buffer has slots for
   pub bounded : (counts_after counts r).made ≤ capacity_of (length b.words) (length b.reals)
   -- it is idle where the queue is empty, and only there

@@ -1,56 +1,38 @@
 // One turn of the Rust's main loop: the least event is popped; its vertex passes its distance on, or its window is propagated, or it is out of date.
 #![tactic(auto)]
 
-ghost use Rattle.std.specs.Prelude.{◌≤◌, ◌<◌, cond, ◌≡◌, ltb, length};
+ghost use Rattle.std.specs.Prelude.{◌≤◌, ◌<◌, cond, ◌≡◌, ltb, length, None};
 ghost use Rattle.buffers.specs.Lent.{given, left};
 ghost use Rattle.windows.specs.Windows.{window_at, capacity_of};
 ghost use Rattle.spread.specs.of_cut_lists.Buffers.{cuts_before};
 ghost use Rattle.spread.specs.of_cut_lists.Cut.{Sizes};
 ghost use Rattle.spread.specs.of_trim.Buffers.{before, after};
-ghost use Rattle.field_step.specs.declared.Turn.TheVariants.{Skip};
 ghost use Rattle.field_step.specs.Step.{vertex_turn, window_turn, marked_vertex};
-ghost use Rattle.field_step.specs.Contract.{turn_at, SlotFor, stepped_of, StepsOnce};
+ghost use Rattle.field_step.specs.Contract.{turn_at, SlotFor, StepsOnce};
 
 use buffers::{Lack, VertexId, WindowId};
 use heap::{Event, Item};
 use spread::of_spread_offers::Spread;
-use spread::of_trim::Added;
 use spread::of_trim_split::Counts;
 use windows_there::of_pop;
-use windows_there::of_pop::Taken;
-
-// What a popped event comes to: nothing, or what passes distances on.
-#[derive(Clone, Copy)]
-pub enum Turn {
-    Skip,
-    Pass(Spread),
-}
-
-// The queue is empty, and nothing was done; or there is no slot for something; or so many windows and events there are now.
-#[derive(Clone, Copy)]
-pub enum Stepped {
-    Idle,
-    Stopped(Lack),
-    Went(Counts),
-}
 
 // A vertex's event of this key; one past the first n is passed over, and no queue of a mesh of n vertices has such a one.
-fn vertex_turn(vertex: &[f64], k: VertexId, key: f64, n: u32) -> Turn
-    ensures { result ≡ cond (ltb k.0 n) (vertex_turn vertex.now k.0 key) Skip }
+fn vertex_turn(vertex: &[f64], k: VertexId, key: f64, n: u32) -> Option<Spread>
+    ensures { result ≡ cond (ltb k.0 n) (vertex_turn vertex.now k.0 key) None }
 {
     if n <= k.0 {
-        return Turn::Skip;
+        return None;
     }
     let d = actions::distance(vertex, k);
     let emitted = field_tests::emitted(vertex, k);
     if field_tests::emits(d, key, emitted) {
-        return Turn::Pass(Spread::Vertex { vertex: k, d });
+        return Some(Spread::Vertex { vertex: k, d });
     }
-    Turn::Skip
+    None
 }
 
 // A window that was alive and queued.
-fn window_turn(words: &[u32], reals: &[f64], id: WindowId, limit: f64) -> Turn
+fn window_turn(words: &[u32], reals: &[f64], id: WindowId, limit: f64) -> Option<Spread>
     requires { id.0 < capacity_of (length words.now) (length reals.now) }
     ensures { result ≡ window_turn limit (window_at words.now reals.now id.0) }
 {
@@ -60,7 +42,7 @@ fn window_turn(words: &[u32], reals: &[f64], id: WindowId, limit: f64) -> Turn
     let w = x.win;
     let src = w.src;
     if field_tests::goes_on(into, w.b0, w.b1, src, limit) {
-        return Turn::Pass(Spread::Window {
+        return Some(Spread::Window {
             edge,
             into,
             b0: w.b0,
@@ -68,7 +50,7 @@ fn window_turn(words: &[u32], reals: &[f64], id: WindowId, limit: f64) -> Turn
             src,
         });
     }
-    Turn::Skip
+    None
 }
 
 // An event that was popped; `pending` says whether its window was alive and queued.
@@ -80,7 +62,7 @@ fn turn_of(
     pending: bool,
     n: u32,
     limit: f64,
-) -> Turn
+) -> Option<Spread>
     requires { SlotFor (capacity_of (length words.now) (length reals.now)) x.item pending }
     ensures { result ≡ turn_at limit n words.now reals.now vertex.now x.item x.key pending }
 {
@@ -91,7 +73,7 @@ fn turn_of(
             if pending {
                 return window_turn(words, reals, id, limit);
             }
-            Turn::Skip
+            None
         }
         Item::Vertex(k) => vertex_turn(vertex, k, key, n),
     }
@@ -113,16 +95,7 @@ fn mark(vertex: &mut [f64], s: Spread)
     }
 }
 
-fn answer(added: Added) -> Stepped
-    ensures { result ≡ stepped_of added }
-{
-    match added {
-        Added::Stopped(lack) => Stepped::Stopped(lack),
-        Added::Went(c) => Stepped::Went(c),
-    }
-}
-
-// One turn, in a mesh of n vertices.
+// One turn, in a mesh of n vertices: how many windows and events there are now, or what there is no slot for; of an empty queue nothing is done, and the answer is None.
 pub fn step(
     vertices: &[f64],
     triangles: &[u32],
@@ -144,7 +117,7 @@ pub fn step(
     counts: Counts,
     n: u32,
     limit: f64,
-) -> Stepped
+) -> Result<Option<Counts>, Lack>
     requires { (counts.made ≤ capacity_of (length words.old) (length reals.old)) × Sizes (length pts.old) out.old keep.old next.old }
     ensures { StepsOnce limit n vertices.now triangles.now vertex_words.now round.now edge_reals.now triangle_words.now triangle_reals.now
         counts (before edge_words words reals keys events vertex) (cuts_before pts out keep next) result (after edge_words words reals keys events vertex) }
@@ -152,13 +125,16 @@ pub fn step(
     let made = counts.made;
     let taken = of_pop::pop(words, keys, events, made, counts.queued);
     match taken {
-        Taken::Empty => Stepped::Idle,
-        Taken::First(x, queued, pending) => {
-            let now = Counts { made, queued };
-            let turn = turn_of(words, reals, vertex, x, pending, n, limit);
+        None => Ok(None),
+        Some(first) => {
+            let now = Counts {
+                made,
+                queued: first.queued,
+            };
+            let turn = turn_of(words, reals, vertex, first.event, first.pending, n, limit);
             match turn {
-                Turn::Skip => Stepped::Went(now),
-                Turn::Pass(s) => {
+                None => Ok(Some(now)),
+                Some(s) => {
                     mark(vertex, s);
                     let added = spread::spread(
                         vertices,
@@ -181,8 +157,8 @@ pub fn step(
                         now,
                         s,
                         limit,
-                    );
-                    answer(added)
+                    )?;
+                    Ok(Some(added))
                 }
             }
         }

@@ -8,9 +8,8 @@ ghost use Rattle.std.specs.Prelude.{◌≤◌, ◌<◌};
 use buffers::slots;
 use computed::{Computed, Field};
 use std::io;
-use std::rt::Files;
 use stored_jobs::{list_places, load_mesh, load_pieces};
-use stored_numbers::{at_most, count, double, number, record_size};
+use stored_numbers::{at_most, count, double, number, replay_records};
 use stored_slots::{SummedWalk, compare_or_sum, start_at, visit_f64, visit_u32};
 use vectors::Tally;
 
@@ -26,19 +25,6 @@ fn lent(s: &[u8], k: usize, i: usize, most: usize) -> usize
     ensures { result ≤ most }
 {
     count(s, lent_at(s, k) + 1 + at_most(i, 19), most)
-}
-
-fn both(a: bool, b: bool) -> bool {
-    if a {
-        return b;
-    }
-    false
-}
-
-// Whether all that was compared agrees.
-fn same(w: SummedWalk) -> bool {
-    let walk = w.walk;
-    walk.same
 }
 
 fn refusal_of(computed: Computed) -> u32 {
@@ -73,7 +59,7 @@ fn answer_holds(s: &[u8], k: usize, computed: Computed) -> bool {
     let edges = compare_or_sum(s, 1, pieces, field.edges);
     let windows = compare_or_sum(s, 1, edges, field.windows);
     let steps = compare_or_sum(s, 1, windows, field.steps);
-    both(same(refused), same(steps))
+    refused.walk.same & steps.walk.same
 }
 
 // How long the slices of the mesh, of the pieces and of the distances were.
@@ -156,12 +142,12 @@ fn cut_lengths(s: &[u8], k: usize) -> CutLengths
 // Whether the check sum of slice i, the first n numbers, is the stored one.
 fn words_hold(s: &[u8], k: usize, i: usize, n: usize, words: &[u32]) -> bool {
     let start = start_at(lent_at(s, k) + 27 + at_most(i, 19));
-    same(visit_u32(s, 2, start, words, 1, slots(n, 1), 1))
+    visit_u32(s, 2, start, words, 1, slots(n, 1), 1).walk.same
 }
 
 fn reals_hold(s: &[u8], k: usize, i: usize, n: usize, reals: &[f64]) -> bool {
     let start = start_at(lent_at(s, k) + 27 + at_most(i, 19));
-    same(visit_f64(s, 2, start, reals, 1, slots(n, 1)))
+    visit_f64(s, 2, start, reals, 1, slots(n, 1)).walk.same
 }
 
 // Of the slices of the mesh, of the pieces and of the distances.
@@ -180,20 +166,14 @@ fn mesh_holds(
     vertex: &[f64; 2400],
 ) -> bool {
     let vertices = words_hold(s, k, 0, lent.vertex_words, vertex_words);
-    let edges = both(vertices, words_hold(s, k, 1, lent.edge_words, edge_words));
-    let lengths = both(edges, reals_hold(s, k, 10, lent.edge_reals, edge_reals));
-    let rounds = both(lengths, words_hold(s, k, 2, lent.round, round));
-    let triangles = both(
-        rounds,
-        words_hold(s, k, 3, lent.triangle_words, triangle_words),
-    );
-    let normals = both(
-        triangles,
-        reals_hold(s, k, 11, lent.triangle_reals, triangle_reals),
-    );
-    let pieces = both(normals, words_hold(s, k, 4, lent.piece_words, piece_words));
-    let directions = both(pieces, reals_hold(s, k, 12, lent.piece_reals, piece_reals));
-    both(directions, reals_hold(s, k, 13, lent.vertex, vertex))
+    let edges = vertices & words_hold(s, k, 1, lent.edge_words, edge_words);
+    let lengths = edges & reals_hold(s, k, 10, lent.edge_reals, edge_reals);
+    let rounds = lengths & words_hold(s, k, 2, lent.round, round);
+    let triangles = rounds & words_hold(s, k, 3, lent.triangle_words, triangle_words);
+    let normals = triangles & reals_hold(s, k, 11, lent.triangle_reals, triangle_reals);
+    let pieces = normals & words_hold(s, k, 4, lent.piece_words, piece_words);
+    let directions = pieces & reals_hold(s, k, 12, lent.piece_reals, piece_reals);
+    directions & reals_hold(s, k, 13, lent.vertex, vertex)
 }
 
 // Of those of the windows, of the queue and of the entries.
@@ -208,10 +188,10 @@ fn windows_hold(
     entry_words: &[u32; 10800],
 ) -> bool {
     let windows = words_hold(s, k, 5, lent.words, words);
-    let places = both(windows, reals_hold(s, k, 14, lent.reals, reals));
-    let queue = both(places, reals_hold(s, k, 15, lent.keys, keys));
-    let kinds = both(queue, words_hold(s, k, 6, lent.events, events));
-    both(kinds, words_hold(s, k, 7, lent.entry_words, entry_words))
+    let places = windows & reals_hold(s, k, 14, lent.reals, reals);
+    let queue = places & reals_hold(s, k, 15, lent.keys, keys);
+    let kinds = queue & words_hold(s, k, 6, lent.events, events);
+    kinds & words_hold(s, k, 7, lent.entry_words, entry_words)
 }
 
 // Of those of the cut lists and the scratch rows.
@@ -227,11 +207,11 @@ fn cuts_hold(
     other_scratch: &[u32; 18432],
 ) -> bool {
     let first = reals_hold(s, k, 16, lent.pts, pts);
-    let second = both(first, reals_hold(s, k, 17, lent.out, out));
-    let third = both(second, reals_hold(s, k, 18, lent.keep, keep));
-    let fourth = both(third, reals_hold(s, k, 19, lent.next, next));
-    let row = both(fourth, words_hold(s, k, 8, lent.scratch, scratch));
-    both(row, words_hold(s, k, 9, lent.other_scratch, other_scratch))
+    let second = first & reals_hold(s, k, 17, lent.out, out);
+    let third = second & reals_hold(s, k, 18, lent.keep, keep);
+    let fourth = third & reals_hold(s, k, 19, lent.next, next);
+    let row = fourth & words_hold(s, k, 8, lent.scratch, scratch);
+    row & words_hold(s, k, 9, lent.other_scratch, other_scratch)
 }
 
 // Whether the job of the record at number k is answered and leaves its slices as the record says: those of the mesh, of the pieces and of the distances, which are new here.
@@ -322,7 +302,7 @@ fn job_in_mesh(
         &piece_reals,
         &vertex,
     );
-    both(answered, held)
+    answered & held
 }
 
 // The same, and the cut lists and the scratch rows.
@@ -390,7 +370,7 @@ fn job_in_cuts(
         &scratch,
         &other_scratch,
     );
-    both(answered, held)
+    answered & held
 }
 
 // The same, and the windows, the queue and the entries: all slices.
@@ -435,7 +415,7 @@ fn job_in_windows(
         &mut entry_words[..to_entry_words],
     );
     let held = windows_hold(s, k, lengths, &words, &reals, &keys, &events, &entry_words);
-    both(answered, held)
+    answered & held
 }
 
 // The same of a record whose lists stand at the fronts of the slices.
@@ -482,33 +462,10 @@ fn job_replays(s: &[u8], k: usize) -> bool
 }
 
 fn replay(s: &[u8]) -> Tally {
-    let end = at_most(s.len() / 4, 400_000);
-    let mut cases: u64 = 0;
-    let mut differences: u64 = 0;
-    let mut k: usize = 0;
-    while k < end {
-        if !job_replays(s, k) {
-            differences += 1;
-        }
-        cases += 1;
-        k += record_size(s, k + 2);
-    }
-    Tally { cases, differences }
-}
-
-// Reads the file of the name into the buffer, replays it and reports.
-fn replay_into(rt: &(impl Files + Print), name: &str, buf: &mut [u8]) -> io::Result<()> {
-    let got = vectors::read_file(rt, name, buf)?;
-    let tally = replay(&buf[..got]);
-    vectors::report(rt, name, tally.cases, tally.differences)
-}
-
-fn replay_file(rt: &(impl Files + Print), name: &str) -> io::Result<()> {
-    let mut buf = [0u8; 524288];
-    replay_into(rt, name, &mut buf)
+    replay_records(s, 2, |k| job_replays(s, k))
 }
 
 fn main(rt: HostRuntime) -> io::Result<()> {
-    replay_file(&rt, "small")?;
-    replay_file(&rt, "large")
+    vectors::replay_file::<524288, _>(&rt, "small", replay)?;
+    vectors::replay_file::<524288, _>(&rt, "large", replay)
 }

@@ -1,4 +1,5 @@
 -- The work on a job, from what insertion and the main loop say of the buffers. Assumes nothing.
+use Rattle.std.specs.Prelude.{Result}
 use Rattle.std.specs.Prelude.{if◌then◌else◌}
 use Prim.Native.Nat.{ℕ, ◌/◌, ◌≤◌}
 use native.Mathlib.Omega.{arith}
@@ -14,7 +15,7 @@ use Rattle.job_checks.specs.Job.{Job, job, vertex_count}
 use Rattle.topology.specs.Edges.{edges}
 use Rattle.run_steps.proofs.laws_of_mesh_laws.Frames.{len_bounds}
 use Rattle.run_steps.specs.of_mesh.declared.OtherCounts.{OtherCounts}
-use Rattle.run_steps.specs.of_mesh.declared.Meshed.{Meshed}
+use Rattle.run_steps.specs.of_mesh.declared.Refusal.{Refusal}
 use Rattle.run_steps.specs.of_mesh.Topology.{MeshBuffers}
 use Rattle.run_steps.specs.of_mesh.Answer.{counts_in, mesh_refusal, Answered}
 use Rattle.run_steps.specs.of_cut_lists.Buffers.{Cuts}
@@ -39,8 +40,10 @@ use Rattle.run_steps.proofs.laws_of_windows_there.Inserted.{job_into}
 use Rattle.run_steps.specs.of_field_step.Contract.{FieldMesh, FieldStands}
 use Rattle.run_steps.specs.of_advance.Advance.{advance_candidates}
 use Rattle.run_steps.proofs.laws_of_advance.Begin.{inserted_there}
-use Rattle.run_steps.specs.of_insert_job.declared.InsertedJob.{InsertedJob}
-use Rattle.run_steps.specs.of_insert_job.declared.InsertedJob.TheVariants.{Wedge, Stopped, Went}
+use Rattle.run_steps.specs.of_insert_job.declared.InsertRefusal.{InsertRefusal}
+use Rattle.std.specs.declared.result.Result.{Result}
+use Rattle.run_steps.specs.of_insert_job.declared.InsertRefusal.TheVariants.{Wedge, NoSlot}
+use Rattle.std.specs.declared.result.Result.TheVariants.{Ok, Err}
 use Rattle.run_steps.specs.of_insert_job.Field.{trim_slices, begun_job, no_counts, PiecesCounted, empty_field, inserts_of, inserted_field, FieldInserted}
 use Rattle.run_steps.specs.of_insert_job.Job.{wedge_in, JobInserted, JobWithin, InsertsJob}
 use Rattle.run_steps.proofs.laws_of_insert_job.Begun.{checked, begun_job_lem}
@@ -56,7 +59,7 @@ use Rattle.field_work.specs.Contract.{JobWorked, WorksTo}
 pub sizes_kept : (a a' : ℕ) (out keep next out' keep' next' : List Float) → a' ≡ a → length out' ≡ length out → length keep' ≡ length keep → length next' ≡ length next → Sizes a out keep next → Sizes a' out' keep' next'
 sizes_kept a a' out keep next out' keep' next' p o k n h = record { outs = omega (arith, p, o, h.outs); keeps = omega (arith, p, k, h.keeps); nexts = omega (arith, p, n, h.nexts) }
 
-pub within_kept : (words words' : List ℕ) (reals reals' : List Float) → length words' ≡ length words → length reals' ≡ length reals → (i : InsertedJob)
+pub within_kept : (words words' : List ℕ) (reals reals' : List Float) → length words' ≡ length words → length reals' ≡ length reals → (i : Result InsertCounts InsertRefusal)
     → JobWithin (capacity_of (length words) (length reals)) i → JobWithin (capacity_of (length words') (length reals')) i
 within_kept words words' reals reals' w r i h = subst (λ (z : ℕ). JobWithin z i) (λ t. capacity_of (sym w t) (sym r t)) h
 
@@ -80,7 +83,7 @@ module _ (j : Job) (flags : List ℕ) (s : WorkSlices) (c : Cuts) (most : ℕ) w
   work_went x h e = work_inserted h (went x) e
 
 -- ---- a job that `mesh::build` did not refuse, with its mesh in m, and the slices as insertion left them
-module _ (j : Job) (others : OtherCounts) (meshed : Meshed) (before m : MeshBuffers) (answered : Answered j others meshed before m) (passed : mesh_refusal j (counts_in before others) ≡ 0)
+module _ (j : Job) (others : OtherCounts) (meshed : Result ℕ Refusal) (before m : MeshBuffers) (answered : Answered j others meshed before m) (passed : mesh_refusal j (counts_in before others) ≡ 0)
     (s : WorkSlices) (c : Cuts) (most : ℕ) (counted : PiecesCounted others s) (b₁ : Slices) (t₁ : EntryBuffers) (c₁ : Cuts)
     (se : length b₁.edges ≡ length m.edge_words_held) (sw : length b₁.words ≡ length s.words) (sr : length b₁.reals ≡ length s.reals) (sc : length c₁.pts ≡ length c.pts)
     (k : InsertCounts) (no-wedge : wedge_in j ≡ false) (G : FieldInserted j m s c (at (insert_snapshot k b₁ t₁))) where
@@ -120,7 +123,7 @@ module _ (j : Job) (others : OtherCounts) (meshed : Meshed) (before m : MeshBuff
       (loop_of cuts windows j.limit m.vertex_words_held j.vertices j.triangles most G.inserted)
 
   abbrev Ran : FieldWork → Slices → Type 0
-  Ran r b₂ = RunsOn j.limit (vertex_count j) most j.vertices j.triangles m.vertex_words_held m.round m.edge_reals_held t₁.triangles m.triangle_reals b₁ c₁ (Went k) r b₂
+  Ran r b₂ = RunsOn j.limit (vertex_count j) most j.vertices j.triangles m.vertex_words_held m.round m.edge_reals_held t₁.triangles m.triangle_reals b₁ c₁ (Ok k) r b₂
 
   -- in slots that are as many
   ends_here : (r : FieldWork) (b₂ : Slices) → Ran r b₂ → Ends r b₂ (length c.pts) (capacity_of (length s.words) (length s.reals))
@@ -166,20 +169,20 @@ module _ (v : List Float) (triangles kinds faces : List ℕ) (coords : List Floa
   abbrev job_with : List ℕ → Job
   job_with flags = job v triangles flags kinds faces coords limit
 
-  abbrev RunHere : InsertedJob → FieldWork → Slices → Type 0
+  abbrev RunHere : Result InsertCounts InsertRefusal → FieldWork → Slices → Type 0
   RunHere i r b₂ = RunsOn limit (length v / 3) most v triangles m.vertex_words_held m.round m.edge_reals_held t₁.triangles m.triangle_reals b₁ c₁ i r b₂
 
-  each_work : (i : InsertedJob) (r : FieldWork) (b₂ : Slices) → RunHere i r b₂ → (flags : List ℕ) (others : OtherCounts) (meshed : Meshed) (before : MeshBuffers)
+  each_work : (i : Result InsertCounts InsertRefusal) (r : FieldWork) (b₂ : Slices) → RunHere i r b₂ → (flags : List ℕ) (others : OtherCounts) (meshed : Result ℕ Refusal) (before : MeshBuffers)
       → Answered (job_with flags) others meshed before m → mesh_refusal (job_with flags) (counts_in before others) ≡ 0 → PiecesCounted others s
       → JobInserted (job_with flags) m s c i b₁ t₁ → JobWorked (job_with flags) m s c most r b₂ t₁
-  each_work Wedge r b₂ R flags others meshed before answered passed counted J =
+  each_work (Err Wedge) r b₂ R flags others meshed before answered passed counted J =
       subst (λ (z : FieldWork). JobWorked (job_with flags) m s c most z b₂ t₁) (sym R) (work_wedge (job_with flags) m.vertex_words_held s c most J)
-  each_work (Stopped lack) r b₂ R flags others meshed before answered passed counted J =
+  each_work (Err (NoSlot lack)) r b₂ R flags others meshed before answered passed counted J =
       subst (λ (z : FieldWork). JobWorked (job_with flags) m s c most z b₂ t₁) (sym R) (work_stopped (job_with flags) m.vertex_words_held s c most _ J.0 J.1)
-  each_work (Went k) r b₂ R flags others meshed before answered passed counted J =
+  each_work (Ok k) r b₂ R flags others meshed before answered passed counted J =
       went_on (job_with flags) others meshed before m answered passed s c most counted b₁ t₁ c₁ se sw sr sc k J.0 J.1 r b₂ R
 
-  pub works_to : (pw : List ℕ) (pr : List Float) (i : InsertedJob) (r : FieldWork) (b₂ : Slices) → InsertsJob v triangles kinds faces coords limit m s c i pw pr b₁ t₁
+  pub works_to : (pw : List ℕ) (pr : List Float) (i : Result InsertCounts InsertRefusal) (r : FieldWork) (b₂ : Slices) → InsertsJob v triangles kinds faces coords limit m s c i pw pr b₁ t₁
       → RunsTo limit (length v / 3) most v triangles m.vertex_words_held m.round m.edge_reals_held t₁.triangles m.triangle_reals b₁ c₁ i r b₂
       → WorksTo v triangles kinds faces coords limit m s c most r pw pr b₂ t₁
   works_to pw pr i r b₂ I R = record {

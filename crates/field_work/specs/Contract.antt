@@ -1,8 +1,8 @@
 -- What the work on a job answers and leaves. Definitions only.
-use Rattle.std.specs.Prelude.{ℕ, List, ◌≡◌, length, Float}
+use Rattle.std.specs.Prelude.{ℕ, List, ◌≡◌, length, Float, Result}
 use Rattle.job_checks.specs.Job.{Job, job}
 use Rattle.run_steps.specs.of_mesh.declared.OtherCounts.{OtherCounts}
-use Rattle.run_steps.specs.of_mesh.declared.Meshed.{Meshed}
+use Rattle.run_steps.specs.of_mesh.declared.Refusal.{Refusal}
 use Rattle.run_steps.specs.of_mesh.Topology.{MeshBuffers}
 use Rattle.run_steps.specs.of_mesh.Answer.{counts_in, mesh_refusal, Answered}
 use Rattle.windows.specs.Windows.{capacity_of}
@@ -44,7 +44,7 @@ pub record WorksTo (v : List Float) (triangles kinds faces : List ℕ) (coords :
   pub bounded : WorkWithin (capacity_of (length s.words) (length s.reals)) r
   pub pieces : piece-words' ≡ piece_words_of kinds coords (length s.piece_words)
   pub directions : piece-reals' ≡ piece_reals_of kinds coords (length s.piece_reals)
-  pub works : (flags : List ℕ) (others : OtherCounts) (meshed : Meshed) (before : MeshBuffers)
+  pub works : (flags : List ℕ) (others : OtherCounts) (meshed : Result ℕ Refusal) (before : MeshBuffers)
       → Answered (job v triangles flags kinds faces coords limit) others meshed before m
       → mesh_refusal (job v triangles flags kinds faces coords limit) (counts_in before others) ≡ 0
       → PiecesCounted others s

@@ -14,8 +14,9 @@ use Rattle.groups.specs.declared.Form.TheVariants.{Plain, Groups}
 use Rattle.groups.specs.Groups.{number_of}
 use Rattle.slip_laws.specs.Plain.{IsByte}
 use Rattle.slip_moves.specs.declared.Refusal.TheVariants.{TooShort, UnknownKind}
-use Rattle.slip_moves.specs.declared.Head.{Head}
-use Rattle.slip_moves.specs.declared.Head.TheVariants.{Counts, Refused}
+use Rattle.std.specs.Prelude.{Result, Ok, Err}
+use Rattle.slip_moves.specs.declared.Refusal.{Refusal}
+use Rattle.slip_moves.specs.declared.Counts.{Counts}
 use Rattle.slip_moves.specs.Moves.{Part, put, stop, then, bytes_moved, ends_size, number_moved, numbers_moved, piece_of_kind, piece_moved, pieces_moved, form_head_at, first_byte, head_bytes, mesh_moved, rest_moved, body_moved, ended, slip_moved}
 use Rattle.slip_moves.proofs.Parts.{no_part}
 use Rattle.slip_moves.proofs.Whole.{refused_head, counted_head}
@@ -84,9 +85,9 @@ module _ (t : List ℕ) (b : Bytes t) where
   pub moved_bytes : (j : ℕ) (s : List ℕ) → slip_moved Groups Plain t ≡ put j s → All IsByte s
   moved_bytes j s e = go (form_head_at Groups t) refl
     where
-      go : (h : Head) → form_head_at Groups t ≡ h → All IsByte s
-      go (Refused r) eh = no_part (sym e ∙ refused_head Groups Plain t eh)
-      go (Counts v n p i) eh =
-          let whole = also_split (head_bytes Plain v n p) (then (body_moved Groups Plain t v n p i) (ended t)) j s (sym (counted_head Groups Plain t eh) ∙ e) in
-          let behind = both_bytes (body_moved Groups Plain t v n p i) (ended t) j whole.0 (of_body v n p i) (λ k l q. subst (All IsByte) (at_its_end t k j l q).1.1 tt) whole.1.0 in
-          subst (All IsByte) whole.1.1 (all_append IsByte (head_bytes Plain v n p) whole.0 (of_head v n p) behind)
+      go : (h : Result Counts Refusal) → form_head_at Groups t ≡ h → All IsByte s
+      go (Err r) eh = no_part (sym e ∙ refused_head Groups Plain t eh)
+      go (Ok c) eh =
+          let whole = also_split (head_bytes Plain c.vertices c.triangles c.pieces) (then (body_moved Groups Plain t c.vertices c.triangles c.pieces c.next) (ended t)) j s (sym (counted_head Groups Plain t eh) ∙ e) in
+          let behind = both_bytes (body_moved Groups Plain t c.vertices c.triangles c.pieces c.next) (ended t) j whole.0 (of_body c.vertices c.triangles c.pieces c.next) (λ k l q. subst (All IsByte) (at_its_end t k j l q).1.1 tt) whole.1.0 in
+          subst (All IsByte) whole.1.1 (all_append IsByte (head_bytes Plain c.vertices c.triangles c.pieces) whole.0 (of_head c.vertices c.triangles c.pieces) behind)

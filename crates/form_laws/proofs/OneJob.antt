@@ -12,19 +12,24 @@ use Rattle.job_checks.specs.Job as job
 use Rattle.little_endian.specs.Bytes.{number_from}
 use Rattle.groups.specs.declared.Form.{Form}
 use Rattle.groups.specs.declared.Form.TheVariants.{Plain, Groups}
-use Rattle.groups.specs.declared.Number.TheVariants.{Short, Is}
+use Rattle.groups.specs.declared.NumberRefusal.TheVariants.{Short}
+use Rattle.groups.proofs.Small.{same_number}
 use Rattle.groups.specs.Groups.{number_at}
-use Rattle.slip.specs.declared.Slip.{Slip}
-use Rattle.slip.specs.declared.Slip.TheVariants as slip
+use Rattle.slip.specs.declared.SlipJob.{SlipJob}
+use Rattle.slip.specs.declared.SlipRefusal.{SlipRefusal}
+use Rattle.slip.specs.declared.SlipRefusal.TheVariants as slip
 use Rattle.slip.specs.Format.{is_job, vertex_count_in, triangle_count_in, piece_count_in, pieces_from, piece_size, job_in, exceeds, after_pieces, answer_to}
 use Rattle.slip_laws.specs.Plain as plain
 use Rattle.slip_laws.proofs.Back.{vertices_told, triangles_told, pieces_told, one_slip}
 use Rattle.slip_moves.specs.declared.Refusal.TheVariants.{TooShort, UnknownKind}
-use Rattle.slip_moves.specs.declared.Head.{Head}
-use Rattle.slip_moves.specs.declared.Head.TheVariants.{Counts, Refused}
-use Rattle.slip_moves.specs.Moves.{put, stop, then, with_count, counts_at, bytes_moved, number_written, ends_size, number_moved, numbers_moved, piece_of_kind, piece_moved, pieces_moved, form_head_at, head_bytes, mesh_moved, rest_moved, body_moved, ended, slip_moved}
+use Rattle.std.specs.Prelude.{Result, Ok, Err}
+use Rattle.slip_moves.specs.declared.Refusal.{Refusal}
+use Rattle.slip_moves.specs.declared.Counts.{Counts}
+use Rattle.slip_moves.specs.Moves.{put, stop, then, with_count, counted, counts_at, bytes_moved, number_written, ends_size, number_moved, numbers_moved, piece_of_kind, piece_moved, pieces_moved, form_head_at, head_bytes, mesh_moved, rest_moved, body_moved, ended, slip_moved}
 use Rattle.slip_moves.proofs.Parts.{no_part}
+use Rattle.slip_moves.proofs.Heads.{same_counts}
 use Rattle.slip_moves.proofs.Whole.{refused_head, counted_head}
+use Rattle.form_laws.proofs.Numbers.{read_as}
 use Rattle.form_laws.proofs.Turns.{Bytes}
 use Rattle.form_laws.proofs.Back.{counted_cases, moved_back, one_form}
 use Rattle.form_read.specs.Places.{job_at}
@@ -50,32 +55,31 @@ size_is kind = go (eqb kind 0)
     go false = refl
 
 -- three tests that fail leave what stands behind them
-pub passed : (b c d : Bool) (x y z w : Slip) → b ≡ false → c ≡ false → d ≡ false → is_job w ≡ true → is_job (cond b x (cond c y (cond d z w))) ≡ true
+pub passed : (b c d : Bool) (x y z w : Result SlipJob SlipRefusal) → b ≡ false → c ≡ false → d ≡ false → is_job w ≡ true → is_job (cond b x (cond c y (cond d z w))) ≡ true
 passed b c d x y z w eb ec ed h = rw (eb, ec, ed) h
 
 module _ (s : List ℕ) where
-  plain_number : (i n next : ℕ) → number_at Plain s i ≡ Is n next → (i + 4 ≤ length s) × ((n ≡ number_from s i) × (next ≡ i + 4))
+  plain_number : (i n next : ℕ) → number_at Plain s i ≡ read_as n next → (i + 4 ≤ length s) × ((n ≡ number_from s i) × (next ≡ i + 4))
   unfolding number_at
   plain_number i n next e = go (ltb (length s) (i + 4)) refl e
     where
-      go : (b : Bool) → ltb (length s) (i + 4) ≡ b → cond b Short (Is (number_from s i) (i + 4)) ≡ Is n next → (i + 4 ≤ length s) × ((n ≡ number_from s i) × (next ≡ i + 4))
+      go : (b : Bool) → ltb (length s) (i + 4) ≡ b → cond b (Err Short) (read_as (number_from s i) (i + 4)) ≡ read_as n next → (i + 4 ≤ length s) × ((n ≡ number_from s i) × (next ≡ i + 4))
       go true eb h = absurd (let z : ◌≡◌ {A = ℕ} 0 1 = cc h in omega arith)
       go false eb h =
-          let en : number_from s i ≡ n = cc h in
-          let ei : i + 4 ≡ next = cc h in (ltb-false (length s) (i + 4) eb, (sym en, sym ei))
+          let same = same_number h in (ltb-false (length s) (i + 4) eb, (sym same.0, sym same.1))
 
   -- the three counts stand in the first twelve bytes
-  plain_head : {v t p i : ℕ} → form_head_at Plain s ≡ Counts v t p i → (12 ≤ length s) × ((v ≡ vertex_count_in s) × ((t ≡ triangle_count_in s) × ((p ≡ piece_count_in s) × (i ≡ 12))))
+  plain_head : {v t p i : ℕ} → form_head_at Plain s ≡ counted v t p i → (12 ≤ length s) × ((v ≡ vertex_count_in s) × ((t ≡ triangle_count_in s) × ((p ≡ piece_count_in s) × (i ≡ 12))))
   unfolding form_head_at counts_at
   plain_head {v} {t} {p} {i} e =
-      let one = counted_cases (number_at Plain s 0) (λ x j. with_count (number_at Plain s j) (λ y k. with_count (number_at Plain s k) (λ z l. Counts x y z l))) e in
-      let two = counted_cases (number_at Plain s one.1) (λ y k. with_count (number_at Plain s k) (λ z l. Counts one.0 y z l)) one.2.1 in
-      let three = counted_cases (number_at Plain s two.1) (λ z l. Counts one.0 two.0 z l) two.2.1 in
-      let q : Counts one.0 two.0 three.0 three.1 ≡ Counts v t p i = three.2.1 in
-      let ev : one.0 ≡ v = cc q in
-      let et : two.0 ≡ t = cc q in
-      let ep : three.0 ≡ p = cc q in
-      let ei : three.1 ≡ i = cc q in
+      let one = counted_cases (number_at Plain s 0) (λ x j. with_count (number_at Plain s j) (λ y k. with_count (number_at Plain s k) (λ z l. counted x y z l))) e in
+      let two = counted_cases (number_at Plain s one.1) (λ y k. with_count (number_at Plain s k) (λ z l. counted one.0 y z l)) one.2.1 in
+      let three = counted_cases (number_at Plain s two.1) (λ z l. counted one.0 two.0 z l) two.2.1 in
+      let same = same_counts three.2.1 in
+      let ev = same.0 in
+      let et = same.1.0 in
+      let ep = same.1.1.0 in
+      let ei = same.1.1.1 in
       let a = plain_number 0 one.0 one.1 one.2.0 in
       let b = plain_number one.1 two.0 two.1 two.2.0 in
       let c = plain_number two.1 three.0 three.1 three.2.0 in
@@ -93,7 +97,7 @@ module _ (s : List ℕ) where
     unfolding number_moved number_at number_written
     has_number i j bs e = go (ltb (length s) (i + 4)) refl e
       where
-        go : (b : Bool) → ltb (length s) (i + 4) ≡ b → number_written g (cond b Short (Is (number_from s i) (i + 4))) ≡ put j bs → (i + 4 ≤ length s) × (i + 4 ≡ j)
+        go : (b : Bool) → ltb (length s) (i + 4) ≡ b → number_written g (cond b (Err Short) (read_as (number_from s i) (i + 4))) ≡ put j bs → (i + 4 ≤ length s) × (i + 4 ≡ j)
         go true eb h = no_part (sym h)
         go false eb h = (ltb-false (length s) (i + 4) eb, cc h)
 
@@ -134,7 +138,7 @@ module _ (s : List ℕ) where
         let a = has_piece i p.middle p.first p.one in
         let r : is_job (after_pieces s n (i + piece_size kind)) ≡ true =
         ap (λ (k : ℕ). is_job (after_pieces s n k)) a.1.1.1 ∙ pieces_accepted n p.middle j p.rest p.two h in
-        passed (ltb (length s) (i + 1)) (ltb 1 kind) (ltb (length s) (i + piece_size kind)) slip.TooShort slip.UnknownKind slip.TooShort (after_pieces s n (i + piece_size kind))
+        passed (ltb (length s) (i + 1)) (ltb 1 kind) (ltb (length s) (i + piece_size kind)) (Err slip.TooShort) (Err slip.UnknownKind) (Err slip.TooShort) (after_pieces s n (i + piece_size kind))
         (le-ltb (length s) (i + 1) a.0) (le-ltb 1 kind a.1.0) (le-ltb (length s) (i + piece_size kind) a.1.1.0) r
 
     limit_accepted : (i : ℕ) → i + 8 ≡ length s → is_job (after_pieces s 0 i) ≡ true
@@ -162,7 +166,7 @@ module _ (s : List ℕ) where
         let pieces = pieces_accepted p body.middle rest.middle rest.first rest.one last in
         let these : is_job (after_pieces s (piece_count_in s) (pieces_from s)) ≡ true = (λ k. is_job (after_pieces s (sym ep k) (sym place k))) ∙ pieces in
         passed (ltb (length s) 12) (ltb (vertex_count_in s) (vertex_count_in s) || ltb (triangle_count_in s) (triangle_count_in s) || ltb (piece_count_in s) (piece_count_in s)) (ltb (length s) (pieces_from s))
-        slip.TooShort slip.TooMany slip.TooShort (after_pieces s (piece_count_in s) (pieces_from s)) (le-ltb (length s) 12 h.0)
+        (Err slip.TooShort) (Err slip.TooMany) (Err slip.TooShort) (after_pieces s (piece_count_in s) (pieces_from s)) (le-ltb (length s) 12 h.0)
         (rw (le-ltb (vertex_count_in s) (vertex_count_in s) (omega arith), le-ltb (triangle_count_in s) (triangle_count_in s) (omega arith), le-ltb (piece_count_in s) (piece_count_in s) (omega arith)) refl)
         (le-ltb (length s) (pieces_from s) there) these
 
@@ -170,13 +174,13 @@ module _ (s : List ℕ) where
     pub shape_accepted : (j : ℕ) (bs : List ℕ) → slip_moved Plain g s ≡ put j bs → is_job (answer_to s (vertex_count_in s) (triangle_count_in s) (piece_count_in s)) ≡ true
     shape_accepted j bs e = go (form_head_at Plain s) refl
       where
-        go : (h : Head) → form_head_at Plain s ≡ h → is_job (answer_to s (vertex_count_in s) (triangle_count_in s) (piece_count_in s)) ≡ true
-        go (Refused r) eh = no_part (sym e ∙ refused_head Plain g s eh)
-        go (Counts v t p i) eh =
-            let whole = also_split (head_bytes g v t p) (then (body_moved Plain g s v t p i) (ended s)) j bs (sym (counted_head Plain g s eh) ∙ e) in
-            let last = split (body_moved Plain g s v t p i) (ended s) j whole.0 whole.1.0 in
+        go : (h : Result Counts Refusal) → form_head_at Plain s ≡ h → is_job (answer_to s (vertex_count_in s) (triangle_count_in s) (piece_count_in s)) ≡ true
+        go (Err r) eh = no_part (sym e ∙ refused_head Plain g s eh)
+        go (Ok c) eh =
+            let whole = also_split (head_bytes g c.vertices c.triangles c.pieces) (then (body_moved Plain g s c.vertices c.triangles c.pieces c.next) (ended s)) j bs (sym (counted_head Plain g s eh) ∙ e) in
+            let last = split (body_moved Plain g s c.vertices c.triangles c.pieces c.next) (ended s) j whole.0 whole.1.0 in
             let end = at_its_end s last.middle j last.rest last.two in
-            body_accepted v t p i last.middle last.first (plain_head eh) last.one end.0
+            body_accepted c.vertices c.triangles c.pieces c.next last.middle last.first (plain_head eh) last.one end.0
 
 -- ---- the theorem: two slips in groups that hold one job are one, where every NaN of theirs has the pattern that is written
 module _ (t u : List ℕ) (bt : Bytes t) (bu : Bytes u) (j k : ℕ) (s w : List ℕ) (et : slip_moved Groups Plain t ≡ put j s) (eu : slip_moved Groups Plain u ≡ put k w) where
@@ -192,6 +196,6 @@ module _ (t u : List ℕ) (bt : Bytes t) (bu : Bytes u) (j k : ℕ) (s w : List 
       let same : s ≡ w = one_slip s w bs bw ps pw (vertex_count_in s) (triangle_count_in s) (piece_count_in s) js ((λ q. is_job (answer_to w (sym v q) (sym n q) (sym p q))) ∙ jw) e in
       one_form Groups Plain t u bt bu j k w (et ∙ ap (put j) same) eu
 
-  pub one_job : {v n p i v' n' p' i' : ℕ} → form_head_at Groups t ≡ Counts v n p i → form_head_at Groups u ≡ Counts v' n' p' i' → plain.Plain s → plain.Plain w
+  pub one_job : {v n p i v' n' p' i' : ℕ} → form_head_at Groups t ≡ counted v n p i → form_head_at Groups u ≡ counted v' n' p' i' → plain.Plain s → plain.Plain w
       → job_at t v n p i ≡ job_at u v' n' p' i' → t ≡ u
   one_job ht hu ps pw e = one_plain_job ps pw (sym (same_job t bt ht j s et) ∙ e ∙ same_job u bu hu k w eu)

@@ -14,14 +14,13 @@ use lib.Ieee.{of_bits, binary64}
 use Rattle.nat_laws.proofs.Lists.{list_of_same}
 use Rattle.little_endian.specs.Bytes.{number_from, double_from, doubles_from, numbers_from, bytes_from, number_bytes}
 use Rattle.groups.specs.declared.Form.TheVariants.{Plain, Groups}
-use Rattle.groups.specs.declared.Number.{Number}
-use Rattle.groups.specs.declared.Number.TheVariants.{Short, Over, Is}
+use Rattle.std.specs.Prelude.{Result, Ok, Err}
+use Rattle.groups.specs.declared.NumberRefusal.{NumberRefusal}
 use Rattle.groups.specs.Groups.{number_at, number_of}
 use Rattle.slip_moves.specs.declared.Refusal.TheVariants.{TooShort, UnknownKind, LeftOver}
-use Rattle.slip_moves.specs.declared.Head.TheVariants.{Counts}
 use Rattle.float64.specs.Scalar.{zero64}
 use Rattle.slip.specs.Format.{pieces_from, piece_size, piece_from, second_double_at, piece_coords, kinds_in, faces_in, coords_in, job_in}
-use Rattle.slip_moves.specs.Moves.{Part, put, stop, also, then, bytes_moved, number_written, ends_size, number_moved, numbers_moved, piece_of_kind, piece_moved, pieces_moved, form_head_at, first_byte, head_bytes, mesh_moved, rest_moved, body_moved, ended, slip_moved}
+use Rattle.slip_moves.specs.Moves.{Part, put, stop, also, then, counted, bytes_moved, number_written, ends_size, number_moved, numbers_moved, piece_of_kind, piece_moved, pieces_moved, form_head_at, first_byte, head_bytes, mesh_moved, rest_moved, body_moved, ended, slip_moved}
 use Rattle.slip_moves.proofs.Parts.{no_part}
 use Rattle.slip_moves.proofs.Ways.{pieces_next, no_pieces}
 use Rattle.slip_moves.proofs.Whole.{counted_head}
@@ -29,7 +28,7 @@ use Rattle.slip_laws.proofs.Parts.{past, number_here}
 use Rattle.slip_write.proofs.Lengths.{length_number}
 use Rattle.form_read.specs.Places.{value_read, place_behind, number_place, numbers_in, ends_from, piece_place, second_in, ends_in, kinds_from, faces_from, coords_from, flags_place, first_piece, job_at}
 use Rattle.form_read.proofs.Parts.{put_of, is_put_lem, then_put, then_is, ends_bounds, bytes_put, numbers_put, mesh_put}
-use Rattle.form_laws.proofs.Numbers.{number_stood}
+use Rattle.form_laws.proofs.Numbers.{read_as, number_stood}
 use Rattle.form_laws.proofs.Turns.{Bytes}
 use Rattle.form_laws.proofs.Back.{head_stood}
 
@@ -108,7 +107,7 @@ place_shift t (suc k) i = ap (λ (p : ℕ). place_behind (number_at Groups t p))
 module _ (s t : List ℕ) (b : Bytes t) where
   pub record Read (q j : ℕ) (bs : List ℕ) : Type 0 where
     pub value : ℕ
-    pub found : number_at Groups t q ≡ Is value j
+    pub found : number_at Groups t q ≡ read_as value j
     pub bytes : bs ≡ number_bytes value
     pub small : value < 4_294_967_296
 
@@ -116,13 +115,12 @@ module _ (s t : List ℕ) (b : Bytes t) where
   unfolding number_moved number_written number_of
   number_was q j bs e = go (number_at Groups t q) refl e
     where
-      go : (x : Number) → number_at Groups t q ≡ x → number_written Plain x ≡ put j bs → Read q j bs
-      go Short ex h = no_part (sym h)
-      go Over ex h = no_part (sym h)
-      go (Is n next) ex h =
+      go : (x : Result (ℕ × ℕ) NumberRefusal) → number_at Groups t q ≡ x → number_written Plain x ≡ put j bs → Read q j bs
+      go (Err why) ex h = no_part (sym h)
+      go (Ok (n, next)) ex h =
           let ej : next ≡ j = cc h in
           let eb : number_bytes n ≡ bs = cc h in
-          record { value = n; found = ex ∙ ap (Is n) ej; bytes = sym eb; small = (number_stood t b Groups q n next ex).1 }
+          record { value = n; found = ex ∙ ap (read_as n) ej; bytes = sym eb; small = (number_stood t b Groups q n next ex).1 }
 
   pub numbers_were : (m q j : ℕ) (bs : List ℕ) (a : ℕ) (rest : List ℕ) → numbers_moved Groups Plain t m q ≡ put j bs → drop a s ≡ bs ++ rest
       → ((k : ℕ) → k < m → number_from s (a + 4 * k) ≡ value_read (number_at Groups t (number_place t q k))) × (length bs ≡ 4 * m)
@@ -139,7 +137,7 @@ module _ (s t : List ℕ) (b : Bytes t) where
         ap length (sym p.all) ∙ length-append p.first p.rest ∙ omega (arith, more.1, ap length r.bytes, length_number r.value),
       )
     where
-      each : (x middle : ℕ) → number_from s a ≡ x → number_at Groups t q ≡ Is x middle → place_behind (number_at Groups t q) ≡ middle
+      each : (x middle : ℕ) → number_from s a ≡ x → number_at Groups t q ≡ read_as x middle → place_behind (number_at Groups t q) ≡ middle
           → ((k : ℕ) → k < m → number_from s (a + 4 + 4 * k) ≡ value_read (number_at Groups t (number_place t middle k)))
           → (k : ℕ) → k < suc m → number_from s (a + 4 * k) ≡ value_read (number_at Groups t (number_place t q k))
       each x middle first found next more zero l = ap (number_from s) (add-zero a) ∙ first ∙ sym (ap value_read found)
@@ -184,7 +182,7 @@ module _ (s t : List ℕ) (b : Bytes t) where
       let kind : get_or s a 0 ≡ get_or t q 0 = ap (λ (k : ℕ). get_or s k 0) (sym (add-zero a)) ∙ kind0 ∙ ap (λ (k : ℕ). get_or t k 0) (add-zero q) in
       let d1 = past s a p.first (u.first ++ (u.rest ++ rest)) 1 st.1.0 d0 in
       let d2 : drop (a + 1) s ≡ number_bytes r.value ++ (u.rest ++ rest) = d1 ∙ ap (λ l. l ++ (u.rest ++ rest)) r.bytes in
-      let here : number_at Groups t (q + 1) ≡ Is r.value u.middle = ap (number_at Groups t) st.1.1 ∙ r.found in
+      let here : number_at Groups t (q + 1) ≡ read_as r.value u.middle = ap (number_at Groups t) st.1.1 ∙ r.found in
       let five : a + 1 + 4 ≡ a + 5 = omega arith in
       let d3 : drop (a + 5) s ≡ u.rest ++ rest = rw five at (past s (a + 1) (number_bytes r.value) (u.rest ++ rest) 4 (length_number r.value) d2) in
       let all : a + 5 + size ≡ a + piece_size (get_or s a 0) = rw (kind, size_is) (omega arith) in
@@ -318,7 +316,7 @@ told s t v n p i cv cn cp ev en ef ek ec eo el =
     })
 
 -- the theorem: a slip in groups and the plain slip that it is moved to hold the same job
-module _ (t : List ℕ) (b : Bytes t) {v n p i : ℕ} (head : form_head_at Groups t ≡ Counts v n p i) (j : ℕ) (s : List ℕ) (moved : slip_moved Groups Plain t ≡ put j s) where
+module _ (t : List ℕ) (b : Bytes t) {v n p i : ℕ} (head : form_head_at Groups t ≡ counted v n p i) (j : ℕ) (s : List ℕ) (moved : slip_moved Groups Plain t ≡ put j s) where
   pub same_job : job_at t v n p i ≡ job_in s
   unfolding head_bytes first_byte number_of body_moved mesh_moved rest_moved flags_place
   same_job =

@@ -12,8 +12,8 @@ use lib.Dec.{ltb}
 use lib.ListN.{length, get_or, take, drop, length-append, length-take, length-drop}
 use lib.Seq.{take_at, drop-drop, drop-cons}
 use Rattle.groups.specs.declared.Form.{Form}
-use Rattle.groups.specs.declared.Number.{Number}
-use Rattle.groups.specs.declared.Number.TheVariants.{Short, Over, Is}
+use Rattle.std.specs.Prelude.{Result, Ok, Err}
+use Rattle.groups.specs.declared.NumberRefusal.{NumberRefusal}
 use Rattle.groups.specs.Groups.{number_at, number_of}
 use Rattle.slip_moves.specs.declared.Refusal.TheVariants.{TooShort, UnknownKind}
 use Rattle.slip_moves.specs.Moves.{Part, put, stop, also, then, bytes_moved, number_written, ends_size, number_moved, numbers_moved, piece_of_kind, piece_moved, pieces_moved, mesh_moved, rest_moved, body_moved}
@@ -102,10 +102,9 @@ pub back_number : Back number_moved
 unfolding number_moved number_written
 back_number f g s b i j bs e = go (number_at f s i) refl e
   where
-    go : (x : Number) → number_at f s i ≡ x → number_written g x ≡ put j bs → Turn number_moved f g s i j bs
-    go Short ex h = no_part (sym h)
-    go Over ex h = no_part (sym h)
-    go (Is n next) ex h =
+    go : (x : Result (ℕ × ℕ) NumberRefusal) → number_at f s i ≡ x → number_written g x ≡ put j bs → Turn number_moved f g s i j bs
+    go (Err why) ex h = no_part (sym h)
+    go (Ok (n, next)) ex h =
         let p = put_same h in
         let stood = number_stood s b f i n next ex in
         record {

@@ -8,8 +8,8 @@ use borrow.Author.Tests.{ltb-false}
 use lib.Dec.{eqb, ltb}
 use lib.ListN.{length, get_or, take, drop}
 use Rattle.groups.specs.declared.Form.TheVariants.{Plain, Groups}
-use Rattle.groups.specs.declared.Number.{Number}
-use Rattle.groups.specs.declared.Number.TheVariants.{Short, Over, Is}
+use Rattle.std.specs.Prelude.{Result, Ok, Err}
+use Rattle.groups.specs.declared.NumberRefusal.{NumberRefusal}
 use Rattle.groups.specs.Groups.{number_at, Found}
 use Rattle.slip_moves.specs.declared.Refusal.TheVariants.{TooShort, UnknownKind}
 use Rattle.slip_moves.specs.Moves.{Part, put, stop, also, then, bytes_moved, number_written, ends_size, number_moved, numbers_moved, piece_of_kind, piece_moved, pieces_moved, mesh_moved}
@@ -55,10 +55,9 @@ module _ (s : List ℕ) where
   unfolding number_moved number_written
   number_put i j bs e = go (number_at Groups s i) e
     where
-      go : (x : Number) → number_written Plain x ≡ put j bs → place_behind x ≡ j
-      go Short h = no_part (sym h)
-      go Over h = no_part (sym h)
-      go (Is n next) h = cc h
+      go : (x : Result (ℕ × ℕ) NumberRefusal) → number_written Plain x ≡ put j bs → place_behind x ≡ j
+      go (Err why) h = no_part (sym h)
+      go (Ok (n, next)) h = cc h
 
   place_shift : (k i : ℕ) → number_place s (place_behind (number_at Groups s i)) k ≡ number_place s i (suc k)
   unfolding number_place
@@ -147,15 +146,13 @@ module _ (s : List ℕ) where
       (b.0, rw (less, b.1) a.2.1)
 
 -- how large a number that is read is, and how near the place behind it
-pub value_small : {s : List ℕ} {i : ℕ} (x : Number) → Found Groups s i x → value_read x < 4_294_967_296
-value_small Short f = omega arith
-value_small Over f = omega arith
-value_small (Is n next) f = (f.small n next refl).0
+pub value_small : {s : List ℕ} {i : ℕ} (x : Result (ℕ × ℕ) NumberRefusal) → Found Groups s i x → value_read x < 4_294_967_296
+value_small (Err why) f = omega arith
+value_small (Ok (n, next)) f = (f.small n next refl).0
 
-pub next_near : {s : List ℕ} {i : ℕ} (x : Number) → Found Groups s i x → place_behind x ≤ i + 5
-next_near Short f = omega arith
-next_near Over f = omega arith
-next_near (Is n next) f = (f.small n next refl).1
+pub next_near : {s : List ℕ} {i : ℕ} (x : Result (ℕ × ℕ) NumberRefusal) → Found Groups s i x → place_behind x ≤ i + 5
+next_near (Err why) f = omega arith
+next_near (Ok (n, next)) f = (f.small n next refl).1
 
 pub ends_bounds : (kind : ℕ) → (24 ≤ ends_size kind) × (ends_size kind ≤ 48)
 unfolding ends_size

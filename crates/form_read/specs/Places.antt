@@ -1,25 +1,22 @@
 -- The job that stands in a slip in groups. Definitions only.
-use Rattle.std.specs.Prelude.{ℕ, zero, suc, ◌+◌, ◌-◌, ◌*◌, Bool, true, false, cond, List, [], ◌∷◌, ◌++◌, eqb, length, get_or, Float}
+use Rattle.std.specs.Prelude.{ℕ, zero, suc, ◌+◌, ◌-◌, ◌*◌, Bool, true, false, cond, List, [], ◌∷◌, ◌++◌, eqb, length, get_or, Float, Result, Ok, Err}
 use Rattle.nat_laws.specs.Lists.{list_of}
 use Rattle.float64.specs.Scalar.{zero64}
 use Rattle.job_checks.specs.Job.{Job}
 use Rattle.little_endian.specs.Bytes.{double_from, doubles_from, bytes_from}
 use Rattle.groups.specs.declared.Form.TheVariants.{Groups}
-use Rattle.groups.specs.declared.Number.{Number}
-use Rattle.groups.specs.declared.Number.TheVariants.{Short, Over, Is}
+use Rattle.groups.specs.declared.NumberRefusal.{NumberRefusal}
 use Rattle.groups.specs.Groups.{number_at}
 use Rattle.slip_moves.specs.Moves.{Part, put, stop, ends_size}
 
 -- a number that was read, and the place behind it
-abbrev pub value_read : Number → ℕ
-value_read Short = 0
-value_read Over = 0
-value_read (Is n next) = n
+abbrev pub value_read : Result (ℕ × ℕ) NumberRefusal → ℕ
+value_read (Ok (n, next)) = n
+value_read (Err why) = 0
 
-abbrev pub place_behind : Number → ℕ
-place_behind Short = 0
-place_behind Over = 0
-place_behind (Is n next) = next
+abbrev pub place_behind : Result (ℕ × ℕ) NumberRefusal → ℕ
+place_behind (Ok (n, next)) = next
+place_behind (Err why) = 0
 
 abbrev pub is_put : Part → Bool
 is_put (put j bytes) = true

@@ -1,78 +1,85 @@
 // Reading a slip in the form that the reader is told: its job to the fronts of six slices. All is checked before anything is written.
 #![tactic(auto)]
 
-ghost use Rattle.std.specs.Prelude.{◌≡◌, true, ◌+◌, ◌*◌, ◌≤◌, ◌<◌, length, get_or};
+ghost use Rattle.std.specs.Prelude.{◌≡◌, true, ◌+◌, ◌*◌, ◌≤◌, ◌<◌, length, get_or, Ok};
 ghost use Rattle.buffers.specs.Slots.{fill};
 ghost use Rattle.little_endian.specs.Bytes.{doubles_from, bytes_from, put_in_front};
 ghost use Rattle.groups.specs.declared.Form.TheVariants.{Plain, Groups};
 ghost use Rattle.slip.specs.Reading.{job_rows};
 ghost use Rattle.slip_moves.specs.Moves.{form_head_at};
+ghost use Rattle.form_read.specs.declared.ReadRefusal.TheVariants.{Slip};
 ghost use Rattle.form_read.specs.Places.{value_read, place_behind, number_place, numbers_in, second_in, ends_in, kinds_from, faces_from, coords_from, flags_place, first_piece};
-ghost use Rattle.form_read.specs.FormReading.{answer_number, is_read, of_slip, counts_exceed, passed_answer, groups_answer, job_written, groups_reading, form_reading};
+ghost use Rattle.form_read.specs.FormReading.{read_refusal_number, answer_number, slip_refusal, counts_exceed, passed_answer, groups_answer, job_written, groups_reading, form_reading};
 ghost use Rattle.form_read.specs.There.{MeshThere, PieceThere, PiecesThere, JobThere};
 
-use groups::{Form, Number, read_number};
+use groups::{Form, NumberRefusal, read_number};
 use little_endian::{double_at, read_bytes, read_doubles};
-use slip::{Slip, SlipJob, least};
-use slip_moves::{Head, Moved, Refusal, ends_size, move_slip, read_head};
+use slip::{SlipJob, SlipRefusal, least};
+use slip_moves::{MoveRefusal, Refusal, ends_size, move_slip, read_head};
 
-#[derive(Clone, Copy)]
-pub enum Answer {
-    Refused(Refusal),
+// Why a slip is not read: it is refused as a move of it is, or there is too little room for its counts.
+#[derive(Clone, Copy, PartialEq, Eq, Debug)]
+pub enum ReadRefusal {
+    Slip(Refusal),
     TooMany,
-    Job(SlipJob),
 }
 
-// The number of a refusal in documents 01 and 02, 0 of a job.
-pub fn answer_number(answer: Answer) -> u32
+impl From<Refusal> for ReadRefusal {
+    ghost from_gives = { λ why refusal. refusal ≡ Slip why };
+
+    fn from(why: Refusal) -> ReadRefusal {
+        ReadRefusal::Slip(why)
+    }
+}
+
+impl From<SlipRefusal> for ReadRefusal {
+    ghost from_gives = { λ why refusal. refusal ≡ slip_refusal why };
+
+    fn from(why: SlipRefusal) -> ReadRefusal {
+        match why {
+            SlipRefusal::TooShort => ReadRefusal::Slip(Refusal::TooShort),
+            SlipRefusal::LeftOver => ReadRefusal::Slip(Refusal::LeftOver),
+            SlipRefusal::UnknownKind => ReadRefusal::Slip(Refusal::UnknownKind),
+            SlipRefusal::TooMany => ReadRefusal::TooMany,
+        }
+    }
+}
+
+// The number of a refusal in documents 01 and 02.
+pub fn refusal_number(refusal: ReadRefusal) -> u32
+    ensures { result ≡ read_refusal_number refusal }
+{
+    match refusal {
+        ReadRefusal::Slip(why) => slip_moves::refusal_number(why),
+        ReadRefusal::TooMany => 33,
+    }
+}
+
+// The same of an answer: 0 of a job.
+pub fn answer_number(answer: Result<SlipJob, ReadRefusal>) -> u32
     ensures { result ≡ answer_number answer }
 {
     match answer {
-        Answer::Refused(why) => slip_moves::refusal_number(why),
-        Answer::TooMany => 33,
-        Answer::Job(_) => 0,
+        Ok(_) => 0,
+        Err(why) => refusal_number(why),
     }
 }
 
-fn is_read(answer: Answer) -> bool
-    ensures { result ≡ is_read answer }
-{
-    match answer {
-        Answer::Refused(_) => false,
-        Answer::TooMany => false,
-        Answer::Job(_) => true,
-    }
-}
-
-fn of_slip(slip: Slip) -> Answer
-    ensures { result ≡ of_slip slip }
-{
-    match slip {
-        Slip::TooShort => Answer::Refused(Refusal::TooShort),
-        Slip::LeftOver => Answer::Refused(Refusal::LeftOver),
-        Slip::UnknownKind => Answer::Refused(Refusal::UnknownKind),
-        Slip::TooMany => Answer::TooMany,
-        Slip::Job(job) => Answer::Job(job),
-    }
-}
-
-fn value(number: Number) -> usize
+fn value(number: Result<(usize, usize), NumberRefusal>) -> usize
     ensures { result ≡ value_read number }
 {
     match number {
-        Number::Short => 0,
-        Number::Over => 0,
-        Number::Is(n, _) => n,
+        Ok((n, _)) => n,
+        Err(_) => 0,
     }
 }
 
-fn behind(number: Number) -> usize
+fn behind(number: Result<(usize, usize), NumberRefusal>) -> usize
     ensures { result ≡ place_behind number }
 {
     match number {
-        Number::Short => 0,
-        Number::Over => 0,
-        Number::Is(_, next) => next,
+        Ok((_, next)) => next,
+        Err(_) => 0,
     }
 }
 
@@ -100,36 +107,32 @@ fn is_exceeded(
     false
 }
 
-fn job(s: &[u8], v: usize, t: usize, p: usize) -> Answer
+fn job(s: &[u8], v: usize, t: usize, p: usize) -> SlipJob
     requires { (8 ≤ length s.now) × ((v < 4_294_967_296) × ((t < 4_294_967_296) × (p < 4_294_967_296))) }
-    ensures { result ≡ passed_answer s.now v t p }
+    ensures { Ok result ≡ passed_answer s.now v t p }
 {
-    let limit = double_at(s, s.len() - 8);
-    Answer::Job(SlipJob {
+    SlipJob {
         vertices: v as u32,
         triangles: t as u32,
         pieces: p as u32,
-        limit: limit,
-    })
+        limit: double_at(s, s.len() - 8),
+    }
 }
 
 // What reading answers where there is room for so many vertices, triangles and pieces.
-fn check(s: &[u8], vertices: usize, triangles: usize, pieces: usize) -> Answer
+fn check(s: &[u8], vertices: usize, triangles: usize, pieces: usize) -> Result<SlipJob, ReadRefusal>
     ensures { result ≡ groups_answer s.now vertices triangles pieces }
 {
-    match read_head(Form::Groups, s) {
-        Head::Refused(why) => Answer::Refused(why),
-        Head::Counts(v, t, p, _) => {
-            if is_exceeded(v, t, p, vertices, triangles, pieces) {
-                return Answer::TooMany;
-            }
-            let mut none = [0u8; 1];
-            match move_slip(Form::Groups, Form::Plain, s, &mut none) {
-                Moved::Refused(why) => Answer::Refused(why),
-                Moved::Length(_) => job(s, v, t, p),
-                Moved::NoRoom(_) => job(s, v, t, p),
-            }
-        }
+    let head = read_head(Form::Groups, s)?;
+    let (v, t, p) = (head.vertices, head.triangles, head.pieces);
+    if is_exceeded(v, t, p, vertices, triangles, pieces) {
+        return Err(ReadRefusal::TooMany);
+    }
+    let mut none = [0u8; 1];
+    match move_slip(Form::Groups, Form::Plain, s, &mut none) {
+        Ok(_) => Ok(job(s, v, t, p)),
+        Err(MoveRefusal::NoRoom(_)) => Ok(job(s, v, t, p)),
+        Err(MoveRefusal::Slip(why)) => Err(ReadRefusal::Slip(why)),
     }
 }
 
@@ -141,12 +144,10 @@ fn write_numbers(s: &[u8], i: usize, n: usize, to: &mut [u32]) -> usize
     ensures { (to.new ≡ put_in_front (numbers_in s.now i n) to.old) × (result ≡ number_place s.now i n) }
 {
     let mut at = i;
-    let mut k: usize = 0;
-    while k < n {
+    for k in 0..n {
         let number = read_number(Form::Groups, s, at);
         to[k] = value(number) as u32;
         at = behind(number);
-        k += 1;
     }
     at
 }
@@ -208,8 +209,7 @@ fn write_pieces(
         × ((faces.new ≡ put_in_front (faces_from s.now from n) faces.old) × (coords.new ≡ put_in_front (coords_from s.now from n) coords.old)) }
 {
     let mut at = from;
-    let mut k: usize = 0;
-    while k < n {
+    for k in 0..n {
         let kind = s[at];
         let number = read_number(Form::Groups, s, at + 1);
         let e = behind(number);
@@ -217,7 +217,6 @@ fn write_pieces(
         faces[k] = value(number) as u32;
         write_coords(s, at, e, k, coords);
         at = e + ends_size(kind);
-        k += 1;
     }
 }
 
@@ -235,9 +234,17 @@ fn write_job(
     ensures { job_rows vertices.new triangles.new flags.new kinds.new faces.new coords.new
         ≡ job_written s.now (form_head_at Groups s.now) (job_rows vertices.old triangles.old flags.old kinds.old faces.old coords.old) }
 {
-    if let Head::Counts(v, t, p, i) = read_head(Form::Groups, s) {
-        let at = write_mesh(s, i, v, t, vertices, triangles, flags);
-        write_pieces(s, at, p, kinds, faces, coords);
+    if let Ok(head) = read_head(Form::Groups, s) {
+        let at = write_mesh(
+            s,
+            head.next,
+            head.vertices,
+            head.triangles,
+            vertices,
+            triangles,
+            flags,
+        );
+        write_pieces(s, at, head.pieces, kinds, faces, coords);
     }
 }
 
@@ -249,17 +256,15 @@ fn read_groups(
     kinds: &mut [u8],
     faces: &mut [u32],
     coords: &mut [f64],
-) -> Answer
+) -> Result<SlipJob, ReadRefusal>
     ensures { (result, job_rows vertices.new triangles.new flags.new kinds.new faces.new coords.new)
         ≡ groups_reading s.now (job_rows vertices.old triangles.old flags.old kinds.old faces.old coords.old) }
 {
     let vertex_room = least(vertices.len() / 3, flags.len());
     let piece_room = least(kinds.len(), least(faces.len(), coords.len() / 6));
-    let answer = check(s, vertex_room, triangles.len() / 3, piece_room);
-    if is_read(answer) {
-        write_job(s, vertices, triangles, flags, kinds, faces, coords);
-    }
-    answer
+    let job = check(s, vertex_room, triangles.len() / 3, piece_room)?;
+    write_job(s, vertices, triangles, flags, kinds, faces, coords);
+    Ok(job)
 }
 
 // Reads a slip in a form: its job to the fronts of the slices, where there is room for it. Refused, it writes nothing.
@@ -272,12 +277,12 @@ pub fn read(
     kinds: &mut [u8],
     faces: &mut [u32],
     coords: &mut [f64],
-) -> Answer
+) -> Result<SlipJob, ReadRefusal>
     ensures { (result, job_rows vertices.new triangles.new flags.new kinds.new faces.new coords.new)
         ≡ form_reading form s.now (job_rows vertices.old triangles.old flags.old kinds.old faces.old coords.old) }
 {
     match form {
-        Form::Plain => of_slip(slip::read(s, vertices, triangles, flags, kinds, faces, coords)),
+        Form::Plain => Ok(slip::read(s, vertices, triangles, flags, kinds, faces, coords)?),
         Form::Groups => read_groups(s, vertices, triangles, flags, kinds, faces, coords),
     }
 }

@@ -2,15 +2,14 @@
 // element of the lent slices. oracle/README.md has the format; tests/moves/make_vectors.sh makes the file.
 #![tactic(auto)]
 
-ghost use Rattle.std.specs.Prelude.{◌≤◌, ◌<◌};
+ghost use Rattle.std.specs.Prelude.{◌<◌};
 
-use form_read::{Answer, answer_number};
+use form_read::{ReadRefusal, answer_number};
 use groups::Form;
 use slip::SlipJob;
 use std::io;
-use std::rt::Files;
 use stored_bytes::holds_bytes;
-use stored_numbers::{all_f64, all_u32, at_most, count, double, number, record_size};
+use stored_numbers::{all_f64, all_u32, count, double, number, replay_records};
 use stored_slots::{start_at, visit_f64, visit_u32};
 use vectors::{Tally, pattern};
 
@@ -40,16 +39,15 @@ fn is_told(s: &[u8], k: usize, at: usize, job: SlipJob) -> bool
     true
 }
 
-fn is_answered(s: &[u8], k: usize, at: usize, answer: Answer) -> bool
+fn is_answered(s: &[u8], k: usize, at: usize, answer: Result<SlipJob, ReadRefusal>) -> bool
     requires { (k < 500_000) × (at < 1_000_000) }
 {
     if answer_number(answer) != number(s, k + 2) {
         return false;
     }
     match answer {
-        Answer::Refused(_) => true,
-        Answer::TooMany => true,
-        Answer::Job(job) => is_told(s, k, at, job),
+        Ok(job) => is_told(s, k, at, job),
+        Err(_) => true,
     }
 }
 
@@ -106,7 +104,7 @@ fn holds_pieces(s: &[u8], at: usize, kinds: &[u8], faces: &[u32], coords: &[f64]
 fn holds_job(
     s: &[u8],
     k: usize,
-    answer: Answer,
+    answer: Result<SlipJob, ReadRefusal>,
     vertices: &[f64],
     triangles: &[u32],
     flags: &[u8],
@@ -192,38 +190,10 @@ fn is_read(s: &[u8], k: usize) -> bool
     )
 }
 
-// 1 where the slip of the record at number k is read otherwise than stored, else 0.
-fn difference(s: &[u8], k: usize) -> u64
-    requires { k < 500_000 }
-    ensures { result ≤ 1 }
-{
-    if is_read(s, k) {
-        return 0;
-    }
-    1
-}
-
 fn replay(s: &[u8]) -> Tally {
-    let end = at_most(s.len() / 4, 400_000);
-    let mut cases: u64 = 0;
-    let mut differences: u64 = 0;
-    let mut k: usize = 0;
-    while k < end {
-        differences += difference(s, k);
-        cases += 1;
-        k += record_size(s, k);
-    }
-    Tally { cases, differences }
-}
-
-// Reads the file into the buffer, replays it and reports.
-fn replay_into(rt: &(impl Files + Print), buf: &mut [u8]) -> io::Result<()> {
-    let got = vectors::read_file(rt, "reads", buf)?;
-    let tally = replay(&buf[..got]);
-    vectors::report(rt, "reads", tally.cases, tally.differences)
+    replay_records(s, 0, |k| is_read(s, k))
 }
 
 fn main(rt: HostRuntime) -> io::Result<()> {
-    let mut buf = [0u8; 262144];
-    replay_into(&rt, &mut buf)
+    vectors::replay_file::<262144, _>(&rt, "reads", replay)
 }

@@ -199,8 +199,7 @@ fn perpendiculars(
     ensures { left triangle_reals ≡ with_rows reals_per_normal (perpendicular_row vertices.now triangles.now triangle_words.now edge_reals.now) (3 * faces)
         (given triangle_reals) }
 {
-    let mut f: u32 = 0;
-    while f < faces {
+    for f in 0..faces {
         store_perpendiculars(
             vertices,
             triangles,
@@ -209,7 +208,6 @@ fn perpendiculars(
             f,
             triangle_reals,
         );
-        f += 1;
     }
 }
 
@@ -232,10 +230,8 @@ fn units(reals: &mut [f64], faces: u32)
     requires { (reals_per_triangle * faces ≤ length reals.old) × (3 * faces < 4294967296) }
     ensures { left reals ≡ with_rows reals_per_normal (unit_row_of (given reals)) (3 * faces) (given reals) }
 {
-    let mut f: u32 = 0;
-    while f < faces {
+    for f in 0..faces {
         store_units(reals, f);
-        f += 1;
     }
 }
 

@@ -15,12 +15,11 @@ pub enum Form {
     Groups,
 }
 
-// What stands at a place: no whole number, one in too many groups or too large, or a number and the place behind it.
-#[derive(Clone, Copy)]
-pub enum Number {
+// Why no number is read at a place: the bytes end before it does, or it has too many groups or is too large.
+#[derive(Clone, Copy, PartialEq, Eq, Debug)]
+pub enum NumberRefusal {
     Short,
     Over,
-    Is(usize, usize),
 }
 
 fn wide(x: u8) -> usize
@@ -30,57 +29,59 @@ fn wide(x: u8) -> usize
 }
 
 // A group in front of a number.
-fn join(low: usize, behind: Number) -> Number
+fn join(
+    low: usize,
+    behind: Result<(usize, usize), NumberRefusal>,
+) -> Result<(usize, usize), NumberRefusal>
     requires { low < 128 }
     ensures { result ≡ joined_group low behind }
 {
-    match behind {
-        Number::Short => Number::Short,
-        Number::Over => Number::Over,
-        Number::Is(n, next) => {
-            if n == 0 {
-                return Number::Over;
-            }
-            if 33_554_431 < n {
-                return Number::Over;
-            }
-            Number::Is(low + 128 * n, next)
-        }
+    let (n, next) = behind?;
+    if n == 0 {
+        return Err(NumberRefusal::Over);
     }
+    if 33_554_431 < n {
+        return Err(NumberRefusal::Over);
+    }
+    Ok((low + 128 * n, next))
 }
 
 // The group at byte i, the last that there may be.
-fn last_group(s: &[u8], i: usize) -> Number
+fn last_group(s: &[u8], i: usize) -> Result<(usize, usize), NumberRefusal>
     requires { i < 9_000_000_000_000_000_000 }
     ensures { result ≡ grouped s.now i 0 }
 {
     if s.len() <= i {
-        return Number::Short;
+        return Err(NumberRefusal::Short);
     }
     let b = wide(s[i]);
     if b < 128 {
-        return Number::Is(b, i + 1);
+        return Ok((b, i + 1));
     }
-    Number::Over
+    Err(NumberRefusal::Over)
 }
 
 // The group at byte i, in front of a number.
-fn group(s: &[u8], i: usize, behind: Number) -> Number
+fn group(
+    s: &[u8],
+    i: usize,
+    behind: Result<(usize, usize), NumberRefusal>,
+) -> Result<(usize, usize), NumberRefusal>
     requires { i < 9_000_000_000_000_000_000 }
     ensures { result ≡ group_at s.now i (joined_group (get_or s.now i 0 - 128) behind) }
 {
     if s.len() <= i {
-        return Number::Short;
+        return Err(NumberRefusal::Short);
     }
     let b = wide(s[i]);
     if b < 128 {
-        return Number::Is(b, i + 1);
+        return Ok((b, i + 1));
     }
     join(b - 128, behind)
 }
 
 // The groups from byte i on, the last first.
-fn read_groups(s: &[u8], i: usize) -> Number
+fn read_groups(s: &[u8], i: usize) -> Result<(usize, usize), NumberRefusal>
     requires { i < 8_000_000_000_000_000_000 }
     ensures { result ≡ grouped s.now i 4 }
 {
@@ -91,18 +92,18 @@ fn read_groups(s: &[u8], i: usize) -> Number
     group(s, i, d)
 }
 
-fn read_plain(s: &[u8], i: usize) -> Number
+fn read_plain(s: &[u8], i: usize) -> Result<(usize, usize), NumberRefusal>
     requires { i < 8_000_000_000_000_000_000 }
     ensures { Found Form.Plain s.now i result }
 {
     if s.len() < i + 4 {
-        return Number::Short;
+        return Err(NumberRefusal::Short);
     }
-    Number::Is(number_at(s, i) as usize, i + 4)
+    Ok((number_at(s, i) as usize, i + 4))
 }
 
-// The number at byte i.
-pub fn read_number(form: Form, s: &[u8], i: usize) -> Number
+// The number at byte i and the place behind it.
+pub fn read_number(form: Form, s: &[u8], i: usize) -> Result<(usize, usize), NumberRefusal>
     requires { i < 8_000_000_000_000_000_000 }
     ensures { Found form s.now i result }
 {

@@ -10,12 +10,11 @@ use lib.Dec.{eqb, ltb}
 use lib.Ieee.{binary64, to_bits}
 use Rattle.vectors.specs.Records.{word_at}
 use Rattle.heap.specs.declared.Event.{Event}
-use Rattle.heap.specs.declared.Pushed.{Pushed}
-use Rattle.heap.specs.declared.Pushed.TheVariants.{Full, Queued}
-use Rattle.heap.specs.declared.Popped.{Popped}
-use Rattle.heap.specs.declared.Popped.TheVariants.{Empty, First}
+use Rattle.std.specs.Prelude.{Err, Ok}
+use Rattle.buffers.specs.declared.Lack.{Lack}
+use Rattle.std.specs.Prelude.{None, Some}
 use Rattle.heap.specs.Order.{item_number, kind_of}
-use Rattle.heap.specs.Queue.{Queue, pushing, popping}
+use Rattle.heap.specs.Queue.{Queue, pushing, popping, Pushed, Popped}
 use Rattle.heap_vectors.specs.Replay.{event_at, same_event, ReplayOutcome, replay_push, pop_differs, replay_pop, replay_record, replay_records}
 
 module _ (a b : Event) {p q : ℕ} (d : p ≡ to_bits binary64 a.key) (e : q ≡ to_bits binary64 b.key) where
@@ -37,30 +36,30 @@ module _ (a b : Event) {p q : ℕ} (d : p ≡ to_bits binary64 a.key) (e : q ≡
       one_event l = rw (eq-eqb (to_bits binary64 a.key) (to_bits binary64 b.key) (sym d ∙ h ∙ e), eq-eqb (item_number a.item) (item_number b.item) number, eq-eqb (kind_of a.item) (kind_of b.item) (sym f ∙ l ∙ g)) refl
 
 module _ (found : Bool) (n : ℕ) {q : Queue} {a : Pushed × Queue} {r : Pushed} (e : (r, q) ≡ a) where
-  pub push_full : {d : ℕ} → r ≡ Full → d ≡ cond found 1 0 → (n, (d, q)) ≡ replay_push found n a
+  pub push_full : {l : Lack} {d : ℕ} → r ≡ Err l → d ≡ cond found 1 0 → (n, (d, q)) ≡ replay_push found n a
   unfolding replay_push
   push_full h k = (λ t. (n, (k t, q))) ∙ (λ t. replay_push found n (sym h t, q)) ∙ ap (replay_push found n) e
 
-  pub push_queued : {m d : ℕ} → r ≡ Queued m → d ≡ cond (not found) 1 0 → (m, (d, q)) ≡ replay_push found n a
+  pub push_queued : {m d : ℕ} → r ≡ Ok m → d ≡ cond (not found) 1 0 → (m, (d, q)) ≡ replay_push found n a
   unfolding replay_push
   push_queued {m} h k = (λ t. (m, (k t, q))) ∙ (λ t. replay_push found n (sym h t, q)) ∙ ap (replay_push found n) e
 
 module _ (found : Bool) (e : Event) (n : ℕ) {q : Queue} {a : Popped × Queue} {r : Popped} (i : (r, q) ≡ a) where
-  pub pop_empty : {d : ℕ} → r ≡ Empty → d ≡ cond found 1 0 → (n, (d, q)) ≡ replay_pop found e n a
+  pub pop_empty : {d : ℕ} → r ≡ None → d ≡ cond found 1 0 → (n, (d, q)) ≡ replay_pop found e n a
   unfolding replay_pop
   pop_empty h k = (λ t. (n, (k t, q))) ∙ (λ t. replay_pop found e n (sym h t, q)) ∙ ap (replay_pop found e n) i
 
-  pub pop_first : {x : Event} {m d : ℕ} → r ≡ First x m → d ≡ pop_differs found x e → (m, (d, q)) ≡ replay_pop found e n a
+  pub pop_first : {x : Event} {m d : ℕ} → r ≡ Some (x, m) → d ≡ pop_differs found x e → (m, (d, q)) ≡ replay_pop found e n a
   unfolding replay_pop
   pop_first {x} {m} h k = (λ t. (m, (k t, q))) ∙ (λ t. replay_pop found e n (sym h t, q)) ∙ ap (replay_pop found e n) i
 
 -- an operation differs or not
 push_le : (found : Bool) (n : ℕ) (a : Pushed × Queue) → (replay_push found n a).1.0 ≤ 1
 unfolding replay_push
-push_le true n (Full, q) = omega arith
-push_le false n (Full, q) = omega arith
-push_le true n (Queued m, q) = omega arith
-push_le false n (Queued m, q) = omega arith
+push_le true n (Err l, q) = omega arith
+push_le false n (Err l, q) = omega arith
+push_le true n (Ok m, q) = omega arith
+push_le false n (Ok m, q) = omega arith
 
 differs_le : (found same : Bool) → cond found (cond (not same) 1 0) 1 ≤ 1
 differs_le true true = omega arith
@@ -69,9 +68,9 @@ differs_le false same = omega arith
 
 pop_le : (found : Bool) (e : Event) (n : ℕ) (a : Popped × Queue) → (replay_pop found e n a).1.0 ≤ 1
 unfolding replay_pop pop_differs
-pop_le true e n (Empty, q) = omega arith
-pop_le false e n (Empty, q) = omega arith
-pop_le found e n (First x m, q) = differs_le found (same_event x e)
+pop_le true e n (None, q) = omega arith
+pop_le false e n (None, q) = omega arith
+pop_le found e n (Some (x, m), q) = differs_le found (same_event x e)
 
 module _ (s : List ℕ) (k n : ℕ) (q : Queue) where
   record_le : (replay_record s k n q).1.0 ≤ 1

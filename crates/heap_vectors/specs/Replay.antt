@@ -1,16 +1,12 @@
 -- What a replay counts. Record k of s is four numbers: what was done and answered (0 a push that found a slot, 1 one that found none,
 -- 2 a pop of an event, 3 a pop of none), then an event's key, number and kind.
-use Rattle.std.specs.Prelude.{ℕ, zero, suc, ◌+◌, ◌*◌, ◌%◌, Bool, false, not, cond, List, eqb, ltb}
+use Rattle.std.specs.Prelude.{ℕ, zero, suc, ◌+◌, ◌*◌, ◌%◌, Bool, false, not, cond, List, eqb, ltb, Err, Ok, None, Some}
 use Rattle.std.specs.Float.{binary64}
 use Rattle.std.specs.Float.Ieee.{to_bits}
 use Rattle.vectors.specs.Records.{word_at, float_at}
 use Rattle.heap.specs.declared.Event.{Event}
-use Rattle.heap.specs.declared.Pushed.{Pushed}
-use Rattle.heap.specs.declared.Pushed.TheVariants.{Full, Queued}
-use Rattle.heap.specs.declared.Popped.{Popped}
-use Rattle.heap.specs.declared.Popped.TheVariants.{Empty, First}
 use Rattle.heap.specs.Order.{item_number, kind_of, item_of}
-use Rattle.heap.specs.Queue.{Queue, pushing, popping}
+use Rattle.heap.specs.Queue.{Queue, pushing, popping, Pushed, Popped}
 
 unfoldable pub event_at : List ℕ → ℕ → Event
 event_at s k = record { key = float_at s (4 * k + 1); item = item_of (word_at s (4 * k + 2) % 4294967296) (word_at s (4 * k + 3) % 4294967296) }
@@ -26,16 +22,16 @@ ReplayOutcome = ℕ × (ℕ × Queue)
 
 -- `found` is the stored answer: that the push found a slot, that the pop found an event
 unfoldable pub replay_push : Bool → ℕ → Pushed × Queue → ReplayOutcome
-replay_push found n (Full, q) = (n, (cond found 1 0, q))
-replay_push found n (Queued m, q) = (m, (cond (not found) 1 0, q))
+replay_push found n (Err l, q) = (n, (cond found 1 0, q))
+replay_push found n (Ok m, q) = (m, (cond (not found) 1 0, q))
 
 unfoldable pub pop_differs : Bool → Event → Event → ℕ
 pop_differs found x e = cond found (cond (not (same_event x e)) 1 0) 1
 
 unfoldable pub replay_pop : Bool → Event → ℕ → Popped × Queue → ReplayOutcome
 unfolding pop_differs
-replay_pop found e n (Empty, q) = (n, (cond found 1 0, q))
-replay_pop found e n (First x m, q) = (m, (pop_differs found x e, q))
+replay_pop found e n (None, q) = (n, (cond found 1 0, q))
+replay_pop found e n (Some (x, m), q) = (m, (pop_differs found x e, q))
 
 unfoldable pub replay_record : List ℕ → ℕ → ℕ → Queue → ReplayOutcome
 replay_record s k n q =

@@ -6,7 +6,7 @@ ghost use Rattle.std.specs.Prelude.{IfOk, ◌≡◌, cond, ◌+◌, ◌*◌, ◌
 ghost use Rattle.heap.specs.Queue.{queue, pushing, popping};
 ghost use Rattle.heap_vectors.specs.Replay.{event_at, same_event, replay_push, pop_differs, replay_pop, replay_record, replay_records};
 
-use heap::{Event, Popped, Pushed, item_of, kind_of, number_of, pop, push};
+use heap::{Event, item_of, kind_of, number_of, pop, push};
 use std::io::Read;
 use std::rt::Files;
 use std::{env, fs, io};
@@ -77,11 +77,11 @@ fn replay_push(keys: &mut [f64], events: &mut [u32], n: u32, e: Event, found: bo
     ensures { (result.n, (result.differs, queue keys.new events.new)) ≡ replay_push found n (pushing (queue keys.old events.old) n e) }
 {
     match push(keys, events, n, e) {
-        Pushed::Full => Outcome {
+        Err(_) => Outcome {
             n,
             differs: one_if(found),
         },
-        Pushed::Queued(m) => Outcome {
+        Ok(m) => Outcome {
             n: m,
             differs: one_if(!found),
         },
@@ -102,11 +102,11 @@ fn replay_pop(keys: &mut [f64], events: &mut [u32], n: u32, e: Event, found: boo
     ensures { (result.n, (result.differs, queue keys.new events.new)) ≡ replay_pop found e n (popping (queue keys.old events.old) n) }
 {
     match pop(keys, events, n) {
-        Popped::Empty => Outcome {
+        None => Outcome {
             n,
             differs: one_if(found),
         },
-        Popped::First(x, m) => Outcome {
+        Some((x, m)) => Outcome {
             n: m,
             differs: pop_differs(found, x, e),
         },

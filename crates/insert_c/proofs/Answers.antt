@@ -1,4 +1,5 @@
 -- The answers of `sirmolaat_insert`, from what the functions that it calls answered. Assumes nothing.
+use Rattle.std.specs.Prelude.{Result}
 use Prim.Native.Nat.{ℕ, ◌*◌, ◌≤◌, ◌<◌}
 use mathlib.Core.List.{List}
 use mathlib.Core.Path.{◌≡◌, refl, sym, ap, subst, ◌∙◌}
@@ -10,18 +11,20 @@ use Rattle.job_checks.specs.Job.{Job, job, vertex_count}
 use Rattle.cut_slots.specs.of_cut_lists.Buffers.{Cuts}
 use Rattle.cut_slots.specs.Slots.{cut_count, cut_to}
 use Rattle.insert_job.specs.of_mesh.declared.OtherCounts.{OtherCounts}
-use Rattle.insert_job.specs.of_mesh.declared.Meshed.{Meshed}
+use Rattle.insert_job.specs.of_mesh.declared.Refusal.{Refusal}
 use Rattle.insert_job.specs.of_mesh.Topology.{MeshBuffers, mesh_buffers}
 use Rattle.insert_job.specs.of_mesh.Answer.{meshed_number, counts_in, mesh_refusal, Answered}
 use Rattle.insert_job.specs.of_begin.Begin.{WorkSlices}
-use Rattle.insert_job.specs.declared.InsertedJob.{InsertedJob}
+use Rattle.insert_job.specs.of_insertion.declared.InsertCounts.{InsertCounts}
+use Rattle.insert_job.specs.declared.InsertRefusal.{InsertRefusal}
+use Rattle.std.specs.declared.result.Result.{Result}
 use Rattle.insert_job.specs.Field.{trim_slices, entry_slices}
 use Rattle.insert_job.specs.Job.{InsertsJob}
 use Rattle.insert_job.proofs.Begun.{begun_fits}
 use Rattle.insert_c.specs.Exports.{lent_in, edges_told, insert_told, InsertedIn, InsertAnswers}
 
 -- a mesh that was answered with a number, over slices whose slots were counted
-module _ (v : List Float) (triangles flags kinds faces : List ℕ) (coords : List Float) (limit : Float) (m : MeshBuffers) (s : WorkSlices) (o : OtherCounts) (a : Meshed) (built : MeshBuffers)
+module _ (v : List Float) (triangles flags kinds faces : List ℕ) (coords : List Float) (limit : Float) (m : MeshBuffers) (s : WorkSlices) (o : OtherCounts) (a : Result ℕ Refusal) (built : MeshBuffers)
     (counts : o ≡ lent_in s) (built_is : Answered (job v triangles flags kinds faces coords limit) o a m built) (n : ℕ) (number : n ≡ meshed_number a) where
   abbrev j : Job
   j = job v triangles flags kinds faces coords limit
@@ -40,7 +43,7 @@ module _ (v : List Float) (triangles flags kinds faces : List ℕ) (coords : Lis
     pub parts_fit : (vertex_count j ≤ 65535) × ((length kinds ≤ 65535) × (words_per_piece * length kinds ≤ length s.piece_words))
     parts_fit = begun_fits j (lent_in s) a m built answered passed s (omega arith)
 
-    module _ (c : Cuts) (x : ℕ) (cut : x ≡ cut_count c) (told : List ℕ) (r : InsertedJob) (m' : MeshBuffers) (s' : WorkSlices) where
+    module _ (c : Cuts) (x : ℕ) (cut : x ≡ cut_count c) (told : List ℕ) (r : Result InsertCounts InsertRefusal) (m' : MeshBuffers) (s' : WorkSlices) where
       abbrev Inserted : ℕ → Type 0
       Inserted z = InsertsJob v triangles kinds faces coords limit built s (cut_to z c) r s'.piece_words s'.piece_reals (trim_slices m' s') (entry_slices m' s')
 

@@ -14,8 +14,9 @@ ghost use Rattle.insert_job.specs.Job.{InsertsJob};
 ghost use Rattle.insert_c.specs.Exports.{lent_counts, edges_told, insert_told, InsertAnswers};
 
 use buffers::write_u32;
-use insert_job::of_mesh::{Meshed, OtherCounts};
-use insert_job::{InsertedJob, of_mesh};
+use insert_job::of_insertion::InsertCounts;
+use insert_job::of_mesh::{OtherCounts, Refusal};
+use insert_job::{InsertRefusal, of_mesh};
 use layout::{
     REALS_PER_PIECE, REALS_PER_VERTEX, REALS_PER_WINDOW, WORDS_PER_PIECE, WORDS_PER_WINDOW,
 };
@@ -40,25 +41,21 @@ fn lent_counts(
     }
 }
 
-fn edges_told(meshed: Meshed) -> u32
+fn edges_told(meshed: Result<u32, Refusal>) -> u32
     ensures { result ≡ edges_told meshed }
 {
-    match meshed {
-        Meshed::Edges(edges) => edges,
-        Meshed::Refused(_) => 0,
-        Meshed::ThirdFace => 0,
-    }
+    meshed.unwrap_or(0)
 }
 
 // The answer is 0 where all pieces are inserted, else the refusal's number. The first four numbers of `told` are then the edges, the windows made, the events queued and the
 // entries of faces.
-fn tell(edges: u32, inserted: InsertedJob, told: &mut [u32]) -> u32
+fn tell(edges: u32, inserted: Result<InsertCounts, InsertRefusal>, told: &mut [u32]) -> u32
     ensures { (result, told.new) ≡ insert_told edges inserted told.old }
 {
     match inserted {
-        InsertedJob::Wedge => 11,
-        InsertedJob::Stopped(lack) => buffers::lack_number(lack),
-        InsertedJob::Went(counts) => {
+        Err(InsertRefusal::Wedge) => 11,
+        Err(InsertRefusal::NoSlot(lack)) => buffers::lack_number(lack),
+        Ok(counts) => {
             let trim = counts.trim;
             write_u32(told, 4, 0, 0, edges);
             write_u32(told, 4, 0, 1, trim.made);
@@ -96,7 +93,7 @@ fn insert_parts(
     out: &mut [f64],
     keep: &mut [f64],
     next: &mut [f64],
-) -> InsertedJob
+) -> Result<InsertCounts, InsertRefusal>
     requires { (length vertices.now / 3 ≤ 65535) × ((length kinds.now ≤ 65535) × ((words_per_piece * length kinds.now ≤ length piece_words.old)
         × (x ≡ cut_count (cut_buffers pts.old out.old keep.old next.old)))) }
     ensures { InsertsJob vertices.now triangles.now kinds.now faces.now coords.now limit

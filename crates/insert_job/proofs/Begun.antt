@@ -1,5 +1,6 @@
 -- A job that passed refusals 1 to 10 and whose slices are as `begin_buffers` leaves them: they hold the job and the field before its first piece, so that its pieces are inserted as
 -- the definition has it. Assumes nothing.
+use Rattle.std.specs.Prelude.{Result}
 use Prim.Native.Nat.{ℕ, ◌*◌, ◌/◌, ◌<◌, ◌≤◌}
 use mathlib.Core.Bool.{false}
 use mathlib.Core.List.{List, [], ◌∷◌}
@@ -9,6 +10,7 @@ use lib.Ieee.{Float}
 use lib.ListN.{length, get_or, replicate, length-replicate}
 use Rattle.layout.specs.Layout.{words_per_edge, words_per_triangle, words_per_piece, reals_per_piece}
 use Rattle.float64.specs.Scalar.{zero64}
+use Rattle.buffers.specs.declared.Lack.{Lack}
 use Rattle.buffers.proofs.Zeroing.{zero_at}
 use Rattle.job_checks.specs.Job.{Job, vertex_count}
 use Rattle.job_checks.specs.Refusals.{max_vertices, max_pieces, refusals, refusal_of}
@@ -23,7 +25,7 @@ use Rattle.begin.specs.of_edge_table.Table.{edge_words, triangle_words}
 use Rattle.begin.proofs.laws_of_edge_table.Holding.{length_words}
 use Rattle.begin.proofs.laws_of_frames.Rows.{length_rows}
 use Rattle.insert_sources.specs.of_mesh.declared.OtherCounts.{OtherCounts}
-use Rattle.insert_sources.specs.of_mesh.declared.Meshed.{Meshed}
+use Rattle.insert_sources.specs.of_mesh.declared.Refusal.{Refusal}
 use Rattle.insert_sources.specs.of_mesh.Topology.{MeshBuffers, filled, topology_of}
 use Rattle.insert_sources.specs.of_mesh.Answer.{counts_in, mesh_refusals, mesh_refusal, afterwards, Answered}
 use Rattle.insert_sources.specs.of_mesh.Held.{Held, Fresh}
@@ -48,7 +50,8 @@ use Rattle.insert_sources.specs.of_wedge_refusal.Held.{HoldsJob}
 use Rattle.insert_sources.proofs.laws_of_wedge_refusal.Held.{wedge_held}
 use Rattle.insert_sources.specs.of_source_inserts.Inserts.{job_inserts, candidates_in}
 use Rattle.insert_sources.proofs.laws_of_source_inserts.Proper.{job_proper}
-use Rattle.insert_sources.specs.of_insertion.declared.InsertAnswer.{InsertAnswer}
+use Rattle.insert_sources.specs.of_insertion.declared.InsertCounts.{InsertCounts}
+use Rattle.std.specs.declared.result.Result.{Result}
 use Rattle.insert_sources.specs.of_insertion.Insertion.{insert_each}
 use Rattle.insert_sources.specs.of_insertion.Snapshots.{insert_snapshot, HoldsInserted, InsertEnds, insert_end}
 use Rattle.insert_sources.specs.Job.{JobIn, InsertsAll}
@@ -72,7 +75,7 @@ unfolding piece_reals_of
 length_directions kinds coords n = length_rows reals_per_piece _ (λ k. refl) (length kinds) (replicate n zero64) ∙ length-replicate n zero64
 
 -- a job, what `mesh::build` answered and left in m, and that it was not refused
-module _ (j : Job) (others : OtherCounts) (r : Meshed) (before m : MeshBuffers) (answered : Answered j others r before m) (passed : mesh_refusal j (counts_in before others) ≡ 0) where
+module _ (j : Job) (others : OtherCounts) (r : Result ℕ Refusal) (before m : MeshBuffers) (answered : Answered j others r before m) (passed : mesh_refusal j (counts_in before others) ≡ 0) where
   both : (refusal_of j (counts_in before others) ≡ 0) × (shared_by_three j.triangles ≡ false)
   unfolding mesh_refusals
   both =
@@ -159,7 +162,7 @@ module _ (j : Job) (others : OtherCounts) (r : Meshed) (before m : MeshBuffers) 
 
       -- What `insert_all` answers from there is stopped by the definition's number, or the buffers hold the definition's state: windows, live lists, queue, vertices and entries;
       -- the mesh is unchanged.
-      pub inserted : (c : Cuts) (a : InsertAnswer) (b' : Slices) (t' : EntryBuffers)
+      pub inserted : (c : Cuts) (a : Result InsertCounts Lack) (b' : Slices) (t' : EntryBuffers)
           → InsertsAll j.limit (read_slices j m (begun_job j s)) (λ triangles. job_inserts j.vertices triangles j.kinds j.faces j.coords) no_counts (trim_slices m (begun_job j s)) (entry_slices m (begun_job j s)) c a b' t'
           → FieldInserted j m s c (insert_end a b' t')
       inserted c a b' t' h =

@@ -1,4 +1,5 @@
 -- What insertion leaves to the steps that follow: the mesh still stands in the buffers, and behind the windows made there are zeros. Assumes nothing.
+use Rattle.std.specs.Prelude.{Result}
 use Prim.Native.Nat.{ℕ, zero, suc, ◌*◌, ◌-◌}
 use mathlib.Core.Path.{◌≡◌, ap, ◌∙◌}
 use native.Mathlib.Omega.{arith}
@@ -7,7 +8,7 @@ use Rattle.layout.specs.Layout.{words_per_window, reals_per_window}
 use Rattle.float64.specs.Scalar.{zero64}
 use Rattle.job_checks.specs.Job.{Job, vertex_count}
 use Rattle.insert_sources.specs.of_mesh.declared.OtherCounts.{OtherCounts}
-use Rattle.insert_sources.specs.of_mesh.declared.Meshed.{Meshed}
+use Rattle.insert_sources.specs.of_mesh.declared.Refusal.{Refusal}
 use Rattle.insert_sources.specs.of_mesh.Topology.{MeshBuffers}
 use Rattle.insert_sources.specs.of_mesh.Answer.{counts_in, mesh_refusal, Answered}
 use Rattle.insert_sources.specs.of_mesh_readers.Held.{HoldsMesh}
@@ -24,7 +25,7 @@ drop_zeros z (suc n) zero = let e : zero ≡ zero - suc n = omega arith in ap (�
 drop_zeros z (suc n) (suc m) = let e : m - n ≡ suc m - suc n = omega arith in drop_zeros z n m ∙ ap (λ (k : ℕ). replicate k z) e
 
 module _ (j : Job) (m : MeshBuffers) (s : WorkSlices) (c : Cuts) (p : InsertSnapshot) (h : FieldInserted j m s c (at p)) where
-  pub inserted_mesh : (others : OtherCounts) (r : Meshed) (before : MeshBuffers) → Answered j others r before m → mesh_refusal j (counts_in before others) ≡ 0
+  pub inserted_mesh : (others : OtherCounts) (r : Result ℕ Refusal) (before : MeshBuffers) → Answered j others r before m → mesh_refusal j (counts_in before others) ≡ 0
       → HoldsMesh j.vertices j.triangles (vertex_count j) p.trim.links.edges m.edge_reals_held p.entries.triangles m.triangle_reals
   inserted_mesh others r before answered passed =
       mesh_entered j.vertices j.triangles (vertex_count j) m.edge_reals_held m.triangle_reals p.trim.links.edges m.triangle_words_held p.entries.triangles h.kept

@@ -10,32 +10,31 @@ ghost use Rattle.insert_sources.specs.of_trim.Buffers.{after};
 ghost use Rattle.insert_sources.specs.of_mesh.Topology.{mesh_buffers};
 ghost use Rattle.insert_sources.specs.of_insertion.Snapshots.{entries_after};
 ghost use Rattle.begin.specs.Begin.{work_before};
-ghost use Rattle.insert_job.specs.Job.{job_answer, InsertsJob};
+ghost use Rattle.insert_job.specs.declared.InsertRefusal.TheVariants.{NoSlot};
+ghost use Rattle.insert_job.specs.Job.{InsertsJob};
 
 use buffers::Lack;
-use insert_sources::of_insertion::{InsertAnswer, InsertCounts};
-pub use insert_sources::of_mesh as of_mesh;
+use insert_sources::of_insertion::InsertCounts;
 use insert_sources::of_trim_split::Counts;
 use insert_sources::of_wedge_refusal;
+pub use insert_sources::{of_insertion, of_mesh};
 
-// Refusal 11, what there is no slot for, or the counts after the last piece.
+// Refusal 11, or what there is no slot for.
 #[derive(Clone, Copy)]
-pub enum InsertedJob {
+pub enum InsertRefusal {
     Wedge,
-    Stopped(Lack),
-    Went(InsertCounts),
+    NoSlot(Lack),
 }
 
-fn of_answer(answer: InsertAnswer) -> InsertedJob
-    ensures { result ≡ job_answer answer }
-{
-    match answer {
-        InsertAnswer::Stopped(lack) => InsertedJob::Stopped(lack),
-        InsertAnswer::Went(counts) => InsertedJob::Went(counts),
+impl From<Lack> for InsertRefusal {
+    ghost from_gives = { λ lack e. e ≡ NoSlot lack };
+
+    fn from(lack: Lack) -> InsertRefusal {
+        InsertRefusal::NoSlot(lack)
     }
 }
 
-// The pieces of a job are inserted, whatever the slices beside the mesh's held before.
+// The pieces of a job are inserted, whatever the slices beside the mesh's held before. The answer is the counts after the last piece.
 pub fn insert_job(
     vertices: &[f64],
     triangles: &[u32],
@@ -61,7 +60,7 @@ pub fn insert_job(
     out: &mut [f64],
     keep: &mut [f64],
     next: &mut [f64],
-) -> InsertedJob
+) -> Result<InsertCounts, InsertRefusal>
     requires { (length vertices.now / 3 ≤ 65535) × ((length kinds.now ≤ 65535) × ((words_per_piece * length kinds.now ≤ length piece_words.old)
         × Sizes (length pts.old) out.old keep.old next.old)) }
     ensures { InsertsJob vertices.now triangles.now kinds.now faces.now coords.now limit
@@ -96,11 +95,11 @@ pub fn insert_job(
         coords,
         piece_words,
     ) {
-        return InsertedJob::Wedge;
+        return Err(InsertRefusal::Wedge);
     }
     let trim = Counts { made: 0, queued: 0 };
     let counts = InsertCounts { trim, entries: 0 };
-    let answer = insert_sources::insert_all(
+    let inserted = insert_sources::insert_all(
         vertices,
         edge_words,
         words,
@@ -125,6 +124,6 @@ pub fn insert_job(
         entry_words,
         counts,
         limit,
-    );
-    of_answer(answer)
+    )?;
+    Ok(inserted)
 }

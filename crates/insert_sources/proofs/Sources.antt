@@ -1,4 +1,6 @@
 -- What a source does, and all of a job, by what their turns do. Assumes nothing.
+use Rattle.std.specs.declared.option.Option.{Option}
+use Rattle.std.specs.declared.option.Option.TheVariants.{None, Some}
 use Prim.Native.Nat.{ℕ, ◌+◌, ◌*◌, ◌≤◌, ◌<◌}
 use native.Mathlib.Omega.{arith}
 use mathlib.Core.List.{List, [], ◌∷◌}
@@ -12,7 +14,6 @@ use Rattle.insertion.specs.of_cut_lists.Buffers.{Cuts}
 use Rattle.insertion.proofs.laws_of_mesh_readers.Held.{trim_edge_held}
 use Rattle.insertion.specs.of_trim.Buffers.{Slices}
 use Rattle.insertion.specs.of_offers.declared.Offered.{Offered}
-use Rattle.insertion.specs.of_offers.declared.Offered.TheVariants.{Nothing, Window}
 use Rattle.insertion.specs.of_offers.Offers.{EdgeThere}
 use Rattle.insertion.specs.of_offers.Walks.{edge_data}
 use Rattle.insertion.proofs.laws_of_offers.Walks.{windows_in}
@@ -27,8 +28,8 @@ use Rattle.insertion.proofs.laws_of_source_inserts.Held.{source_is, source_inser
 use Rattle.insertion.proofs.laws_of_source_inserts.Job.{job_inserts_lem}
 use Rattle.insertion.proofs.laws_of_source_inserts.There.{source_there}
 use Rattle.insertion.specs.declared.InsertCounts.{InsertCounts}
-use Rattle.insertion.specs.declared.InsertAnswer.{InsertAnswer}
-use Rattle.insertion.specs.declared.InsertAnswer.TheVariants.{Stopped, Went}
+use Rattle.std.specs.declared.result.Result.{Result}
+use Rattle.std.specs.declared.result.Result.TheVariants.{Ok, Err}
 use Rattle.insertion.specs.Snapshots as snapshots
 use Rattle.insertion.specs.Snapshots.{insert_snapshot, insert_end, InsertsFrom, InsertThere, InsertsTo}
 use Rattle.insert_sources.specs.Job.{InsertionSlices, JobIn, InsertsAll}
@@ -37,10 +38,10 @@ use Rattle.insert_sources.proofs.Loop.{slots_in, Done, InsertInv, LengthsKept, T
 
 -- ---- what is inserted is there in the buffers
 module _ (k : InsertionSlices) (triangles : List ℕ) (n : ℕ) (ew tw : List ℕ) (J : JobIn k triangles n ew tw) where
-  offer_there : (o : Offered) → OfferThere triangles o → EdgeThere (edge_data k.vertices triangles) ew k.edge_reals_held o
-  offer_there Nothing h = tt
-  offer_there (Window e w) h =
-      (omega (arith, h, J.edge_slots), sym (trim_edge_held triangles ew J.job.mesh.ends k.vertices k.edge_reals_held J.job.mesh.lengths e.0 h))
+  offer_there : (o : Option Offered) → OfferThere triangles o → EdgeThere (edge_data k.vertices triangles) ew k.edge_reals_held o
+  offer_there None h = tt
+  offer_there (Some o) h =
+      (omega (arith, h, J.edge_slots), sym (trim_edge_held triangles ew J.job.mesh.ends k.vertices k.edge_reals_held J.job.mesh.lengths o.edge.0 h))
 
   insert_there : (x : Insert) → There triangles x → InsertThere (edge_data k.vertices triangles) ew k.edge_reals_held tw x
   insert_there (Entry f x) h =
@@ -49,7 +50,7 @@ module _ (k : InsertionSlices) (triangles : List ℕ) (n : ℕ) (ew tw : List �
   insert_there (Offer o) h = offer_there o h
 
 abbrev none : Insert
-none = Offer Nothing
+none = Offer None
 
 -- ---- source j of a job
 module _ (k : InsertionSlices) (j : ℕ) where
@@ -105,7 +106,7 @@ module _ (limit : Float) (k : InsertionSlices) (pieces : ℕ) (few : pieces ≡ 
   turns_same triangles n J = counted ∙ turns_are triangles n J B.edges T.triangles J
 
   -- a turn, by what is inserted in it
-  module _ (B₁ : Slices) (T₁ : EntryBuffers) (c₁ : Cuts) (now : InsertCounts) (i : ℕ) (inv : InsertInv limit k (one_of k j) counts B T c turns B₁ T₁ c₁ now i) (q : i < turns) (r : InsertAnswer) (B₂ : Slices) (T₂ : EntryBuffers)
+  module _ (B₁ : Slices) (T₁ : EntryBuffers) (c₁ : Cuts) (now : InsertCounts) (i : ℕ) (inv : InsertInv limit k (one_of k j) counts B T c turns B₁ T₁ c₁ now i) (q : i < turns) (r : Result InsertCounts Lack) (B₂ : Slices) (T₂ : EntryBuffers)
       (h : InsertsTo limit k.vertex_words_held k.edge_reals_held (read_at k pieces s B₁.edges T₁.triangles i) now B₁ T₁ c₁ r B₂ T₂) where
     turn_does : Turn limit k (one_of k j) counts B T c turns B₁ T₁ c₁ now i inv q (insert_end r B₂ T₂)
     turn_does triangles n J J₁ =
@@ -115,30 +116,30 @@ module _ (limit : Float) (k : InsertionSlices) (pieces : ℕ) (few : pieces ≡ 
         (h.inserts (edge_data k.vertices triangles)
         (subst (λ (z : Insert). InsertThere (edge_data k.vertices triangles) B₁.edges k.edge_reals_held T₁.triangles z) (sym x) (there triangles n J B₁.edges T₁.triangles J₁ i short)))
 
-  abbrev pub OfAll : InsertAnswer → Slices → EntryBuffers → Type 0
+  abbrev pub OfAll : Result InsertCounts Lack → Slices → EntryBuffers → Type 0
   OfAll r B' T' = InsertsAll limit k (of_source k j) counts B T c r B' T'
 
-  whole : (r : InsertAnswer) (B' : Slices) (T' : EntryBuffers) → Done limit k (one_of k j) counts B T c turns (insert_end r B' T') → (triangles : List ℕ) (n : ℕ) → JobIn k triangles n B.edges T.triangles
+  whole : (r : Result InsertCounts Lack) (B' : Slices) (T' : EntryBuffers) → Done limit k (one_of k j) counts B T c turns (insert_end r B' T') → (triangles : List ℕ) (n : ℕ) → JobIn k triangles n B.edges T.triangles
       → InsertsFrom (length c.pts) (windows_in B) (slots_in T) limit k.vertex_words_held (edge_data k.vertices triangles) (of_source k j triangles) (insert_snapshot counts B T) (insert_end r B' T')
   whole r B' T' d triangles n J =
       subst (λ (z : List Insert). InsertsFrom (length c.pts) (windows_in B) (slots_in T) limit k.vertex_words_held (edge_data k.vertices triangles) z (insert_snapshot counts B T) (insert_end r B' T')) (ap (each_of (one_of k j triangles)) counted ∙ again triangles n J B.edges T.triangles J) (d triangles n J)
 
   module _ (B₁ : Slices) (T₁ : EntryBuffers) (c₁ : Cuts) (now : InsertCounts) (i : ℕ) (inv : InsertInv limit k (one_of k j) counts B T c turns B₁ T₁ c₁ now i) where
-    pub source_over : turns ≤ i → OfAll (Went now) B₁ T₁
-    source_over end = record { bounded = inv.fits; inserts = whole (Went now) B₁ T₁ (insert_over limit k (one_of k j) counts B T c turns B₁ T₁ c₁ now i inv end) }
+    pub source_over : turns ≤ i → OfAll (Ok now) B₁ T₁
+    source_over end = record { bounded = inv.fits; inserts = whole (Ok now) B₁ T₁ (insert_over limit k (one_of k j) counts B T c turns B₁ T₁ c₁ now i inv end) }
 
     module _ (q : i < turns) (B₂ : Slices) (T₂ : EntryBuffers) where
-      pub source_stopped : (lack : Lack) → InsertsTo limit k.vertex_words_held k.edge_reals_held (read_at k pieces s B₁.edges T₁.triangles i) now B₁ T₁ c₁ (Stopped lack) B₂ T₂ → OfAll (Stopped lack) B₂ T₂
+      pub source_stopped : (lack : Lack) → InsertsTo limit k.vertex_words_held k.edge_reals_held (read_at k pieces s B₁.edges T₁.triangles i) now B₁ T₁ c₁ (Err lack) B₂ T₂ → OfAll (Err lack) B₂ T₂
       source_stopped lack h = record {
         bounded = tt;
-        inserts = whole (Stopped lack) B₂ T₂
-            (insert_stopped limit k (one_of k j) counts B T c turns B₁ T₁ c₁ now i inv q lack (turn_does B₁ T₁ c₁ now i inv q (Stopped lack) B₂ T₂ h));
+        inserts = whole (Err lack) B₂ T₂
+            (insert_stopped limit k (one_of k j) counts B T c turns B₁ T₁ c₁ now i inv q lack (turn_does B₁ T₁ c₁ now i inv q (Err lack) B₂ T₂ h));
       }
 
-      pub source_next : (now₂ : InsertCounts) (c₂ : Cuts) → LengthsKept B₁ B₂ T₁ T₂ c₁ c₂ → InsertsTo limit k.vertex_words_held k.edge_reals_held (read_at k pieces s B₁.edges T₁.triangles i) now B₁ T₁ c₁ (Went now₂) B₂ T₂
+      pub source_next : (now₂ : InsertCounts) (c₂ : Cuts) → LengthsKept B₁ B₂ T₁ T₂ c₁ c₂ → InsertsTo limit k.vertex_words_held k.edge_reals_held (read_at k pieces s B₁.edges T₁.triangles i) now B₁ T₁ c₁ (Ok now₂) B₂ T₂
           → InsertInv limit k (one_of k j) counts B T c turns B₂ T₂ c₂ now₂ (i + 1)
       source_next now₂ c₂ same h =
-          insert_next limit k (one_of k j) counts B T c turns B₁ T₁ c₁ now i inv q now₂ B₂ T₂ c₂ same h.bounded (turn_does B₁ T₁ c₁ now i inv q (Went now₂) B₂ T₂ h)
+          insert_next limit k (one_of k j) counts B T c turns B₁ T₁ c₁ now i inv q now₂ B₂ T₂ c₂ same h.bounded (turn_does B₁ T₁ c₁ now i inv q (Ok now₂) B₂ T₂ h)
 
 -- ---- all sources
 module _ (limit : Float) (k : InsertionSlices) (counts : InsertCounts) (B : Slices) (T : EntryBuffers) (c : Cuts) where
@@ -148,25 +149,25 @@ module _ (limit : Float) (k : InsertionSlices) (counts : InsertCounts) (B : Slic
   abbrev pub sources : ℕ
   sources = 3 * length k.kinds
 
-  abbrev pub OfJob : InsertAnswer → Slices → EntryBuffers → Type 0
+  abbrev pub OfJob : Result InsertCounts Lack → Slices → EntryBuffers → Type 0
   OfJob r B' T' = InsertsAll limit k (λ triangles. job_inserts k.vertices triangles k.kinds k.faces k.coords) counts B T c r B' T'
 
-  whole_job : (r : InsertAnswer) (B' : Slices) (T' : EntryBuffers) → Done limit k source_of counts B T c sources (insert_end r B' T') → (triangles : List ℕ) (n : ℕ) → JobIn k triangles n B.edges T.triangles
+  whole_job : (r : Result InsertCounts Lack) (B' : Slices) (T' : EntryBuffers) → Done limit k source_of counts B T c sources (insert_end r B' T') → (triangles : List ℕ) (n : ℕ) → JobIn k triangles n B.edges T.triangles
       → InsertsFrom (length c.pts) (windows_in B) (slots_in T) limit k.vertex_words_held (edge_data k.vertices triangles) (job_inserts k.vertices triangles k.kinds k.faces k.coords) (insert_snapshot counts B T) (insert_end r B' T')
   whole_job r B' T' d triangles n J =
       subst (λ (z : List Insert). InsertsFrom (length c.pts) (windows_in B) (slots_in T) limit k.vertex_words_held (edge_data k.vertices triangles) z (insert_snapshot counts B T) (insert_end r B' T')) (job_inserts_lem k.vertices triangles k.kinds k.faces k.coords) (d triangles n J)
 
   module _ (B₁ : Slices) (T₁ : EntryBuffers) (c₁ : Cuts) (now : InsertCounts) (j : ℕ) (inv : InsertInv limit k source_of counts B T c sources B₁ T₁ c₁ now j) where
-    pub job_over : sources ≤ j → OfJob (Went now) B₁ T₁
-    job_over end = record { bounded = inv.fits; inserts = whole_job (Went now) B₁ T₁ (insert_over limit k source_of counts B T c sources B₁ T₁ c₁ now j inv end) }
+    pub job_over : sources ≤ j → OfJob (Ok now) B₁ T₁
+    job_over end = record { bounded = inv.fits; inserts = whole_job (Ok now) B₁ T₁ (insert_over limit k source_of counts B T c sources B₁ T₁ c₁ now j inv end) }
 
     module _ (q : j < sources) (B₂ : Slices) (T₂ : EntryBuffers) where
-      pub job_stopped : (lack : Lack) → InsertsAll limit k (λ triangles. source_of triangles j) now B₁ T₁ c₁ (Stopped lack) B₂ T₂ → OfJob (Stopped lack) B₂ T₂
+      pub job_stopped : (lack : Lack) → InsertsAll limit k (λ triangles. source_of triangles j) now B₁ T₁ c₁ (Err lack) B₂ T₂ → OfJob (Err lack) B₂ T₂
       job_stopped lack h = record {
         bounded = tt;
-        inserts = whole_job (Stopped lack) B₂ T₂ (insert_stopped limit k source_of counts B T c sources B₁ T₁ c₁ now j inv q lack (λ triangles n J J₁. h.inserts triangles n J₁));
+        inserts = whole_job (Err lack) B₂ T₂ (insert_stopped limit k source_of counts B T c sources B₁ T₁ c₁ now j inv q lack (λ triangles n J J₁. h.inserts triangles n J₁));
       }
 
-      pub job_next : (now₂ : InsertCounts) (c₂ : Cuts) → LengthsKept B₁ B₂ T₁ T₂ c₁ c₂ → InsertsAll limit k (λ triangles. source_of triangles j) now B₁ T₁ c₁ (Went now₂) B₂ T₂
+      pub job_next : (now₂ : InsertCounts) (c₂ : Cuts) → LengthsKept B₁ B₂ T₁ T₂ c₁ c₂ → InsertsAll limit k (λ triangles. source_of triangles j) now B₁ T₁ c₁ (Ok now₂) B₂ T₂
           → InsertInv limit k source_of counts B T c sources B₂ T₂ c₂ now₂ (j + 1)
       job_next now₂ c₂ same h = insert_next limit k source_of counts B T c sources B₁ T₁ c₁ now j inv q now₂ B₂ T₂ c₂ same h.bounded (λ triangles n J J₁. h.inserts triangles n J₁)

@@ -1,6 +1,7 @@
 -- A job in its buffers, and what it is that its sources are inserted. Definitions only.
-use Rattle.std.specs.Prelude.{ℕ, ◌*◌, ◌/◌, ◌≤◌, List, ◌≡◌, length, Float}
+use Rattle.std.specs.Prelude.{ℕ, ◌*◌, ◌/◌, ◌≤◌, List, ◌≡◌, length, Float, Result}
 use Rattle.layout.specs.Layout.{words_per_edge, words_per_triangle, reals_per_piece}
+use Rattle.buffers.specs.declared.Lack.{Lack}
 use Rattle.buffers.specs.Slots.{slots_of}
 use Rattle.topology.specs.Edges.{edges}
 use Rattle.windows.specs.Windows.{capacity_of}
@@ -12,7 +13,6 @@ use Rattle.insertion.specs.of_piece_ends.Directions.{piece_reals_of}
 use Rattle.insertion.specs.of_wedge_refusal.Held.{HoldsJob}
 use Rattle.insertion.specs.of_source_inserts.declared.Insert.{Insert}
 use Rattle.insertion.specs.declared.InsertCounts.{InsertCounts}
-use Rattle.insertion.specs.declared.InsertAnswer.{InsertAnswer}
 use Rattle.insertion.specs.Snapshots.{insert_snapshot, insert_end, InsertsFrom, InsertedWithin}
 
 -- the slices that insertion only reads
@@ -51,7 +51,7 @@ pub record JobIn (k : InsertionSlices) (triangles : List ℕ) (n : ℕ) (edge_wo
   pub room : reals_per_piece * length k.kinds ≤ length k.piece_reals
 
 -- ---- buffers b, t and c at the call, b' and t' at the return: of every job that the buffers hold these are inserted
-pub record InsertsAll (limit : Float) (k : InsertionSlices) (xs : List ℕ → List Insert) (counts : InsertCounts) (b : Slices) (t : EntryBuffers) (c : Cuts) (r : InsertAnswer) (b' : Slices) (t' : EntryBuffers) : Type 0 where
+pub record InsertsAll (limit : Float) (k : InsertionSlices) (xs : List ℕ → List Insert) (counts : InsertCounts) (b : Slices) (t : EntryBuffers) (c : Cuts) (r : Result InsertCounts Lack) (b' : Slices) (t' : EntryBuffers) : Type 0 where
   -- no more windows are made than the buffer has slots for
   pub bounded : InsertedWithin (capacity_of (length b.words) (length b.reals)) r
   pub inserts : (triangles : List ℕ) (n : ℕ) → JobIn k triangles n b.edges t.triangles

@@ -12,10 +12,11 @@ ghost use Rattle.insertion.specs.of_source_inserts.Read.{insert_at};
 ghost use Rattle.insertion.specs.Snapshots.{InsertsTo, entries_before, entries_after};
 ghost use Rattle.insert_sources.specs.Job.{insertion_slices, InsertsAll};
 
+use buffers::Lack;
 pub use insertion as of_insertion;
 use insertion::of_source_inserts::Source;
 pub use insertion::{of_mesh, of_piece_ends, of_trim_split, of_wedge_refusal};
-use insertion::{InsertAnswer, InsertCounts, of_source_inserts};
+use insertion::{InsertCounts, of_source_inserts};
 
 // The i-th of what source s does, in a job of so many pieces.
 fn insert_number(
@@ -46,7 +47,7 @@ fn insert_number(
     s: Source,
     i: u32,
     limit: f64,
-) -> InsertAnswer
+) -> Result<InsertCounts, Lack>
     requires { (counts.trim.made ≤ capacity_of (length words.old) (length reals.old)) × Sizes (length pts.old) out.old keep.old next.old }
     ensures { InsertsTo limit vertex_words.now edge_reals.now
         (insert_at vertices.now (given edge_words) edge_reals.now (given triangle_words) triangle_reals.now vertex_words.now round.now
@@ -120,7 +121,7 @@ fn insert_source(
     pieces: u32,
     j: u32,
     limit: f64,
-) -> InsertAnswer
+) -> Result<InsertCounts, Lack>
     requires { (counts.trim.made ≤ capacity_of (length words.old) (length reals.old)) × (Sizes (length pts.old) out.old keep.old next.old
         × ((pieces ≡ length kinds.now) × (j < 3 * length kinds.now))) }
     ensures { InsertsAll limit
@@ -145,9 +146,8 @@ fn insert_source(
     );
     let count = of_source_inserts::insert_count(edge_words, vertex_words, s);
     let mut now = counts;
-    let mut i: u32 = 0;
-    while i < count {
-        let one = insert_number(
+    for i in 0..count {
+        now = insert_number(
             vertices,
             edge_words,
             words,
@@ -175,16 +175,9 @@ fn insert_source(
             s,
             i,
             limit,
-        );
-        match one {
-            InsertAnswer::Stopped(lack) => return InsertAnswer::Stopped(lack),
-            InsertAnswer::Went(n) => {
-                now = n;
-                i += 1;
-            }
-        }
+        )?;
     }
-    InsertAnswer::Went(now)
+    Ok(now)
 }
 
 // All sources of the job, in the Rust's order.
@@ -213,7 +206,7 @@ pub fn insert_all(
     entry_words: &mut [u32],
     counts: InsertCounts,
     limit: f64,
-) -> InsertAnswer
+) -> Result<InsertCounts, Lack>
     requires { (counts.trim.made ≤ capacity_of (length words.old) (length reals.old)) × (Sizes (length pts.old) out.old keep.old next.old
         × (length kinds.now ≤ 65535)) }
     ensures { InsertsAll limit
@@ -226,9 +219,8 @@ pub fn insert_all(
     let pieces = kinds.len() as u32;
     let sources = 3 * pieces;
     let mut now = counts;
-    let mut j: u32 = 0;
-    while j < sources {
-        let one = insert_source(
+    for j in 0..sources {
+        now = insert_source(
             vertices,
             edge_words,
             words,
@@ -255,14 +247,7 @@ pub fn insert_all(
             pieces,
             j,
             limit,
-        );
-        match one {
-            InsertAnswer::Stopped(lack) => return InsertAnswer::Stopped(lack),
-            InsertAnswer::Went(n) => {
-                now = n;
-                j += 1;
-            }
-        }
+        )?;
     }
-    InsertAnswer::Went(now)
+    Ok(now)
 }

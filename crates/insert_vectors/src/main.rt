@@ -5,9 +5,9 @@
 
 ghost use Rattle.std.specs.Prelude.{◌≤◌, ◌<◌, ◌≡◌, length};
 
-use heap::Popped;
-use insert_sources::of_insertion::{InsertAnswer, InsertCounts};
-use insert_sources::of_mesh::{Meshed, OtherCounts};
+use buffers::Lack;
+use insert_sources::of_insertion::InsertCounts;
+use insert_sources::of_mesh::{OtherCounts, Refusal};
 use insert_sources::of_trim_split::Counts;
 use insert_sources::{of_mesh, of_piece_ends, of_wedge_refusal};
 use layout::{
@@ -15,9 +15,8 @@ use layout::{
     WORDS_PER_EDGE, WORDS_PER_ENTRY, WORDS_PER_TRIANGLE, WORDS_PER_WINDOW,
 };
 use std::io;
-use std::rt::Files;
 use stored_jobs::{list_places, load_mesh, load_pieces};
-use stored_numbers::{all_f64, all_u32, at_most, count, double, number, record_size};
+use stored_numbers::{all_f64, all_u32, at_most, count, double, number, replay_records};
 use stored_slots::{
     SummedWalk, broken, compare_or_sum, compare_or_sum_double, section, start_at, visit_all_links,
     visit_f64, visit_u32,
@@ -40,11 +39,11 @@ fn compare_first(
     n: u32,
 ) -> PoppedWalk {
     match heap::pop(keys, events, n) {
-        Popped::Empty => PoppedWalk {
+        None => PoppedWalk {
             walk: broken(),
             left: 0,
         },
-        Popped::First(x, m) => {
+        Some((x, m)) => {
             let item = x.item;
             let keyed = compare_or_sum_double(s, detail, w, x.key);
             let numbered = compare_or_sum(s, detail, keyed, heap::number_of(item));
@@ -67,12 +66,10 @@ fn compare_events(
 ) -> SummedWalk {
     let mut now = w;
     let mut left = n;
-    let mut i: u32 = 0;
-    while i < n {
+    for i in 0..n {
         let next = compare_first(s, detail, now, keys, events, left);
         now = next.walk;
         left = next.left;
-        i += 1;
     }
     section(s, detail, now)
 }
@@ -183,7 +180,7 @@ fn insert_with_cuts(
     events: &mut [u32],
     vertex: &mut [f64],
     entry_words: &mut [u32],
-) -> InsertAnswer
+) -> Result<InsertCounts, Lack>
     requires { (to_pts ≤ 256) × (length kinds.now ≤ 1200) }
 {
     let to_cuts = 2 * to_pts;
@@ -274,8 +271,8 @@ fn insert_holds(
         entry_words,
     );
     match answer {
-        InsertAnswer::Stopped(lack) => buffers::lack_number(lack) == refusal,
-        InsertAnswer::Went(counts) => {
+        Err(lack) => buffers::lack_number(lack) == refusal,
+        Ok(counts) => {
             if refusal != 0 {
                 return false;
             }
@@ -477,7 +474,7 @@ fn job_holds(
         &mut triangle_reals,
     );
     match meshed {
-        Meshed::Edges(edges) => pieces_hold(
+        Ok(edges) => pieces_hold(
             s,
             k,
             edges,
@@ -493,8 +490,8 @@ fn job_holds(
             &mut triangle_words,
             &triangle_reals,
         ),
-        Meshed::Refused(_) => false,
-        Meshed::ThirdFace => refusal == 10,
+        Err(Refusal::Job(_)) => false,
+        Err(Refusal::ThirdFace) => refusal == 10,
     }
 }
 
@@ -514,33 +511,10 @@ fn job_replays(s: &[u8], k: usize) -> bool
 }
 
 fn replay(s: &[u8]) -> Tally {
-    let end = at_most(s.len() / 4, 400_000);
-    let mut cases: u64 = 0;
-    let mut differences: u64 = 0;
-    let mut k: usize = 0;
-    while k < end {
-        if !job_replays(s, k) {
-            differences += 1;
-        }
-        cases += 1;
-        k += record_size(s, k + 2);
-    }
-    Tally { cases, differences }
-}
-
-// Reads the file of the name into the buffer, replays it and reports.
-fn replay_into(rt: &(impl Files + Print), name: &str, buf: &mut [u8]) -> io::Result<()> {
-    let got = vectors::read_file(rt, name, buf)?;
-    let tally = replay(&buf[..got]);
-    vectors::report(rt, name, tally.cases, tally.differences)
-}
-
-fn replay_file(rt: &(impl Files + Print), name: &str) -> io::Result<()> {
-    let mut buf = [0u8; 524288];
-    replay_into(rt, name, &mut buf)
+    replay_records(s, 2, |k| job_replays(s, k))
 }
 
 fn main(rt: HostRuntime) -> io::Result<()> {
-    replay_file(&rt, "small")?;
-    replay_file(&rt, "large")
+    vectors::replay_file::<524288, _>(&rt, "small", replay)?;
+    vectors::replay_file::<524288, _>(&rt, "large", replay)
 }

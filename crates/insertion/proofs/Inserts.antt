@@ -1,4 +1,5 @@
 -- Lists of inserts are done piece by piece: none, a window that is offered, an entry in a face, and one list behind another. Assumes nothing.
+use Rattle.std.specs.declared.option.Option.{Option}
 use Prim.Native.Nat.{ℕ, ◌+◌, ◌*◌, ◌≤◌, ◌<◌}
 use mathlib.Core.List.{List, [], ◌∷◌, ◌++◌, append-nil, append_assoc}
 use mathlib.Core.Path.{◌≡◌, refl, sym, ap, ◌∙◌, subst}
@@ -7,6 +8,7 @@ use lib.ListN.{length, get_or}
 use lib.Ieee.{Float}
 use Rattle.layout.specs.Layout.{words_per_triangle, triangle_last_entry}
 use Rattle.buffers.specs.declared.FaceId.{FaceId}
+use Rattle.buffers.specs.declared.Lack.{Lack}
 use Rattle.buffers.specs.declared.Lack.TheVariants.{Entries}
 use Rattle.buffers.specs.Lack.{lack_number}
 use Rattle.source_inserts.specs.of_better.Claim.{All}
@@ -21,8 +23,8 @@ use Rattle.source_inserts.proofs.laws_of_trim_split.Untouched.{untouched_same, u
 use Rattle.source_inserts.specs.of_offers.declared.Offered.{Offered}
 use Rattle.source_inserts.specs.of_offers.Offers.{add_all, offer_list, Offers}
 use Rattle.source_inserts.specs.of_face_entries.declared.PiecePart.{PiecePart}
-use Rattle.source_inserts.specs.of_face_entries.declared.Entered.{Entered}
-use Rattle.source_inserts.specs.of_face_entries.declared.Entered.TheVariants.{Full, Count}
+use Rattle.std.specs.declared.result.Result.{Result}
+use Rattle.std.specs.declared.result.Result.TheVariants.{Ok, Err}
 use Rattle.source_inserts.specs.of_face_entries.Buffers.{EntryBuffers, entry_capacity, entering}
 use Rattle.source_inserts.specs.of_face_entries.Entries.{FaceEntry}
 use Rattle.source_inserts.proofs.laws_of_face_entries.Answers.{was_free, was_full, call_only}
@@ -109,7 +111,7 @@ module _ (cuts windows slots : ℕ) (limit : Float) (flags : List ℕ) (mesh : E
   }
 
   -- a window is offered
-  module _ (o : Offered) (p : InsertSnapshot) where
+  module _ (o : Option Offered) (p : InsertSnapshot) where
     offer_stopped : (s : Inserted) (n : ℕ) → add_all cuts windows limit flags mesh (offer_list o) s.state ≡ state.stopped n → one (Offer o) s ≡ stopped n
     unfolding insert_one with_entries
     offer_stopped s n h = ap (with_entries s.entries) h
@@ -151,25 +153,27 @@ module _ (cuts windows slots : ℕ) (limit : Float) (flags : List ℕ) (mesh : E
     unfolding insert_one
     entry_free s c h = rw (c, lt-ltb p.entered slots h) refl
 
-    pub inserts_full : (Full, t') ≡ entering p.entries p.entered f.0 x → Does (Entry f x ∷ []) p (snapshots.stopped (lack_number Entries))
-    inserts_full said t₀ past s S a =
+    pub inserts_full : (lack : Lack) → (Err lack, t') ≡ entering p.entries p.entered f.0 x → Does (Entry f x ∷ []) p (snapshots.stopped (lack_number lack))
+    inserts_full lack said t₀ past s S a =
+        let w = was_full p.entries t' p.entered f.0 x (Err lack) said lack refl in
         insert_one_lem (Entry f x) s
-        ∙ entry_full s S.entries.holds.counted (subst (λ (z : ℕ). z ≤ p.entered) (sym fits) (was_full p.entries t' p.entered f.0 x Full said refl).1)
+        ∙ entry_full s S.entries.holds.counted (subst (λ (z : ℕ). z ≤ p.entered) (sym fits) w.1.1)
+        ∙ ap (λ (l : Lack). stopped (lack_number l)) (sym w.0)
 
-    pub inserts_entry : (n : ℕ) → (Count n, t') ≡ entering p.entries p.entered f.0 x → words_per_triangle * f.0 + triangle_last_entry < length p.entries.triangles
+    pub inserts_entry : (n : ℕ) → (Ok n, t') ≡ entering p.entries p.entered f.0 x → words_per_triangle * f.0 + triangle_last_entry < length p.entries.triangles
         → Does (Entry f x ∷ []) p (snapshots.at (record { trim = p.trim; entered = n; entries = t' }))
     unfolding candidates_in
     inserts_entry n said there t₀ past s S a =
-        let w = was_free p.entries t' p.entered f.0 x (Count n) said n refl in
+        let w = was_free p.entries t' p.entered f.0 x (Ok n) said n refl in
         record {
           inserted = record { state = s.state; entries = s.entries ++ (new ∷ []) };
           is = insert_one_lem (Entry f x) s ∙ entry_free s S.entries.holds.counted (subst (λ (z : ℕ). p.entered < z) (sym fits) w.1.1);
           stands = record {
             trim = (subst (λ (l : List Candidate). HoldsInserted limit mesh t₀ l s p) (sym (append-nil past)) S).trim;
-            entries = call_only p.entries.triangles p.entries.words t'.triangles t'.words p.entered f.0 x (Count n) said n refl there s.entries t₀ S.entries;
+            entries = call_only p.entries.triangles p.entries.words t'.triangles t'.words p.entered f.0 x (Ok n) said n refl there s.entries t₀ S.entries;
           };
           untouched = untouched_same (λ e. Unit {0}) p.trim p.trim.queued p.trim.last p.trim.queue p.trim.vertex;
-          kept = λ i ne. ap (λ (q : Entered × EntryBuffers). get_or q.1.triangles i 0) said ∙ enter_others p.entries p.entered f.0 x i ne;
+          kept = λ i ne. ap (λ (q : Result ℕ Lack × EntryBuffers). get_or q.1.triangles i 0) said ∙ enter_others p.entries p.entered f.0 x i ne;
         }
 
   -- a list that stops, and a list behind one that went: what it inserts may depend on what was kept

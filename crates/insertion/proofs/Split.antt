@@ -1,4 +1,5 @@
 -- Windows and entries don't meet: where a list of inserts goes to its end, the windows are what its candidates alone come to, and the entries are its own, in order. Assumes nothing.
+use Rattle.std.specs.declared.option.Option.{Option}
 use Prim.Native.Nat.{ℕ}
 use native.Mathlib.Omega.{arith}
 use mathlib.Core.Bool.{Bool, true, false, cond}
@@ -58,7 +59,7 @@ module _ (cuts windows slots : ℕ) (limit : Float) (flags : List ℕ) (mesh : E
       entry_so true h = entry_more (rest entered t h)
       entry_so false h = never (lack_number Entries) t h
 
-    module _ (o : Offered) where
+    module _ (o : Option Offered) where
       offer_more : (u : State) → add_all cuts windows limit flags mesh (offer_list o) s.state ≡ state.went u → Splits xs (record { state = u; entries = s.entries }) t → Splits (Offer o ∷ xs) s t
       unfolding candidates_in entries_in and_next
       offer_more u went-so h = record {

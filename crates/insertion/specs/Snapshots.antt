@@ -1,5 +1,5 @@
 -- What it is that buffers come to hold the outcome of insertion. Definitions only.
-use Rattle.std.specs.Prelude.{ℕ, ◌+◌, ◌*◌, ◌≤◌, ◌<◌, List, [], ◌∷◌, ◌++◌, ◌≢◌, ◌≡◌, length, get_or, Float}
+use Rattle.std.specs.Prelude.{ℕ, ◌+◌, ◌*◌, ◌≤◌, ◌<◌, List, [], ◌∷◌, ◌++◌, ◌≢◌, ◌≡◌, length, get_or, Float, Option, Result, Ok, Err}
 use Rattle.layout.specs.Layout.{words_per_triangle, triangle_first_entry, triangle_last_entry}
 use Rattle.buffers.specs.Lack.{lack_number}
 use Rattle.buffers.specs.Lent.{Lent, given, left}
@@ -12,22 +12,17 @@ use Rattle.windows.specs.Windows.{capacity_of}
 use Rattle.source_inserts.specs.of_cut_lists.Buffers.{Cuts}
 use Rattle.source_inserts.specs.of_trim.Buffers.{Slices}
 use Rattle.source_inserts.specs.of_trim.Adding.{snapshot_at}
-use Rattle.source_inserts.specs.of_trim.declared.Added.{Added}
-use Rattle.source_inserts.specs.of_trim.declared.Added.TheVariants as added
+use Rattle.source_inserts.specs.of_trim_split.declared.Counts.{Counts}
 use Rattle.buffers.specs.declared.FaceId.{FaceId}
-use Rattle.buffers.specs.declared.Lack.TheVariants.{Entries}
+use Rattle.buffers.specs.declared.Lack.{Lack}
 use Rattle.source_inserts.specs.of_offers.declared.Offered.{Offered}
 use Rattle.source_inserts.specs.of_offers.Offers.{StandsFor, EdgeThere, OffersTo}
 use Rattle.source_inserts.specs.of_face_entries.declared.PiecePart.{PiecePart}
-use Rattle.source_inserts.specs.of_face_entries.declared.Entered.{Entered}
-use Rattle.source_inserts.specs.of_face_entries.declared.Entered.TheVariants.{Full, Count}
 use Rattle.source_inserts.specs.of_face_entries.Buffers.{EntryBuffers, entry_buffers, entry_capacity, entering}
 use Rattle.source_inserts.specs.of_face_entries.Entries.{HoldsOnly}
 use Rattle.source_inserts.specs.declared.Insert.{Insert}
 use Rattle.source_inserts.specs.declared.Insert.TheVariants.{Entry, Offer}
 use Rattle.insertion.specs.declared.InsertCounts.{InsertCounts}
-use Rattle.insertion.specs.declared.InsertAnswer.{InsertAnswer}
-use Rattle.insertion.specs.declared.InsertAnswer.TheVariants.{Stopped, Went}
 use Rattle.source_inserts.specs.Inserts.{candidates_in}
 use Rattle.insertion.specs.Insertion.{Inserted, InsertResult, insert_each}
 use Rattle.insertion.specs.Insertion as insertion
@@ -46,9 +41,9 @@ pub data InsertEnd : Type 0 where
   stopped : ℕ → InsertEnd
   at : InsertSnapshot → InsertEnd
 
-abbrev pub insert_end : InsertAnswer → Slices → EntryBuffers → InsertEnd
-insert_end (Stopped lack) b t = stopped (lack_number lack)
-insert_end (Went n) b t = at (insert_snapshot n b t)
+abbrev pub insert_end : Result InsertCounts Lack → Slices → EntryBuffers → InsertEnd
+insert_end (Err lack) b t = stopped (lack_number lack)
+insert_end (Ok n) b t = at (insert_snapshot n b t)
 
 -- words of triangles stay but for their first and last entries
 abbrev pub SidesKept : List ℕ → List ℕ → Type 0
@@ -81,22 +76,22 @@ module _ (cuts windows slots : ℕ) (limit : Float) (flags : List ℕ) (mesh : E
 
 -- ---- the contracts
 -- of `enter`, with what `face_entries::enter` answers
-abbrev pub enter_answer : InsertCounts → Entered → InsertAnswer
-enter_answer n Full = Stopped Entries
-enter_answer n (Count k) = Went (record { trim = n.trim; entries = k })
+abbrev pub enter_answer : InsertCounts → Result ℕ Lack → Result InsertCounts Lack
+enter_answer n (Err lack) = Err lack
+enter_answer n (Ok k) = Ok (record { trim = n.trim; entries = k })
 
-pub record EntersTo (counts : InsertCounts) (f : FaceId) (x : PiecePart) (t : EntryBuffers) (r : InsertAnswer) (t' : EntryBuffers) : Type 0 where
-  pub entered : Entered
+pub record EntersTo (counts : InsertCounts) (f : FaceId) (x : PiecePart) (t : EntryBuffers) (r : Result InsertCounts Lack) (t' : EntryBuffers) : Type 0 where
+  pub entered : Result ℕ Lack
   pub said : (entered, t') ≡ entering t counts.entries f.0 x
   pub answer : r ≡ enter_answer counts entered
 
 -- of `offer`, with what `offers::offer` answers
-abbrev pub offer_answer : InsertCounts → Added → InsertAnswer
-offer_answer n (added.Stopped lack) = Stopped lack
-offer_answer n (added.Went c) = Went (record { trim = c; entries = n.entries })
+abbrev pub offer_answer : InsertCounts → Result Counts Lack → Result InsertCounts Lack
+offer_answer n (Err lack) = Err lack
+offer_answer n (Ok c) = Ok (record { trim = c; entries = n.entries })
 
-pub record OfferedTo (limit : Float) (vertex_words : List ℕ) (edge_reals : List Float) (o : Offered) (counts : InsertCounts) (b : Slices) (c : Cuts) (r : InsertAnswer) (b' : Slices) (c' : Cuts) : Type 0 where
-  pub added : Added
+pub record OfferedTo (limit : Float) (vertex_words : List ℕ) (edge_reals : List Float) (o : Option Offered) (counts : InsertCounts) (b : Slices) (c : Cuts) (r : Result InsertCounts Lack) (b' : Slices) (c' : Cuts) : Type 0 where
+  pub added : Result Counts Lack
   pub offers : OffersTo limit vertex_words edge_reals o counts.trim b c added b' c'
   pub answer : r ≡ offer_answer counts added
 
@@ -107,11 +102,11 @@ InsertThere mesh edge_words edge_reals triangle_words (Entry f x) = words_per_tr
 InsertThere mesh edge_words edge_reals triangle_words (Offer o) = EdgeThere mesh edge_words edge_reals o
 
 -- no more windows are made than there are slots for
-abbrev pub InsertedWithin : ℕ → InsertAnswer → Type 0
-InsertedWithin windows (Stopped lack) = Unit {0}
-InsertedWithin windows (Went n) = n.trim.made ≤ windows
+abbrev pub InsertedWithin : ℕ → Result InsertCounts Lack → Type 0
+InsertedWithin windows (Err lack) = Unit {0}
+InsertedWithin windows (Ok n) = n.trim.made ≤ windows
 
-pub record InsertsTo (limit : Float) (vertex_words : List ℕ) (edge_reals : List Float) (x : Insert) (counts : InsertCounts) (b : Slices) (t : EntryBuffers) (c : Cuts) (r : InsertAnswer) (b' : Slices) (t' : EntryBuffers) : Type 0 where
+pub record InsertsTo (limit : Float) (vertex_words : List ℕ) (edge_reals : List Float) (x : Insert) (counts : InsertCounts) (b : Slices) (t : EntryBuffers) (c : Cuts) (r : Result InsertCounts Lack) (b' : Slices) (t' : EntryBuffers) : Type 0 where
   pub bounded : InsertedWithin (capacity_of (length b.words) (length b.reals)) r
   pub inserts : (mesh : EdgeData) → InsertThere mesh b.edges edge_reals t.triangles x
       → InsertsFrom (length c.pts) (capacity_of (length b.words) (length b.reals)) (entry_capacity (length t.words)) limit vertex_words mesh (x ∷ []) (insert_snapshot counts b t) (insert_end r b' t')

@@ -10,9 +10,8 @@ ghost use Rattle.insertion.specs.Snapshots.{EntersTo, OfferedTo, InsertsTo, entr
 
 use buffers::{FaceId, Lack};
 pub use source_inserts as of_source_inserts;
-use source_inserts::of_face_entries::{Entered, PiecePart};
+use source_inserts::of_face_entries::PiecePart;
 use source_inserts::of_offers::Offered;
-use source_inserts::of_trim::Added;
 use source_inserts::of_trim_split::Counts;
 pub use source_inserts::{of_mesh, of_piece_ends, of_trim_split, of_wedge_refusal};
 use source_inserts::{Insert, of_face_entries, of_offers};
@@ -24,40 +23,28 @@ pub struct InsertCounts {
     pub entries: u32,
 }
 
-// What there is no slot for, or the counts afterwards.
-#[derive(Clone, Copy)]
-pub enum InsertAnswer {
-    Stopped(Lack),
-    Went(InsertCounts),
-}
-
+// The counts afterwards, or what there is no slot for; so of `offer` and `insert` too.
 fn enter(
     triangle_words: &mut [u32],
     entry_words: &mut [u32],
     counts: InsertCounts,
     face: FaceId,
     x: PiecePart,
-) -> InsertAnswer
+) -> Result<InsertCounts, Lack>
     ensures { EntersTo counts face x (entries_before triangle_words entry_words) result (entries_after triangle_words entry_words) }
 {
     let piece = x.piece;
     let part = x.part;
-    let entered = of_face_entries::enter(
+    let entries = of_face_entries::enter(
         triangle_words,
         entry_words,
         counts.entries,
         face,
         piece,
         part,
-    );
-    match entered {
-        Entered::Full => InsertAnswer::Stopped(Lack::Entries),
-        Entered::Count(entries) => {
-            let trim = counts.trim;
-            let more = InsertCounts { trim, entries };
-            InsertAnswer::Went(more)
-        }
-    }
+    )?;
+    let trim = counts.trim;
+    Ok(InsertCounts { trim, entries })
 }
 
 fn offer(
@@ -74,15 +61,14 @@ fn offer(
     keep: &mut [f64],
     next: &mut [f64],
     counts: InsertCounts,
-    o: Offered,
+    o: Option<Offered>,
     limit: f64,
-) -> InsertAnswer
+) -> Result<InsertCounts, Lack>
     requires { (counts.trim.made ≤ capacity_of (length words.old) (length reals.old)) × Sizes (length pts.old) out.old keep.old next.old }
     ensures { OfferedTo limit vertex_words.now edge_reals.now o counts (before edge_words words reals keys events vertex) (cuts_before pts out keep next)
         result (after edge_words words reals keys events vertex) (cuts_after pts out keep next) }
 {
-    let trim = counts.trim;
-    let added = of_offers::offer(
+    let trim = of_offers::offer(
         edge_words,
         words,
         reals,
@@ -95,18 +81,12 @@ fn offer(
         out,
         keep,
         next,
-        trim,
+        counts.trim,
         o,
         limit,
-    );
-    match added {
-        Added::Stopped(lack) => InsertAnswer::Stopped(lack),
-        Added::Went(trim) => {
-            let entries = counts.entries;
-            let more = InsertCounts { trim, entries };
-            InsertAnswer::Went(more)
-        }
-    }
+    )?;
+    let entries = counts.entries;
+    Ok(InsertCounts { trim, entries })
 }
 
 // What is inserted stands in the buffers afterwards, or there is no slot for it.
@@ -128,7 +108,7 @@ pub fn insert(
     counts: InsertCounts,
     x: Insert,
     limit: f64,
-) -> InsertAnswer
+) -> Result<InsertCounts, Lack>
     requires { (counts.trim.made ≤ capacity_of (length words.old) (length reals.old)) × Sizes (length pts.old) out.old keep.old next.old }
     ensures { InsertsTo limit vertex_words.now edge_reals.now x counts
         (before edge_words words reals keys events vertex) (entries_before triangle_words entry_words) (cuts_before pts out keep next)

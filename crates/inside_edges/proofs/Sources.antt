@@ -1,4 +1,5 @@
 -- Every candidate of a job's sources lies on its edge where it is admitted: job_inside; range_inside, of any range that lies on its edge. Assumes nothing.
+use Rattle.std.specs.Prelude.{Option, Some, None}
 use Prim.Native.Nat.{ℕ, ◌+◌, ◌*◌, ◌/◌, ◌<◌}
 use native.Mathlib.Omega.{arith}
 use mathlib.Core.Bool.{Bool, true, cond, not}
@@ -15,8 +16,7 @@ use Rattle.topology.proofs.Edges.{tri_edge_there}
 use Rattle.topology.proofs.Checked.{inside}
 use Rattle.spread_offers.specs.of_mesh_laws.Bounds.{EdgeLength}
 use Rattle.spread_offers.specs.of_source_windows.declared.Normal.{Normal}
-use Rattle.spread_offers.specs.of_source_windows.declared.CandidateRange.{CandidateRange}
-use Rattle.spread_offers.specs.of_source_windows.declared.CandidateRange.TheVariants.{Nothing as NoRange, Window as Range}
+use Rattle.spread_offers.specs.of_source_windows.declared.CandidateWindow.{CandidateWindow}
 use Rattle.spread_offers.specs.of_source_windows.Wedge.{whole_of, lies_on, point_window_of}
 use Rattle.spread_offers.specs.of_source_windows.Segment.{in_frame_of, segment_window_of}
 use Rattle.spread_offers.specs.of_source_windows.Ends.{EndsOn}
@@ -34,12 +34,12 @@ use Rattle.source_inserts.proofs.Each.{job_all}
 use Rattle.source_inserts.proofs.Proper.{candidates_all}
 use Rattle.inside_edges.specs.Inside.{AdmittedInside}
 
-pub range_inside : (limit : Float) (length : ℕ → Float) (e into : ℕ) (queued : Bool) → EdgeLength (length e) → (r : CandidateRange) → EndsOn (length e) r → All (AdmittedInside limit length) (offer_list (offered e into queued r))
+pub range_inside : (limit : Float) (length : ℕ → Float) (e into : ℕ) (queued : Bool) → EdgeLength (length e) → (r : Option CandidateWindow) → EndsOn (length e) r → All (AdmittedInside limit length) (offer_list (offered e into queued r))
 unfolding offered
-range_inside limit length e into queued long NoRange on = tt
-range_inside limit length e into queued long (Range b0 b1 src) on =
-    let c : Candidate = record { edge = e; b0 = b0; b1 = b1; src = src; carried = record { into = record { 0 = into }; queued = queued } } in
-    let ends = ends_of {l = length e} {b0 = b0} {b1 = b1} {src = src} {c = Range b0 b1 src} on refl in
+range_inside limit length e into queued long None on = tt
+range_inside limit length e into queued long (Some w) on =
+    let c : Candidate = record { edge = e; b0 = w.b0; b1 = w.b1; src = w.src; carried = record { into = record { 0 = into }; queued = queued } } in
+    let ends = ends_of {l = length e} {w = w} {c = Some w} on refl in
     ((λ admitted. admitted_inside limit length c (length_point (length e) long) long.positive admitted ends.0 ends.1), tt)
 
 module _ (limit : Float) (v : List Float) (triangles : List ℕ) (n : ℕ) (valid : ValidTriangles triangles n) (kinds faces : List ℕ) (coords : List Float)

@@ -1,4 +1,6 @@
 -- What a window passes on and what a vertex emits lies on its edge where it is admitted: spread_inside. Assumes nothing.
+use Rattle.std.specs.declared.option.Option.{Option}
+use Rattle.std.specs.declared.option.Option.TheVariants.{None}
 use Prim.Native.Nat.{ℕ, ◌+◌, ◌*◌, ◌/◌, ◌<◌}
 use mathlib.Core.Bool.{Bool, true, false, cond}
 use mathlib.Core.List.{List}
@@ -18,7 +20,6 @@ use Rattle.spread_offers.proofs.laws_of_propagation.Ends.{propagate_on, emit_on}
 use Rattle.source_inserts.specs.of_better.Claim.{All}
 use Rattle.source_inserts.specs.of_trim_model.Model.{Candidate}
 use Rattle.spread_offers.specs.of_offers.declared.Offered.{Offered}
-use Rattle.spread_offers.specs.of_offers.declared.Offered.TheVariants.{Nothing}
 use Rattle.spread_offers.specs.of_offers.Offers.{offer_list}
 use Rattle.spread_offers.specs.of_offers.Each.{each_of}
 use Rattle.spread_offers.proofs.laws_of_offers.Each.{each_all}
@@ -35,7 +36,7 @@ module _ (limit : Float) (v : List Float) (triangles : List ℕ) (n : ℕ) (vali
   abbrev Fine : List Candidate → Type 0
   Fine = All (AdmittedInside limit (len v triangles))
 
-  nothing_fine : (b : Bool) (o : Offered) → Fine (offer_list o) → Fine (offer_list (cond b Nothing o))
+  nothing_fine : (b : Bool) (o : Option Offered) → Fine (offer_list o) → Fine (offer_list (cond b None o))
   nothing_fine true o h = tt
   nothing_fine false o h = h
 

@@ -1,13 +1,16 @@
 -- Laws of `any_below`, `any_of` and `first_of`: what they mean, and how a loop or a row of tests finds them. Assumes nothing.
 use Prim.Native.Nat.{ℕ, zero, suc, ◌+◌, ◌<◌, ◌≤◌}
-use mathlib.Core.Path.{◌≡◌, refl, sym, subst, ◌∙◌}
+use mathlib.Core.Path.{◌≡◌, refl, sym, ap, subst, ◌∙◌}
 use mathlib.Core.Bool.{Bool, true, false, cond, ◌||◌, or-true}
 use mathlib.Core.List.{List, [], ◌∷◌, ◌++◌}
 use mathlib.Core.Logic.{⊎_elim}
 use native.Mathlib.Nat.{le_of_suc-le-suc, not-suc-le-zero, eq-or-lt_of_le, le_antisymm}
 use native.Mathlib.Numerals.{add-one}
 use native.Mathlib.Omega.{arith}
-use lib.ListN.{get_or}
+use lib.ListN.{length, get_or, take}
+use Rattle.std.specs.List.{list_any}
+use Rattle.std.proofs.Math.Seq.{take-length}
+use Rattle.std.proofs.lemmas.List.Folds.{list_any_more}
 use Rattle.job_checks.specs.Any.{any_below, any_of, first_of}
 
 -- a disjunction is false where both sides are
@@ -50,6 +53,16 @@ module _ (p : ℕ → Bool) where
   unfolding any_below
   none_below zero e i l = absurd (not-suc-le-zero l)
   none_below (suc n) e i l = ⊎_elim (λ q. subst (λ (k : ℕ). p k ≡ false) (sym q) (or_right_none (any_below p n) (p n) e)) (λ l'. none_below n (or_left_none (any_below p n) (p n) e) i l') (eq-or-lt_of_le (le_of_suc-le-suc l))
+
+-- A test of each element, which a search by numbers makes as well.
+module _ {A : Type 0} (p : A → Bool) (xs : List A) (d : A) where
+  any_first : (n : ℕ) → n ≤ length xs → list_any p (take n xs) ≡ any_below (λ i. p (get_or xs i d)) n
+  unfolding any_below
+  any_first zero l = refl
+  any_first (suc n) l = rw (← add-one n) (list_any_more p xs n d l) ∙ ap (λ (b : Bool). b || p (get_or xs n d)) (any_first n (omega arith))
+
+  pub any_element : list_any p xs ≡ any_below (λ i. p (get_or xs i d)) (length xs)
+  any_element = ap (list_any p) (sym (take-length xs)) ∙ any_first (length xs) (omega arith)
 
 -- A row of tests, the first of them first.
 module _ (b : Bool) (bs : List Bool) where
@@ -126,13 +139,13 @@ module _ (us : List (ℕ × Bool)) where
       let r = both_passed ts n.1 (passed_on t.0 t.1 (ts ++ us) n.0 e) in
       (first_after t.0 t.1 ts 0 (passed_here t.0 t.1 (ts ++ us) n.0 e) r.0, r.1)
 
--- The same where k tells the number m of the first ones' answer.
-module _ (ts us : List (ℕ × Bool)) (m k : ℕ) (is : m ≡ first_of ts) (told : k ≡ m) where
-  pub group_holds : 0 < k → first_of (ts ++ us) ≡ m
-  group_holds l = first_within us ts (rw (← is, ← told) l) ∙ sym is
+-- The same where m is the first ones' answer.
+module _ (ts us : List (ℕ × Bool)) (m : ℕ) (is : m ≡ first_of ts) where
+  pub group_holds : 0 < m → first_of (ts ++ us) ≡ m
+  group_holds l = first_within us ts (rw (← is) l) ∙ sym is
 
-  pub group_passed : Numbered ts → (r : ℕ) → k ≤ 0 → first_of us ≡ r → first_of (ts ++ us) ≡ r
-  group_passed n r l e = first_past us ts n (sym is ∙ (sym told ∙ omega arith)) ∙ e
+  pub group_passed : Numbered ts → (r : ℕ) → m ≡ 0 → first_of us ≡ r → first_of (ts ++ us) ≡ r
+  group_passed n r z e = first_past us ts n (sym is ∙ z) ∙ e
 
 -- What `first_of` means: where test k is the first that holds, it answers that test's number.
 pub first_is : (ts : List (ℕ × Bool)) (k : ℕ) → (get_or ts k (0, false)).1 ≡ true → ((i : ℕ) → i < k → (get_or ts i (0, false)).1 ≡ false) → first_of ts ≡ (get_or ts k (0, false)).0

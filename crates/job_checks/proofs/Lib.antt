@@ -4,3 +4,4 @@ pub mod Edge
 pub mod Sound
 pub mod Tests
 pub mod Decimal
+pub mod Numbers

@@ -1,30 +1,30 @@
 -- Document 01's refusals 1 to 9, in its order and with its bounds. Definitions only.
 -- A comparison with a NaN is false, so each bound on a float is written as what must hold.
-use Rattle.std.specs.Prelude.{ℕ, ◌+◌, ◌*◌, ◌/◌, ◌%◌, Bool, not, ◌&&◌, ◌||◌, List, [], ◌∷◌, ltb, leb, eqb, length, get_or, Float}
+use Rattle.std.specs.Prelude.{ℕ, ◌+◌, ◌*◌, ◌/◌, ◌%◌, Bool, not, ◌&&◌, ◌||◌, List, [], ◌∷◌, ltb, leb, eqb, length, get_or, Float, Result, Ok, Err}
 use Rattle.std.specs.Float.{nan, binary64}
 use Rattle.std.specs.Float.Ieee.{of_bits, le, neg}
 use Rattle.layout.specs.Layout.{coordinates_per_vertex, coordinates_per_piece}
 use Rattle.float64.specs.Scalar.{zero64}
 use Rattle.vec3.specs.declared.Vec3.{Vec3}
 use Rattle.job_checks.specs.declared.BufferCounts.{BufferCounts}
-use Rattle.job_checks.specs.declared.Checked.{Checked}
-use Rattle.job_checks.specs.declared.Checked.TheVariants.{Passed, Malformed, MissingVertex, RepeatedVertex, VertexOutOfRange, DegenerateTriangle, MissingFace, PieceOutOfRange, LimitOutOfRange, ShortBuffer}
+use Rattle.job_checks.specs.declared.Refusal.{Refusal}
+use Rattle.job_checks.specs.declared.Refusal.TheVariants.{Malformed, MissingVertex, RepeatedVertex, VertexOutOfRange, DegenerateTriangle, MissingFace, PieceOutOfRange, LimitOutOfRange, ShortBuffer}
 use Rattle.job_checks.specs.Any.{any_below, any_of, first_of}
 use Rattle.job_checks.specs.Edge.{vertex_at, lower, higher, len_of, altitude_of}
 use Rattle.job_checks.specs.Job.{Job, vertex_count, triangle_count, piece_count}
 
 -- each answer's number in document 01; 0 is no refusal
-abbrev pub refusal_number : Checked → ℕ
-refusal_number Passed = 0
-refusal_number Malformed = 1
-refusal_number MissingVertex = 2
-refusal_number RepeatedVertex = 3
-refusal_number VertexOutOfRange = 4
-refusal_number DegenerateTriangle = 5
-refusal_number MissingFace = 6
-refusal_number PieceOutOfRange = 7
-refusal_number LimitOutOfRange = 8
-refusal_number ShortBuffer = 9
+abbrev pub refusal_number : Result (Unit {0}) Refusal → ℕ
+refusal_number (Ok u) = 0
+refusal_number (Err Malformed) = 1
+refusal_number (Err MissingVertex) = 2
+refusal_number (Err RepeatedVertex) = 3
+refusal_number (Err VertexOutOfRange) = 4
+refusal_number (Err DegenerateTriangle) = 5
+refusal_number (Err MissingFace) = 6
+refusal_number (Err PieceOutOfRange) = 7
+refusal_number (Err LimitOutOfRange) = 8
+refusal_number (Err ShortBuffer) = 9
 
 -- the bounds of a job: counts, then floats
 abbrev pub max_vertices : ℕ

@@ -36,10 +36,9 @@ use buffers::read_f64;
 use layout::{COORDINATES_PER_PIECE, COORDINATES_PER_VERTEX};
 use vec3::Vec3;
 
-// The answer: `refusal_number` of specs/ gives each case its number.
-#[derive(Clone, Copy)]
-pub enum Checked {
-    Passed,
+// What a job is refused for: `refusal_number` of specs/ gives each case its number.
+#[derive(Clone, Copy, Debug, PartialEq, Eq)]
+pub enum Refusal {
     Malformed,
     MissingVertex,
     RepeatedVertex,
@@ -67,49 +66,27 @@ pub struct BufferCounts {
 fn any_above_one(bytes: &[u8]) -> bool
     ensures { result ≡ any_below (above_one bytes.now) (length bytes.now) }
 {
-    let mut i = 0;
-    while i < bytes.len() {
-        if bytes[i] > 1 {
-            return true;
-        }
-        i += 1;
-    }
-    false
+    bytes.iter().any(|&byte| byte > 1)
 }
 
 // Whether one of the numbers names none of count things.
 fn any_missing(numbers: &[u32], count: usize) -> bool
     ensures { result ≡ any_below (missing count numbers.now) (length numbers.now) }
 {
-    let mut i = 0;
-    while i < numbers.len() {
-        if wide(numbers[i]) >= count {
-            return true;
-        }
-        i += 1;
-    }
-    false
-}
-
-fn wide(x: u32) -> usize
-    ensures { result ≡ x }
-{
-    x as usize
+    numbers.iter().any(|&number| number as usize >= count)
 }
 
 // Whether a triangle names a vertex twice.
 fn any_repeated(triangles: &[u32]) -> bool
     ensures { result ≡ any_below (repeated_in triangles.now) (length triangles.now / 3) }
 {
-    let mut t = 0;
-    while t < triangles.len() / 3 {
+    for t in 0..triangles.len() / 3 {
         let a = triangles[3 * t];
         let b = triangles[3 * t + 1];
         let c = triangles[3 * t + 2];
         if repeated(a, b, c) {
             return true;
         }
-        t += 1;
     }
     false
 }
@@ -117,42 +94,20 @@ fn any_repeated(triangles: &[u32]) -> bool
 fn repeated(a: u32, b: u32, c: u32) -> bool
     ensures { result ≡ repeated a b c }
 {
-    if a == b {
-        return true;
-    }
-    if b == c {
-        return true;
-    }
-    if c == a {
-        return true;
-    }
-    false
+    a == b || b == c || c == a
 }
 
 // A NaN fails every comparison, so what is tested is what must hold.
 fn out_of_range(x: f64) -> bool
     ensures { result ≡ out_of_range x }
 {
-    if -1_000_000.0 <= x {
-        if x <= 1_000_000.0 {
-            return false;
-        }
-        return true;
-    }
-    true
+    !(-1_000_000.0 <= x && x <= 1_000_000.0)
 }
 
 fn any_out_of_range(coords: &[f64]) -> bool
     ensures { result ≡ any_below (out_of_range_at coords.now) (length coords.now) }
 {
-    let mut i = 0;
-    while i < coords.len() {
-        if out_of_range(coords[i]) {
-            return true;
-        }
-        i += 1;
-    }
-    false
+    coords.iter().any(|&x| out_of_range(x))
 }
 
 // Whether the edge from o along d, of length `len`, is too short, or the altitude of the third vertex over it too small. The altitude is the root of dot(p, p),
@@ -185,19 +140,13 @@ fn vertex(v: &[f64], k: u32) -> Vec3
 pub fn lower_of(a: u32, b: u32) -> u32
     ensures { result ≡ lower a b }
 {
-    if a < b {
-        return a;
-    }
-    b
+    if a < b { a } else { b }
 }
 
 pub fn higher_of(a: u32, b: u32) -> u32
     ensures { result ≡ higher a b }
 {
-    if a < b {
-        return b;
-    }
-    a
+    if a < b { b } else { a }
 }
 
 // The edge of a and b starts at its lower-numbered vertex.
@@ -226,31 +175,22 @@ fn degenerate_triangle(v: &[f64], a: u32, b: u32, c: u32) -> bool
     let bc = edge_vector(v, b, c);
     let ca = edge_vector(v, c, a);
     let len = vec3::norms(ab, bc, ca);
-    if degenerate_edge(v, a, b, c, ab, len.x) {
-        return true;
-    }
-    if degenerate_edge(v, b, c, a, bc, len.y) {
-        return true;
-    }
-    if degenerate_edge(v, c, a, b, ca, len.z) {
-        return true;
-    }
-    false
+    degenerate_edge(v, a, b, c, ab, len.x)
+        || degenerate_edge(v, b, c, a, bc, len.y)
+        || degenerate_edge(v, c, a, b, ca, len.z)
 }
 
 // Refusal 5: whether a triangle has an edge too short or an altitude too small.
 pub fn any_degenerate(v: &[f64], triangles: &[u32]) -> bool
     ensures { result ≡ degenerate_triangle v.now triangles.now }
 {
-    let mut t = 0;
-    while t < triangles.len() / 3 {
+    for t in 0..triangles.len() / 3 {
         let a = triangles[3 * t];
         let b = triangles[3 * t + 1];
         let c = triangles[3 * t + 2];
         if degenerate_triangle(v, a, b, c) {
             return true;
         }
-        t += 1;
     }
     false
 }
@@ -266,27 +206,16 @@ fn used_out_of_range(kinds: &[u8], coords: &[f64], i: usize) -> bool
     requires { i < length coords.now }
     ensures { result ≡ used_out_of_range kinds.now coords.now i }
 {
-    if out_of_range(coords[i]) {
-        if i % 6 < 3 {
-            return true;
-        }
-        if kind_at(kinds, i / 6) != 0 {
-            return true;
-        }
-        return false;
-    }
-    false
+    out_of_range(coords[i]) && (i % 6 < 3 || kind_at(kinds, i / 6) != 0)
 }
 
 fn any_piece_out_of_range(kinds: &[u8], coords: &[f64]) -> bool
     ensures { result ≡ piece_out_of_range kinds.now coords.now }
 {
-    let mut i = 0;
-    while i < coords.len() {
+    for i in 0..coords.len() {
         if used_out_of_range(kinds, coords, i) {
             return true;
         }
-        i += 1;
     }
     false
 }
@@ -295,13 +224,7 @@ fn any_piece_out_of_range(kinds: &[u8], coords: &[f64]) -> bool
 pub fn limit_out_of_range(limit: f64) -> bool
     ensures { result ≡ limit_outside limit }
 {
-    if 0.0 <= limit {
-        if limit <= 10_000_000.0 {
-            return false;
-        }
-        return true;
-    }
-    true
+    !(0.0 <= limit && limit <= 10_000_000.0)
 }
 
 // Refusal 9: whether a buffer of a fixed size is too short for so many vertices, triangles and pieces.
@@ -309,28 +232,13 @@ pub fn short_buffer(vertices: usize, triangles: usize, pieces: usize, buffers: B
     ensures { result ≡ is_too_short vertices triangles pieces buffers }
 {
     // a third of the slots is compared, since three times any number can be too large
-    if (buffers.edges as usize) / 3 < triangles {
-        return true;
-    }
-    if (buffers.vertex_faces as usize) / 3 < triangles {
-        return true;
-    }
-    if (buffers.vertices as usize) < vertices {
-        return true;
-    }
-    if (buffers.triangles as usize) < triangles {
-        return true;
-    }
-    if (buffers.pieces as usize) < pieces {
-        return true;
-    }
-    if buffers.scratch < buffers.windows {
-        return true;
-    }
-    if buffers.other_scratch < buffers.windows {
-        return true;
-    }
-    false
+    (buffers.edges as usize) / 3 < triangles
+        || (buffers.vertex_faces as usize) / 3 < triangles
+        || (buffers.vertices as usize) < vertices
+        || (buffers.triangles as usize) < triangles
+        || (buffers.pieces as usize) < pieces
+        || buffers.scratch < buffers.windows
+        || buffers.other_scratch < buffers.windows
 }
 
 fn wrong_counts(
@@ -343,48 +251,31 @@ fn wrong_counts(
 ) -> bool
     ensures { result ≡ wrong_counts vertices triangles flags kinds faces coords }
 {
-    if vertices % 3 != 0 {
-        return true;
-    }
-    if triangles % 3 != 0 {
-        return true;
-    }
-    if vertices / 3 > 65_535 {
-        return true;
-    }
-    if triangles / 3 > 131_070 {
-        return true;
-    }
-    if kinds > 65_535 {
-        return true;
-    }
-    if flags != vertices / 3 {
-        return true;
-    }
-    if faces != kinds {
-        return true;
-    }
-    if coords != (COORDINATES_PER_PIECE as usize) * kinds {
-        return true;
-    }
-    false
+    vertices % 3 != 0
+        || triangles % 3 != 0
+        || vertices / 3 > 65_535
+        || triangles / 3 > 131_070
+        || kinds > 65_535
+        || flags != vertices / 3
+        || faces != kinds
+        || coords != (COORDINATES_PER_PIECE as usize) * kinds
 }
 
 // The answer's number in document 01, 0 where the job passed.
-pub fn refusal_number(checked: Checked) -> u32
+pub fn refusal_number(checked: Result<(), Refusal>) -> u32
     ensures { result ≡ refusal_number checked }
 {
     match checked {
-        Checked::Passed => 0,
-        Checked::Malformed => 1,
-        Checked::MissingVertex => 2,
-        Checked::RepeatedVertex => 3,
-        Checked::VertexOutOfRange => 4,
-        Checked::DegenerateTriangle => 5,
-        Checked::MissingFace => 6,
-        Checked::PieceOutOfRange => 7,
-        Checked::LimitOutOfRange => 8,
-        Checked::ShortBuffer => 9,
+        Ok(()) => 0,
+        Err(Refusal::Malformed) => 1,
+        Err(Refusal::MissingVertex) => 2,
+        Err(Refusal::RepeatedVertex) => 3,
+        Err(Refusal::VertexOutOfRange) => 4,
+        Err(Refusal::DegenerateTriangle) => 5,
+        Err(Refusal::MissingFace) => 6,
+        Err(Refusal::PieceOutOfRange) => 7,
+        Err(Refusal::LimitOutOfRange) => 8,
+        Err(Refusal::ShortBuffer) => 9,
     }
 }
 
@@ -399,45 +290,43 @@ pub fn is_malformed(
 ) -> bool
     ensures { result ≡ malformed vertices triangles flags.now kinds.now faces coords }
 {
-    if wrong_counts(vertices, triangles, flags.len(), kinds.len(), faces, coords) {
-        return true;
-    }
-    if any_above_one(flags) {
-        return true;
-    }
-    if any_above_one(kinds) {
-        return true;
-    }
-    false
+    wrong_counts(vertices, triangles, flags.len(), kinds.len(), faces, coords)
+        || any_above_one(flags)
+        || any_above_one(kinds)
 }
 
 // The first of the refusals 2 to 4 that holds, if any.
-pub fn check_mesh(vertices: &[f64], triangles: &[u32]) -> Checked
+pub fn check_mesh(vertices: &[f64], triangles: &[u32]) -> Result<(), Refusal>
     ensures { refusal_number result ≡ first_of (mesh_tests vertices.now triangles.now) }
 {
     if any_missing(triangles, vertices.len() / 3) {
-        return Checked::MissingVertex;
+        return Err(Refusal::MissingVertex);
     }
     if any_repeated(triangles) {
-        return Checked::RepeatedVertex;
+        return Err(Refusal::RepeatedVertex);
     }
     if any_out_of_range(vertices) {
-        return Checked::VertexOutOfRange;
+        return Err(Refusal::VertexOutOfRange);
     }
-    Checked::Passed
+    Ok(())
 }
 
 // The first of the refusals 6 and 7 that holds, if any, of a job with so many triangles.
-pub fn check_pieces(triangles: usize, kinds: &[u8], faces: &[u32], coords: &[f64]) -> Checked
+pub fn check_pieces(
+    triangles: usize,
+    kinds: &[u8],
+    faces: &[u32],
+    coords: &[f64],
+) -> Result<(), Refusal>
     ensures { refusal_number result ≡ first_of (piece_tests triangles kinds.now faces.now coords.now) }
 {
     if any_missing(faces, triangles) {
-        return Checked::MissingFace;
+        return Err(Refusal::MissingFace);
     }
     if any_piece_out_of_range(kinds, coords) {
-        return Checked::PieceOutOfRange;
+        return Err(Refusal::PieceOutOfRange);
     }
-    Checked::Passed
+    Ok(())
 }
 
 // The first of the refusals 1 to 9 that holds, if any.
@@ -450,7 +339,7 @@ pub fn check(
     coords: &[f64],
     limit: f64,
     buffers: BufferCounts,
-) -> Checked
+) -> Result<(), Refusal>
     ensures { refusal_number result ≡ refusal_of
         (job vertices.now triangles.now flags.now kinds.now faces.now coords.now limit)
         buffers }
@@ -458,24 +347,18 @@ pub fn check(
     let v = vertices.len();
     let t = triangles.len();
     if is_malformed(v, t, flags, kinds, faces.len(), coords.len()) {
-        return Checked::Malformed;
+        return Err(Refusal::Malformed);
     }
-    let mesh = check_mesh(vertices, triangles);
-    if refusal_number(mesh) > 0 {
-        return mesh;
-    }
+    check_mesh(vertices, triangles)?;
     if any_degenerate(vertices, triangles) {
-        return Checked::DegenerateTriangle;
+        return Err(Refusal::DegenerateTriangle);
     }
-    let pieces = check_pieces(t / 3, kinds, faces, coords);
-    if refusal_number(pieces) > 0 {
-        return pieces;
-    }
+    check_pieces(t / 3, kinds, faces, coords)?;
     if limit_out_of_range(limit) {
-        return Checked::LimitOutOfRange;
+        return Err(Refusal::LimitOutOfRange);
     }
     if short_buffer(v / 3, t / 3, kinds.len(), buffers) {
-        return Checked::ShortBuffer;
+        return Err(Refusal::ShortBuffer);
     }
-    Checked::Passed
+    Ok(())
 }

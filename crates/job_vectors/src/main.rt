@@ -5,9 +5,8 @@ ghost use Rattle.std.specs.Prelude.{◌<◌};
 
 use job_checks::BufferCounts;
 use std::io;
-use std::rt::Files;
 use stored_jobs::{load_mesh, load_pieces};
-use stored_numbers::{at_most, count, double, number, record_size};
+use stored_numbers::{count, double, number, replay_records};
 use vectors::Tally;
 
 // How many slots the job at number k says that each buffer has.
@@ -72,33 +71,10 @@ fn refusal(s: &[u8], k: usize) -> u32
 }
 
 fn replay(s: &[u8]) -> Tally {
-    let end = at_most(s.len() / 4, 400_000);
-    let mut cases: u64 = 0;
-    let mut differences: u64 = 0;
-    let mut k: usize = 0;
-    while k < end {
-        if refusal(s, k) != number(s, k) {
-            differences += 1;
-        }
-        cases += 1;
-        k += record_size(s, k + 2);
-    }
-    Tally { cases, differences }
-}
-
-// Reads the file of the name into the buffer, replays it and reports.
-fn replay_into(rt: &(impl Files + Print), name: &str, buf: &mut [u8]) -> io::Result<()> {
-    let got = vectors::read_file(rt, name, buf)?;
-    let tally = replay(&buf[..got]);
-    vectors::report(rt, name, tally.cases, tally.differences)
-}
-
-fn replay_file(rt: &(impl Files + Print), name: &str) -> io::Result<()> {
-    let mut buf = [0u8; 524288];
-    replay_into(rt, name, &mut buf)
+    replay_records(s, 2, |k| refusal(s, k) == number(s, k))
 }
 
 fn main(rt: HostRuntime) -> io::Result<()> {
-    replay_file(&rt, "jobs")?;
-    replay_file(&rt, "meshes")
+    vectors::replay_file::<524288, _>(&rt, "jobs", replay)?;
+    vectors::replay_file::<524288, _>(&rt, "meshes", replay)
 }

@@ -14,9 +14,8 @@ use Rattle.pop.specs.of_better.Claim.{All}
 use Rattle.pop.specs.of_better.Stretches.{better_of}
 use Rattle.heap.specs.declared.Item.{Item}
 use Rattle.heap.specs.declared.Item.TheVariants.{Window as Item-as-Window, Vertex}
-use Rattle.heap.specs.declared.Popped.{Popped}
-use Rattle.heap.specs.declared.Popped.TheVariants.{Empty, First}
-use Rattle.heap.specs.Queue.{Queue}
+use Rattle.std.specs.Prelude.{None, Some}
+use Rattle.heap.specs.Queue.{Queue, Popped}
 use Rattle.windows.specs.declared.WindowRecord.{WindowRecord}
 use Rattle.windows.specs.Windows.{reflagged, unqueued_record, adjust}
 use Rattle.actions.specs.Actions.{Stock, stock, wins_after, play}
@@ -107,5 +106,5 @@ claimed_recorded s R (Item-as-Window id) k h =
 
 pub recorded_pop : (s : State) → Recorded s → (x : Popped × Queue) → Recorded (after_pop s x)
 unfolding after_pop
-recorded_pop s R (Empty, q) = R
-recorded_pop s R (First x n, q) = claimed_recorded s R x.item (stock s.stock.made n q s.stock.vertex) refl
+recorded_pop s R (None, q) = R
+recorded_pop s R (Some (x, n), q) = claimed_recorded s R x.item (stock s.stock.made n q s.stock.vertex) refl

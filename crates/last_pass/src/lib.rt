@@ -76,11 +76,9 @@ fn lower_group(
     requires { (made ≤ capacity_of (length words.now) (length reals.now)) × ((end ≤ slots_of (length edge_words.now) words_per_edge) × (from ≤ end)) }
     ensures { left vertex ≡ lowered_from made edge_reals.now (links edge_words.now words.now) reals.now from (end - from) (given vertex) }
 {
-    let mut e = from;
-    while e < end {
+    for e in from..end {
         let edge = mesh_readers::edge(edge_words, edge_reals, EdgeId(e));
         lower_edge(edge_words, words, reals, vertex, edge, made);
-        e += 1;
     }
 }
 

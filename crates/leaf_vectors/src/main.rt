@@ -8,34 +8,11 @@ ghost use Rattle.std.specs.Prelude.{◌≤◌};
 use face_distance::{through_ends, through_vertex, through_window, to_point, to_segment};
 use propagation::{FaceAhead, FaceVertex, NextEdge, Side};
 use source::{Src, Win};
-use source_windows::{Bounds, CandidateRange, Normal};
+use source_windows::{Bounds, CandidateWindow, Normal};
 use std::io;
-use std::rt::Files;
 use stored_numbers::{count, read_doubles};
 use vec3::Vec3;
-
-// The function that the records are of.
-#[derive(Clone, Copy)]
-enum Leaf {
-    Propagate,
-    Point,
-    Segment,
-    Emit,
-    Entry,
-}
-
-// How many numbers of 4 bytes a record has.
-fn size(f: Leaf) -> usize
-    ensures { result ≤ 84 }
-{
-    match f {
-        Leaf::Propagate => 54,
-        Leaf::Point => 84,
-        Leaf::Segment => 34,
-        Leaf::Emit => 20,
-        Leaf::Entry => 46,
-    }
-}
+use vectors::Tally;
 
 fn vector(r: &[f64; 42], i: usize) -> Vec3
     requires { i ≤ 39 }
@@ -80,13 +57,13 @@ fn same_source(src: Src, kind: f64, u: Vec3) -> bool {
 }
 
 // Whether a candidate is the window at number i, or there is none in both.
-fn same_range(c: CandidateRange, r: &[f64; 42], i: usize) -> bool
+fn same_range(c: Option<CandidateWindow>, r: &[f64; 42], i: usize) -> bool
     requires { i ≤ 36 }
 {
     let kind = r[i + 2];
     match c {
-        CandidateRange::Nothing => kind == 0.0,
-        CandidateRange::Window { b0, b1, src } => {
+        None => kind == 0.0,
+        Some(CandidateWindow { b0, b1, src }) => {
             same(b0, r[i]) && same(b1, r[i + 1]) && same_source(src, kind, vector(r, i + 3))
         }
     }
@@ -178,7 +155,7 @@ fn segment_holds(r: &[f64; 42]) -> bool {
     let g = source_windows::in_frame(r[0], r[1], r[2], r[3], r[4]);
     let left = source_windows::segment_window(g, r[4], Normal::Left);
     let right = source_windows::segment_window(g, r[4], Normal::Right);
-    if let CandidateRange::Nothing = left {
+    if left.is_none() {
         return same_range(right, r, 5) && r[13] == 0.0;
     }
     same_range(left, r, 5) && same_range(right, r, 11)
@@ -224,63 +201,37 @@ fn distance(r: &[f64; 42]) -> f64 {
     through_ends(r[10], r[11], r[21], r[19])
 }
 
-fn holds(f: Leaf, r: &[f64; 42]) -> bool {
-    match f {
-        Leaf::Propagate => propagate_holds(r),
-        Leaf::Point => point_holds(r),
-        Leaf::Segment => segment_holds(r),
-        Leaf::Emit => emit_holds(r),
-        Leaf::Entry => same(distance(r), r[22]),
-    }
-}
-
-// The record at number k, and what comes after it if it is shorter than the longest.
-fn holds_at(f: Leaf, s: &[u8], k: usize) -> bool
-    requires { k ≤ 840_001 }
+// Replays the records of a file, whose first number says how many there are; each has z numbers. Numbers past the file's end read as zeros, so a file that is
+// cut off differs.
+fn replay<F: Fn(&[f64; 42]) -> bool>(s: &[u8], z: usize, holds: F) -> Tally
+    requires { (z ≤ 84) × F.IsAlwaysCallable holds }
 {
-    let mut r = [0.0f64; 42];
-    read_doubles(s, k, &mut r);
-    holds(f, &r)
-}
-
-// How many of the first n records differ.
-fn differences(f: Leaf, s: &[u8], n: usize) -> u64
-    requires { n ≤ 10_000 }
-{
-    let z = size(f);
-    let mut found: u64 = 0;
+    let n = count(s, 0, 10_000);
+    let mut differences: u64 = 0;
     let mut k: usize = 1;
     for i in 0..n {
-        if !holds_at(f, s, k) {
-            found += 1;
+        // the record, and what comes after it if it is shorter than the longest
+        let mut r = [0.0f64; 42];
+        read_doubles(s, k, &mut r);
+        if !holds(&r) {
+            differences += 1;
         }
         k += z;
     }
-    found
+    Tally {
+        cases: n as u64,
+        differences,
+    }
 }
 
-// Reports on a file's content: a count, then the records. Numbers past its end read as zeros, so a file that is cut off differs.
-fn report_content(rt: &impl Print, name: &str, f: Leaf, s: &[u8]) -> io::Result<()> {
-    let n = count(s, 0, 10_000);
-    vectors::report(rt, name, n as u64, differences(f, s, n))
-}
-
-// Reads the file of the name into the buffer and replays it.
-fn replay_into(rt: &(impl Files + Print), name: &str, f: Leaf, buf: &mut [u8]) -> io::Result<()> {
-    let got = vectors::read_file(rt, name, buf)?;
-    report_content(rt, name, f, &buf[..got])
-}
-
-// Replays the file of the name.
-fn replay(rt: &(impl Files + Print), name: &str, f: Leaf) -> io::Result<()> {
-    let mut buf = [0u8; 524288];
-    replay_into(rt, name, f, &mut buf)
+fn entry_holds(r: &[f64; 42]) -> bool {
+    same(distance(r), r[22])
 }
 
 fn main(rt: HostRuntime) -> io::Result<()> {
-    replay(&rt, "propagate", Leaf::Propagate)?;
-    replay(&rt, "point", Leaf::Point)?;
-    replay(&rt, "segment", Leaf::Segment)?;
-    replay(&rt, "emit", Leaf::Emit)?;
-    replay(&rt, "entry", Leaf::Entry)
+    vectors::replay_file::<524288, _>(&rt, "propagate", |s| replay(s, 54, propagate_holds))?;
+    vectors::replay_file::<524288, _>(&rt, "point", |s| replay(s, 84, point_holds))?;
+    vectors::replay_file::<524288, _>(&rt, "segment", |s| replay(s, 34, segment_holds))?;
+    vectors::replay_file::<524288, _>(&rt, "emit", |s| replay(s, 20, emit_holds))?;
+    vectors::replay_file::<524288, _>(&rt, "entry", |s| replay(s, 46, entry_holds))
 }

@@ -64,10 +64,8 @@ pub fn read_doubles(s: &[u8], i: usize, n: usize, to: &mut [f64])
     requires { (i + 8 * n ≤ length s.now) × (n ≤ length to.old) }
     ensures { left to ≡ put_in_front (doubles_from s.now i n) (given to) }
 {
-    let mut j: usize = 0;
-    while j < n {
+    for j in 0..n {
         to[j] = double_at(s, i + 8 * j);
-        j += 1;
     }
 }
 
@@ -75,10 +73,8 @@ pub fn read_numbers(s: &[u8], i: usize, n: usize, to: &mut [u32])
     requires { (i + 4 * n ≤ length s.now) × (n ≤ length to.old) }
     ensures { left to ≡ put_in_front (numbers_from s.now i n) (given to) }
 {
-    let mut j: usize = 0;
-    while j < n {
+    for j in 0..n {
         to[j] = number_at(s, i + 4 * j);
-        j += 1;
     }
 }
 
@@ -86,9 +82,7 @@ pub fn read_bytes(s: &[u8], i: usize, n: usize, to: &mut [u8])
     requires { (i + n ≤ length s.now) × (n ≤ length to.old) }
     ensures { left to ≡ put_in_front (bytes_from s.now i n) (given to) }
 {
-    let mut j: usize = 0;
-    while j < n {
+    for j in 0..n {
         to[j] = s[i + j];
-        j += 1;
     }
 }

@@ -1,4 +1,5 @@
 -- The work and its finish, put together: what they leave is the definition's. Assumes nothing.
+use Rattle.std.specs.Prelude.{Result}
 use Prim.Native.Nat.{ℕ, ◌≤◌, ◌<◌}
 use native.Mathlib.Omega.{arith}
 use mathlib.Core.List.{List, []}
@@ -10,7 +11,7 @@ use Rattle.buffers.specs.Slots.{slots_of}
 use Rattle.windows.specs.Windows.{capacity_of}
 use Rattle.job_checks.specs.Job.{Job, job}
 use Rattle.topology.specs.Edges.{edges}
-use Rattle.compute_spec.specs.of_mesh.declared.Meshed.{Meshed}
+use Rattle.compute_spec.specs.of_mesh.declared.Refusal.{Refusal}
 use Rattle.compute_spec.specs.of_mesh.Topology.{MeshBuffers, mesh_buffers}
 use Rattle.compute_spec.specs.of_mesh.Answer.{counts_in, mesh_refusal, Answered}
 use Rattle.compute_spec.specs.of_cut_lists.Buffers.{Cuts}
@@ -37,7 +38,7 @@ use Rattle.compute_spec.proofs.Contents.{after_work, field_left, computed}
 use Rattle.make_field.specs.Contract.{FieldMade, MadeOrRefused, MakesField}
 
 -- ---- one job, its mesh answered and not refused; b are the buffers as they were lent
-module _ (j : Job) (m : MeshBuffers) (s : WorkSlices) (c : Cuts) (most : ℕ) (meshed : Meshed) (before : MeshBuffers) (scratch other : List ℕ) where
+module _ (j : Job) (m : MeshBuffers) (s : WorkSlices) (c : Cuts) (most : ℕ) (meshed : Result ℕ Refusal) (before : MeshBuffers) (scratch other : List ℕ) where
   abbrev b : FieldBuffers
   b = field_buffers before s c scratch other
 

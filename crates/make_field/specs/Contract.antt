@@ -1,10 +1,10 @@
 -- What the work and its finish make of a job whose mesh was answered. Definitions only.
-use Rattle.std.specs.Prelude.{ℕ, ◌*◌, ◌/◌, ◌≤◌, ◌<◌, List, ◌≡◌, length, Float}
+use Rattle.std.specs.Prelude.{ℕ, ◌*◌, ◌/◌, ◌≤◌, ◌<◌, List, ◌≡◌, length, Float, Result}
 use Rattle.layout.specs.Layout.{words_per_piece, words_per_edge}
 use Rattle.buffers.specs.Slots.{slots_of}
 use Rattle.job_checks.specs.Job.{Job, job}
 use Rattle.topology.specs.Edges.{edges}
-use Rattle.compute_spec.specs.of_mesh.declared.Meshed.{Meshed}
+use Rattle.compute_spec.specs.of_mesh.declared.Refusal.{Refusal}
 use Rattle.compute_spec.specs.of_mesh.Topology.{MeshBuffers}
 use Rattle.compute_spec.specs.of_mesh.Answer.{counts_in, mesh_refusal, Answered}
 use Rattle.compute_spec.specs.of_cut_lists.Buffers.{Cuts}
@@ -42,7 +42,7 @@ pub record MakesField (number count : ℕ) (v : List Float) (triangles kinds fac
   -- then nothing is done
   pub passes_on : 0 < number → (r ≡ Refused number) × ((m' ≡ m) × ((s' ≡ s) × (c' ≡ c)))
   -- whatever the mesh's buffers and the two scratch rows were before
-  pub makes : number ≡ 0 → (flags : List ℕ) (meshed : Meshed) (before : MeshBuffers) (scratch other : List ℕ)
+  pub makes : number ≡ 0 → (flags : List ℕ) (meshed : Result ℕ Refusal) (before : MeshBuffers) (scratch other : List ℕ)
       → let j = job v triangles flags kinds faces coords limit in
       let b = field_buffers before s c scratch other in
       Answered j (other_counts b) meshed before m

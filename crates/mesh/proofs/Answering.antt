@@ -8,19 +8,23 @@ use native.Mathlib.Omega.{arith}
 use lib.ListN.{length}
 use lib.Ieee.{Float}
 use Rattle.job_checks.specs.declared.BufferCounts.{BufferCounts}
-use Rattle.job_checks.specs.declared.Checked.{Checked}
+use Rattle.job_checks.specs.declared.Refusal.{Refusal as JobRefusal}
+use Rattle.job_checks.proofs.Numbers.{refused}
 use Rattle.job_checks.specs.Any.{first_of}
 use Rattle.job_checks.specs.Job.{Job, piece_count}
 use Rattle.job_checks.specs.Refusals.{max_vertices, refusal_number, refusals, refusal_of}
 use Rattle.job_checks.specs.Sound.{ValidTriangles, LongEnough, Sound}
 use Rattle.job_checks.proofs.Any.{first_holds, first_after, first_none, first_within, first_past}
 use Rattle.job_checks.proofs.Sound.{refusals_numbered, sound}
-use Rattle.topology.specs.Edges.{edges, shared_by_three}
-use Rattle.edge_table.specs.declared.Table.{Table}
-use Rattle.edge_table.specs.declared.Table.TheVariants.{Edges as Table-as-Edges, ThirdFace as Table-as-ThirdFace}
+use Rattle.topology.specs.Edges.{shared_by_three}
+use Rattle.edge_table.specs.declared.ThirdFace.{ThirdFace as Third}
+use Rattle.std.specs.Prelude.{Result, Ok, Err}
 use Rattle.edge_table.proofs.Reading.{mesh_of_lem}
 use Rattle.mesh.specs.declared.OtherCounts.{OtherCounts}
-use Rattle.mesh.specs.declared.Meshed.TheVariants.{Edges, Refused, ThirdFace}
+use Rattle.std.specs.Result.{IsErrAnd}
+use Rattle.std.proofs.lemmas.Result.{err_from_is_err_and}
+use Rattle.mesh.specs.declared.Refusal.{Refusal}
+use Rattle.mesh.specs.declared.Refusal.TheVariants as refusal
 use Rattle.mesh.specs.Topology.{MeshBuffers, Fits, topology_of, MadeTopology}
 use Rattle.mesh.specs.Answer.{counts_in, mesh_refusals, mesh_refusal, afterwards, Answered}
 use Rattle.mesh.proofs.Making.{is_third, has_edges}
@@ -50,10 +54,10 @@ fits_from v triangles m others pieces valid few long =
 
 module _ (j : Job) (others : OtherCounts) (before : MeshBuffers) where
   -- refused by the checks, with nothing changed
-  pub answer_refused : (c : Checked) (n : ℕ) → refusal_number c ≡ refusal_of j (counts_in before others) → n ≡ refusal_number c → 0 < n → Answered j others (Refused c) before before
+  pub answer_refused : (r : JobRefusal) → refusal_number (Err r) ≡ refusal_of j (counts_in before others) → Answered j others (Err (refusal.Job r)) before before
   unfolding mesh_refusals
-  answer_refused c n e f l =
-      let k : 0 < refusal_of j (counts_in before others) = omega (arith, ap (λ (x : ℕ). x) (f ∙ e)) in
+  answer_refused r e =
+      let k : 0 < refusal_of j (counts_in before others) = rw e at (refused r) in
       let same = first_within ((10, shared_by_three j.triangles) ∷ []) (refusals j (counts_in before others)) k in
       record {
         number = e ∙ sym same;
@@ -74,22 +78,22 @@ module _ (j : Job) (others : OtherCounts) (before : MeshBuffers) where
     then_third : shared_by_three j.triangles ≡ true → mesh_refusal j (counts_in before others) ≡ 10
     then_third e = then ∙ first_holds _ _ _ e
 
-    module _ (after : MeshBuffers) (t : Table) (made : MadeTopology j.vertices j.triangles j.flags t before after) where
+    module _ (after : MeshBuffers) (t : Result ℕ Third) (made : MadeTopology j.vertices j.triangles j.flags t before after) where
       same : after ≡ afterwards (refusal_of j (counts_in before others)) before (topology_of j.vertices j.triangles j.flags before)
       same = made.buffers ∙ changes (refusal_of j (counts_in before others)) before (topology_of j.vertices j.triangles j.flags before) passed
 
-      pub answer_edges : (n : ℕ) → t ≡ Table-as-Edges n → Answered j others (Edges n) before after
+      pub answer_edges : (n : ℕ) → t ≡ Ok n → Answered j others (Ok n) before after
       answer_edges n e =
           let k = has_edges j.triangles t made.answer n e in
           record {
             number = sym (then_none k.0);
-            edge_count_held = λ z. ap Edges k.1;
+            edge_count_held = λ z. ap Ok k.1;
             buffers = same;
           }
 
-      pub answer_third : t ≡ Table-as-ThirdFace → Answered j others ThirdFace before after
-      answer_third e =
-          let k = is_third j.triangles t made.answer e in
+      pub answer_third : (x : Third) → t ≡ Err x → Answered j others (Err refusal.ThirdFace) before after
+      answer_third x e =
+          let k = is_third j.triangles t made.answer x e in
           record {
             number = sym (then_third k);
             edge_count_held = λ z. absurd (omega (arith, sym (then_third k) ∙ z));
@@ -106,8 +110,12 @@ module _ (j : Job) (others : OtherCounts) (before : MeshBuffers) where
 pub counted : (j : Job) (b b' : BufferCounts) (k : ℕ) → k ≡ refusal_of j b → b ≡ b' → k ≡ refusal_of j b'
 counted j b b' k e q = e ∙ ap (refusal_of j) q
 
-pub passed_of : (j : Job) (b b' : BufferCounts) (k n : ℕ) → k ≡ refusal_of j b → n ≡ k → n ≤ 0 → b ≡ b' → refusal_of j b' ≡ 0
-passed_of j b b' k n e f l q = sym (counted j b b' k e q) ∙ (sym f ∙ omega arith)
+pub passed_of : (j : Job) (b b' : BufferCounts) → 0 ≡ refusal_of j b → b ≡ b' → refusal_of j b' ≡ 0
+passed_of j b b' e q = sym (counted j b b' 0 e q)
+
+-- a refusal that `?` hands on
+pub handed_on : (j : Job) (others : OtherCounts) (before after : MeshBuffers) (r : Result ℕ Refusal) (e : Refusal) → IsErrAnd r (λ f. f ≡ e) → Answered j others (Err e) before after → Answered j others r before after
+handed_on j others before after r e h a = let p = err_from_is_err_and r h in rw (p.1, p.2) a
 
 -- four equal counts make equal counts
 pub same_counts : {a a' b b' d d' e e' : ℕ} (o : OtherCounts) → a ≡ a' → b ≡ b' → d ≡ d' → e ≡ e' → ◌≡◌ {A = BufferCounts} (record { vertices = a; edges = b; vertex_faces = d; triangles = e; pieces = o.pieces; windows = o.windows; scratch = o.scratch; other_scratch = o.other_scratch }) (record { vertices = a'; edges = b'; vertex_faces = d'; triangles = e'; pieces = o.pieces; windows = o.windows; scratch = o.scratch; other_scratch = o.other_scratch })

@@ -16,8 +16,8 @@ use Rattle.topology.specs.Edges.{edges, tri_edge, shared_by_three, vertex_faces}
 use Rattle.topology.specs.Rows.{rows}
 use Rattle.topology.proofs.Edges.{edge_count_held}
 use Rattle.topology.proofs.Rows.{row_inside, row_read}
-use Rattle.edge_table.specs.declared.Table.{Table}
-use Rattle.edge_table.specs.declared.Table.TheVariants.{Edges as Table-as-Edges}
+use Rattle.edge_table.specs.declared.ThirdFace.{ThirdFace}
+use Rattle.std.specs.Prelude.{Result, Ok}
 use Rattle.edge_table.specs.Table.{edge_words, triangle_words}
 use Rattle.edge_table.proofs.Reading.{low_read, high_read, first_face_read, second_face_read, head_read, scratch_read, spare_read, number_read}
 use Rattle.vertex_faces.specs.Ranges.{with_flags, start_of, end_of, round_of}
@@ -26,8 +26,7 @@ use Rattle.frames.specs.Stored.{with_lengths}
 use Rattle.frames.specs.Held.{HoldsEdges, HoldsFaces, HoldsSides, HoldsLengths}
 use Rattle.frames.proofs.Held.{lengths_held, normals_held}
 use Rattle.mesh.specs.declared.OtherCounts.{OtherCounts}
-use Rattle.mesh.specs.declared.Meshed.{Meshed}
-use Rattle.mesh.specs.declared.Meshed.TheVariants.{Edges}
+use Rattle.mesh.specs.declared.Refusal.{Refusal}
 use Rattle.mesh.specs.Topology.{MeshBuffers, Fits, vertex_words, filled, topology_of, MadeTopology}
 use Rattle.mesh.specs.Answer.{meshed_number, counts_in, mesh_refusals, mesh_refusal, afterwards, Answered}
 use Rattle.mesh.specs.Held.{Held, Fresh}
@@ -121,7 +120,7 @@ module _ (v : List Float) (triangles flags : List ℕ) (m : MeshBuffers) where
       }
 
 -- What an answer of `topology` with n edges says, by its contract.
-module _ (v : List Float) (triangles flags : List ℕ) (t : Table) (before after : MeshBuffers) (made : MadeTopology v triangles flags t before after) (n : ℕ) (e : t ≡ Table-as-Edges n) where
+module _ (v : List Float) (triangles flags : List ℕ) (t : Result ℕ ThirdFace) (before after : MeshBuffers) (made : MadeTopology v triangles flags t before after) (n : ℕ) (e : t ≡ Ok n) where
   made_filled : after ≡ filled v triangles flags before
   unfolding topology_of
   made_filled = made.buffers ∙ rw (has_edges triangles t made.answer n e).0 refl
@@ -130,11 +129,11 @@ after_none : (v : List Float) (triangles flags : List ℕ) (m after : MeshBuffer
 unfolding afterwards topology_of
 after_none v triangles flags m after k z s e = e ∙ rw (z, s) refl
 
-pub same_number : {r : Meshed} {n k : ℕ} → r ≡ Edges n → r ≡ Edges k → n ≡ k
+pub same_number : {r : Result ℕ Refusal} {n k : ℕ} → r ≡ Ok n → r ≡ Ok k → n ≡ k
 same_number e f = cc
 
 -- What an answer with n edges says, by the contract of `build`.
-module _ (j : Job) (others : OtherCounts) (r : Meshed) (before after : MeshBuffers) (answered : Answered j others r before after) (n : ℕ) (e : r ≡ Edges n) where
+module _ (j : Job) (others : OtherCounts) (r : Result ℕ Refusal) (before after : MeshBuffers) (answered : Answered j others r before after) (n : ℕ) (e : r ≡ Ok n) where
   unrefused : 0 ≡ mesh_refusal j (counts_in before others)
   unrefused = ap meshed_number (sym e) ∙ answered.number
 

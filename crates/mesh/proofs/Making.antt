@@ -9,8 +9,8 @@ use lib.Ieee.{Float}
 use Rattle.float64.specs.Scalar.{zero64}
 use Rattle.topology.specs.Edges.{edges, shared_by_three}
 use Rattle.topology.proofs.Edges.{edge_count_held}
-use Rattle.edge_table.specs.declared.Table.{Table}
-use Rattle.edge_table.specs.declared.Table.TheVariants.{Edges, ThirdFace}
+use Rattle.edge_table.specs.declared.ThirdFace.{ThirdFace}
+use Rattle.std.specs.Prelude.{Result, Ok, Err}
 use Rattle.edge_table.specs.Table.{Mesh, table_of, edge_words, triangle_words, Built}
 use Rattle.vertex_faces.specs.Ranges.{with_ranges, with_flags, start_of, end_of, round_of, InRange}
 use Rattle.frames.specs.Stored.{with_lengths, with_normals}
@@ -36,42 +36,42 @@ completed v triangles flags n ew tw vw er r tr vw₁ vw₂ vw' er' r' tr' z g a 
     }
 
 -- what an answer of the table says of the mesh
-third_case : (b : Bool) (n : ℕ) → cond b ThirdFace (Edges n) ≡ ThirdFace → b ≡ true
-third_case true n e = refl
-third_case false n e = absurd (let z : ◌≡◌ {A = ℕ} 0 1 = cc in omega arith)
+third_case : (b : Bool) (n : ℕ) (t : ThirdFace) → ◌≡◌ {A = Result ℕ ThirdFace} (cond b (Err (record {})) (Ok n)) (Err t) → b ≡ true
+third_case true n t e = refl
+third_case false n t e = absurd (let z : ◌≡◌ {A = ℕ} 0 1 = cc in omega arith)
 
-edges_case : (b : Bool) (n m : ℕ) → cond b ThirdFace (Edges n) ≡ Edges m → (b ≡ false) × (m ≡ n)
+edges_case : (b : Bool) (n m : ℕ) → ◌≡◌ {A = Result ℕ ThirdFace} (cond b (Err (record {})) (Ok n)) (Ok m) → (b ≡ false) × (m ≡ n)
 edges_case true n m e = absurd (let z : ◌≡◌ {A = ℕ} 0 1 = cc in omega arith)
 edges_case false n m e = (refl, (cc))
 
-module _ (triangles : List ℕ) (r : Table) (is : r ≡ table_of triangles) where
-  pub is_third : r ≡ ThirdFace → shared_by_three triangles ≡ true
+module _ (triangles : List ℕ) (r : Result ℕ ThirdFace) (is : r ≡ table_of triangles) where
+  pub is_third : (t : ThirdFace) → r ≡ Err t → shared_by_three triangles ≡ true
   unfolding table_of
-  is_third e = third_case (shared_by_three triangles) (length (edges triangles)) (sym is ∙ e)
+  is_third t e = third_case (shared_by_three triangles) (length (edges triangles)) t (sym is ∙ e)
 
-  pub has_edges : (n : ℕ) → r ≡ Edges n → (shared_by_three triangles ≡ false) × (n ≡ length (edges triangles))
+  pub has_edges : (n : ℕ) → r ≡ Ok n → (shared_by_three triangles ≡ false) × (n ≡ length (edges triangles))
   unfolding table_of
   has_edges n e = edges_case (shared_by_three triangles) (length (edges triangles)) n (sym is ∙ e)
 
   -- no more than one for each side
-  pub few_edges : (n : ℕ) → r ≡ Edges n → n ≤ length triangles
+  pub few_edges : (n : ℕ) → r ≡ Ok n → n ≤ length triangles
   few_edges n e = omega (arith, (has_edges n e).1, edge_count_held triangles)
 
 module _ (v : List Float) (triangles flags vw ew : List ℕ) (er : List Float) (r tw : List ℕ) (tr : List Float) where
   -- an edge in a third triangle
-  module _ (vw' ew' : List ℕ) (er' : List Float) (r' tw' : List ℕ) (tr' : List Float) (t : Table) where
-    pub made_third : Built triangles t r ew tw r' ew' tw' → t ≡ ThirdFace → vw' ≡ replicate (length vw) 0 → er' ≡ replicate (length er) zero64 → tr' ≡ replicate (length tr) zero64 → MadeTopology v triangles flags ThirdFace (mesh_buffers vw ew er r tw tr) (mesh_buffers vw' ew' er' r' tw' tr')
+  module _ (vw' ew' : List ℕ) (er' : List Float) (r' tw' : List ℕ) (tr' : List Float) (t : Result ℕ ThirdFace) where
+    pub made_third : Built triangles t r ew tw r' ew' tw' → (e : ThirdFace) → t ≡ Err e → vw' ≡ replicate (length vw) 0 → er' ≡ replicate (length er) zero64 → tr' ≡ replicate (length tr) zero64 → MadeTopology v triangles flags (Err e) (mesh_buffers vw ew er r tw tr) (mesh_buffers vw' ew' er' r' tw' tr')
     unfolding zeroed topology_of
-    made_third b third a d f =
-        let k = is_third triangles t b.answer third in
+    made_third b e third a d f =
+        let k = is_third triangles t b.answer e third in
         record {
           answer = sym third ∙ b.answer;
           buffers = rw k (same_buffers a (b.edge_words_held ∙ rw k refl) d (b.head_words_held ∙ rw k refl) (b.triangle_words_held ∙ rw k refl) f);
         }
 
   -- none
-  module _ (r₁ ew₁ tw₁ vw₂ r₂ : List ℕ) (er₂ tr₂ : List Float) (t : Table) (n : ℕ) where
-    pub made_filled : Built triangles t r ew tw r₁ ew₁ tw₁ → t ≡ Edges n → length r₁ ≡ length r → Completed v triangles flags n ew₁ tw₁ vw er r₁ tr vw₂ er₂ r₂ tr₂ → MadeTopology v triangles flags (Edges n) (mesh_buffers vw ew er r tw tr) (mesh_buffers vw₂ ew₁ er₂ r₂ tw₁ tr₂)
+  module _ (r₁ ew₁ tw₁ vw₂ r₂ : List ℕ) (er₂ tr₂ : List Float) (t : Result ℕ ThirdFace) (n : ℕ) where
+    pub made_filled : Built triangles t r ew tw r₁ ew₁ tw₁ → t ≡ Ok n → length r₁ ≡ length r → Completed v triangles flags n ew₁ tw₁ vw er r₁ tr vw₂ er₂ r₂ tr₂ → MadeTopology v triangles flags (Ok n) (mesh_buffers vw ew er r tw tr) (mesh_buffers vw₂ ew₁ er₂ r₂ tw₁ tr₂)
     unfolding topology_of filled
     made_filled b e same c =
         let k = has_edges triangles t b.answer n e in

@@ -1,5 +1,5 @@
 -- A job's mesh: document 01's refusals 1 to 10, or its topology. Definitions only.
-use Rattle.std.specs.Prelude.{ℕ, zero, suc, min, ◌≡◌, Bool, List, [], ◌∷◌, ◌++◌, length}
+use Rattle.std.specs.Prelude.{ℕ, zero, suc, min, ◌≡◌, Bool, List, [], ◌∷◌, ◌++◌, length, Result, Ok, Err}
 use Rattle.layout.specs.Layout.{words_per_vertex, words_per_round, words_per_edge, reals_per_edge, words_per_triangle, reals_per_triangle}
 use Rattle.buffers.specs.Slots.{slots_of}
 use Rattle.job_checks.specs.declared.BufferCounts.{BufferCounts}
@@ -8,15 +8,15 @@ use Rattle.job_checks.specs.Job.{Job}
 use Rattle.job_checks.specs.Refusals.{refusal_number, refusals, refusal_of}
 use Rattle.topology.specs.Edges.{edges, shared_by_three}
 use Rattle.mesh.specs.declared.OtherCounts.{OtherCounts}
-use Rattle.mesh.specs.declared.Meshed.{Meshed}
-use Rattle.mesh.specs.declared.Meshed.TheVariants.{Edges, Refused, ThirdFace}
+use Rattle.mesh.specs.declared.Refusal.{Refusal}
+use Rattle.mesh.specs.declared.Refusal.TheVariants as refusal
 use Rattle.mesh.specs.Topology.{MeshBuffers, topology_of}
 
 -- each answer's number in document 01; 0 is no refusal
-abbrev pub meshed_number : Meshed → ℕ
-meshed_number (Edges n) = 0
-meshed_number (Refused c) = refusal_number c
-meshed_number ThirdFace = 10
+abbrev pub meshed_number : Result ℕ Refusal → ℕ
+meshed_number (Ok n) = 0
+meshed_number (Err (refusal.Job r)) = refusal_number (Err r)
+meshed_number (Err refusal.ThirdFace) = 10
 
 -- the slots of buffers whose slices have these lengths, and of the others as they are told
 abbrev pub counts_of : ℕ → ℕ → ℕ → ℕ → ℕ → ℕ → OtherCounts → BufferCounts
@@ -49,7 +49,7 @@ unfoldable pub afterwards : ℕ → MeshBuffers → MeshBuffers → MeshBuffers
 afterwards zero m t = t
 afterwards (suc k) m t = m
 
-pub record Answered (j : Job) (others : OtherCounts) (r : Meshed) (before after : MeshBuffers) : Type 0 where
+pub record Answered (j : Job) (others : OtherCounts) (r : Result ℕ Refusal) (before after : MeshBuffers) : Type 0 where
   pub number : meshed_number r ≡ mesh_refusal j (counts_in before others)
-  pub edge_count_held : mesh_refusal j (counts_in before others) ≡ 0 → r ≡ Edges (length (edges j.triangles))
+  pub edge_count_held : mesh_refusal j (counts_in before others) ≡ 0 → r ≡ Ok (length (edges j.triangles))
   pub buffers : after ≡ afterwards (refusal_of j (counts_in before others)) before (topology_of j.vertices j.triangles j.flags before)

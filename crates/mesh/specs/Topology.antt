@@ -1,13 +1,13 @@
 -- A mesh's topology in its six buffers. Definitions only.
 use Prim.Native.Nat.{ℕ, ◌*◌, ◌/◌, ◌≤◌}
-use Rattle.std.specs.Prelude.{◌≡◌, cond, length, replicate}
+use Rattle.std.specs.Prelude.{◌≡◌, cond, length, replicate, Result}
 use mathlib.Core.List.{List}
 use Rattle.std.specs.Float.Ieee.{Float}
 use Rattle.layout.specs.Layout.{words_per_vertex, words_per_edge, reals_per_edge, words_per_triangle, reals_per_normal}
 use Rattle.float64.specs.Scalar.{zero64}
 use Rattle.buffers.specs.Lent.{Lent, given, left}
 use Rattle.topology.specs.Edges.{edges, shared_by_three}
-use Rattle.edge_table.specs.declared.Table.{Table}
+use Rattle.edge_table.specs.declared.ThirdFace.{ThirdFace}
 use Rattle.edge_table.specs.Table.{Mesh, table_of, edge_words, triangle_words}
 use Rattle.vertex_faces.specs.Ranges.{with_ranges, with_flags, start_of, end_of, round_of}
 use Rattle.frames.specs.Stored.{with_lengths, with_normals}
@@ -85,6 +85,6 @@ module _ (v : List Float) (triangles flags : List ℕ) where
   unfoldable pub topology_of : MeshBuffers → MeshBuffers
   topology_of m = cond (shared_by_three triangles) (zeroed m) (filled m)
 
-  pub record MadeTopology (r : Table) (before after : MeshBuffers) : Type 0 where
+  pub record MadeTopology (r : Result ℕ ThirdFace) (before after : MeshBuffers) : Type 0 where
     pub answer : r ≡ table_of triangles
     pub buffers : after ≡ topology_of before

@@ -4,13 +4,14 @@
 ghost use Rattle.std.specs.Prelude.{◌≡◌, ◌≤◌, min, length};
 ghost use Rattle.buffers.specs.Lent.{given, left};
 ghost use Rattle.job_checks.specs.Job.{job};
+ghost use Rattle.mesh.specs.declared.Refusal.TheVariants.{Job, ThirdFace};
 ghost use Rattle.mesh.specs.Topology.{before, after, Fits, Completed, MadeTopology};
 ghost use Rattle.mesh.specs.Answer.{meshed_number, counts_of, Answered};
 
 use buffers::{zero_f64, zero_u32};
-use edge_table::Table;
+use edge_table::ThirdFace;
 pub use frames as of_frames;
-use job_checks::{BufferCounts, Checked};
+use job_checks::BufferCounts;
 use layout::{
     REALS_PER_EDGE, REALS_PER_TRIANGLE, WORDS_PER_EDGE, WORDS_PER_ROUND, WORDS_PER_TRIANGLE,
     WORDS_PER_VERTEX,
@@ -27,21 +28,37 @@ pub struct OtherCounts {
     pub other_scratch: u32,
 }
 
-// How many edges the mesh has, or what it is refused for: `meshed_number` of specs/ gives each case its number.
-#[derive(Clone, Copy)]
-pub enum Meshed {
-    Edges(u32),
-    Refused(Checked),
+// What a mesh is refused for: `meshed_number` of specs/ gives each case its number.
+#[derive(Clone, Copy, Debug, PartialEq, Eq)]
+pub enum Refusal {
+    Job(job_checks::Refusal),
     ThirdFace,
 }
 
-pub fn refusal_number(meshed: Meshed) -> u32
+impl From<job_checks::Refusal> for Refusal {
+    ghost from_gives = { λ refusal e. e ≡ Job refusal };
+
+    fn from(refusal: job_checks::Refusal) -> Refusal {
+        Refusal::Job(refusal)
+    }
+}
+
+impl From<ThirdFace> for Refusal {
+    ghost from_gives = { λ _ e. e ≡ ThirdFace };
+
+    fn from(_third_face: ThirdFace) -> Refusal {
+        Refusal::ThirdFace
+    }
+}
+
+// The answer's number in document 01, 0 where the mesh is not refused.
+pub fn refusal_number(meshed: Result<u32, Refusal>) -> u32
     ensures { result ≡ meshed_number meshed }
 {
     match meshed {
-        Meshed::Edges(_) => 0,
-        Meshed::Refused(checked) => job_checks::refusal_number(checked),
-        Meshed::ThirdFace => 10,
+        Ok(_) => 0,
+        Err(Refusal::Job(refusal)) => job_checks::refusal_number(Err(refusal)),
+        Err(Refusal::ThirdFace) => 10,
     }
 }
 
@@ -78,7 +95,7 @@ fn complete(
     );
 }
 
-// The topology of a mesh that passed the checks, or refusal 10 and every buffer zero.
+// The topology of a mesh that passed the checks: how many edges it has. Or refusal 10 and every buffer zero.
 pub fn topology(
     vertices: &[f64],
     triangles: &[u32],
@@ -89,7 +106,7 @@ pub fn topology(
     round: &mut [u32],
     triangle_words: &mut [u32],
     triangle_reals: &mut [f64],
-) -> Table
+) -> Result<u32, ThirdFace>
     requires { Fits vertices.now triangles.now (length vertex_words.old) (length edge_words.old)
         (length edge_reals.old) (length round.old) (length triangle_words.old) (length triangle_reals.old) }
     ensures { MadeTopology vertices.now triangles.now flags.now result
@@ -98,13 +115,13 @@ pub fn topology(
 {
     // the heads of the table's buckets are no longer wanted where the faces round each vertex are listed
     match edge_table::build(triangles, round, edge_words, triangle_words) {
-        Table::ThirdFace => {
+        Err(third_face) => {
             zero_u32(vertex_words);
             zero_f64(edge_reals);
             zero_f64(triangle_reals);
-            Table::ThirdFace
+            Err(third_face)
         }
-        Table::Edges(edges) => {
+        Ok(edges) => {
             complete(
                 vertices,
                 triangles,
@@ -117,7 +134,7 @@ pub fn topology(
                 triangle_words,
                 triangle_reals,
             );
-            Table::Edges(edges)
+            Ok(edges)
         }
     }
 }
@@ -160,7 +177,7 @@ fn buffer_counts(
     }
 }
 
-// Any job: the first of the refusals 1 to 10 that holds, if any, or the topology of its mesh.
+// Any job: the first of the refusals 1 to 10 that holds, if any, or the topology of its mesh, and how many edges it has.
 pub fn build(
     vertices: &[f64],
     triangles: &[u32],
@@ -176,7 +193,7 @@ pub fn build(
     round: &mut [u32],
     triangle_words: &mut [u32],
     triangle_reals: &mut [f64],
-) -> Meshed
+) -> Result<u32, Refusal>
     ensures { Answered
         (job vertices.now triangles.now flags.now kinds.now faces.now coords.now limit)
         others result
@@ -192,13 +209,10 @@ pub fn build(
         triangle_reals.len(),
         others,
     );
-    let checked = job_checks::check(
+    job_checks::check(
         vertices, triangles, flags, kinds, faces, coords, limit, counts,
-    );
-    if job_checks::refusal_number(checked) > 0 {
-        return Meshed::Refused(checked);
-    }
-    match topology(
+    )?;
+    let edges = topology(
         vertices,
         triangles,
         flags,
@@ -208,8 +222,6 @@ pub fn build(
         round,
         triangle_words,
         triangle_reals,
-    ) {
-        Table::Edges(edges) => Meshed::Edges(edges),
-        Table::ThirdFace => Meshed::ThirdFace,
-    }
+    )?;
+    Ok(edges)
 }

@@ -7,7 +7,7 @@ ghost use Rattle.mesh.specs.Topology.{before, after};
 ghost use Rattle.mesh_c.specs.Exports.{mesh_alone, plenty, PackedAnswer};
 
 use job_checks::BufferCounts;
-use mesh::{Meshed, OtherCounts};
+use mesh::OtherCounts;
 
 // The first of the refusals 1 to 5 that holds, or 0: the other four are about pieces, a limit and buffers.
 #[unsafe(no_mangle)]
@@ -76,8 +76,7 @@ pub extern "C" fn sirmolaat_mesh_build(
         triangle_reals,
     );
     match meshed {
-        Meshed::Edges(edges) => edges as u64,
-        Meshed::Refused(checked) => 4_294_967_296 * (job_checks::refusal_number(checked) as u64),
-        Meshed::ThirdFace => 42_949_672_960,
+        Ok(edges) => edges as u64,
+        Err(_) => 4_294_967_296 * (mesh::refusal_number(meshed) as u64),
     }
 }

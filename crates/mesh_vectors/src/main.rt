@@ -9,11 +9,10 @@ use layout::{
     REALS_PER_EDGE, REALS_PER_TRIANGLE, ROUND_FACE, VERTEX_END, VERTEX_START, WORDS_PER_EDGE,
     WORDS_PER_ROUND, WORDS_PER_TRIANGLE, WORDS_PER_VERTEX,
 };
-use mesh::{Meshed, OtherCounts};
+use mesh::{OtherCounts, Refusal};
 use std::io;
-use std::rt::Files;
 use stored_jobs::{list_places, load_mesh, load_pieces};
-use stored_numbers::{all_f64, all_u32, at_most, count, double, number, record_size};
+use stored_numbers::{all_f64, all_u32, at_most, count, double, number, replay_records};
 use stored_slots::{SummedWalk, broken, compare_or_sum, section, start_at, visit_f64, visit_u32};
 use vectors::Tally;
 
@@ -30,15 +29,13 @@ fn visit_faces(
         return broken();
     }
     let mut now = compare_or_sum(s, detail, w, end - start);
-    let mut i = start;
-    while i < end {
+    for i in start..end {
         now = compare_or_sum(
             s,
             detail,
             now,
             read_u32(round, WORDS_PER_ROUND, i, ROUND_FACE),
         );
-        i += 1;
     }
     now
 }
@@ -53,8 +50,7 @@ fn visit_faces_round(
     n: u32,
 ) -> SummedWalk {
     let mut now = w;
-    let mut i: u32 = 0;
-    while i < n {
+    for i in 0..n {
         now = visit_faces(
             s,
             detail,
@@ -63,7 +59,6 @@ fn visit_faces_round(
             read_u32(words, WORDS_PER_VERTEX, i, VERTEX_START),
             read_u32(words, WORDS_PER_VERTEX, i, VERTEX_END),
         );
-        i += 1;
     }
     section(s, detail, now)
 }
@@ -194,7 +189,7 @@ fn same_topology(
 fn same_meshed(
     s: &[u8],
     k: usize,
-    answer: Meshed,
+    answer: Result<u32, Refusal>,
     vertex_words: &[u32],
     edge_words: &[u32],
     edge_reals: &[f64],
@@ -208,7 +203,7 @@ fn same_meshed(
         return false;
     }
     match answer {
-        Meshed::Edges(n) => {
+        Ok(n) => {
             if number(s, k + 1) == 0 {
                 return true;
             }
@@ -224,7 +219,7 @@ fn same_meshed(
                 triangle_reals,
             )
         }
-        Meshed::Refused(_) => all_are(
+        Err(Refusal::Job(_)) => all_are(
             vertex_words,
             edge_words,
             edge_reals,
@@ -234,7 +229,7 @@ fn same_meshed(
             7,
             7.0,
         ),
-        Meshed::ThirdFace => all_are(
+        Err(Refusal::ThirdFace) => all_are(
             vertex_words,
             edge_words,
             edge_reals,
@@ -263,7 +258,7 @@ fn build_record(
     round: &mut [u32],
     triangle_words: &mut [u32],
     triangle_reals: &mut [f64],
-) -> Meshed
+) -> Result<u32, Refusal>
     requires { k < 500_000 }
 {
     let limit = double(s, k + 17);
@@ -428,34 +423,11 @@ fn mesh_replays(s: &[u8], k: usize) -> bool
 }
 
 fn replay(s: &[u8]) -> Tally {
-    let end = at_most(s.len() / 4, 400_000);
-    let mut cases: u64 = 0;
-    let mut differences: u64 = 0;
-    let mut k: usize = 0;
-    while k < end {
-        if !mesh_replays(s, k) {
-            differences += 1;
-        }
-        cases += 1;
-        k += record_size(s, k + 2);
-    }
-    Tally { cases, differences }
-}
-
-// Reads the file of the name into the buffer, replays it and reports.
-fn replay_into(rt: &(impl Files + Print), name: &str, buf: &mut [u8]) -> io::Result<()> {
-    let got = vectors::read_file(rt, name, buf)?;
-    let tally = replay(&buf[..got]);
-    vectors::report(rt, name, tally.cases, tally.differences)
-}
-
-fn replay_file(rt: &(impl Files + Print), name: &str) -> io::Result<()> {
-    let mut buf = [0u8; 524288];
-    replay_into(rt, name, &mut buf)
+    replay_records(s, 2, |k| mesh_replays(s, k))
 }
 
 fn main(rt: HostRuntime) -> io::Result<()> {
-    replay_file(&rt, "jobs")?;
-    replay_file(&rt, "meshes")?;
-    replay_file(&rt, "large")
+    vectors::replay_file::<524288, _>(&rt, "jobs", replay)?;
+    vectors::replay_file::<524288, _>(&rt, "meshes", replay)?;
+    vectors::replay_file::<524288, _>(&rt, "large", replay)
 }

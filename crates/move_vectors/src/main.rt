@@ -2,14 +2,13 @@
 // told and every lent byte. oracle/README.md has the format; tests/moves/make_vectors.sh makes the file.
 #![tactic(auto)]
 
-ghost use Rattle.std.specs.Prelude.{◌≤◌, ◌<◌};
+ghost use Rattle.std.specs.Prelude.{◌<◌};
 
 use groups::Form;
 use slip_moves::{move_slip, moved_length, moved_number};
 use std::io;
-use std::rt::Files;
 use stored_bytes::holds_bytes;
-use stored_numbers::{at_most, count, number, record_size};
+use stored_numbers::{count, number, replay_records};
 use vectors::Tally;
 
 // The forms that a slip is moved from and to, by the stored direction.
@@ -64,40 +63,19 @@ fn moves_into(s: &[u8], k: usize, out: &mut [u8]) -> bool
     holds_bytes(s, 4 * at, out, stored_length(answer, length))
 }
 
-// 1 where the slip of the record at number k is moved otherwise than stored, else 0.
-fn difference(s: &[u8], k: usize) -> u64
+// The same, into bytes of its own.
+fn is_moved(s: &[u8], k: usize) -> bool
     requires { k < 500_000 }
-    ensures { result ≤ 1 }
 {
     let mut out = [7u8; 2400];
     let lent = count(s, k + 4, 2_400);
-    if moves_into(s, k, &mut out[..lent]) {
-        return 0;
-    }
-    1
+    moves_into(s, k, &mut out[..lent])
 }
 
 fn replay(s: &[u8]) -> Tally {
-    let end = at_most(s.len() / 4, 400_000);
-    let mut cases: u64 = 0;
-    let mut differences: u64 = 0;
-    let mut k: usize = 0;
-    while k < end {
-        differences += difference(s, k);
-        cases += 1;
-        k += record_size(s, k);
-    }
-    Tally { cases, differences }
-}
-
-// Reads the file into the buffer, replays it and reports.
-fn replay_into(rt: &(impl Files + Print), buf: &mut [u8]) -> io::Result<()> {
-    let got = vectors::read_file(rt, "moves", buf)?;
-    let tally = replay(&buf[..got]);
-    vectors::report(rt, "moves", tally.cases, tally.differences)
+    replay_records(s, 0, |k| is_moved(s, k))
 }
 
 fn main(rt: HostRuntime) -> io::Result<()> {
-    let mut buf = [0u8; 524288];
-    replay_into(&rt, &mut buf)
+    vectors::replay_file::<524288, _>(&rt, "moves", replay)
 }

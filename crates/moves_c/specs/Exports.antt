@@ -1,20 +1,20 @@
 -- Moves and readings of slips for programs in C and Rust. Definitions only.
-use Rattle.std.specs.Prelude.{ℕ, List, cond, eqb, set, Float}
+use Rattle.std.specs.Prelude.{ℕ, List, cond, eqb, set, Float, Result, Ok, Err}
 use Rattle.slip.specs.Reading.{Rows}
 use Rattle.groups.specs.declared.Form.{Form}
 use Rattle.groups.specs.declared.Form.TheVariants.{Plain, Groups}
-use Rattle.slip_moves.specs.declared.Moved.{Moved}
-use Rattle.slip_moves.specs.declared.Moved.TheVariants.{Length, NoRoom, Refused}
-use Rattle.slip_moves.specs.Moves.{slip_refusal_number, moved_number, moving}
-use Rattle.form_read.specs.declared.Answer.{Answer}
-use Rattle.form_read.specs.declared.Answer.TheVariants as answer
-use Rattle.form_read.specs.FormReading.{form_reading}
+use Rattle.slip.specs.declared.SlipJob.{SlipJob}
+use Rattle.slip_moves.specs.declared.MoveRefusal.{MoveRefusal}
+use Rattle.slip_moves.specs.declared.MoveRefusal.TheVariants.{NoRoom, Slip}
+use Rattle.slip_moves.specs.Moves.{moved_number, moving}
+use Rattle.form_read.specs.declared.ReadRefusal.{ReadRefusal}
+use Rattle.form_read.specs.FormReading.{read_refusal_number, form_reading}
 
 -- the length of the moved slip is told in a slice's first element
-unfoldable pub told_length : Moved → List ℕ → List ℕ
-told_length (Length n) told = set told 0 n
-told_length (NoRoom n) told = set told 0 n
-told_length (Refused r) told = told
+unfoldable pub told_length : Result ℕ MoveRefusal → List ℕ → List ℕ
+told_length (Ok n) told = set told 0 n
+told_length (Err (NoRoom n)) told = set told 0 n
+told_length (Err (Slip r)) told = told
 
 -- the answer's number, the output and what is told
 unfoldable pub exported : Form → Form → List ℕ → List ℕ → List ℕ → ℕ × (List ℕ × List ℕ)
@@ -24,10 +24,9 @@ exported from to s out told = (moved_number (moving from to s out).0, ((moving f
 -- ---- reading
 
 -- the number that is answered; three counts and the limit, as far as there is a slice for them
-unfoldable pub read_told : Answer → List ℕ → List Float → ℕ × (List ℕ × List Float)
-read_told (answer.Refused why) t l = (slip_refusal_number why, (t, l))
-read_told answer.TooMany t l = (33, (t, l))
-read_told (answer.Job j) t l = (0, (set (set (set t 0 j.vertices) 1 j.triangles) 2 j.pieces, set l 0 j.limit))
+unfoldable pub read_told : Result SlipJob ReadRefusal → List ℕ → List Float → ℕ × (List ℕ × List Float)
+read_told (Err why) t l = (read_refusal_number why, (t, l))
+read_told (Ok j) t l = (0, (set (set (set t 0 j.vertices) 1 j.triangles) 2 j.pieces, set l 0 j.limit))
 
 -- the number, the rooms, and what is told
 unfoldable pub form_read : Form → List ℕ → Rows → List ℕ → List Float → ℕ × (Rows × (List ℕ × List Float))

@@ -8,9 +8,10 @@ ghost use Rattle.slip.specs.Reading.{job_rows};
 ghost use Rattle.moves_c.specs.Exports.{told_length, exported, read_told, form_read, exported_read};
 
 use buffers::{write_f64, write_u32};
-use form_read::Answer;
+use form_read::ReadRefusal;
 use groups::Form;
-use slip_moves::Moved;
+use slip::SlipJob;
+use slip_moves::MoveRefusal;
 
 fn set_first(told: &mut [usize], n: usize)
     ensures { told.new ≡ set told.old 0 n }
@@ -20,19 +21,19 @@ fn set_first(told: &mut [usize], n: usize)
     }
 }
 
-fn tell(moved: Moved, told: &mut [usize]) -> u32
+fn tell(moved: Result<usize, MoveRefusal>, told: &mut [usize]) -> u32
     ensures { (result ≡ moved_number moved) × (told.new ≡ told_length moved told.old) }
 {
     match moved {
-        Moved::Length(n) => {
+        Ok(n) => {
             set_first(told, n);
             0
         }
-        Moved::NoRoom(n) => {
+        Err(MoveRefusal::NoRoom(n)) => {
             set_first(told, n);
             36
         }
-        Moved::Refused(r) => slip_moves::refusal_number(r),
+        Err(MoveRefusal::Slip(why)) => slip_moves::refusal_number(why),
     }
 }
 
@@ -52,13 +53,12 @@ pub extern "C" fn sirmolaat_groups_to_slip(slip: &[u8], out: &mut [u8], told: &m
     tell(slip_moves::from_groups(slip, out), told)
 }
 
-fn tell_read(answer: Answer, told: &mut [u32], limit: &mut [f64]) -> u32
+fn tell_read(answer: Result<SlipJob, ReadRefusal>, told: &mut [u32], limit: &mut [f64]) -> u32
     ensures { (result, (told.new, limit.new)) ≡ read_told answer told.old limit.old }
 {
     match answer {
-        Answer::Refused(why) => slip_moves::refusal_number(why),
-        Answer::TooMany => 33,
-        Answer::Job(job) => {
+        Err(why) => form_read::refusal_number(why),
+        Ok(job) => {
             write_u32(told, 3, 0, 0, job.vertices);
             write_u32(told, 3, 0, 1, job.triangles);
             write_u32(told, 3, 0, 2, job.pieces);

@@ -1,14 +1,16 @@
 -- Candidates added one after the other, as insertion, propagation and a vertex that passes distances on offer them: what they come to on values, and what it is
 -- that buffers come to hold the outcome. Definitions only.
-use Rattle.std.specs.Prelude.{ℕ, ◌≤◌, ◌<◌, not, ◌⊎◌, T, ◌≡◌, length, Float}
+use Rattle.std.specs.Prelude.{ℕ, ◌≤◌, ◌<◌, not, ◌⊎◌, T, ◌≡◌, length, Float, Option, Some, None, Result}
 use mathlib.Core.List.{List, [], ◌∷◌, ◌++◌}
 use Rattle.layout.specs.Layout.{words_per_edge}
+use Rattle.buffers.specs.declared.Lack.{Lack}
 use Rattle.buffers.specs.Slots.{slots_of}
 use Rattle.trim.specs.of_better.Claim.{All}
 use Rattle.mesh_readers.specs.of_frames.Stored.{length_at}
 use Rattle.trim.specs.of_trim_model.Model.{Candidate, admits}
 use Rattle.trim.specs.of_trim_model.Claim.{AdmittedProper}
-use Rattle.trim.specs.of_trim_state.State.{State, Result, stopped, went, EdgeData, edge_in, add_of}
+use Rattle.trim.specs.of_trim_state.State as state
+use Rattle.trim.specs.of_trim_state.State.{State, stopped, went, EdgeData, edge_in, add_of}
 use Rattle.trim.specs.of_trim_state.Follows.{Follows}
 use Rattle.trim.specs.of_live_windows.Live.{HoldsWindows}
 use Rattle.trim.specs.of_trim_split.Running as running
@@ -19,11 +21,9 @@ use Rattle.mesh_readers.specs.Readers.{trim_edge_at}
 use Rattle.trim.specs.of_cut_lists.Buffers.{Cuts}
 use Rattle.trim.specs.Buffers.{Slices}
 use Rattle.trim.specs.Adding.{candidate_of, AddedWithin, snapshot_at, added_end_in, Unchanged}
-use Rattle.trim.specs.declared.Added.{Added}
 use Rattle.offers.specs.declared.Offered.{Offered}
-use Rattle.offers.specs.declared.Offered.TheVariants.{Nothing, Window}
 
-unfoldable pub and_next : Result → (State → Result) → Result
+unfoldable pub and_next : state.Result → (State → state.Result) → state.Result
 and_next (stopped n) next = stopped n
 and_next (went s) next = next s
 
@@ -36,20 +36,20 @@ module _ (limit : Float) (mesh : EdgeData) where
     pub follows : Follows limit mesh.len past s.stock.made s.live
 
   -- from p₀ to p the buffers have come to hold a result
-  pub record ComesTo (past : List Candidate) (p₀ p : Snapshot) (r : Result) : Type 0 where
+  pub record ComesTo (past : List Candidate) (p₀ p : Snapshot) (r : state.Result) : Type 0 where
     pub state : State
     pub is : r ≡ went state
     pub stands : StandsFor past state p
     pub untouched : Untouched (λ e. Unit {0}) p₀ p
 
-  abbrev pub OfferEnds : List Candidate → Snapshot → End → Result → Type 0
+  abbrev pub OfferEnds : List Candidate → Snapshot → End → state.Result → Type 0
   OfferEnds past p₀ (running.stopped n) r = r ≡ stopped n
   OfferEnds past p₀ (running.at p) r = ComesTo past p₀ p r
 
 -- the counts of the cut buffer and the window buffer, the limit, the flags of the vertices, and the edges
 module _ (cuts windows : ℕ) (limit : Float) (flags : List ℕ) (mesh : EdgeData) where
   -- the first that there is no slot for stops them
-  unfoldable pub add_all : List Candidate → State → Result
+  unfoldable pub add_all : List Candidate → State → state.Result
   unfolding and_next
   add_all [] s = went s
   add_all (c ∷ cs) s = and_next (add_of cuts windows limit flags mesh c s) (add_all cs)
@@ -61,23 +61,23 @@ module _ (cuts windows : ℕ) (limit : Float) (flags : List ℕ) (mesh : EdgeDat
 
 -- ---- the contract of `offer`
 -- the candidates that there are
-abbrev pub offer_list : Offered → List Candidate
-offer_list Nothing = []
-offer_list (Window e w) = record { edge = e.0; b0 = w.b0; b1 = w.b1; src = w.src; carried = w.carried } ∷ []
+abbrev pub offer_list : Option Offered → List Candidate
+offer_list None = []
+offer_list (Some o) = record { edge = o.edge.0; b0 = o.window.b0; b1 = o.window.b1; src = o.window.src; carried = o.window.carried } ∷ []
 
 -- its edge, if there is one, has a slot and is that of the mesh
-abbrev pub EdgeThere : EdgeData → List ℕ → List Float → Offered → Type 0
-EdgeThere mesh edge_words edge_reals Nothing = Unit {0}
-EdgeThere mesh edge_words edge_reals (Window e w) = (e.0 < slots_of (length edge_words) words_per_edge) × (edge_in mesh e.0 ≡ trim_edge_at edge_words edge_reals e.0)
+abbrev pub EdgeThere : EdgeData → List ℕ → List Float → Option Offered → Type 0
+EdgeThere mesh edge_words edge_reals None = Unit {0}
+EdgeThere mesh edge_words edge_reals (Some o) = (o.edge.0 < slots_of (length edge_words) words_per_edge) × (edge_in mesh o.edge.0 ≡ trim_edge_at edge_words edge_reals o.edge.0)
 
 -- nothing is offered, or to an edge without a slot, or what is not admitted
-abbrev pub PassedOver : Float → List ℕ → List Float → Offered → Type 0
-PassedOver limit edge_words edge_reals Nothing = Unit {0}
-PassedOver limit edge_words edge_reals (Window e w) =
-    (slots_of (length edge_words) words_per_edge ≤ e.0) ⊎ T (not (admits limit (λ k. length_at edge_reals e.0) (candidate_of (trim_edge_at edge_words edge_reals e.0) w)))
+abbrev pub PassedOver : Float → List ℕ → List Float → Option Offered → Type 0
+PassedOver limit edge_words edge_reals None = Unit {0}
+PassedOver limit edge_words edge_reals (Some o) =
+    (slots_of (length edge_words) words_per_edge ≤ o.edge.0) ⊎ T (not (admits limit (λ k. length_at edge_reals o.edge.0) (candidate_of (trim_edge_at edge_words edge_reals o.edge.0) o.window)))
 
 -- buffers b and c at the call, b' and c' at the return
-pub record OffersTo (limit : Float) (vertex_words : List ℕ) (edge_reals : List Float) (o : Offered) (counts : Counts) (b : Slices) (c : Cuts) (r : Added) (b' : Slices) (c' : Cuts) : Type 0 where
+pub record OffersTo (limit : Float) (vertex_words : List ℕ) (edge_reals : List Float) (o : Option Offered) (counts : Counts) (b : Slices) (c : Cuts) (r : Result Counts Lack) (b' : Slices) (c' : Cuts) : Type 0 where
   -- no more windows are made than the buffer has slots for
   pub bounded : AddedWithin (capacity_of (length b.words) (length b.reals)) r
   pub offers : (mesh : EdgeData) → EdgeThere mesh b.edges edge_reals o

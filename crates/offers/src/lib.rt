@@ -12,19 +12,18 @@ ghost use Rattle.trim.specs.Buffers.{before, after};
 ghost use Rattle.windows.specs.Windows.{capacity_of};
 ghost use Rattle.offers.specs.Offers.{OffersTo};
 
-use buffers::EdgeId;
+use buffers::{EdgeId, Lack};
 pub use mesh_readers as of_mesh_readers;
 pub use trim as of_trim;
-use trim::Added;
 pub use trim::of_trim_split as of_trim_split;
 use trim::of_trim_split::Counts;
 use windows::NewWindow;
 
-// What is offered: nothing, or a window to an edge.
+// A window that is offered to an edge.
 #[derive(Clone, Copy)]
-pub enum Offered {
-    Nothing,
-    Window(EdgeId, NewWindow),
+pub struct Offered {
+    pub edge: EdgeId,
+    pub window: NewWindow,
 }
 
 // The edge has a slot.
@@ -45,7 +44,7 @@ fn add_to(
     e: EdgeId,
     w: NewWindow,
     limit: f64,
-) -> Added
+) -> Result<Counts, Lack>
     requires { Ready e.0 counts.made 0 edge_words.old words.old reals.old × Sizes (length pts.old) out.old keep.old next.old }
     ensures { AddsTo limit vertex_words.now (trim_edge_at (given edge_words) edge_reals.now e.0) w counts
         (before edge_words words reals keys events vertex) (cuts_before pts out keep next)
@@ -86,18 +85,19 @@ pub fn offer(
     keep: &mut [f64],
     next: &mut [f64],
     counts: Counts,
-    o: Offered,
+    o: Option<Offered>,
     limit: f64,
-) -> Added
+) -> Result<Counts, Lack>
     requires { (counts.made ≤ capacity_of (length words.old) (length reals.old)) × Sizes (length pts.old) out.old keep.old next.old }
     ensures { OffersTo limit vertex_words.now edge_reals.now o counts (before edge_words words reals keys events vertex) (cuts_before pts out keep next)
         result (after edge_words words reals keys events vertex) (cuts_after pts out keep next) }
 {
     match o {
-        Offered::Nothing => Added::Went(counts),
-        Offered::Window(e, w) => {
+        None => Ok(counts),
+        Some(offered) => {
+            let e = offered.edge;
             if buffers::slots(edge_words.len(), layout::WORDS_PER_EDGE) <= e.0 {
-                return Added::Went(counts);
+                return Ok(counts);
             }
             add_to(
                 edge_words,
@@ -114,7 +114,7 @@ pub fn offer(
                 next,
                 counts,
                 e,
-                w,
+                offered.window,
                 limit,
             )
         }

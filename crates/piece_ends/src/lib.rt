@@ -253,10 +253,8 @@ pub fn directions(kinds: &[u8], coords: &[f64], reals: &mut [f64])
     ensures { left reals ≡ piece_reals_of kinds.now coords.now (length (given reals)) }
 {
     let count = kinds.len() as u32;
-    let mut i: u32 = 0;
-    while i < count {
+    for i in 0..count {
         store_direction(kinds, coords, i, reals);
-        i += 1;
     }
     zero_f64_from(reals, (REALS_PER_PIECE as usize) * kinds.len());
 }

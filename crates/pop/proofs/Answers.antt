@@ -8,61 +8,49 @@ use lib.Dec.{leb, ltb, eqb}
 use Rattle.heap.specs.declared.Event.{Event}
 use Rattle.heap.specs.declared.Item.{Item}
 use Rattle.heap.specs.declared.Item.TheVariants.{Window as Item-as-Window, Vertex as Item-as-Vertex}
-use Rattle.heap.specs.declared.Popped.{Popped}
-use Rattle.heap.specs.declared.Popped.TheVariants.{Empty, First}
-use Rattle.heap.specs.Queue.{Queue, at, slots, popping}
+use Rattle.std.specs.Prelude.{Option, None, Some}
+use Rattle.heap.specs.Queue.{Queue, at, slots, popping, Popped}
 use Rattle.heap.specs.Queue.{popped as Queue·popped}
 use Rattle.trim_model.specs.Windows.{Window, unqueued}
 use Rattle.trim_model.proofs.Ranks.{by_cases}
 use Rattle.live_windows.specs.Live.{unqueued_in}
 use Rattle.pop.specs.declared.Taken.{Taken}
-use Rattle.pop.specs.declared.Taken.TheVariants.{Empty as Taken-as-Empty, First as Taken-as-First}
 use Rattle.pop.specs.Words.{item_pending, taken_of}
 use Rattle.pop.specs.State.{live_claimed}
 
 -- ---- the event
-NoneTaken : Taken → Type 0
-NoneTaken Taken-as-Empty = Unit {0}
-NoneTaken (Taken-as-First x n b) = ⊥
+NoneTaken : Option Taken → Type 0
+NoneTaken None = Unit {0}
+NoneTaken (Some t) = ⊥
 
-event_of : Event → Taken → Event
-event_of d Taken-as-Empty = d
-event_of d (Taken-as-First x n b) = x
-
-number_of : Taken → ℕ
-number_of Taken-as-Empty = 0
-number_of (Taken-as-First x n b) = n
-
-pending_of : Taken → Bool
-pending_of Taken-as-Empty = false
-pending_of (Taken-as-First x n b) = b
+taken_or : Taken → Option Taken → Taken
+taken_or d None = d
+taken_or d (Some t) = t
 
 module _ (made : ℕ) (words : List ℕ) where
-  pub taken_none : (p : Popped) → Taken-as-Empty ≡ taken_of made words p → p ≡ Empty
+  pub taken_none : (p : Popped) → None ≡ taken_of made words p → p ≡ None
   unfolding taken_of NoneTaken
-  taken_none Empty h = refl
-  taken_none (First x n) h = absurd (subst NoneTaken h tt)
+  taken_none None h = refl
+  taken_none (Some (x, n)) h = absurd (subst NoneTaken h tt)
 
-  pub taken_one : (p : Popped) (x : Event) (n : ℕ) (b : Bool) → Taken-as-First x n b ≡ taken_of made words p → (p ≡ First x n) × (b ≡ item_pending made words x.item)
-  unfolding taken_of NoneTaken event_of number_of pending_of
-  taken_one Empty x n b h = absurd (subst NoneTaken (sym h) tt)
-  taken_one (First y m) x n b h =
-      let e : y ≡ x = sym (ap (event_of x) h) in
-      let k : m ≡ n = sym (ap number_of h) in
-      let q : b ≡ item_pending made words y.item = ap pending_of h in
-      ((λ i. First (e i) (k i)), subst (λ (z : Event). b ≡ item_pending made words z.item) e q)
+  pub taken_one : (p : Popped) (t : Taken) → Some t ≡ taken_of made words p → (p ≡ Some (t.event, t.queued)) × (t.pending ≡ item_pending made words t.event.item)
+  unfolding taken_of NoneTaken taken_or
+  taken_one None t h = absurd (subst NoneTaken (sym h) tt)
+  taken_one (Some (y, m)) t h =
+      let same : record { event = y; queued = m; pending = item_pending made words y.item } ≡ t = sym (ap (taken_or t) h) in
+      (ap (λ (z : Taken). Some (z.event, z.queued)) same, subst (λ (z : Taken). z.pending ≡ item_pending made words z.event.item) same refl)
 
 -- ---- the queue
 IsEmpty : Popped → Type 0
-IsEmpty Empty = Unit {0}
-IsEmpty (First x n) = ⊥
+IsEmpty None = Unit {0}
+IsEmpty (Some (x, n)) = ⊥
 
-empty_same : (b : Bool) (x : Event) (n : ℕ) (p q : Queue) → (cond {A = Popped × Queue} b (First x n, p) (Empty, q)).0 ≡ Empty → (cond {A = Popped × Queue} b (First x n, p) (Empty, q)).1 ≡ q
+empty_same : (b : Bool) (x : Event) (n : ℕ) (p q : Queue) → (cond {A = Popped × Queue} b (Some (x, n), p) (None, q)).0 ≡ None → (cond {A = Popped × Queue} b (Some (x, n), p) (None, q)).1 ≡ q
 unfolding IsEmpty
 empty_same true x n p q h = absurd (subst IsEmpty (sym h) tt)
 empty_same false x n p q h = refl
 
-pub empty_queue : (q : Queue) (n : ℕ) → (popping q n).0 ≡ Empty → (popping q n).1 ≡ q
+pub empty_queue : (q : Queue) (n : ℕ) → (popping q n).0 ≡ None → (popping q n).1 ≡ q
 empty_queue q n = empty_same (ltb 0 n && leb n (slots q)) (at q 0) (n - 1) (Queue·popped q (n - 1)) q
 
 -- ---- the live windows: but for the flags that it clears they are those that they were

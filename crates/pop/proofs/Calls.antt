@@ -7,11 +7,9 @@ use borrow.Author.Tests.{lt-ltb, le-ltb}
 use Rattle.layout.specs.Layout.{alive_flag, queued_flag}
 use Rattle.windows.specs.Windows.{has_flag, flags_at, flags_with}
 use Rattle.heap.specs.declared.Event.{Event}
-use Rattle.heap.specs.declared.Popped.{Popped}
-use Rattle.heap.specs.declared.Popped.TheVariants.{Empty, First}
-use Rattle.heap.specs.Queue.{Queue}
+use Rattle.std.specs.Prelude.{Option, None, Some}
+use Rattle.heap.specs.Queue.{Queue, Popped}
 use Rattle.pop.specs.declared.Taken.{Taken}
-use Rattle.pop.specs.declared.Taken.TheVariants.{Empty as Taken-as-Empty, First as Taken-as-First}
 use Rattle.pop.specs.Words.{is_pending, claimed, item_pending, item_claimed, taken_of, words_after}
 
 module _ (made : ℕ) (w : List ℕ) (i : ℕ) where
@@ -40,14 +38,14 @@ module _ (made : ℕ) (w : List ℕ) (i : ℕ) where
 
 -- ---- the whole, with what the heap's pop answered
 module _ (made : ℕ) (w : List ℕ) (p : Popped × Queue) (q : Queue) where
-  abbrev Pops : Taken → List ℕ → Type 0
+  abbrev Pops : Option Taken → List ℕ → Type 0
   Pops r w' = (r ≡ taken_of made w p.0) × ((w' ≡ words_after made w p.0) × (q ≡ p.1))
 
-  pub pops_none : (Empty, q) ≡ p → Pops Taken-as-Empty w
+  pub pops_none : (None, q) ≡ p → Pops None w
   unfolding taken_of words_after
   pops_none h = (ap (λ z. taken_of made w z.0) h, (ap (λ z. words_after made w z.0) h, ap (λ z. z.1) h))
 
-  pub pops_one : (x : Event) (n : ℕ) → (First x n, q) ≡ p → (b : Bool) → b ≡ item_pending made w x.item → (w' : List ℕ) → w' ≡ item_claimed made w x.item → Pops (Taken-as-First x n b) w'
+  pub pops_one : (x : Event) (n : ℕ) → (Some (x, n), q) ≡ p → (b : Bool) → b ≡ item_pending made w x.item → (w' : List ℕ) → w' ≡ item_claimed made w x.item → Pops (Some (record { event = x; queued = n; pending = b })) w'
   unfolding taken_of words_after
   pops_one x n h b is_pending w' isWords =
-      (ap (Taken-as-First x n) is_pending ∙ ap (λ z. taken_of made w z.0) h, (isWords ∙ ap (λ z. words_after made w z.0) h, ap (λ z. z.1) h))
+      (ap (λ (c : Bool). Some (record { event = x; queued = n; pending = c })) is_pending ∙ ap (λ z. taken_of made w z.0) h, (isWords ∙ ap (λ z. words_after made w z.0) h, ap (λ z. z.1) h))

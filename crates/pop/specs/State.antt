@@ -1,12 +1,10 @@
 -- A pop on the state of window trimming. Definitions only.
-use Rattle.std.specs.Prelude.{ℕ, cond, List}
+use Rattle.std.specs.Prelude.{ℕ, cond, List, None, Some}
 use Rattle.windows.specs.declared.WindowRecord.{WindowRecord}
 use Rattle.windows.specs.Windows.{adjust, unqueued_record}
 use Rattle.heap.specs.declared.Item.{Item}
 use Rattle.heap.specs.declared.Item.TheVariants.{Window as Item-as-Window, Vertex}
-use Rattle.heap.specs.declared.Popped.{Popped}
-use Rattle.heap.specs.declared.Popped.TheVariants.{Empty, First}
-use Rattle.heap.specs.Queue.{Queue}
+use Rattle.heap.specs.Queue.{Queue, Popped}
 use Rattle.actions.specs.Actions.{stock}
 use Rattle.trim_model.specs.Windows.{Window}
 use Rattle.trim_state.specs.State.{State}
@@ -28,8 +26,8 @@ live_claimed (Vertex v) live = live
 -- the first event is taken out, and a live window that it names is no longer queued
 unfoldable pub after_pop : State → Popped × Queue → State
 unfolding wins_claimed live_claimed
-after_pop s (Empty, q) = s
-after_pop s (First x n, q) = record {
+after_pop s (None, q) = s
+after_pop s (Some (x, n), q) = record {
   wins = wins_claimed x.item s.wins;
   live = λ (e : ℕ). live_claimed x.item (s.live e);
   stock = stock s.stock.made n q s.stock.vertex;

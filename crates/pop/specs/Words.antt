@@ -1,13 +1,11 @@
 -- A pop on the window buffer's words. Definitions only.
-use Rattle.std.specs.Prelude.{ℕ, Bool, true, false, cond, ◌&&◌, List, ltb}
+use Rattle.std.specs.Prelude.{ℕ, Bool, true, false, cond, ◌&&◌, List, ltb, None, Some, Option}
 use Rattle.layout.specs.Layout.{alive_flag, queued_flag}
 use Rattle.windows.specs.Windows.{has_flag, flags_at, flags_with}
 use Rattle.heap.specs.declared.Item.{Item}
 use Rattle.heap.specs.declared.Item.TheVariants.{Window, Vertex}
-use Rattle.heap.specs.declared.Popped.{Popped}
-use Rattle.heap.specs.declared.Popped.TheVariants.{Empty, First}
+use Rattle.heap.specs.Queue.{Popped}
 use Rattle.pop.specs.declared.Taken.{Taken}
-use Rattle.pop.specs.declared.Taken.TheVariants.{Empty as Taken-as-Empty, First as Taken-as-First}
 
 -- the Rust's `w.alive && w.queued`, of one of the first `made` windows
 abbrev pub is_pending : ℕ → List ℕ → ℕ → Bool
@@ -27,12 +25,12 @@ item_claimed made w (Window id) = claimed made w id.0
 item_claimed made w (Vertex v) = w
 
 -- the answer, and the words
-unfoldable pub taken_of : ℕ → List ℕ → Popped → Taken
+unfoldable pub taken_of : ℕ → List ℕ → Popped → Option Taken
 unfolding item_pending
-taken_of made w Empty = Taken-as-Empty
-taken_of made w (First x n) = Taken-as-First x n (item_pending made w x.item)
+taken_of made w None = None
+taken_of made w (Some (x, n)) = Some (record { event = x; queued = n; pending = item_pending made w x.item })
 
 unfoldable pub words_after : ℕ → List ℕ → Popped → List ℕ
 unfolding item_claimed
-words_after made w Empty = w
-words_after made w (First x n) = item_claimed made w x.item
+words_after made w None = w
+words_after made w (Some (x, n)) = item_claimed made w x.item

@@ -7,14 +7,15 @@ ghost use Rattle.pop.specs.Words.{is_pending, claimed, item_pending, item_claime
 ghost use Rattle.buffers.specs.Lent.{given, left};
 
 use buffers::{WindowId, read_u32};
-use heap::{Event, Item, Popped};
+use heap::{Event, Item};
 use layout::{ALIVE_FLAG, QUEUED_FLAG, WINDOW_FLAGS, WORDS_PER_WINDOW};
 
-// The answer of a pop: the event, how many are left, and whether it names a window that was alive and queued.
+// The event that a pop takes out, how many are queued still, and whether it names a window that was alive and queued.
 #[derive(Clone, Copy)]
-pub enum Taken {
-    Empty,
-    First(Event, u32, bool),
+pub struct Taken {
+    pub event: Event,
+    pub queued: u32,
+    pub pending: bool,
 }
 
 // Whether window id is one of the first `made`, alive and queued. Such a one is queued no more.
@@ -46,18 +47,22 @@ fn claim_item(words: &mut [u32], made: u32, item: Item) -> bool
 }
 
 // The least of `queued` events is taken out, where `made` windows are made.
-pub fn pop(words: &mut [u32], keys: &mut [f64], events: &mut [u32], made: u32, queued: u32) -> Taken
+pub fn pop(
+    words: &mut [u32],
+    keys: &mut [f64],
+    events: &mut [u32],
+    made: u32,
+    queued: u32,
+) -> Option<Taken>
     ensures { (result ≡ taken_of made (given words) (popping (queue (given keys) (given events)) queued).0)
         × ((left words ≡ words_after made (given words) (popping (queue (given keys) (given events)) queued).0)
         × (queue (left keys) (left events) ≡ (popping (queue (given keys) (given events)) queued).1)) }
 {
-    let popped = heap::pop(keys, events, queued);
-    match popped {
-        Popped::Empty => Taken::Empty,
-        Popped::First(x, n) => {
-            let item = x.item;
-            let pending = claim_item(words, made, item);
-            Taken::First(x, n, pending)
-        }
-    }
+    let (event, left) = heap::pop(keys, events, queued)?;
+    let pending = claim_item(words, made, event.item);
+    Some(Taken {
+        event,
+        queued: left,
+        pending,
+    })
 }

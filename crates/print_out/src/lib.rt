@@ -36,10 +36,8 @@ pub fn live_count(words: &[u32], n: u32) -> u32
     ensures { result ≡ live_count words.now n }
 {
     let mut live: u32 = 0;
-    let mut k: u32 = 0;
-    while k < n {
+    for k in 0..n {
         live += one_if(is_live(words, k));
-        k += 1;
     }
     live
 }
@@ -131,11 +129,9 @@ fn put_corners(out: &mut [u8], i: usize, n: u32, vertex: &[f64]) -> usize
     ensures { Puts out.old i (corner_lines vertex.now n) out.new result × (result ≤ i + 388 * n) }
 {
     let mut at = i;
-    let mut k: u32 = 0;
-    while k < n {
+    for k in 0..n {
         let x = read_f64(vertex, REALS_PER_VERTEX, k, VERTEX_DISTANCE);
         at = put_corner(out, at, k, x);
-        k += 1;
     }
     at
 }

@@ -1,4 +1,5 @@
 -- What a window passes on, and what a vertex emits, starts from 0 on and ends up to the edge's length, a finite double. Assumes nothing.
+use Rattle.std.specs.Prelude.{Option, Some, None}
 use mathlib.Core.Bool.{Bool, true, false, cond}
 use lib.Dec.{T}
 use lib.Ieee.{Float, binary64, fits, inf, neg, le}
@@ -13,8 +14,7 @@ use Rattle.source.specs.declared.Src.TheVariants.{Point, Line}
 use Rattle.source_windows.specs.Tolerance.{too_narrow}
 use Rattle.source_windows.specs.Ends.{EndsOn, no_window_lem, window}
 use Rattle.source_windows.specs.declared.Bounds.{Bounds}
-use Rattle.source_windows.specs.declared.CandidateRange.{CandidateRange}
-use Rattle.source_windows.specs.declared.CandidateRange.TheVariants.{Nothing}
+use Rattle.source_windows.specs.declared.CandidateWindow.{CandidateWindow}
 use Rattle.propagation.specs.Plane.{frame_of, turn_to, map_to}
 use Rattle.propagation.specs.Propagate.{image_of_point, image_of_line, clipped_of, images_of, part_of, side_of, xc_of, after_ray, propagate_of, emit_of}
 use Rattle.propagation.specs.Clipped.{ClippedTo, none_passed, passed}
@@ -22,8 +22,6 @@ use Rattle.propagation.specs.declared.Vec2.{Vec2}
 use Rattle.propagation.specs.declared.FaceAhead.{FaceAhead}
 use Rattle.propagation.specs.declared.Frame.{Frame}
 use Rattle.propagation.specs.declared.NextEdge.{NextEdge}
-use Rattle.propagation.specs.declared.Ray.{Ray}
-use Rattle.propagation.specs.declared.Ray.TheVariants.{Stopped, Crosses}
 use Rattle.propagation.specs.declared.Side.{Side}
 
 -- ---- an image is a double
@@ -53,7 +51,7 @@ unfolding images_of
 images_clipped (Point sx sy s) f r ln = clipped_is _ _ ln _ (point_fits f (map_to f (record { x = sx; y = sy })) r.b0) (point_fits f (map_to f (record { x = sx; y = sy })) r.b1)
 images_clipped (Line ux uy c) f r ln = clipped_is _ _ ln _ (line_fits f (turn_to f (record { x = ux; y = uy })) r.b0) (line_fits f (turn_to f (record { x = ux; y = uy })) r.b1)
 
-none_or : (b : Bool) {ln : Float} {x : CandidateRange} → ClippedTo ln x → ClippedTo ln (cond b Nothing x)
+none_or : (b : Bool) {ln : Float} {x : Option CandidateWindow} → ClippedTo ln x → ClippedTo ln (cond b None x)
 none_or true h = none_passed
 none_or false h = h
 
@@ -65,13 +63,13 @@ pub propagate_clipped : (src : Src) (w : Bounds) (g : FaceAhead) (side : Side) (
 unfolding propagate_of after_ray
 propagate_clipped src w g side ne = go (xc_of src g)
   where
-    go : (r : Ray) → ClippedTo ne.ln (after_ray r src w g side ne)
-    go Stopped = none_passed
-    go (Crosses xc) = side_clipped src w g xc side ne
+    go : (r : Option Float) → ClippedTo ne.ln (after_ray r src w g side ne)
+    go None = none_passed
+    go (Some xc) = side_clipped src w g xc side ne
 
 -- ---- on the edge
 module _ (l : Float) (F : T (finite l)) (d : T (fits binary64 l)) where
-  pub clipped_on : {x : CandidateRange} → ClippedTo l x → EndsOn l x
+  pub clipped_on : {x : Option CandidateWindow} → ClippedTo l x → EndsOn l x
   clipped_on none_passed = no_window_lem
   clipped_on (passed lo hi src p q) = window (max_start zero64 lo start_zero p) (min_end l l hi (end_length l F d) q)
 

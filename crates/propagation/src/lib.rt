@@ -9,7 +9,7 @@ ghost use Rattle.propagation.specs.Propagate.{xc_of, part_of, image_of_point, im
 use buffers::VertexId;
 use source::Src;
 pub use source_windows as of_source_windows;
-use source_windows::{Bounds, CandidateRange};
+use source_windows::{Bounds, CandidateWindow};
 
 #[derive(Clone, Copy)]
 pub struct Vec2 {
@@ -56,13 +56,6 @@ pub struct Frame {
     pub yh: Vec2,
 }
 
-// The ray through the opposite vertex.
-#[derive(Clone, Copy)]
-pub enum Ray {
-    Stopped,
-    Crosses(f64),
-}
-
 // Which of the face's vertices k is, given the ends of the window's edge.
 pub fn vertex_of(k: VertexId, a: VertexId, b: VertexId) -> FaceVertex
     ensures { result ≡ vertex_of k a b }
@@ -77,24 +70,24 @@ pub fn vertex_of(k: VertexId, a: VertexId, b: VertexId) -> FaceVertex
 }
 
 // Where the ray from the source through the opposite vertex crosses the window's edge, unless the window goes no further.
-pub fn crossing(src: Src, g: FaceAhead) -> Ray
+pub fn crossing(src: Src, g: FaceAhead) -> Option<f64>
     ensures { result ≡ xc_of src g }
 {
     if g.cy <= 0.0 {
-        return Ray::Stopped;
+        return None;
     }
     match src {
         Src::Point { x: sx, y: sy, s: _ } => {
             if sy > -1e-12 * g.l {
-                return Ray::Stopped;
+                return None;
             }
-            Ray::Crosses(sx + (g.cx - sx) * (-sy) / (g.cy - sy))
+            Some(sx + (g.cx - sx) * (-sy) / (g.cy - sy))
         }
         Src::Line { ux, uy, c: _ } => {
             if uy < 1e-12 {
-                return Ray::Stopped;
+                return None;
             }
-            Ray::Crosses(g.cx - ux * g.cy / uy)
+            Some(g.cx - ux * g.cy / uy)
         }
     }
 }
@@ -223,17 +216,17 @@ fn image_of_line(f: Frame, un: Vec2, x: f64) -> f64
 }
 
 // The images of a window's ends in order, cut off at the next edge's ends.
-fn clipped(i0: f64, i1: f64, ln: f64, src: Src) -> CandidateRange
+fn clipped(i0: f64, i1: f64, ln: f64, src: Src) -> Option<CandidateWindow>
     ensures { result ≡ clipped_of i0 i1 ln src }
 {
-    CandidateRange::Window {
+    Some(CandidateWindow {
         b0: float64::max(float64::min(i0, i1), 0.0),
         b1: float64::min(float64::max(i0, i1), ln),
         src,
-    }
+    })
 }
 
-fn images(src: Src, f: Frame, r: Bounds, ln: f64) -> CandidateRange
+fn images(src: Src, f: Frame, r: Bounds, ln: f64) -> Option<CandidateWindow>
     ensures { result ≡ images_of src f r ln }
 {
     match src {
@@ -274,32 +267,36 @@ pub fn pass_on(
     xc: f64,
     side: Side,
     ne: NextEdge,
-) -> CandidateRange
+) -> Option<CandidateWindow>
     ensures { result ≡ side_of src w g xc side ne }
 {
     let r = part(side, w, xc);
     if source_windows::too_narrow(r, g.l) {
-        return CandidateRange::Nothing;
+        return None;
     }
     images(src, next_frame(g, side, ne), r, ne.ln)
 }
 
-pub fn propagate(src: Src, w: Bounds, g: FaceAhead, side: Side, ne: NextEdge) -> CandidateRange
+pub fn propagate(
+    src: Src,
+    w: Bounds,
+    g: FaceAhead,
+    side: Side,
+    ne: NextEdge,
+) -> Option<CandidateWindow>
     ensures { result ≡ propagate_of src w g side ne }
 {
-    match crossing(src, g) {
-        Ray::Stopped => CandidateRange::Nothing,
-        Ray::Crosses(xc) => pass_on(src, w, g, xc, side, ne),
-    }
+    let xc = crossing(src, g)?;
+    pass_on(src, w, g, xc, side, ne)
 }
 
 // What a vertex with `coords` (x, y) at distance d gives an edge of length l of a face round it.
-pub fn emit(x: f64, y: f64, l: f64, d: f64) -> CandidateRange
+pub fn emit(x: f64, y: f64, l: f64, d: f64) -> Option<CandidateWindow>
     ensures { result ≡ emit_of x y l d }
 {
-    CandidateRange::Window {
+    Some(CandidateWindow {
         b0: 0.0,
         b1: l,
         src: source_windows::point_source(x, y, d),
-    }
+    })
 }

@@ -7,6 +7,8 @@ use native.Mathlib.Omega.{arith}
 use borrow.Author.Tests.{ne_eqb}
 use lib.Dec.{eqb, leb}
 use lib.Ieee.{Float}
+use Rattle.std.specs.declared.result.Result.{Result}
+use Rattle.std.specs.declared.result.Result.TheVariants.{Err}
 use Rattle.vec3.specs.declared.Vec3.{Vec3}
 use Rattle.chains.specs.Chains.{links}
 use Rattle.job_checks.specs.Any.{first_of}
@@ -15,8 +17,9 @@ use Rattle.edge_query.specs.of_last_pass.Buffers.{chain_behind}
 use Rattle.computed.specs.declared.Computed.TheVariants.{Refused, Field as isField}
 use Rattle.computed.specs.declared.Field.{Field}
 use Rattle.field_check.specs.FieldCheck.{JobSlices, FieldSlices, field_unsound}
-use Rattle.queries.specs.declared.WindowAnswer.{WindowAnswer}
-use Rattle.queries.specs.declared.WindowAnswer.TheVariants as window
+use Rattle.queries.specs.declared.ListedWindow.{ListedWindow}
+use Rattle.queries.specs.declared.WindowRefusal.{WindowRefusal}
+use Rattle.queries.specs.declared.WindowRefusal.TheVariants as window
 use Rattle.queries.specs.Answers.{face_answer_number, edge_answer_number, vertex_answer_number, window_answer_number}
 use Rattle.queries.specs.Queries.{point_outside, place_outside, place_link, linked_window, face_answer, edge_answer, vertex_answer, window_answer, face_query, edge_query, vertex_query, window_query}
 
@@ -75,10 +78,10 @@ module _ (j : JobSlices) (b : FieldSlices) (n : Field) where
   pub window_number : (e i : ℕ) → window_answer_number (window_query j b (isField n) e i) ≡ first_of ((20, field_unsound n j b) ∷ (23, leb n.edges e) ∷ (26, eqb (placed e i) 0) ∷ [])
   unfolding window_query window_answer first_of
   window_number e i = go (field_unsound n j b) (leb n.edges e) where
-    w : WindowAnswer
+    w : Result ListedWindow WindowRefusal
     w = linked_window b.words b.reals (placed e i)
 
-    go : (s t : Bool) → window_answer_number (cond s window.NoField (cond t window.MissingEdge w)) ≡ cond s 20 (cond t 23 (cond (eqb (placed e i) 0) 26 0))
+    go : (s t : Bool) → window_answer_number (cond s (Err window.NoField) (cond t (Err window.MissingEdge) w)) ≡ cond s 20 (cond t 23 (cond (eqb (placed e i) 0) 26 0))
     go true t = refl
     go false true = refl
     go false false = linked_number b.words b.reals (placed e i)

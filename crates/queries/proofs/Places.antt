@@ -5,12 +5,13 @@ use mathlib.Core.List.{List, [], ◌∷◌}
 use mathlib.Core.Logic.{◌≢◌}
 use mathlib.Core.Path.{◌≡◌, refl, sym, ap, ◌∙◌}
 use lib.Ieee.{Float}
+use Rattle.std.specs.declared.result.Result.TheVariants.{Ok, Err}
 use Rattle.windows.specs.Windows.{window_at}
 use Rattle.windows.specs.declared.WindowRecord.{WindowRecord}
 use Rattle.chains.specs.Chains.{Links, link_in, link_at}
 use Rattle.edge_query.specs.of_last_pass.Buffers.{chain_behind}
 use Rattle.edge_query.proofs.laws_of_last_pass.Chains.{chain_end, chain_next, chain_out}
-use Rattle.queries.specs.declared.WindowAnswer.TheVariants.{PastEnd, Window}
+use Rattle.queries.specs.declared.WindowRefusal.TheVariants.{PastEnd}
 use Rattle.queries.specs.Queries.{place_link, linked_window}
 
 place_none : (i : ℕ) → place_link i [] ≡ 0
@@ -28,16 +29,16 @@ tail zero k ks q = absurd (q refl)
 tail (suc i) k ks q = ap (λ (n : ℕ). place_link n ks) (let g : i ≡ suc i - 1 = omega arith in g)
 
 -- the window of a link
-pub linked_none : (w : List ℕ) (f : List Float) (l : ℕ) → l ≡ 0 → PastEnd ≡ linked_window w f l
+pub linked_none : (w : List ℕ) (f : List Float) (l : ℕ) → l ≡ 0 → Err PastEnd ≡ linked_window w f l
 unfolding linked_window
 linked_none w f l h = rw h refl
 
-pub linked_some : (w : List ℕ) (f : List Float) (l : ℕ) (x : WindowRecord) → l ≢ 0 → x ≡ window_at w f (l - 1) → Window (record { id = record { 0 = l - 1 }; window = x }) ≡ linked_window w f l
+pub linked_some : (w : List ℕ) (f : List Float) (l : ℕ) (x : WindowRecord) → l ≢ 0 → x ≡ window_at w f (l - 1) → Ok (record { id = record { 0 = l - 1 }; window = x }) ≡ linked_window w f l
 unfolding linked_window
 linked_some w f zero x q h = absurd (q refl)
 linked_some w f (suc i) x q h =
-    ap (λ (y : WindowRecord). Window (record { id = record { 0 = suc i - 1 }; window = y })) h
-    ∙ ap (λ (n : ℕ). Window (record { id = record { 0 = n }; window = window_at w f n })) (let g : suc i - 1 ≡ i = omega arith in g)
+    ap (λ (y : WindowRecord). Ok (record { id = record { 0 = suc i - 1 }; window = y })) h
+    ∙ ap (λ (n : ℕ). Ok (record { id = record { 0 = n }; window = window_at w f n })) (let g : suc i - 1 ≡ i = omega arith in g)
 
 module _ (made : ℕ) (b : Links) (e : ℕ) where
   abbrev pub to_come : ℕ → ℕ → ℕ → ℕ

@@ -4,7 +4,6 @@
 #![tactic(auto)]
 
 ghost use Rattle.std.specs.Prelude.{◌≡◌, ◌≤◌, ◌<◌, length};
-ghost use Rattle.std.specs.Float.{nan};
 ghost use Rattle.layout.specs.Layout.{words_per_edge};
 ghost use Rattle.buffers.specs.Slots.{slots_of};
 ghost use Rattle.windows.specs.Windows.{capacity_of};
@@ -26,35 +25,39 @@ pub use field_check::of_mesh_readers as of_mesh_readers;
 use vec3::Vec3;
 use windows::WindowRecord;
 
-// The answers: `face_answer_number`, `edge_answer_number`, `vertex_answer_number` and `window_answer_number` of specs/ give each case its number.
-#[derive(Clone, Copy)]
-pub enum FaceDistance {
+// What refuses each query: `face_answer_number`, `edge_answer_number`, `vertex_answer_number` and `window_answer_number` of specs/ give each case its number.
+#[derive(Clone, Copy, Debug, PartialEq, Eq)]
+pub enum FaceRefusal {
     NoField,
     MissingFace,
     PointOutOfRange,
-    At(f64),
 }
 
-#[derive(Clone, Copy)]
-pub enum EdgeDistance {
+#[derive(Clone, Copy, Debug, PartialEq, Eq)]
+pub enum EdgeRefusal {
     NoField,
     MissingEdge,
     PlaceOutside,
-    At(f64),
+}
+
+#[derive(Clone, Copy, Debug, PartialEq, Eq)]
+pub enum VertexRefusal {
+    NoField,
+    MissingVertex,
+}
+
+#[derive(Clone, Copy, Debug, PartialEq, Eq)]
+pub enum WindowRefusal {
+    NoField,
+    MissingEdge,
+    PastEnd,
 }
 
 // An answer with the cursor that the walk for the next may begin at.
 #[derive(Clone, Copy)]
 pub struct ResumedAnswer {
-    pub answer: EdgeDistance,
+    pub answer: Result<f64, EdgeRefusal>,
     pub cursor: Cursor,
-}
-
-#[derive(Clone, Copy)]
-pub enum VertexDistance {
-    NoField,
-    MissingVertex,
-    At(f64),
 }
 
 // A window with its number.
@@ -64,95 +67,67 @@ pub struct ListedWindow {
     pub window: WindowRecord,
 }
 
-#[derive(Clone, Copy)]
-pub enum WindowAnswer {
-    NoField,
-    MissingEdge,
-    PastEnd,
-    Window(ListedWindow),
-}
-
 // An answer's number in document 01, 0 where it is no refusal.
-pub fn face_number(answer: FaceDistance) -> u32
+pub fn face_number(answer: Result<f64, FaceRefusal>) -> u32
     ensures { result ≡ face_answer_number answer }
 {
     match answer {
-        FaceDistance::NoField => 20,
-        FaceDistance::MissingFace => 21,
-        FaceDistance::PointOutOfRange => 22,
-        FaceDistance::At(_) => 0,
+        Ok(_) => 0,
+        Err(FaceRefusal::NoField) => 20,
+        Err(FaceRefusal::MissingFace) => 21,
+        Err(FaceRefusal::PointOutOfRange) => 22,
     }
 }
 
-pub fn edge_number(answer: EdgeDistance) -> u32
+pub fn edge_number(answer: Result<f64, EdgeRefusal>) -> u32
     ensures { result ≡ edge_answer_number answer }
 {
     match answer {
-        EdgeDistance::NoField => 20,
-        EdgeDistance::MissingEdge => 23,
-        EdgeDistance::PlaceOutside => 24,
-        EdgeDistance::At(_) => 0,
+        Ok(_) => 0,
+        Err(EdgeRefusal::NoField) => 20,
+        Err(EdgeRefusal::MissingEdge) => 23,
+        Err(EdgeRefusal::PlaceOutside) => 24,
     }
 }
 
-pub fn vertex_number(answer: VertexDistance) -> u32
+pub fn vertex_number(answer: Result<f64, VertexRefusal>) -> u32
     ensures { result ≡ vertex_answer_number answer }
 {
     match answer {
-        VertexDistance::NoField => 20,
-        VertexDistance::MissingVertex => 25,
-        VertexDistance::At(_) => 0,
+        Ok(_) => 0,
+        Err(VertexRefusal::NoField) => 20,
+        Err(VertexRefusal::MissingVertex) => 25,
     }
 }
 
-pub fn window_number(answer: WindowAnswer) -> u32
+pub fn window_number(answer: Result<ListedWindow, WindowRefusal>) -> u32
     ensures { result ≡ window_answer_number answer }
 {
     match answer {
-        WindowAnswer::NoField => 20,
-        WindowAnswer::MissingEdge => 23,
-        WindowAnswer::PastEnd => 26,
-        WindowAnswer::Window(_) => 0,
+        Ok(_) => 0,
+        Err(WindowRefusal::NoField) => 20,
+        Err(WindowRefusal::MissingEdge) => 23,
+        Err(WindowRefusal::PastEnd) => 26,
     }
-}
-
-fn no_distance() -> f64
-    ensures { result ≡ nan }
-{
-    0.0 / 0.0
 }
 
 // Its distance, a NaN of a refusal.
-pub fn face_value(answer: FaceDistance) -> f64
+pub fn face_value(answer: Result<f64, FaceRefusal>) -> f64
     ensures { result ≡ face_value answer }
 {
-    match answer {
-        FaceDistance::NoField => no_distance(),
-        FaceDistance::MissingFace => no_distance(),
-        FaceDistance::PointOutOfRange => no_distance(),
-        FaceDistance::At(d) => d,
-    }
+    answer.unwrap_or(f64::NAN)
 }
 
-pub fn edge_value(answer: EdgeDistance) -> f64
+pub fn edge_value(answer: Result<f64, EdgeRefusal>) -> f64
     ensures { result ≡ edge_value answer }
 {
-    match answer {
-        EdgeDistance::NoField => no_distance(),
-        EdgeDistance::MissingEdge => no_distance(),
-        EdgeDistance::PlaceOutside => no_distance(),
-        EdgeDistance::At(d) => d,
-    }
+    answer.unwrap_or(f64::NAN)
 }
 
-pub fn vertex_value(answer: VertexDistance) -> f64
+pub fn vertex_value(answer: Result<f64, VertexRefusal>) -> f64
     ensures { result ≡ vertex_value answer }
 {
-    match answer {
-        VertexDistance::NoField => no_distance(),
-        VertexDistance::MissingVertex => no_distance(),
-        VertexDistance::At(d) => d,
-    }
+    answer.unwrap_or(f64::NAN)
 }
 
 // A NaN fails every comparison, so what is tested is what must hold.
@@ -168,16 +143,11 @@ fn out_of_range(x: f64) -> bool
     true
 }
 
+#[tactic(auto, unfolding(crate::specs::Queries::point_outside))]
 fn point_outside(p: Vec3) -> bool
     ensures { result ≡ point_outside p }
 {
-    if out_of_range(p.x) {
-        return true;
-    }
-    if out_of_range(p.y) {
-        return true;
-    }
-    out_of_range(p.z)
+    out_of_range(p.x) || out_of_range(p.y) || out_of_range(p.z)
 }
 
 fn place_outside(len: f64, x: f64) -> bool
@@ -209,16 +179,16 @@ pub fn face_answer(
     entry_words: &[u32],
     f: FaceId,
     p: Vec3,
-) -> FaceDistance
+) -> Result<f64, FaceRefusal>
     requires { (n.edges ≤ slots_of (length edge_words.now) words_per_edge) × (n.windows ≤ capacity_of (length words.now) (length reals.now)) }
     ensures { result ≡ face_answer n (field_slices edge_words.now edge_reals.now triangle_words.now triangle_reals.now vertex.now words.now reals.now
         entry_words.now) (job_slices vertices.now triangles.now kinds.now faces.now coords.now) f.0 p }
 {
     if n.triangles <= f.0 {
-        return FaceDistance::MissingFace;
+        return Err(FaceRefusal::MissingFace);
     }
     if point_outside(p) {
-        return FaceDistance::PointOutOfRange;
+        return Err(FaceRefusal::PointOutOfRange);
     }
     let d = face_query::distance_in_face(
         vertices,
@@ -236,7 +206,7 @@ pub fn face_answer(
         f,
         p,
     );
-    FaceDistance::At(d)
+    Ok(d)
 }
 
 // The answer by a walk that begins at a cursor where it may.
@@ -262,13 +232,13 @@ pub fn edge_answer_from(
 {
     if n.edges <= e.0 {
         return ResumedAnswer {
-            answer: EdgeDistance::MissingEdge,
+            answer: Err(EdgeRefusal::MissingEdge),
             cursor,
         };
     }
     if place_outside(of_mesh_readers::length(edge_reals, e), x) {
         return ResumedAnswer {
-            answer: EdgeDistance::PlaceOutside,
+            answer: Err(EdgeRefusal::PlaceOutside),
             cursor,
         };
     }
@@ -276,11 +246,9 @@ pub fn edge_answer_from(
     let resumed = edge_query::distance_from(
         edge_words, words, reals, vertex, edge, n.windows, cursor, x,
     );
-    let answer = EdgeDistance::At(resumed.distance);
-    let next = resumed.cursor;
     ResumedAnswer {
-        answer,
-        cursor: next,
+        answer: Ok(resumed.distance),
+        cursor: resumed.cursor,
     }
 }
 
@@ -296,7 +264,7 @@ pub fn edge_answer(
     entry_words: &[u32],
     e: EdgeId,
     x: f64,
-) -> EdgeDistance
+) -> Result<f64, EdgeRefusal>
     requires { (n.edges ≤ slots_of (length edge_words.now) words_per_edge) × (n.windows ≤ capacity_of (length words.now) (length reals.now)) }
     ensures { result ≡ edge_answer n (field_slices edge_words.now edge_reals.now triangle_words.now triangle_reals.now vertex.now words.now reals.now
         entry_words.now) e.0 x }
@@ -330,14 +298,14 @@ pub fn vertex_answer(
     reals: &[f64],
     entry_words: &[u32],
     k: VertexId,
-) -> VertexDistance
+) -> Result<f64, VertexRefusal>
     ensures { result ≡ vertex_answer n (field_slices edge_words.now edge_reals.now triangle_words.now triangle_reals.now vertex.now words.now reals.now
         entry_words.now) k.0 }
 {
     if n.vertices <= k.0 {
-        return VertexDistance::MissingVertex;
+        return Err(VertexRefusal::MissingVertex);
     }
-    VertexDistance::At(actions::distance(vertex, k))
+    Ok(actions::distance(vertex, k))
 }
 
 // The link of the window at a place in the list of an edge, 0 past its end.
@@ -371,17 +339,16 @@ fn place_link(
     0
 }
 
-fn linked_window(words: &[u32], reals: &[f64], link: u32) -> WindowAnswer
+fn linked_window(words: &[u32], reals: &[f64], link: u32) -> Result<ListedWindow, WindowRefusal>
     requires { link ≤ capacity_of (length words.now) (length reals.now) }
     ensures { result ≡ linked_window words.now reals.now link }
 {
     if link == 0 {
-        return WindowAnswer::PastEnd;
+        return Err(WindowRefusal::PastEnd);
     }
     let id = WindowId(link - 1);
     let window = windows::load(words, reals, id);
-    let listed = ListedWindow { id, window };
-    WindowAnswer::Window(listed)
+    Ok(ListedWindow { id, window })
 }
 
 pub fn window_answer(
@@ -396,13 +363,13 @@ pub fn window_answer(
     entry_words: &[u32],
     e: EdgeId,
     place: u32,
-) -> WindowAnswer
+) -> Result<ListedWindow, WindowRefusal>
     requires { (n.edges ≤ slots_of (length edge_words.now) words_per_edge) × (n.windows ≤ capacity_of (length words.now) (length reals.now)) }
     ensures { result ≡ window_answer n (field_slices edge_words.now edge_reals.now triangle_words.now triangle_reals.now vertex.now words.now reals.now
         entry_words.now) e.0 place }
 {
     if n.edges <= e.0 {
-        return WindowAnswer::MissingEdge;
+        return Err(WindowRefusal::MissingEdge);
     }
     let link = place_link(edge_words, words, reals, e, n.windows, place);
     linked_window(words, reals, link)
@@ -426,12 +393,12 @@ pub fn face_at(
     entry_words: &[u32],
     f: FaceId,
     p: Vec3,
-) -> FaceDistance
+) -> Result<f64, FaceRefusal>
     ensures { result ≡ face_query (job_slices vertices.now triangles.now kinds.now faces.now coords.now)
         (field_slices edge_words.now edge_reals.now triangle_words.now triangle_reals.now vertex.now words.now reals.now entry_words.now) computed f.0 p }
 {
     let Computed::Field(n) = computed else {
-        return FaceDistance::NoField;
+        return Err(FaceRefusal::NoField);
     };
     if field_check::is_unsound(
         n,
@@ -449,7 +416,7 @@ pub fn face_at(
         reals,
         entry_words,
     ) {
-        return FaceDistance::NoField;
+        return Err(FaceRefusal::NoField);
     }
     face_answer(
         n,
@@ -489,12 +456,12 @@ pub fn edge_at(
     entry_words: &[u32],
     e: EdgeId,
     x: f64,
-) -> EdgeDistance
+) -> Result<f64, EdgeRefusal>
     ensures { result ≡ edge_query (job_slices vertices.now triangles.now kinds.now faces.now coords.now)
         (field_slices edge_words.now edge_reals.now triangle_words.now triangle_reals.now vertex.now words.now reals.now entry_words.now) computed e.0 x }
 {
     let Computed::Field(n) = computed else {
-        return EdgeDistance::NoField;
+        return Err(EdgeRefusal::NoField);
     };
     if field_check::is_unsound(
         n,
@@ -512,7 +479,7 @@ pub fn edge_at(
         reals,
         entry_words,
     ) {
-        return EdgeDistance::NoField;
+        return Err(EdgeRefusal::NoField);
     }
     edge_answer(
         n,
@@ -546,12 +513,12 @@ pub fn vertex_at(
     reals: &[f64],
     entry_words: &[u32],
     k: VertexId,
-) -> VertexDistance
+) -> Result<f64, VertexRefusal>
     ensures { result ≡ vertex_query (job_slices vertices.now triangles.now kinds.now faces.now coords.now)
         (field_slices edge_words.now edge_reals.now triangle_words.now triangle_reals.now vertex.now words.now reals.now entry_words.now) computed k.0 }
 {
     let Computed::Field(n) = computed else {
-        return VertexDistance::NoField;
+        return Err(VertexRefusal::NoField);
     };
     if field_check::is_unsound(
         n,
@@ -569,7 +536,7 @@ pub fn vertex_at(
         reals,
         entry_words,
     ) {
-        return VertexDistance::NoField;
+        return Err(VertexRefusal::NoField);
     }
     vertex_answer(
         n,
@@ -603,13 +570,13 @@ pub fn window_at(
     entry_words: &[u32],
     e: EdgeId,
     place: u32,
-) -> WindowAnswer
+) -> Result<ListedWindow, WindowRefusal>
     ensures { result ≡ window_query (job_slices vertices.now triangles.now kinds.now faces.now coords.now)
         (field_slices edge_words.now edge_reals.now triangle_words.now triangle_reals.now vertex.now words.now reals.now entry_words.now) computed
         e.0 place }
 {
     let Computed::Field(n) = computed else {
-        return WindowAnswer::NoField;
+        return Err(WindowRefusal::NoField);
     };
     if field_check::is_unsound(
         n,
@@ -627,7 +594,7 @@ pub fn window_at(
         reals,
         entry_words,
     ) {
-        return WindowAnswer::NoField;
+        return Err(WindowRefusal::NoField);
     }
     window_answer(
         n,

@@ -4,23 +4,13 @@
 ghost use Rattle.std.specs.Prelude.{◌≡◌};
 ghost use Rattle.window_rows.specs.of_field_check.FieldCheck.{job_slices, field_slices};
 ghost use Rattle.window_rows.specs.of_queries.Told.{told_answer};
-ghost use Rattle.window_rows.specs.of_query_rows.Rows.{row_number, face_row, edge_row, vertex_row};
+ghost use Rattle.window_rows.specs.of_query_rows.Rows.{face_row, edge_row, vertex_row};
 ghost use Rattle.window_rows.specs.WindowRows.{window_row};
 ghost use Rattle.query_c.specs.Exports.{told_row, told_windows};
 
 use window_rows::of_queries::told_answer;
 use window_rows::of_query_rows;
-use window_rows::of_query_rows::RowAnswer;
-
-fn row_number(answer: RowAnswer) -> u32
-    ensures { result ≡ row_number answer }
-{
-    match answer {
-        RowAnswer::NoField => 20,
-        RowAnswer::ShortRow => 74,
-        RowAnswer::Answered => 0,
-    }
-}
+use window_rows::of_query_rows::row_number;
 
 // The distances at points of faces: the number and the distance of each question are written, the row's own number is answered.
 #[unsafe(no_mangle)]

@@ -7,14 +7,13 @@ ghost use Rattle.std.specs.Prelude.{◌≤◌, length};
 use buffers::{write_f64, write_u32};
 use computed::{Computed, Field};
 use std::io;
-use std::rt::Files;
 use stored_numbers::{
     at_most, count, double, number, read_bytes, read_doubles, read_numbers, record_size,
 };
 use stored_slots::{SummedWalk, compare_or_sum, start_at, visit_f64, visit_u32};
 use vectors::Tally;
 use window_rows::of_query_rows;
-use window_rows::of_query_rows::RowAnswer;
+use window_rows::of_query_rows::{RowRefusal, row_number};
 
 // Of the record at number k: where list i stands, and how many elements it has, no more than most.
 fn place(s: &[u8], k: usize, i: usize) -> usize
@@ -101,25 +100,11 @@ fn computed(s: &[u8], k: usize, c: usize) -> Computed {
     Computed::Refused(refusal)
 }
 
-fn row_number(answer: RowAnswer) -> u32 {
-    match answer {
-        RowAnswer::NoField => 20,
-        RowAnswer::ShortRow => 74,
-        RowAnswer::Answered => 0,
-    }
-}
-
-// Whether all that was compared agrees.
-fn same(w: SummedWalk) -> bool {
-    let walk = w.walk;
-    walk.same
-}
-
 // A row's number, and the check sums of its numbers and distances.
 fn visit_row(
     s: &[u8],
     w: SummedWalk,
-    answer: RowAnswer,
+    answer: Result<(), RowRefusal>,
     numbers: &[u32; 60],
     distances: &[f64; 60],
 ) -> SummedWalk {
@@ -132,7 +117,7 @@ fn visit_row(
 fn visit_listed(
     s: &[u8],
     w: SummedWalk,
-    answer: RowAnswer,
+    answer: Result<(), RowRefusal>,
     numbers: &[u32; 24],
     ids: &[u32; 24],
     window_words: &[u32; 96],
@@ -450,7 +435,7 @@ fn rows_hold(
         reals,
         entry_words,
     );
-    same(of_windows)
+    of_windows.walk.same
 }
 
 // The same, where the field's lists stand at the fronts of its slices.
@@ -586,13 +571,11 @@ fn replay_record(s: &[u8], k: usize) -> Tally
     let cases = count(s, at_most(k, 400_000) + 1, 1_000) as u64;
     let mut differences: u64 = 0;
     let mut c = place(s, k, 20);
-    let mut i: u64 = 0;
-    while i < cases {
+    for i in 0..cases {
         if !case_holds(s, k, c) {
             differences += 1;
         }
         c += 20;
-        i += 1;
     }
     Tally { cases, differences }
 }
@@ -611,18 +594,6 @@ fn replay(s: &[u8]) -> Tally {
     Tally { cases, differences }
 }
 
-// Reads the file of the name into the buffer, replays it and reports.
-fn replay_into(rt: &(impl Files + Print), name: &str, buf: &mut [u8]) -> io::Result<()> {
-    let got = vectors::read_file(rt, name, buf)?;
-    let tally = replay(&buf[..got]);
-    vectors::report(rt, name, tally.cases, tally.differences)
-}
-
-fn replay_file(rt: &(impl Files + Print), name: &str) -> io::Result<()> {
-    let mut buf = [0u8; 262144];
-    replay_into(rt, name, &mut buf)
-}
-
 fn main(rt: HostRuntime) -> io::Result<()> {
-    replay_file(&rt, "small")
+    vectors::replay_file::<262144, _>(&rt, "small", replay)
 }

@@ -3,6 +3,7 @@
 --     tells_never, tells_always     what they tell
 --     short_list, whole_list        [lo, hi] in front of a buffer
 --     answer_none, answer_whole     the answer of `better`, with room for four points
+use Rattle.std.specs.Prelude.{Option, Some, None}
 use Prim.Native.Nat.{ℕ, suc, ◌≤◌, ◌<◌}
 use native.Mathlib.Omega.{arith}
 use mathlib.Core.Bool.{Bool, true, ◌&&◌}
@@ -24,8 +25,6 @@ use Rattle.source.specs.Distance.{edge_of}
 use Rattle.better.specs.Cutting.{tolerance}
 use Rattle.better.specs.Stretches.{Interval}
 use Rattle.better.specs.Buffers.{stored, bettering}
-use Rattle.better.specs.declared.Listed.{Listed}
-use Rattle.better.specs.declared.Listed.TheVariants.{Full, Entries}
 use Rattle.better.proofs.Points.{Inside}
 use Rattle.range_test.specs.Range.{highest_of, nearest_of, from_minus_one, finite_source, finite_stretch, Across, Comparable, RangeAbove, RangeBelow, Tells, listing, one_stretch}
 use Rattle.range_test.specs.declared.Ranged.TheVariants.{NeverShorter, AlwaysShorter}
@@ -107,17 +106,17 @@ below_of p q lo hi most least greatest b h k l e t =
     }
 
 -- ---- no stretch, and one, in front of a buffer
-none_list : (out : List Float) → ◌≡◌ {A = Listed × List Float} (Entries 0, out) (listing out [])
+none_list : (out : List Float) → ◌≡◌ {A = Option ℕ × List Float} (Some 0, out) (listing out [])
 unfolding stored
 none_list out = rw (le-leb 0 (length out) (omega arith))
 
-pub short_list : (lo hi : Float) (out : List Float) → length out < 2 → (Full, out) ≡ listing out (one_stretch lo hi)
+pub short_list : (lo hi : Float) (out : List Float) → length out < 2 → (None, out) ≡ listing out (one_stretch lo hi)
 unfolding stored
 short_list lo hi [] h = refl
 short_list lo hi (a ∷ []) h = refl
 short_list lo hi (a ∷ b ∷ l) h = let z : ⊥ = omega arith in absurd z
 
-pub whole_list : (lo hi : Float) (out : List Float) → 2 ≤ length out → (Entries 1, set (set out 0 lo) 1 hi) ≡ listing out (one_stretch lo hi)
+pub whole_list : (lo hi : Float) (out : List Float) → 2 ≤ length out → (Some 1, set (set out 0 lo) 1 hi) ≡ listing out (one_stretch lo hi)
 unfolding stored
 whole_list lo hi [] h = let z : ⊥ = omega arith in absurd z
 whole_list lo hi (a ∷ []) h = let z : ⊥ = omega arith in absurd z
@@ -129,8 +128,8 @@ module _ (size : ℕ) (out pts : List Float) (gs : List Interval) (room : 4 ≤ 
   unfolding bettering
   settled = rw (le-leb (length pts) size (omega arith))
 
-  pub answer_none : gs ≡ [] → (Entries 0, out) ≡ bettering size out pts gs
+  pub answer_none : gs ≡ [] → (Some 0, out) ≡ bettering size out pts gs
   answer_none e = none_list out ∙ ap (listing out) (sym e) ∙ sym settled
 
-  pub answer_whole : (lo hi : Float) (r : Listed) (after : List Float) → gs ≡ one_stretch lo hi → (r, after) ≡ listing out (one_stretch lo hi) → (r, after) ≡ bettering size out pts gs
+  pub answer_whole : (lo hi : Float) (r : Option ℕ) (after : List Float) → gs ≡ one_stretch lo hi → (r, after) ≡ listing out (one_stretch lo hi) → (r, after) ≡ bettering size out pts gs
   answer_whole lo hi r after e h = h ∙ ap (listing out) (sym e) ∙ sym settled

@@ -2,7 +2,7 @@
 -- All that it asks of the two sources is asked at its points and at middles of two of them, and these lie from lo to hi. Its points are lo, at most two ties
 -- strictly between, and hi; ties that are equal leave an empty stretch between them, and the next stretch continues the last all the same.
 --     never, always     what the range tests tell
-use Rattle.std.specs.Prelude.{if◌then◌else◌}
+use Rattle.std.specs.Prelude.{if◌then◌else◌, None}
 use Prim.Native.Nat.{suc, ◌+◌, ◌≤◌}
 use native.Mathlib.Omega.{arith}
 use mathlib.Core.Bool.{Bool, true, false, not, ◌&&◌}
@@ -26,11 +26,10 @@ use Rattle.float_laws.proofs.Total.{total_le}
 use Rattle.float_monotone.proofs.Middle.{middle_above, middle_below}
 use Rattle.source.specs.declared.Src.{Src}
 use Rattle.source.specs.declared.RealRoots.{RealRoots}
-use Rattle.source.specs.declared.RealRoots.TheVariants.{None, One, Two}
+use Rattle.source.specs.declared.RealRoots.TheVariants.{One, Two}
 use Rattle.source.specs.Distance.{edge_of, ties_of}
-use Rattle.better.specs.declared.Compared.{Compared}
-use Rattle.better.specs.declared.Compared.TheVariants.{Shorter, Equal, Longer}
-use Rattle.better.specs.declared.Cut.TheVariants.{Nowhere}
+use Rattle.std.specs.declared.cmp.Ordering.{Ordering}
+use Rattle.std.specs.declared.cmp.Ordering.TheVariants.{Less, Equal, Greater}
 use Rattle.better.specs.Claim.{Point}
 use Rattle.better.specs.Cutting.{shorter, longer, sign_of, change_of, cut_of}
 use Rattle.better.specs.Points.{root_list, inside, insert_of, sorted_points, pts_of, points_behind, walk_of}
@@ -72,7 +71,7 @@ insert_first lo hi (y ∷ ys) h a = rw (not_before lo y a.0.0)
 -- at most two ties
 few : (lo hi : Float) (r : RealRoots) → length (inside lo hi (root_list r)) ≤ 2
 unfolding inside root_list
-few lo hi None = omega arith
+few lo hi RealRoots.None = omega arith
 few lo hi (One x) = branch (λ (l : List Float). length l ≤ 2) (lt lo x && lt x hi) (λ t. omega arith) (λ t. omega arith)
 few lo hi (Two x y) =
     branch (λ (l : List Float). length l ≤ 2) (lt lo x && lt x hi)
@@ -107,10 +106,10 @@ module _ (p q : Src) (lo hi : Float) (rise : T (lt lo hi)) where
       omega (arith, e, length_sorted (inside lo hi (root_list (ties_of p q))), few lo hi (ties_of p q))
 
 -- ---- what is asked lies from lo to hi
-abbrev NotShorter : Compared → Type 0
-NotShorter Shorter = ⊥
+abbrev NotShorter : Ordering → Type 0
+NotShorter Less = ⊥
 NotShorter Equal = Unit {0}
-NotShorter Longer = Unit {0}
+NotShorter Greater = Unit {0}
 
 pub record Stretch (lo hi : Float) : Type 0 where
   pub start : Point lo
@@ -132,10 +131,10 @@ module _ (p q : Src) (lo hi : Float) (S : Stretch lo hi) where
 
   -- no change of sign
   module _ (calm : (x y : Float) → Inside lo hi x → Inside lo hi y → change_of (sign_of p q x) (sign_of p q y) ≡ false) where
-    no_cut : (x0 x1 : Float) → Inside lo hi x0 → Inside lo hi x1 → cut_of p q x0 x1 ≡ Nowhere
+    no_cut : (x0 x1 : Float) → Inside lo hi x0 → Inside lo hi x1 → cut_of p q x0 x1 ≡ None
     no_cut x0 x1 g k =
         let m = middle_inside x0 x1 g k in
-        sym (by_cases (λ (b : Bool). lt x0 x1 ≡ b → Nowhere ≡ cut_of p q x0 x1) (lt x0 x1)
+        sym (by_cases (λ (b : Bool). lt x0 x1 ≡ b → None ≡ cut_of p q x0 x1) (lt x0 x1)
         (λ t e. cut_none p q x0 x1 e (calm x0 ((x0 ⊕ x1) ⊘ two) g m) (calm ((x0 ⊕ x1) ⊘ two) x1 m k))
         (λ t e. cut_flat p q x0 x1 e) refl)
 
@@ -157,12 +156,12 @@ module _ (p q : Src) (lo hi : Float) (S : Stretch lo hi) where
     unfolding sign_of
     sign_none z g = branch NotShorter (shorter (edge_of p z) (edge_of q z)) (λ t. absurd (T_not (shorter (edge_of p z) (edge_of q z)) (none z g) t)) (λ t. branch NotShorter (longer (edge_of p z) (edge_of q z)) (λ u. tt) (λ u. tt))
 
-    unchanged : (a b : Compared) → NotShorter a → NotShorter b → change_of a b ≡ false
-    unchanged Shorter b i j = absurd i
+    unchanged : (a b : Ordering) → NotShorter a → NotShorter b → change_of a b ≡ false
+    unchanged Less b i j = absurd i
     unchanged Equal b i j = refl
-    unchanged Longer Shorter i j = absurd j
-    unchanged Longer Equal i j = refl
-    unchanged Longer Longer i j = refl
+    unchanged Greater Less i j = absurd j
+    unchanged Greater Equal i j = refl
+    unchanged Greater Greater i j = refl
 
     calm_none : (x y : Float) → Inside lo hi x → Inside lo hi y → change_of (sign_of p q x) (sign_of p q y) ≡ false
     calm_none x y g k = unchanged (sign_of p q x) (sign_of p q y) (sign_none x g) (sign_none y k)
@@ -189,7 +188,7 @@ module _ (p q : Src) (lo hi : Float) (S : Stretch lo hi) where
 
   -- ---- always shorter
   module _ (all : (z : Float) → Inside lo hi z → T (shorter (edge_of p z) (edge_of q z))) where
-    sign_all : (z : Float) → Inside lo hi z → sign_of p q z ≡ Shorter
+    sign_all : (z : Float) → Inside lo hi z → sign_of p q z ≡ Less
     unfolding sign_of
     sign_all z g = rw (is_true (shorter (edge_of p z) (edge_of q z)) (all z g))
 

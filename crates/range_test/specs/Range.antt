@@ -1,5 +1,5 @@
 -- The range of a source's values from lo to hi, and what two ranges tell of `better`. Definitions only.
-use Rattle.std.specs.Prelude.{◌≤◌, Bool, cond, ◌&&◌, ◌≡◌, List, [], ◌∷◌, length, T, Float, if◌then◌else◌}
+use Rattle.std.specs.Prelude.{ℕ, ◌≤◌, Bool, cond, ◌&&◌, ◌≡◌, List, [], ◌∷◌, length, T, Float, if◌then◌else◌, Option, Some, None}
 use Rattle.std.specs.Float.{binary64}
 use Rattle.std.specs.Float.Ieee.{neg, lt, le, fits}
 use Rattle.float64.specs.Scalar.{zero64, one, max_of, abs_of, is_finite}
@@ -11,8 +11,6 @@ use Rattle.better.specs.Cutting.{tolerance}
 use Rattle.better.specs.Points.{pts_of, walk_of}
 use Rattle.better.specs.Stretches.{Interval, interval, better_of}
 use Rattle.better.specs.Buffers.{stored, has_entries}
-use Rattle.better.specs.declared.Listed.{Listed}
-use Rattle.better.specs.declared.Listed.TheVariants.{Full, Entries}
 use Rattle.range_test.specs.declared.Ranged.{Ranged}
 use Rattle.range_test.specs.declared.Ranged.TheVariants.{Unknown, NeverShorter, AlwaysShorter}
 
@@ -77,8 +75,8 @@ abbrev pub one_stretch : Float → Float → List Interval
 one_stretch lo hi = interval lo hi ∷ []
 
 -- a list of stretches in front of `out`, or that it outgrows it
-abbrev pub listing : List Float → List Interval → Listed × List Float
-listing out gs = (cond (has_entries gs out) (Entries (length gs)) Full, stored gs out)
+abbrev pub listing : List Float → List Interval → Option ℕ × List Float
+listing out gs = (cond (has_entries gs out) (Some (length gs)) None, stored gs out)
 
 -- what an answer says of `better`: its walk adds no cut, and its answer is empty or [lo, hi] whole
 abbrev pub Tells : Src → Src → Float → Float → Ranged → Type 0

@@ -1,7 +1,7 @@
 // Where the ranges of two sources along a stretch of their edge are apart, they tell the answer of `better` with no tie, middle or halving.
 #![tactic(auto)]
 
-ghost use Rattle.std.specs.Prelude.{◌≡◌, cond, ◌&&◌, T, leb, length};
+ghost use Rattle.std.specs.Prelude.{◌≡◌, cond, ◌&&◌, T, leb, length, IfSome};
 ghost use Rattle.std.specs.Float.{binary64};
 ghost use Rattle.std.specs.Float.Ieee.{neg, lt, le, fits};
 ghost use Rattle.float64.specs.Scalar.{one, is_finite};
@@ -12,7 +12,6 @@ ghost use Rattle.better.specs.Stretches.{better_of};
 ghost use Rattle.better.specs.Buffers.{has_entries, bettering, listed_number};
 ghost use Rattle.range_test.specs.Range.{highest_of, nearest_of, from_minus_one, finite_source, finite_stretch, Across, Comparable, RangeAbove, RangeBelow, Tells, listing, one_stretch};
 
-use better::Listed;
 use source::Src;
 use source_bounds::Enclosure;
 
@@ -24,27 +23,19 @@ pub enum Ranged {
     AlwaysShorter,
 }
 
-// v as both bounds of itself.
-fn exact(v: f64) -> Enclosure
-    ensures { T result.known → T (le v result.hi) × T (le result.lo v) }
+// v as both bounds of itself, where it is not too great.
+fn exact(v: f64) -> Option<Enclosure>
+    ensures { IfSome result (λ e. T (le v e.hi) × T (le e.lo v)) }
 {
     if v <= 1e100 {
-        return Enclosure {
-            lo: v,
-            hi: v,
-            known: true,
-        };
+        return Some(Enclosure { lo: v, hi: v });
     }
-    Enclosure {
-        lo: v,
-        hi: v,
-        known: false,
-    }
+    None
 }
 
 // What no distance from lo to hi is above.
-fn upper(src: Src, lo: f64, hi: f64) -> Enclosure
-    ensures { T result.known → T (le (highest_of src lo hi) result.hi) }
+fn upper(src: Src, lo: f64, hi: f64) -> Option<Enclosure>
+    ensures { IfSome result (λ e. T (le (highest_of src lo hi) e.hi)) }
 {
     match src {
         Src::Point { x, y: _, s: _ } => {
@@ -66,8 +57,8 @@ fn upper(src: Src, lo: f64, hi: f64) -> Enclosure
 }
 
 // What no distance from lo to hi is below.
-fn lower(src: Src, lo: f64, hi: f64) -> Enclosure
-    ensures { T result.known → T (le result.lo (nearest_of src lo hi)) }
+fn lower(src: Src, lo: f64, hi: f64) -> Option<Enclosure>
+    ensures { IfSome result (λ e. T (le e.lo (nearest_of src lo hi))) }
 {
     match src {
         Src::Point { x, y, s } => {
@@ -117,39 +108,26 @@ fn finite_source(src: Src) -> bool
 fn finite_stretch(lo: f64, hi: f64) -> bool
     ensures { (result ≡ finite_stretch lo hi) × (T (fits binary64 lo) × T (fits binary64 hi)) }
 {
-    if lo < hi {
-        if float64::is_finite(lo + lo) {
-            return float64::is_finite(hi + hi);
-        }
-    }
-    false
+    lo < hi && float64::is_finite(lo + lo) && float64::is_finite(hi + hi)
 }
 
 // Whether all that the range tests compute with is finite, and the stretch rises.
 fn all_finite(p: Src, q: Src, lo: f64, hi: f64) -> bool
     ensures { Comparable result p q lo hi }
 {
-    if finite_stretch(lo, hi) {
-        if finite_source(p) {
-            return finite_source(q);
-        }
-    }
-    false
+    finite_stretch(lo, hi) && finite_source(p) && finite_source(q)
 }
 
 fn range_above(p: Src, q: Src, lo: f64, hi: f64) -> bool
     ensures { T result → RangeAbove p q lo hi }
 {
-    let most = upper(q, lo, hi);
-    if most.known {
-        let least = lower(p, lo, hi);
-        if least.known {
-            if most.hi <= least.lo {
-                return from_minus_one(q, lo, hi);
-            }
-        }
-    }
-    false
+    let Some(most) = upper(q, lo, hi) else {
+        return false;
+    };
+    let Some(least) = lower(p, lo, hi) else {
+        return false;
+    };
+    most.hi <= least.lo && from_minus_one(q, lo, hi)
 }
 
 // One comparison of what bounds tell.
@@ -157,28 +135,22 @@ fn is_below(most: f64, least: f64, greatest: f64) -> bool
     ensures { result ≡ (lt most (least ⊖ tolerance ⊗ (one ⊕ greatest)) && le (neg one) least && is_finite (tolerance ⊗ (one ⊕ greatest))) }
 {
     let t = 1e-10 * (1.0 + greatest);
-    if most < least - t {
-        if -1.0 <= least {
-            return float64::is_finite(t);
-        }
-    }
-    false
+    most < least - t && -1.0 <= least && float64::is_finite(t)
 }
 
 fn range_below(p: Src, q: Src, lo: f64, hi: f64) -> bool
     ensures { T result → RangeBelow p q lo hi }
 {
-    let most = upper(p, lo, hi);
-    if most.known {
-        let least = lower(q, lo, hi);
-        if least.known {
-            let greatest = upper(q, lo, hi);
-            if greatest.known {
-                return is_below(most.hi, least.lo, greatest.hi);
-            }
-        }
-    }
-    false
+    let Some(most) = upper(p, lo, hi) else {
+        return false;
+    };
+    let Some(least) = lower(q, lo, hi) else {
+        return false;
+    };
+    let Some(greatest) = upper(q, lo, hi) else {
+        return false;
+    };
+    is_below(most.hi, least.lo, greatest.hi)
 }
 
 // Whether p is never, or always, shorter than q from lo to hi, where the ranges tell. The lows and widths of the two windows say which test may hold, and need
@@ -196,33 +168,29 @@ fn compare_ranges(
     ensures { Tells p q lo hi result }
 {
     if q_low + q_wide < p_low {
-        if all_finite(p, q, lo, hi) {
-            if range_above(p, q, lo, hi) {
-                return Ranged::NeverShorter;
-            }
+        if all_finite(p, q, lo, hi) && range_above(p, q, lo, hi) {
+            return Ranged::NeverShorter;
         }
         return Ranged::Unknown;
     }
     if p_low + p_wide < q_low {
-        if all_finite(p, q, lo, hi) {
-            if range_below(p, q, lo, hi) {
-                return Ranged::AlwaysShorter;
-            }
+        if all_finite(p, q, lo, hi) && range_below(p, q, lo, hi) {
+            return Ranged::AlwaysShorter;
         }
     }
     Ranged::Unknown
 }
 
 // The stretch from lo to hi alone in front of out.
-fn list_whole(lo: f64, hi: f64, out: &mut [f64]) -> Listed
+fn list_whole(lo: f64, hi: f64, out: &mut [f64]) -> Option<usize>
     ensures { (result, out.new) ≡ listing out.old (one_stretch lo hi) }
 {
     if out.len() < 2 {
-        return Listed::Full;
+        return None;
     }
     out[0] = lo;
     out[1] = hi;
-    Listed::Entries(1)
+    Some(1)
 }
 
 // `better`, with the same contract. The lows and widths of the two windows are hints.
@@ -237,7 +205,7 @@ pub fn better(
     p_wide: f64,
     q_low: f64,
     q_wide: f64,
-) -> Listed
+) -> Option<usize>
     ensures out_after { (result, out.new) ≡ bettering (length pts.old) out.old (walk_of p q (pts_of p q lo hi)) (better_of p q lo hi) }
     ensures result_value { listed_number result ≡ cond (leb (length (walk_of p q (pts_of p q lo hi))) (length pts.old) && has_entries (better_of p q lo hi) out.old) 0 14 }
 {
@@ -247,7 +215,7 @@ pub fn better(
     let told = compare_ranges(p, q, lo, hi, p_low, p_wide, q_low, q_wide);
     match told {
         Ranged::Unknown => better::better(p, q, lo, hi, pts, out),
-        Ranged::NeverShorter => Listed::Entries(0),
+        Ranged::NeverShorter => Some(0),
         Ranged::AlwaysShorter => list_whole(lo, hi, out),
     }
 }

@@ -8,6 +8,7 @@ use borrow.Author.Tests.{leb-false}
 use lib.Dec.{leb}
 use lib.Ieee.{Float}
 use lib.ListN.{length}
+use Rattle.std.specs.declared.result.Result.TheVariants.{Ok, Err}
 use Rattle.float64.specs.Scalar.{zero64, max_of}
 use Rattle.vec3.specs.declared.Vec3.{Vec3}
 use Rattle.source.specs.declared.Win.{Win}
@@ -33,10 +34,10 @@ use Rattle.queries.specs.of_face_query.FaceDistance.{through_windows, records_on
 use Rattle.computed.specs.declared.Computed.TheVariants.{Field as isField}
 use Rattle.computed.specs.declared.Field.{Field}
 use Rattle.queries.specs.of_field_check.FieldCheck.{JobSlices, FieldSlices, field_unsound}
-use Rattle.queries.specs.declared.FaceDistance.TheVariants as face
-use Rattle.queries.specs.declared.EdgeDistance.TheVariants as edge
-use Rattle.queries.specs.declared.VertexDistance.TheVariants as vertex
-use Rattle.queries.specs.declared.WindowAnswer.TheVariants as window
+use Rattle.queries.specs.declared.FaceRefusal.TheVariants as face
+use Rattle.queries.specs.declared.EdgeRefusal.TheVariants as edge
+use Rattle.queries.specs.declared.VertexRefusal.TheVariants as vertex
+use Rattle.queries.specs.declared.WindowRefusal.TheVariants as window
 use Rattle.queries.specs.Queries.{point_outside, place_outside, place_link, linked_window, face_answer, edge_answer, vertex_answer, window_answer, face_query, edge_query, vertex_query, window_query}
 use Rattle.returned_fields.specs.Held.{HeldField}
 use Rattle.returned_fields.specs.ByLists.{through_live, side_by_lists, at_by_lists, edge_at_by_lists, face_by_lists, edge_by_lists, vertex_by_lists, window_by_lists}
@@ -74,12 +75,12 @@ module _ (n : Field) (j : JobSlices) (b : FieldSlices) (live : ℕ → List Wind
   pub edge_query_is : (e : ℕ) (x : Float) → edge_query j b (isField n) e x ≡ edge_by_lists n j b live xs e x
   unfolding edge_query edge_answer
   edge_query_is e x =
-      passed edge.NoField (edge_answer n b e x) (edge_by_lists n j b live xs e x)
-      (unless (leb n.edges e) edge.MissingEdge _ _ (λ h. ap (λ (d : Float). cond (place_outside (length_at b.edge_reals_held e) x) edge.PlaceOutside (edge.At d)) (edge_at e (leb-false n.edges e h) x)))
+      passed (Err edge.NoField) (edge_answer n b e x) (edge_by_lists n j b live xs e x)
+      (unless (leb n.edges e) (Err edge.MissingEdge) _ _ (λ h. ap (λ (d : Float). cond (place_outside (length_at b.edge_reals_held e) x) (Err edge.PlaceOutside) (Ok d)) (edge_at e (leb-false n.edges e h) x)))
 
   pub vertex_query_is : (k : ℕ) → vertex_query j b (isField n) k ≡ vertex_by_lists n j b live xs k
   unfolding vertex_query vertex_answer
-  vertex_query_is k = passed vertex.NoField (vertex_answer n b k) (vertex_by_lists n j b live xs k) refl
+  vertex_query_is k = passed (Err vertex.NoField) (vertex_answer n b k) (vertex_by_lists n j b live xs k) refl
 
   chain_here : (e : ℕ) → e < n.edges → chain_behind n.windows (links b.edge_words_held b.words) e n.windows 0 ≡ nums (live e)
   chain_here e l = chain_nums n.windows (links b.edge_words_held b.words) b.reals e (live e) (H.windows.stands e l)
@@ -87,8 +88,8 @@ module _ (n : Field) (j : JobSlices) (b : FieldSlices) (live : ℕ → List Wind
   pub window_query_is : (e i : ℕ) → window_query j b (isField n) e i ≡ window_by_lists n j b live xs e i
   unfolding window_query window_answer
   window_query_is e i =
-      passed window.NoField (window_answer n b e i) (window_by_lists n j b live xs e i)
-      (unless (leb n.edges e) window.MissingEdge _ _ (λ h. ap (λ (is : List ℕ). linked_window b.words b.reals (place_link i is)) (chain_here e (leb-false n.edges e h))))
+      passed (Err window.NoField) (window_answer n b e i) (window_by_lists n j b live xs e i)
+      (unless (leb n.edges e) (Err window.MissingEdge) _ _ (λ h. ap (λ (is : List ℕ). linked_window b.words b.reals (place_link i is)) (chain_here e (leb-false n.edges e h))))
 
   module _ (f : ℕ) (l : f < n.triangles) (p : Vec3) where
     side_through : (i : ℕ) → i < 3 → (d : Float) → through_side j.vertices b.edge_words_held b.edge_reals_held b.triangle_words_held b.triangle_reals b.words b.reals n.windows f p i d ≡ side_by_lists n j b live xs f p i d
@@ -114,5 +115,5 @@ module _ (n : Field) (j : JobSlices) (b : FieldSlices) (live : ℕ → List Wind
   pub face_query_is : (f : ℕ) (p : Vec3) → face_query j b (isField n) f p ≡ face_by_lists n j b live xs f p
   unfolding face_query face_answer
   face_query_is f p =
-      passed face.NoField (face_answer n b j f p) (face_by_lists n j b live xs f p)
-      (unless (leb n.triangles f) face.MissingFace _ _ (λ h. ap (λ (d : Float). cond (point_outside p) face.PointOutOfRange (face.At d)) (face_at_lem f (leb-false n.triangles f h) p)))
+      passed (Err face.NoField) (face_answer n b j f p) (face_by_lists n j b live xs f p)
+      (unless (leb n.triangles f) (Err face.MissingFace) _ _ (λ h. ap (λ (d : Float). cond (point_outside p) (Err face.PointOutOfRange) (Ok d)) (face_at_lem f (leb-false n.triangles f h) p)))

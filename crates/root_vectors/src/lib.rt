@@ -63,12 +63,10 @@ pub fn differences(f: Function, s: &[u8]) -> u64
 {
     let n = records(f, s);
     let mut count: u64 = 0;
-    let mut k: usize = 0;
-    while k < n {
+    for k in 0..n {
         if !holds(f, s, k) {
             count += 1;
         }
-        k += 1;
     }
     count
 }
@@ -89,13 +87,11 @@ fn print_difference(rt: &impl Print, f: Function, s: &[u8], k: usize) -> io::Res
 fn print_differences(rt: &impl Print, f: Function, s: &[u8]) -> io::Result<()> {
     let n = records(f, s);
     let mut left: usize = 5;
-    let mut k: usize = 0;
-    while k < n {
+    for k in 0..n {
         if left > 0 && !holds(f, s, k) {
             print_difference(rt, f, s, k)?;
             left -= 1;
         }
-        k += 1;
     }
     Ok(())
 }

@@ -12,6 +12,7 @@ use lib.Ieee.Fits.{and_l, and_r}
 use Rattle.layout.specs.Layout.{words_per_ends, ends_low, ends_high}
 use Rattle.buffers.specs.declared.EdgeId.{EdgeId}
 use Rattle.buffers.specs.declared.Lack.{Lack}
+use Rattle.buffers.specs.declared.Lack.TheVariants.{Windows, Events, Cuts as Lack·Cuts, Entries}
 use Rattle.buffers.specs.Lack.{lack_number}
 use Rattle.windows.specs.declared.Edge.{Edge}
 use Rattle.windows.specs.declared.NewWindow.{NewWindow}
@@ -24,17 +25,33 @@ use Rattle.trim.specs.of_cut_lists.Cut.{Sizes}
 use Rattle.trim.proofs.laws_of_trim_split.Untouched.{untouched_wider}
 use Rattle.trim.specs.of_trim_split.Running.{Ready as Running-as-Ready}
 use Rattle.trim.specs.of_trim_split.declared.Counts.{Counts}
-use Rattle.trim.specs.declared.Added.{Added}
-use Rattle.trim.specs.declared.Added.TheVariants.{Stopped as Added-as-Stopped, Went as Added-as-Went}
+use Rattle.std.specs.declared.result.Result.{Result as Result₁}
+use Rattle.std.specs.declared.result.Result.TheVariants.{Ok, Err}
 use Rattle.trim.specs.Adding.{Given, AddsFrom, AddedWithin, added_end}
 use Rattle.trim_operations.specs.Operations.{add, as_candidate, Doubles}
 use Rattle.trim_operations.specs.Run.{has_length, is_on_edge, try_add, operate}
-use Rattle.trim_operations.specs.Represents.{CheckedCandidate}
+use Rattle.trim_operations.specs.Represents.{refusal_number, CheckedCandidate}
 use Rattle.trim_operations.proofs.Follow.{proper}
-use Rattle.run_operations.specs.declared.Step.TheVariants.{Stopped, Went}
+use Rattle.std.specs.Prelude.{Ok, Err}
+use Rattle.trim_operations.specs.declared.OperationRefusal.{OperationRefusal}
+use Rattle.trim_operations.specs.declared.OperationRefusal.TheVariants.{UnknownKind, NoEdge, EndOutside, NoVertex, NoSlot}
 use Rattle.run_operations.specs.Lists.{Setting, setting_of, ReadyToRun, StandsIn, snapshot_in, Operated}
 use Rattle.trim.specs.Buffers.{Slices}
 use Rattle.trim.specs.of_cut_lists.Buffers.{Cuts}
+
+-- no refusal has the number 0
+lack_above : (lack : Lack) → lack_number lack ≢ 0
+lack_above Windows h = let z : ⊥ = omega (arith, h) in z
+lack_above Events h = let z : ⊥ = omega (arith, h) in z
+lack_above Lack·Cuts h = let z : ⊥ = omega (arith, h) in z
+lack_above Entries h = let z : ⊥ = omega (arith, h) in z
+
+above_zero : (refusal : OperationRefusal) → refusal_number refusal ≢ 0
+above_zero UnknownKind h = let z : ⊥ = omega (arith, h) in z
+above_zero NoEdge h = let z : ⊥ = omega (arith, h) in z
+above_zero EndOutside h = let z : ⊥ = omega (arith, h) in z
+above_zero NoVertex h = let z : ⊥ = omega (arith, h) in z
+above_zero (NoSlot lack) h = lack_above lack h
 
 -- ---- by the answers of two tests
 refused : (a b : Bool) (n : ℕ) (r : Result) → n ≡ cond a (cond b 0 72) 71 → n ≢ 0 → cond a (cond b r (stopped 72)) (stopped 71) ≡ stopped n
@@ -81,13 +98,13 @@ module _ (limit : Float) (flags ends : List ℕ) (lens : List Float) (m : ℕ) (
   unfolding operate try_add
   trying_is s = ap (λ (z : Float). cond (ltb c.edge m && has_length z) (cond (is_on_edge z c.b0 && is_on_edge z c.b1) (added s) (stopped 72)) (stopped 71)) (sym long)
 
-  pub candidate_refused : (number : ℕ) → CheckedCandidate m c.edge l c.b0 c.b1 number → number ≢ 0 → Operated g (add c) made queued b (Stopped number) b
-  candidate_refused number h k = record { doubles = doubles number h; fits = tt; says = λ s cs S F. trying_is s ∙ refused first second number (added s) h.number k }
+  pub candidate_refused : (refusal : OperationRefusal) → CheckedCandidate m c.edge l c.b0 c.b1 (refusal_number refusal) → Operated g (add c) made queued b (Err refusal) b
+  candidate_refused refusal h = record { doubles = doubles (refusal_number refusal) h; fits = tt; says = λ s cs S F. trying_is s ∙ refused first second (refusal_number refusal) (added s) h.number (above_zero refusal) }
 
   -- it is refused by no number
-  module _ (number : ℕ) (checked : CheckedCandidate m c.edge l c.b0 c.b1 number) (none : number ≡ 0) where
+  module _ (checked : CheckedCandidate m c.edge l c.b0 c.b1 0) where
     is : ◌≡◌ {A = ℕ} 0 (cond first (cond second 0 72) 71)
-    is = sym none ∙ checked.number
+    is = checked.number
 
     pub candidate_there : c.edge < m
     candidate_there = ltb→lt c.edge m (and_l (ltb c.edge m) (has_length l) (passed_first first second is))
@@ -105,7 +122,7 @@ module _ (limit : Float) (flags ends : List ℕ) (lens : List Float) (m : ℕ) (
         candidates = cs;
         follows = F;
         proper = λ y.
-            let d = doubles number checked in
+            let d = doubles 0 checked in
             let on = passed_second first second is in
             proper g.mesh.len c d
             (subst (λ (z : Float). T (has_length z)) long (and_r (ltb c.edge m) (has_length l) (passed_first first second is)))
@@ -114,19 +131,19 @@ module _ (limit : Float) (flags ends : List ℕ) (lens : List Float) (m : ℕ) (
       }
 
       -- what `add` ensures of its answer
-      abbrev AddsTo : Added → Slices → Type 0
+      abbrev AddsTo : Result₁ Counts Lack → Slices → Type 0
       AddsTo r b' = AddsFrom g.cuts g.windows limit flags edge new (snapshot_in made queued b)
           (added_end r (links b'.edges b'.words) b'.reals (queue b'.keys b'.events) b'.vertex)
 
       adds : (s : State) → operate g.cuts g.windows limit flags g.mesh m g.vertices (add c) s ≡ added s
       adds s = trying_is s ∙ passed_both first second (added s) is
 
-      pub candidate_stopped : (lack : Lack) (n : ℕ) → n ≡ lack_number lack → (b' : Slices) → AddsTo (Added-as-Stopped lack) b' → Operated g (add c) made queued b (Stopped n) b'
-      candidate_stopped lack n e b' h = record { doubles = doubles number checked; fits = tt; says = λ s cs S F. adds s ∙ h g.mesh s (given s cs S F) ∙ ap stopped (sym e) }
+      pub candidate_stopped : (lack : Lack) (b' : Slices) → AddsTo (Err lack) b' → Operated g (add c) made queued b (Err (NoSlot lack)) b'
+      candidate_stopped lack b' h = record { doubles = doubles 0 checked; fits = tt; says = λ s cs S F. adds s ∙ h g.mesh s (given s cs S F) }
 
-      pub candidate_went : (now : Counts) (b' : Slices) → AddedWithin g.windows (Added-as-Went now) → AddsTo (Added-as-Went now) b' → Operated g (add c) made queued b (Went now.made now.queued) b'
+      pub candidate_went : (now : Counts) (b' : Slices) → AddedWithin g.windows (Ok now) → AddsTo (Ok now) b' → Operated g (add c) made queued b (Ok now) b'
       candidate_went now b' fits h = record {
-        doubles = doubles number checked;
+        doubles = doubles 0 checked;
         fits = fits;
         says = λ s cs S F.
             let r = h g.mesh s (given s cs S F) in

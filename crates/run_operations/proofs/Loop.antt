@@ -24,10 +24,11 @@ use Rattle.trim_operations.specs.Run.{ran as Run·ran}
 use Rattle.trim_operations.specs.Run.{ended as Run·ended}
 use Rattle.trim_operations.specs.Demand3.{Demand3}
 use Rattle.trim_operations.proofs.Follow.{operate_follows, demand3_follows}
-use Rattle.run_operations.specs.declared.Step.{Step}
-use Rattle.run_operations.specs.declared.Step.TheVariants.{Stopped, Went}
-use Rattle.run_operations.specs.declared.Ran.TheVariants.{Done, Ended}
-use Rattle.run_operations.specs.Lists.{mesh_of, Setting, setting_of, ReadyToRun, StandsIn, Goes, Operated, run_of, Finishes, Ends, Runs, snapshot_in}
+use Rattle.std.specs.Prelude.{Ok, Err}
+use Rattle.trim_operations.specs.declared.OperationRefusal.{OperationRefusal}
+use Rattle.trim_operations.specs.Represents.{refusal_number}
+use Rattle.trim.specs.of_trim_split.declared.Counts.{Counts}
+use Rattle.run_operations.specs.Lists.{Step, mesh_of, Setting, setting_of, ReadyToRun, StandsIn, Goes, Operated, run_of, Finishes, Ends, Runs, snapshot_in}
 use Rattle.trim.specs.Buffers.{Slices}
 use Rattle.trim.specs.of_cut_lists.Buffers.{Cuts}
 
@@ -219,21 +220,21 @@ module _ (limit : Float) (flags ends : List ℕ) (lens : List Float) (m : ℕ) w
             subst (λ (o : Operation). Operated setting o made queued b step b') is
             (subst (λ (h : Setting). Operated h (as_operation op) made queued b step b') (setting_same c c₀ b b₀ I.same_cuts I.same) O)
 
-        pub inv_stopped : (number : ℕ) → step ≡ Stopped number → Runs setting ops args n (snapshot_in 0 0 b₀) (Ended k number) b'
-        inv_stopped number h =
+        pub inv_stopped : (refusal : OperationRefusal) → step ≡ Err refusal → Runs setting ops args n (snapshot_in 0 0 b₀) (Err (record { at = k; refusal = refusal })) b'
+        inv_stopped refusal h =
             let M = subst (λ (z : Step). Operated setting (operation_at ops args k) made queued b z b') h moved in
-            along_ends setting ops args n (snapshot_in 0 0 b₀) k made queued b I.along before number (M.says I.along.state (candidates (operations ops args k)) I.along.stands I.along.follows)
+            along_ends setting ops args n (snapshot_in 0 0 b₀) k made queued b I.along before (refusal_number refusal) (M.says I.along.state (candidates (operations ops args k)) I.along.stands I.along.follows)
 
-        pub inv_next : (made' queued' k' : ℕ) → k' ≡ suc k → step ≡ Went made' queued' → (c' : Cuts) → SameLengths b' b₀ → SameCuts c' c₀ → Inv k' made' queued' b' c'
-        inv_next made' queued' k' e h c' u v =
+        pub inv_next : (now : Counts) (k' : ℕ) → k' ≡ suc k → step ≡ Ok now → (c' : Cuts) → SameLengths b' b₀ → SameCuts c' c₀ → Inv k' now.made now.queued b' c'
+        inv_next now k' e h c' u v =
             let M = subst (λ (z : Step). Operated setting (operation_at ops args k) made queued b z b') h moved in
-            subst (λ (z : ℕ). Inv z made' queued' b' c') (sym e)
+            subst (λ (z : ℕ). Inv z now.made now.queued b' c') (sym e)
             (record {
-              along = along_next setting ops args n (snapshot_in 0 0 b₀) k made queued b I.along before made' queued' b' M.doubles (M.says I.along.state (candidates (operations ops args k)) I.along.stands I.along.follows);
+              along = along_next setting ops args n (snapshot_in 0 0 b₀) k made queued b I.along before now.made now.queued b' M.doubles (M.says I.along.state (candidates (operations ops args k)) I.along.stands I.along.follows);
               fits = M.fits;
               same = u;
               same_cuts = v;
             })
 
-      pub inv_done : n ≤ k → Runs setting ops args n (snapshot_in 0 0 b₀) (Done made queued) b
+      pub inv_done : n ≤ k → Runs setting ops args n (snapshot_in 0 0 b₀) (Ok (record { made = made; queued = queued })) b
       inv_done h = along_done setting ops args n (snapshot_in 0 0 b₀) k made queued b I.along h I.fits

@@ -9,9 +9,9 @@ use lib.Ieee.{Float}
 use Rattle.layout.specs.Layout.{reals_per_vertex}
 use Rattle.buffers.specs.Slots.{slots_of}
 use Rattle.windows.specs.Windows.{capacity_of}
-use Rattle.heap.specs.declared.Pushed.{Pushed}
-use Rattle.heap.specs.declared.Pushed.TheVariants.{Full, Queued}
-use Rattle.heap.specs.Queue.{queue, popping}
+use Rattle.std.specs.Prelude.{Err, Ok}
+use Rattle.buffers.specs.declared.Lack.{Lack}
+use Rattle.heap.specs.Queue.{queue, popping, Pushed}
 use Rattle.actions.specs.Actions as actions
 use Rattle.actions.specs.Actions.{queueing, act}
 use Rattle.trim.specs.of_trim_state.State.{finish}
@@ -20,15 +20,14 @@ use Rattle.trim_operations.specs.declared.Op.{Op}
 use Rattle.trim_operations.specs.Operations.{touch, pop, unknown, as_operation}
 use Rattle.trim_operations.specs.of_pop.State.{after_pop}
 use Rattle.trim_operations.specs.Run.{operate}
-use Rattle.run_operations.specs.declared.Step.{Step}
-use Rattle.run_operations.specs.declared.Step.TheVariants.{Stopped, Went}
+use Rattle.trim_operations.specs.declared.OperationRefusal.TheVariants.{UnknownKind, NoVertex, NoSlot}
 use Rattle.run_operations.proofs.Pops.{after_pop_lem}
-use Rattle.run_operations.specs.Lists.{Setting, StepWithin, snapshot_in, Touches, PopsFirst, Operated}
+use Rattle.run_operations.specs.Lists.{Setting, Step, StepWithin, snapshot_in, Touches, PopsFirst, Operated}
 use Rattle.trim.specs.Buffers.{Slices, slices}
 
 -- ---- a touch
 module _ (v : ℕ) (d limit : Float) (flags : List ℕ) (made queued : ℕ) (keys : List Float) (events : List ℕ) (vertex : List Float) where
-  pub touch_missing : slots_of (length vertex) reals_per_vertex ≤ v → Touches v d limit flags made queued keys events vertex (Stopped 73) keys events vertex
+  pub touch_missing : slots_of (length vertex) reals_per_vertex ≤ v → Touches v d limit flags made queued keys events vertex (Err NoVertex) keys events vertex
   unfolding operate
   touch_missing h = record { fits = tt; says = λ cuts windows mesh m edges words reals s R. rw (le-ltb v (slots_of (length vertex) reals_per_vertex) h) }
 
@@ -37,16 +36,16 @@ module _ (v : ℕ) (d limit : Float) (flags : List ℕ) (made queued : ℕ) (key
     abbrev Answers : Pushed → Type 0
     Answers p = (cuts windows made : ℕ) → act cuts windows limit flags (actions.touch v d) (actions.stock made queued (queue keys events) vertex) ≡ queueing made vertex' (p, queue keys' events')
 
-    pub touch_full : Answers Full → Touches v d limit flags made queued keys events vertex (Stopped 13) keys' events' vertex'
+    pub touch_full : (l : Lack) → Answers (Err l) → Touches v d limit flags made queued keys events vertex (Err (NoSlot l)) keys' events' vertex'
     unfolding operate finish queueing
-    touch_full h = record {
+    touch_full l h = record {
       fits = tt;
       says = λ cuts windows mesh m edges words reals s R.
           rw (lt-ltb v (slots_of (length vertex) reals_per_vertex) there)
           (ap (finish s.wins s.live) (ap (act cuts windows limit flags (actions.touch v d)) R.stock ∙ h cuts windows made));
     }
 
-    pub touch_queued : (n : ℕ) → Answers (Queued n) → Touches v d limit flags made queued keys events vertex (Went made n) keys' events' vertex'
+    pub touch_queued : (n : ℕ) → Answers (Ok n) → Touches v d limit flags made queued keys events vertex (Ok (record { made = made; queued = n })) keys' events' vertex'
     unfolding operate finish queueing
     touch_queued n h = record {
       fits = omega arith;
@@ -62,20 +61,20 @@ module _ (v : ℕ) (d limit : Float) (flags : List ℕ) (made queued : ℕ) (key
 
 -- ---- the kinds
 within : (made windows : ℕ) → made ≤ windows → (r : Step) → StepWithin made r → StepWithin windows r
-within made windows h (Stopped n) w = tt
-within made windows h (Went a q) w = omega (arith, h, w)
+within made windows h (Err refusal) w = tt
+within made windows h (Ok counts) w = omega (arith, h, w)
 
 module _ (g : Setting) (made queued : ℕ) where
   pub of_op : (op o : Op) → op ≡ o → (b : Slices) (r : Step) (b' : Slices) → Operated g (as_operation o) made queued b r b' → Operated g (as_operation op) made queued b r b'
   of_op op o h b r b' k = subst (λ (z : Op). Operated g (as_operation z) made queued b r b') (sym h) k
 
-  pub op_unknown : (b : Slices) → Operated g unknown made queued b (Stopped 70) b
+  pub op_unknown : (b : Slices) → Operated g unknown made queued b (Err UnknownKind) b
   unfolding operate
   op_unknown b = record { doubles = tt; fits = tt; says = λ s cs S F. refl }
 
   module _ (fits : made ≤ g.windows) (edges words : List ℕ) (reals keys : List Float) (events : List ℕ) (vertex : List Float) where
     pub op_pop : made ≤ capacity_of (length words) (length reals) → (words' : List ℕ) (keys' : List Float) (events' : List ℕ) (n : ℕ) → PopsFirst made queued words keys events n words' keys' events'
-        → Operated g pop made queued (slices edges words reals keys events vertex) (Went made n) (slices edges words' reals keys' events' vertex)
+        → Operated g pop made queued (slices edges words reals keys events vertex) (Ok (record { made = made; queued = n })) (slices edges words' reals keys' events' vertex)
     unfolding operate
     op_pop room words' keys' events' n h = record {
       doubles = tt;

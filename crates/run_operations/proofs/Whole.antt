@@ -15,9 +15,11 @@ use Rattle.trim.specs.of_trim_split.Running.{Snapshot}
 use Rattle.contents.specs.Contents.{heads_in, words_of, reals_of_all, forgotten}
 use Rattle.contents.proofs.Held.{drop_zeros, words_are, reals_are_all}
 use Rattle.contents.proofs.Forgotten.{heads_only}
-use Rattle.run_operations.specs.declared.Ran.{Ran}
-use Rattle.run_operations.specs.declared.Ran.TheVariants.{Done, Ended}
-use Rattle.run_operations.specs.Lists.{mesh_of, Setting, setting_of, ReadyToRun, Finishes, Ends, Runs, snapshot_in, edge_count, operation_count, lent_setting, cleared, ZeroSlices, ZeroCuts, RunWhole}
+use Rattle.std.specs.Prelude.{Ok, Err}
+use Rattle.trim_operations.specs.Represents.{refusal_number}
+use Rattle.trim.specs.of_trim_split.declared.Counts.{Counts}
+use Rattle.run_operations.specs.declared.Ended.{Ended}
+use Rattle.run_operations.specs.Lists.{Ran, mesh_of, Setting, setting_of, ReadyToRun, Finishes, Ends, Runs, snapshot_in, edge_count, operation_count, lent_setting, cleared, ZeroSlices, ZeroCuts, RunWhole}
 use Rattle.trim.specs.Buffers.{Slices, slices}
 use Rattle.trim.specs.of_cut_lists.Buffers.{Cuts}
 use Rattle.cut_slots.specs.Slots.{cut_count, cut_to}
@@ -107,9 +109,11 @@ module _ (limit : Float) (flags ends : List ℕ) (lens : List Float) (ops : List
         (subst (λ (z : Slices). WholeRuns (lent_setting c z limit flags ends lens) z r b₂) (λ t. with (isEdges t) (isWords t) (isReals t)) runs)
 
     -- the slices keep their lengths, and the edges forget their links
-    pub whole_done : (made queued : ℕ) → r ≡ Done made queued → SameLengths b₂ b → (edges' : List ℕ) → edges' ≡ forgotten (length b₂.edges / words_per_edge) b₂.edges
-        → RunWhole limit flags ends lens ops args b c (Done made queued) (slices edges' b₂.words b₂.reals b₂.keys b₂.events b₂.vertex) c'
-    whole_done made queued h s edges' forget =
+    pub whole_done : (counts : Counts) → r ≡ Ok counts → SameLengths b₂ b → (edges' : List ℕ) → edges' ≡ forgotten (length b₂.edges / words_per_edge) b₂.edges
+        → RunWhole limit flags ends lens ops args b c (Ok counts) (slices edges' b₂.words b₂.reals b₂.keys b₂.events b₂.vertex) c'
+    whole_done counts h s edges' forget =
+        let made = counts.made in
+        let queued = counts.queued in
         let F : Finishes (lent_setting c b limit flags ends lens) ops args (operation_count ops args) (snapshot_in 0 0 (cleared b)) made queued b₂ = subst (λ (z : Ran). WholeRuns (lent_setting c b limit flags ends lens) (cleared b) z b₂) h whole_runs in
         let m = edge_count ends lens b.edges in
         let H = F.stands.holds in
@@ -136,9 +140,9 @@ module _ (limit : Float) (flags ends : List ℕ) (lens : List Float) (ops : List
           cuts = zeroed_cuts c c₁ c' same zeros;
         }
 
-    pub whole_ended : (k number : ℕ) → r ≡ Ended k number → (b' : Slices) → SameLengths b₂ b → ZeroSlices b₂ b' → RunWhole limit flags ends lens ops args b c (Ended k number) b' c'
-    whole_ended k number h b' s z =
-        let E : Ends (lent_setting c b limit flags ends lens) ops args (operation_count ops args) (snapshot_in 0 0 (cleared b)) k number = subst (λ (y : Ran). WholeRuns (lent_setting c b limit flags ends lens) (cleared b) y b₂) h whole_runs in
+    pub whole_ended : (ended : Ended) → r ≡ Err ended → (b' : Slices) → SameLengths b₂ b → ZeroSlices b₂ b' → RunWhole limit flags ends lens ops args b c (Err ended) b' c'
+    whole_ended ended h b' s z =
+        let E : Ends (lent_setting c b limit flags ends lens) ops args (operation_count ops args) (snapshot_in 0 0 (cleared b)) ended.at (refusal_number ended.refusal) = subst (λ (y : Ran). WholeRuns (lent_setting c b limit flags ends lens) (cleared b) y b₂) h whole_runs in
         record {
           whole = record { before = record { state = E.state; is = E.is; shorter = E.shorter; demand3 = E.demand3 }; zeros = zeroed_slices b b₂ b' s z };
           cuts = zeroed_cuts c c₁ c' same zeros;

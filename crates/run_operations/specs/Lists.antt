@@ -1,13 +1,11 @@
 -- What an operation, and a whole list of them, does to the lent buffers. Definitions only.
-use Rattle.std.specs.Prelude.{ℕ, ◌+◌, ◌*◌, ◌≤◌, ◌<◌, min, List, ◌≡◌, length, get_or, replicate, Float}
+use Rattle.std.specs.Prelude.{ℕ, ◌+◌, ◌*◌, ◌≤◌, ◌<◌, min, List, ◌≡◌, length, get_or, replicate, Float, None, Some, Ok, Err, Result as Prelude·Result}
 use Rattle.std.specs.Float.{nan}
 use Rattle.layout.specs.Layout.{reals_per_vertex, words_per_edge, words_per_operation, reals_per_operation, words_per_ends, ends_low, ends_high, reals_per_len}
 use Rattle.float64.specs.Scalar.{zero64}
 use Rattle.buffers.specs.Slots.{slots_of}
 use Rattle.windows.specs.Windows.{capacity_of}
-use Rattle.heap.specs.declared.Popped.{Popped}
-use Rattle.heap.specs.declared.Popped.TheVariants.{Empty, First}
-use Rattle.heap.specs.Queue.{queue, popping}
+use Rattle.heap.specs.Queue.{queue, popping, Popped}
 use Rattle.trim_operations.specs.of_pop.Words.{words_after}
 use Rattle.trim.specs.of_trim_model.Model.{Candidate}
 use Rattle.chains.specs.Chains.{links}
@@ -23,10 +21,10 @@ use Rattle.trim_operations.specs.Run.{operate, Run, ran, ended, run_from, start_
 use Rattle.trim_operations.specs.Demand3.{Demand3}
 use Rattle.contents.specs.Contents.{heads_in, words_of, reals_of_all}
 use Rattle.trim_operations.specs.Represents.{Represents}
-use Rattle.run_operations.specs.declared.Step.{Step}
-use Rattle.run_operations.specs.declared.Step.TheVariants.{Stopped, Went}
-use Rattle.run_operations.specs.declared.Ran.{Ran}
-use Rattle.run_operations.specs.declared.Ran.TheVariants.{Done, Ended}
+use Rattle.trim_operations.specs.declared.OperationRefusal.{OperationRefusal}
+use Rattle.trim_operations.specs.Represents.{refusal_number}
+use Rattle.trim.specs.of_trim_split.declared.Counts.{Counts}
+use Rattle.run_operations.specs.declared.Ended.{Ended}
 
 -- ---- what is lent
 -- of each edge its two ends, and its length
@@ -77,19 +75,23 @@ pub record Goes (m : ℕ) (p : Snapshot) (made queued : ℕ) (b : Slices) (resul
   pub stands : StandsIn made queued b state
   pub untouched : Untouched (λ e. e < m) p (snapshot_in made queued b)
 
+-- the answer of an operation: how many windows are made and events queued, or why it is refused
+abbrev pub Step : Type 0
+Step = Prelude·Result Counts OperationRefusal
+
 -- an answer says what the result is, and what there is then stands in the buffers
 abbrev pub StepSays : ℕ → Snapshot → Step → Slices → Result → Type 0
-StepSays m p (Stopped n) b result = result ≡ stopped n
-StepSays m p (Went made queued) b result = Goes m p made queued b result
+StepSays m p (Err refusal) b result = result ≡ stopped (refusal_number refusal)
+StepSays m p (Ok counts) b result = Goes m p counts.made counts.queued b result
 
 abbrev pub StepWithin : ℕ → Step → Type 0
-StepWithin windows (Stopped n) = Unit {0}
-StepWithin windows (Went made queued) = made ≤ windows
+StepWithin windows (Err refusal) = Unit {0}
+StepWithin windows (Ok counts) = counts.made ≤ windows
 
 -- how many events a pop leaves of so many
 unfoldable pub left_of : ℕ → Popped → ℕ
-left_of queued Empty = queued
-left_of queued (First x n) = n
+left_of queued None = queued
+left_of queued (Some (x, n)) = n
 
 pub record PopsFirst (made queued : ℕ) (words : List ℕ) (keys : List Float) (events : List ℕ) (r : ℕ) (words' : List ℕ) (keys' : List Float) (events' : List ℕ) : Type 0 where
   pub left : r ≡ left_of queued (popping (queue keys events) queued).0
@@ -108,6 +110,10 @@ pub record Operated (g : Setting) (o : Operation) (made queued : ℕ) (b : Slice
   pub fits : StepWithin g.windows r
   pub says : (s : State) (cs : List Candidate) → StandsIn made queued b s → Follows g.limit g.mesh.len cs s.stock.made s.live
       → StepSays g.edges (snapshot_in made queued b) r b' (operate g.cuts g.windows g.limit g.flags g.mesh g.edges g.vertices o s)
+
+-- the answer of a list: how many windows are made and events queued, or where it ends and why
+abbrev pub Ran : Type 0
+Ran = Prelude·Result Counts Ended
 
 -- ---- a list of n operations, on empty edges, from p on
 module _ (g : Setting) (ops : List ℕ) (args : List Float) (n : ℕ) (p : Snapshot) where
@@ -136,8 +142,8 @@ module _ (g : Setting) (ops : List ℕ) (args : List Float) (n : ℕ) (p : Snaps
     pub demand3 : Claim k state
 
   abbrev pub Runs : Ran → Slices → Type 0
-  Runs (Done made queued) b = Finishes made queued b
-  Runs (Ended k number) b = Ends k number
+  Runs (Ok counts) b = Finishes counts.made counts.queued b
+  Runs (Err e) b = Ends e.at (refusal_number e.refusal)
 
 -- ---- whole slices as they are lent: what they all have slots for
 abbrev pub edge_count : List ℕ → List Float → List ℕ → ℕ
@@ -202,8 +208,8 @@ module _ (limit : Float) (flags ends : List ℕ) (lens : List Float) (ops : List
     pub zeros : ZeroSlices b b'
 
   abbrev pub WholeRun : Ran → Slices → Type 0
-  WholeRun (Done made queued) b' = WholeDone made queued b'
-  WholeRun (Ended k number) b' = WholeEnded k number b'
+  WholeRun (Ok counts) b' = WholeDone counts.made counts.queued b'
+  WholeRun (Err e) b' = WholeEnded e.at (refusal_number e.refusal) b'
 
   pub record RunWhole (r : Ran) (b' : Slices) (c' : Cuts) : Type 0 where
     pub whole : WholeRun r b'

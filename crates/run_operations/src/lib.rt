@@ -12,29 +12,21 @@ ghost use Rattle.trim.specs.of_cut_lists.Buffers.{cut_buffers, cuts_before, cuts
 ghost use Rattle.cut_slots.specs.Slots.{cut_count};
 
 use buffers::{EdgeId, VertexId, read_f64, read_u32};
-use heap::Pushed;
 use layout::{
     ENDS_HIGH, ENDS_LOW, REALS_PER_LEN, REALS_PER_OPERATION, REALS_PER_VERTEX, WORDS_PER_EDGE,
     WORDS_PER_ENDS, WORDS_PER_OPERATION,
 };
-use trim::Added;
+pub use trim as of_trim;
 use trim::of_trim_split::Counts;
-use trim_operations::of_pop::Taken;
-use trim_operations::{Op, of_pop};
+pub use trim_operations as of_trim_operations;
+use trim_operations::{Op, OperationRefusal, of_pop};
 use windows::{Edge, NewWindow};
 
-// An operation is refused by its number; or so many windows are made and so many events queued.
+// The list ends before operation `at`, which is refused.
 #[derive(Clone, Copy)]
-pub enum Step {
-    Stopped(u32),
-    Went { made: u32, queued: u32 },
-}
-
-// All operations that both slices have whole slots of went; or the list ends before operation `at`, which is refused by its number.
-#[derive(Clone, Copy)]
-pub enum Ran {
-    Done { made: u32, queued: u32 },
-    Ended { at: u32, number: u32 },
+pub struct Ended {
+    pub at: u32,
+    pub refusal: OperationRefusal,
 }
 
 // A vertex is reached at a distance.
@@ -46,29 +38,36 @@ fn touch(
     keys: &mut [f64],
     events: &mut [u32],
     vertex: &mut [f64],
-    made: u32,
-    queued: u32,
-) -> Step
-    ensures { Touches v.0 d limit vertex_words.now made queued (given keys) (given events) (given vertex) result (left keys) (left events) (left vertex) }
+    counts: Counts,
+) -> Result<Counts, OperationRefusal>
+    ensures { Touches v.0 d limit vertex_words.now counts.made counts.queued (given keys) (given events) (given vertex) result (left keys) (left events) (left vertex) }
 {
     if buffers::slots(vertex.len(), REALS_PER_VERTEX) <= v.0 {
-        return Step::Stopped(73);
+        return Err(OperationRefusal::NoVertex);
     }
-    let touched = actions::touch(vertex, vertex_words, keys, events, queued, limit, v, d);
-    match touched {
-        Pushed::Full => Step::Stopped(13),
-        Pushed::Queued(n) => Step::Went { made, queued: n },
-    }
+    let queued = actions::touch(
+        vertex,
+        vertex_words,
+        keys,
+        events,
+        counts.queued,
+        limit,
+        v,
+        d,
+    )?;
+    Ok(Counts {
+        made: counts.made,
+        queued,
+    })
 }
 
 // The first event is taken out, if there is one. The answer is how many are left.
 fn pop_first(words: &mut [u32], keys: &mut [f64], events: &mut [u32], made: u32, queued: u32) -> u32
     ensures { PopsFirst made queued (given words) (given keys) (given events) result (left words) (left keys) (left events) }
 {
-    let taken = of_pop::pop(words, keys, events, made, queued);
-    match taken {
-        Taken::Empty => queued,
-        Taken::First(_, n, _) => n,
+    match of_pop::pop(words, keys, events, made, queued) {
+        None => queued,
+        Some(first) => first.queued,
     }
 }
 
@@ -111,7 +110,7 @@ fn zero_slices(
     buffers::zero_f64(vertex);
 }
 
-// A candidate is refused by its number, or added to its edge.
+// A candidate is refused, or added to its edge.
 fn add_candidate(
     m: u32,
     id: EdgeId,
@@ -130,18 +129,14 @@ fn add_candidate(
     out: &mut [f64],
     keep: &mut [f64],
     next: &mut [f64],
-    made: u32,
-    queued: u32,
-) -> Step
-    requires { ReadyToRun m made (slices edges.old words.old reals.old keys.old events.old vertex.old) (cut_buffers pts.old out.old keep.old next.old) }
+    counts: Counts,
+) -> Result<Counts, OperationRefusal>
+    requires { ReadyToRun m counts.made (slices edges.old words.old reals.old keys.old events.old vertex.old) (cut_buffers pts.old out.old keep.old next.old) }
     ensures { Operated (setting_of (cuts_before pts out keep next) (before edges words reals keys events vertex) limit vertex_words.now ends.now lens.now m)
-        (Operations·add (as_candidate id.0 w)) made queued (before edges words reals keys events vertex) result (after edges words reals keys events vertex) }
+        (Operations·add (as_candidate id.0 w)) counts.made counts.queued (before edges words reals keys events vertex) result (after edges words reals keys events vertex) }
 {
     let len = read_f64(lens, REALS_PER_LEN, id.0, 0);
-    let number = trim_operations::refusal(m, id, len, w.b0, w.b1);
-    if number != 0 {
-        return Step::Stopped(number);
-    }
+    trim_operations::check_candidate(m, id, len, w.b0, w.b1)?;
     let low = read_u32(ends, WORDS_PER_ENDS, id.0, ENDS_LOW);
     let high = read_u32(ends, WORDS_PER_ENDS, id.0, ENDS_HIGH);
     let e = Edge {
@@ -150,7 +145,7 @@ fn add_candidate(
         a: VertexId(low),
         b: VertexId(high),
     };
-    let added = trim::add(
+    let now = trim::add(
         edges,
         words,
         reals,
@@ -162,18 +157,12 @@ fn add_candidate(
         out,
         keep,
         next,
-        Counts { made, queued },
+        counts,
         e,
         w,
         limit,
-    );
-    match added {
-        Added::Stopped(lack) => Step::Stopped(buffers::lack_number(lack)),
-        Added::Went(now) => Step::Went {
-            made: now.made,
-            queued: now.queued,
-        },
-    }
+    )?;
+    Ok(now)
 }
 
 // One operation.
@@ -194,12 +183,11 @@ fn operate(
     out: &mut [f64],
     keep: &mut [f64],
     next: &mut [f64],
-    made: u32,
-    queued: u32,
-) -> Step
-    requires { ReadyToRun m made (slices edges.old words.old reals.old keys.old events.old vertex.old) (cut_buffers pts.old out.old keep.old next.old) }
+    counts: Counts,
+) -> Result<Counts, OperationRefusal>
+    requires { ReadyToRun m counts.made (slices edges.old words.old reals.old keys.old events.old vertex.old) (cut_buffers pts.old out.old keep.old next.old) }
     ensures { Operated (setting_of (cuts_before pts out keep next) (before edges words reals keys events vertex) limit vertex_words.now ends.now lens.now m)
-        (as_operation op) made queued (before edges words reals keys events vertex) result (after edges words reals keys events vertex) }
+        (as_operation op) counts.made counts.queued (before edges words reals keys events vertex) result (after edges words reals keys events vertex) }
 {
     match op {
         Op::Add(id, w) => add_candidate(
@@ -220,25 +208,17 @@ fn operate(
             out,
             keep,
             next,
-            made,
-            queued,
+            counts,
         ),
         Op::Pop => {
-            let n = pop_first(words, keys, events, made, queued);
-            Step::Went { made, queued: n }
+            let queued = pop_first(words, keys, events, counts.made, counts.queued);
+            Ok(Counts {
+                made: counts.made,
+                queued,
+            })
         }
-        Op::Touch(v, d) => touch(
-            v,
-            d,
-            limit,
-            vertex_words,
-            keys,
-            events,
-            vertex,
-            made,
-            queued,
-        ),
-        Op::Unknown => Step::Stopped(70),
+        Op::Touch(v, d) => touch(v, d, limit, vertex_words, keys, events, vertex, counts),
+        Op::Unknown => Err(OperationRefusal::UnknownKind),
     }
 }
 
@@ -262,16 +242,14 @@ fn run_all(
     out: &mut [f64],
     keep: &mut [f64],
     next: &mut [f64],
-) -> Ran
+) -> Result<Counts, Ended>
     requires { ReadyToRun m 0 (slices edges.old words.old reals.old keys.old events.old vertex.old) (cut_buffers pts.old out.old keep.old next.old)
         × ((e : ℕ) → head_of edges.old e ≡ 0) }
     ensures { Runs (setting_of (cuts_before pts out keep next) (before edges words reals keys events vertex) limit vertex_words.now ends.now lens.now m)
         ops.now args.now n (snapshot_in 0 0 (before edges words reals keys events vertex)) result (after edges words reals keys events vertex) }
 {
-    let mut made = 0;
-    let mut queued = 0;
-    let mut k = 0;
-    while k < n {
+    let mut counts = Counts { made: 0, queued: 0 };
+    for k in 0..n {
         let op = trim_operations::operation_at(ops, args, k);
         let step = operate(
             m,
@@ -290,19 +268,14 @@ fn run_all(
             out,
             keep,
             next,
-            made,
-            queued,
+            counts,
         );
         match step {
-            Step::Stopped(number) => return Ran::Ended { at: k, number },
-            Step::Went { made: a, queued: b } => {
-                made = a;
-                queued = b;
-            }
+            Err(refusal) => return Err(Ended { at: k, refusal }),
+            Ok(now) => counts = now,
         }
-        k += 1;
     }
-    Ran::Done { made, queued }
+    Ok(counts)
 }
 
 // The same over the first x slots of the cut buffers.
@@ -326,7 +299,7 @@ fn run_parts(
     out: &mut [f64],
     keep: &mut [f64],
     next: &mut [f64],
-) -> Ran
+) -> Result<Counts, Ended>
     requires { (m ≡ edge_count ends.now lens.now edges.old)
         × ((x ≡ cut_count (cut_buffers pts.old out.old keep.old next.old)) × ((n ≡ operation_count ops.now args.now) × ((e : ℕ) → head_of edges.old e ≡ 0))) }
     ensures { Runs (lent_setting (cuts_before pts out keep next) (before edges words reals keys events vertex) limit vertex_words.now ends.now lens.now)
@@ -375,7 +348,7 @@ pub fn run(
     out: &mut [f64],
     keep: &mut [f64],
     next: &mut [f64],
-) -> Ran
+) -> Result<Counts, Ended>
     ensures { RunWhole limit vertex_words.now ends.now lens.now ops.now args.now
         (before edges words reals keys events vertex) (cuts_before pts out keep next)
         result (after edges words reals keys events vertex) (cuts_after pts out keep next) }
@@ -414,13 +387,13 @@ pub fn run(
     );
     zero_cuts(pts, out, keep, next);
     match r {
-        Ran::Done { made, queued } => {
+        Ok(counts) => {
             contents::forget(edges);
-            Ran::Done { made, queued }
+            Ok(counts)
         }
-        Ran::Ended { at, number } => {
+        Err(ended) => {
             zero_slices(edges, words, reals, keys, events, vertex);
-            Ran::Ended { at, number }
+            Err(ended)
         }
     }
 }

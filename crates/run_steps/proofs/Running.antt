@@ -10,25 +10,24 @@ use Rattle.buffers.specs.declared.Lack.{Lack}
 use Rattle.buffers.specs.declared.Lack.TheVariants as lacks
 use Rattle.buffers.specs.Lack.{lack_number}
 use Rattle.windows.specs.Windows.{capacity_of}
-use Rattle.heap.specs.declared.Popped.{Popped}
-use Rattle.heap.specs.Queue.{Queue, at, slots, popped, popping}
+use Rattle.heap.specs.Queue.{Queue, at, slots, popped, popping, Popped}
 use Rattle.heap.proofs.Turns.{pop_empty, pop_past, pop_done}
 use Rattle.actions.specs.Actions.{Stock}
 use Rattle.advance.specs.of_trim_model.Model.{Candidate}
 use Rattle.advance.specs.of_trim_state.State.{State, went}
 use Rattle.advance.specs.of_cut_lists.Buffers.{Cuts}
-use Rattle.advance.specs.of_trim_split.declared.Counts.{Counts}
 use Rattle.insert_job.specs.of_trim.Buffers.{Slices}
 use Rattle.insert_job.specs.of_trim.Adding.{snapshot_at}
 use Rattle.advance.specs.of_face_entries.Entries.{FaceEntry}
 use Rattle.insert_job.specs.of_insertion.declared.InsertCounts.{InsertCounts}
-use Rattle.insert_job.specs.declared.InsertedJob.{InsertedJob}
-use Rattle.insert_job.specs.declared.InsertedJob.TheVariants as job
+use Rattle.insert_job.specs.declared.InsertRefusal.{InsertRefusal}
+use Rattle.std.specs.declared.result.Result.{Result}
+use Rattle.insert_job.specs.declared.InsertRefusal.TheVariants.{Wedge, NoSlot}
+use Rattle.std.specs.declared.result.Result.TheVariants.{Ok, Err}
 use Rattle.insert_job.specs.Job.{JobWithin}
 use Rattle.advance.specs.of_field_step.Step.{is_empty, idle_of}
 use Rattle.advance.specs.of_field_step.Contract.{FieldStands}
 use Rattle.advance.specs.declared.Advanced.{Advanced}
-use Rattle.advance.specs.declared.Advanced.TheVariants as advanced
 use Rattle.advance.specs.Advance.{steps_of}
 use Rattle.advance.specs.Contract.{AdvancesTo}
 use Rattle.run_steps.specs.declared.FieldWork.{FieldWork}
@@ -68,12 +67,12 @@ budget_spent xs steps s h = rw h refl
 
 module _ (limit : Float) (n most : ℕ) (v : List Float) (buffer vw round : List ℕ) (er : List Float) (tw : List ℕ) (tr : List Float) (b : Slices) (c : Cuts) where
   abbrev Runs : InsertCounts → FieldWork → Slices → Type 0
-  Runs k r b' = RunsTo limit n most v buffer vw round er tw tr b c (job.Went k) r b'
+  Runs k r b' = RunsTo limit n most v buffer vw round er tw tr b c (Ok k) r b'
 
-  abbrev Advances : InsertCounts → Advanced → Slices → Type 0
+  abbrev Advances : InsertCounts → Result Advanced Lack → Slices → Type 0
   Advances k a b' = AdvancesTo limit n most v buffer vw round er tw tr k.trim b c a b'
 
-  run_stopped : (k : InsertCounts) (lack : Lack) (b' : Slices) → Advances k (advanced.Stopped lack) b' → Runs k (work_answer b'.keys b'.events k.entries (advanced.Stopped lack)) b'
+  run_stopped : (k : InsertCounts) (lack : Lack) (b' : Slices) → Advances k (Err lack) b' → Runs k (work_answer b'.keys b'.events k.entries (Err lack)) b'
   unfolding budgeted
   run_stopped k lack b' A = record {
     bounded = lack_above lack;
@@ -81,11 +80,11 @@ module _ (limit : Float) (n most : ℕ) (v : List Float) (buffer vw round : List
         ap (budgeted xs (steps_of (length c.pts) (capacity_of (length b.words) (length b.reals)) limit vw v triangles most s)) (A.advances triangles F past s S).0;
   }
 
-  module _ (k : InsertCounts) (t : Counts) (steps : ℕ) (b' : Slices) (A : Advances k (advanced.Went t steps) b') where
-    idle_is : (triangles : List ℕ) (past : List Candidate) (s : State) → FieldStands limit v triangles n past s (snapshot_at t b') → idle_of s ≡ none_waits b'.keys b'.events t.queued
+  module _ (k : InsertCounts) (d : Advanced) (b' : Slices) (A : Advances k (Ok d) b') where
+    idle_is : (triangles : List ℕ) (past : List Candidate) (s : State) → FieldStands limit v triangles n past s (snapshot_at d.counts b') → idle_of s ≡ none_waits b'.keys b'.events d.counts.queued
     idle_is triangles past s S = ap (λ (z : Stock). is_empty (popping z.queue z.queued).0) S.stands.stock
 
-    run_done : none_waits b'.keys b'.events t.queued ≡ true → Runs k (Done (record { trim = t; entries = k.entries }) steps) b'
+    run_done : none_waits b'.keys b'.events d.counts.queued ≡ true → Runs k (Done (record { trim = d.counts; entries = k.entries }) d.steps) b'
     run_done h = record {
       bounded = A.bounded;
       runs = λ triangles F past s S xs.
@@ -104,7 +103,7 @@ module _ (limit : Float) (n most : ℕ) (v : List Float) (buffer vw round : List
           };
     }
 
-    run_spent : none_waits b'.keys b'.events t.queued ≡ false → Runs k (Refused 15) b'
+    run_spent : none_waits b'.keys b'.events d.counts.queued ≡ false → Runs k (Refused 15) b'
     run_spent h = record {
       bounded = omega arith;
       runs = λ triangles F past s S xs.
@@ -113,43 +112,43 @@ module _ (limit : Float) (n most : ℕ) (v : List Float) (buffer vw round : List
           ap (budgeted xs taken) g.is ∙ budget_spent xs taken g.state (idle_is triangles _ g.state g.field ∙ h);
     }
 
-    run_went : Runs k (work_answer b'.keys b'.events k.entries (advanced.Went t steps)) b'
-    run_went = go (none_waits b'.keys b'.events t.queued) refl where
-      go : (w : Bool) → none_waits b'.keys b'.events t.queued ≡ w → Runs k (cond w (Done (record { trim = t; entries = k.entries }) steps) (Refused 15)) b'
+    run_went : Runs k (work_answer b'.keys b'.events k.entries (Ok d)) b'
+    run_went = go (none_waits b'.keys b'.events d.counts.queued) refl where
+      go : (w : Bool) → none_waits b'.keys b'.events d.counts.queued ≡ w → Runs k (cond w (Done (record { trim = d.counts; entries = k.entries }) d.steps) (Refused 15)) b'
       go true h = run_done h
       go false h = run_spent h
 
-  run_each : (k : InsertCounts) (a : Advanced) (b' : Slices) → Advances k a b' → Runs k (work_answer b'.keys b'.events k.entries a) b'
-  run_each k (advanced.Stopped lack) b' A = run_stopped k lack b' A
-  run_each k (advanced.Went t steps) b' A = run_went k t steps b' A
+  run_each : (k : InsertCounts) (a : Result Advanced Lack) (b' : Slices) → Advances k a b' → Runs k (work_answer b'.keys b'.events k.entries a) b'
+  run_each k (Err lack) b' A = run_stopped k lack b' A
+  run_each k (Ok d) b' A = run_went k d b' A
 
-  pub run_answer : (k : InsertCounts) (a : Advanced) (b' : Slices) (r : FieldWork) → r ≡ work_answer b'.keys b'.events k.entries a → Advances k a b' → Runs k r b'
+  pub run_answer : (k : InsertCounts) (a : Result Advanced Lack) (b' : Slices) (r : FieldWork) → r ≡ work_answer b'.keys b'.events k.entries a → Advances k a b' → Runs k r b'
   run_answer k a b' r e A = subst (λ (z : FieldWork). Runs k z b') (sym e) (run_each k a b' A)
 
   -- ---- of each answer of insertion
-  abbrev From : InsertedJob → FieldWork → Slices → Type 0
+  abbrev From : Result InsertCounts InsertRefusal → FieldWork → Slices → Type 0
   From from r b' = RunsTo limit n most v buffer vw round er tw tr b c from r b'
 
-  pub run_wedge : (from : InsertedJob) → from ≡ job.Wedge → (b' : Slices) → From from (Refused 11) b'
-  run_wedge from e b' = subst (λ (z : InsertedJob). From z (Refused 11) b') (sym e) (record { bounded = omega arith; runs = refl })
+  pub run_wedge : (from : Result InsertCounts InsertRefusal) → from ≡ Err Wedge → (b' : Slices) → From from (Refused 11) b'
+  run_wedge from e b' = subst (λ (z : Result InsertCounts InsertRefusal). From z (Refused 11) b') (sym e) (record { bounded = omega arith; runs = refl })
 
-  pub run_lack : (from : InsertedJob) (lack : Lack) → from ≡ job.Stopped lack → (k : ℕ) → k ≡ lack_number lack → (b' : Slices) → From from (Refused k) b'
-  run_lack from lack e k h b' = subst (λ (z : InsertedJob). From z (Refused k) b') (sym e) (record { bounded = subst (λ (z : ℕ). 9 < z) (sym h) (lack_above lack); runs = ap Refused h })
+  pub run_lack : (from : Result InsertCounts InsertRefusal) (lack : Lack) → from ≡ Err (NoSlot lack) → (k : ℕ) → k ≡ lack_number lack → (b' : Slices) → From from (Refused k) b'
+  run_lack from lack e k h b' = subst (λ (z : Result InsertCounts InsertRefusal). From z (Refused k) b') (sym e) (record { bounded = subst (λ (z : ℕ). 9 < z) (sym h) (lack_above lack); runs = ap Refused h })
 
-  pub run_from_lem : (from : InsertedJob) (k : InsertCounts) → from ≡ job.Went k → (a : Advanced) (b' : Slices) (r : FieldWork) → r ≡ work_answer b'.keys b'.events k.entries a → Advances k a b' → From from r b'
-  run_from_lem from k e a b' r h A = subst (λ (z : InsertedJob). From z r b') (sym e) (run_answer k a b' r h A)
+  pub run_from_lem : (from : Result InsertCounts InsertRefusal) (k : InsertCounts) → from ≡ Ok k → (a : Result Advanced Lack) (b' : Slices) (r : FieldWork) → r ≡ work_answer b'.keys b'.events k.entries a → Advances k a b' → From from r b'
+  run_from_lem from k e a b' r h A = subst (λ (z : Result InsertCounts InsertRefusal). From z r b') (sym e) (run_answer k a b' r h A)
 
-pub counts_within : (windows : ℕ) (from : InsertedJob) (k : InsertCounts) → from ≡ job.Went k → JobWithin windows from → k.trim.made ≤ windows
+pub counts_within : (windows : ℕ) (from : Result InsertCounts InsertRefusal) (k : InsertCounts) → from ≡ Ok k → JobWithin windows from → k.trim.made ≤ windows
 counts_within windows from k e h = subst (JobWithin windows) e h
 
 -- ---- the answer after the turns
-module _ (keys : List Float) (events : List ℕ) (entries : ℕ) (a : Advanced) where
-  pub after_stopped : (lack : Lack) → a ≡ advanced.Stopped lack → (k : ℕ) → k ≡ lack_number lack → Refused k ≡ work_answer keys events entries a
+module _ (keys : List Float) (events : List ℕ) (entries : ℕ) (a : Result Advanced Lack) where
+  pub after_stopped : (lack : Lack) → a ≡ Err lack → (k : ℕ) → k ≡ lack_number lack → Refused k ≡ work_answer keys events entries a
   after_stopped lack e k h = ap Refused h ∙ sym (ap (work_answer keys events entries) e)
 
-  module _ (t : Counts) (steps : ℕ) (e : a ≡ advanced.Went t steps) where
-    pub after_done : none_waits keys events t.queued ≡ true → Done (record { trim = t; entries = entries }) steps ≡ work_answer keys events entries a
-    after_done h = sym (ap (λ (w : Bool). cond w (Done (record { trim = t; entries = entries }) steps) (Refused 15)) h) ∙ sym (ap (work_answer keys events entries) e)
+  module _ (d : Advanced) (e : a ≡ Ok d) where
+    pub after_done : none_waits keys events d.counts.queued ≡ true → Done (record { trim = d.counts; entries = entries }) d.steps ≡ work_answer keys events entries a
+    after_done h = sym (ap (λ (w : Bool). cond w (Done (record { trim = d.counts; entries = entries }) d.steps) (Refused 15)) h) ∙ sym (ap (work_answer keys events entries) e)
 
-    pub after_spent : none_waits keys events t.queued ≡ false → Refused 15 ≡ work_answer keys events entries a
-    after_spent h = sym (ap (λ (w : Bool). cond w (Done (record { trim = t; entries = entries }) steps) (Refused 15)) h) ∙ sym (ap (work_answer keys events entries) e)
+    pub after_spent : none_waits keys events d.counts.queued ≡ false → Refused 15 ≡ work_answer keys events entries a
+    after_spent h = sym (ap (λ (w : Bool). cond w (Done (record { trim = d.counts; entries = entries }) d.steps) (Refused 15)) h) ∙ sym (ap (work_answer keys events entries) e)

@@ -1,5 +1,6 @@
 -- What the main loop does to the buffers, within its budget. Definitions only.
-use Rattle.std.specs.Prelude.{ℕ, ◌≤◌, ◌<◌, Bool, cond, List, ◌++◌, ◌≡◌, length, Float}
+use Rattle.std.specs.Prelude.{ℕ, ◌≤◌, ◌<◌, Bool, cond, List, ◌++◌, ◌≡◌, length, Float, Result, Ok, Err}
+use Rattle.buffers.specs.declared.Lack.{Lack}
 use Rattle.buffers.specs.Lack.{lack_number}
 use Rattle.windows.specs.Windows.{capacity_of}
 use Rattle.heap.specs.Queue.{queue, popping}
@@ -11,12 +12,11 @@ use Rattle.insert_job.specs.of_trim.Buffers.{Slices}
 use Rattle.insert_job.specs.of_trim.Adding.{snapshot_at}
 use Rattle.advance.specs.of_face_entries.Entries.{FaceEntry}
 use Rattle.insert_job.specs.of_insertion.declared.InsertCounts.{InsertCounts}
-use Rattle.insert_job.specs.declared.InsertedJob.{InsertedJob}
-use Rattle.insert_job.specs.declared.InsertedJob.TheVariants as job
+use Rattle.insert_job.specs.declared.InsertRefusal.{InsertRefusal}
+use Rattle.insert_job.specs.declared.InsertRefusal.TheVariants.{Wedge, NoSlot}
 use Rattle.advance.specs.of_field_step.Step.{is_empty}
 use Rattle.advance.specs.of_field_step.Contract.{FieldMesh, FieldStands}
 use Rattle.advance.specs.declared.Advanced.{Advanced}
-use Rattle.advance.specs.declared.Advanced.TheVariants as advanced
 use Rattle.advance.specs.Advance.{advance_candidates}
 use Rattle.run_steps.specs.declared.FieldWork.{FieldWork}
 use Rattle.run_steps.specs.declared.FieldWork.TheVariants.{Refused, Done}
@@ -27,9 +27,9 @@ abbrev pub none_waits : List Float → List ℕ → ℕ → Bool
 none_waits keys events queued = is_empty (popping (queue keys events) queued).0
 
 -- the answer after the turns, so many entries being made
-abbrev pub work_answer : List Float → List ℕ → ℕ → Advanced → FieldWork
-work_answer keys events entries (advanced.Stopped lack) = Refused (lack_number lack)
-work_answer keys events entries (advanced.Went c steps) = cond (none_waits keys events c.queued) (Done (record { trim = c; entries = entries }) steps) (Refused 15)
+abbrev pub work_answer : List Float → List ℕ → ℕ → Result Advanced Lack → FieldWork
+work_answer keys events entries (Err lack) = Refused (lack_number lack)
+work_answer keys events entries (Ok a) = cond (none_waits keys events a.counts.queued) (Done (record { trim = a.counts; entries = entries }) a.steps) (Refused 15)
 
 -- a refusal is none of 1 to 9, and else the windows are within the buffer
 abbrev pub WorkWithin : ℕ → FieldWork → Type 0
@@ -51,10 +51,10 @@ module _ (limit : Float) (v : List Float) (triangles : List ℕ) (vertices : ℕ
 
 module _ (limit : Float) (n most : ℕ) (v : List Float) (buffer vertex_words round : List ℕ) (edge_reals : List Float) (triangle_words : List ℕ) (triangleReals : List Float) (b : Slices) (c : Cuts) where
   -- a refusal before it stays; else the buffers come to hold the field, of every mesh and state that they hold
-  abbrev pub RunsOn : InsertedJob → FieldWork → Slices → Type 0
-  RunsOn job.Wedge r b' = r ≡ Refused 11
-  RunsOn (job.Stopped lack) r b' = r ≡ Refused (lack_number lack)
-  RunsOn (job.Went k) r b' =
+  abbrev pub RunsOn : Result InsertCounts InsertRefusal → FieldWork → Slices → Type 0
+  RunsOn (Err Wedge) r b' = r ≡ Refused 11
+  RunsOn (Err (NoSlot lack)) r b' = r ≡ Refused (lack_number lack)
+  RunsOn (Ok k) r b' =
       (triangles : List ℕ) → FieldMesh v triangles n buffer b.edges edge_reals triangle_words triangleReals vertex_words round
       → (past : List Candidate) (s : State) → FieldStands limit v triangles n past s (snapshot_at k.trim b) → (xs : List FaceEntry)
       → let cuts = length c.pts in
@@ -63,7 +63,7 @@ module _ (limit : Float) (n most : ℕ) (v : List Float) (buffer vertex_words ro
       (loop_of cuts windows limit vertex_words v triangles most (record { state = s; entries = xs }))
 
   -- buffers b and c at the call, b' at the return
-  pub record RunsTo (from : InsertedJob) (r : FieldWork) (b' : Slices) : Type 0 where
+  pub record RunsTo (from : Result InsertCounts InsertRefusal) (r : FieldWork) (b' : Slices) : Type 0 where
     -- no more windows are made than the buffer has slots for
     pub bounded : WorkWithin (capacity_of (length b.words) (length b.reals)) r
     pub runs : RunsOn from r b'

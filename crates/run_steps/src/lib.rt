@@ -11,9 +11,9 @@ ghost use Rattle.run_steps.specs.Contract.{none_waits, work_answer, RunsTo};
 
 use advance::Advanced;
 use advance::of_insertion::InsertCounts;
-use buffers::{count, lack_number};
+use buffers::{Lack, count, lack_number};
 pub use insert_job as of_insert_job;
-use insert_job::InsertedJob;
+use insert_job::InsertRefusal;
 use layout::WORDS_PER_EVENT;
 
 // The job is refused by this number; or so many windows, events and entries there are after so many steps, and no event waits.
@@ -37,14 +37,20 @@ fn none_waits(keys: &[f64], events: &[u32], queued: u32) -> bool
 }
 
 // Refusal 15: the budget is spent, and an event waits.
-fn after_steps(keys: &[f64], events: &[u32], entries: u32, advanced: Advanced) -> FieldWork
+fn after_steps(
+    keys: &[f64],
+    events: &[u32],
+    entries: u32,
+    advanced: Result<Advanced, Lack>,
+) -> FieldWork
     ensures { result ≡ work_answer keys.now events.now entries advanced }
 {
     match advanced {
-        Advanced::Stopped(lack) => FieldWork::Refused(lack_number(lack)),
-        Advanced::Went(trim, steps) => {
+        Err(lack) => FieldWork::Refused(lack_number(lack)),
+        Ok(done) => {
+            let trim = done.counts;
             if none_waits(keys, events, trim.queued) {
-                return FieldWork::Done(InsertCounts { trim, entries }, steps);
+                return FieldWork::Done(InsertCounts { trim, entries }, done.steps);
             }
             FieldWork::Refused(15)
         }
@@ -53,7 +59,7 @@ fn after_steps(keys: &[f64], events: &[u32], entries: u32, advanced: Advanced) -
 
 // After a refusal nothing is done.
 pub fn run_steps(
-    from: InsertedJob,
+    from: Result<InsertCounts, InsertRefusal>,
     vertices: &[f64],
     triangles: &[u32],
     edge_words: &mut [u32],
@@ -80,9 +86,9 @@ pub fn run_steps(
         (before edge_words words reals keys events vertex) (cuts_before pts out keep next) from result (after edge_words words reals keys events vertex) }
 {
     match from {
-        InsertedJob::Wedge => FieldWork::Refused(11),
-        InsertedJob::Stopped(lack) => FieldWork::Refused(lack_number(lack)),
-        InsertedJob::Went(counts) => {
+        Err(InsertRefusal::Wedge) => FieldWork::Refused(11),
+        Err(InsertRefusal::NoSlot(lack)) => FieldWork::Refused(lack_number(lack)),
+        Ok(counts) => {
             let advanced = advance::advance(
                 vertices,
                 triangles,

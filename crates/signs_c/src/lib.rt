@@ -8,8 +8,8 @@ ghost use Rattle.source.specs.Distance.{edge_of};
 ghost use Rattle.better.specs.Cutting.{sign_of};
 ghost use Rattle.signs_c.specs.Exports.{source_given, sign_number};
 
-use better::Compared;
 use source::Src;
+use std::cmp::Ordering;
 
 fn source_given(kind: u32, a: f64, b: f64, c: f64) -> Src
     ensures { result ≡ source_given kind a b c }
@@ -39,9 +39,9 @@ pub extern "C" fn sirmolaat_sign(
     let q = source_given(q_kind, q0, q1, q2);
     let sign = better::sign(p, q, x);
     match sign {
-        Compared::Shorter => 0,
-        Compared::Equal => 1,
-        Compared::Longer => 2,
+        Ordering::Less => 0,
+        Ordering::Equal => 1,
+        Ordering::Greater => 2,
     }
 }
 
@@ -51,11 +51,11 @@ pub extern "C" fn sirmolaat_lower(kind: u32, a: f64, b: f64, c: f64, x: f64) -> 
     ensures { Number result → T (le result (edge_of (source_given kind a b c) x)) }
 {
     let src = source_given(kind, a, b, c);
-    let e = source_bounds::bounds(src, x);
-    if e.known {
-        return e.lo;
+    let bounds = source_bounds::bounds(src, x);
+    match bounds {
+        Some(e) => e.lo,
+        None => 0.0 / 0.0,
     }
-    0.0 / 0.0
 }
 
 // A number that the distance at x is not above, or a NaN where none is known.
@@ -64,9 +64,9 @@ pub extern "C" fn sirmolaat_upper(kind: u32, a: f64, b: f64, c: f64, x: f64) -> 
     ensures { Number result → T (le (edge_of (source_given kind a b c) x) result) }
 {
     let src = source_given(kind, a, b, c);
-    let e = source_bounds::bounds(src, x);
-    if e.known {
-        return e.hi;
+    let bounds = source_bounds::bounds(src, x);
+    match bounds {
+        Some(e) => e.hi,
+        None => 0.0 / 0.0,
     }
-    0.0 / 0.0
 }

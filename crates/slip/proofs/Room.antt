@@ -1,15 +1,16 @@
 -- What the slip of a job has: its counts, its parts and its pieces stand in it, and there is room for them. Assumes nothing.
 use Prim.Native.Nat.{ℕ, ◌*◌, ◌≤◌}
 use native.Mathlib.Omega.{arith}
-use mathlib.Core.Path.{◌≡◌, refl, sym, ap, ◌∙◌}
+use mathlib.Core.Path.{◌≡◌, refl, ap, ◌∙◌}
 use mathlib.Core.Bool.{Bool, true, false, cond, ◌||◌, true≢false}
 use mathlib.Core.List.{List}
 use borrow.Author.Tests.{ltb-false}
 use lib.Dec.{ltb}
 use lib.ListN.{length}
-use Rattle.slip.specs.declared.Slip.{Slip}
-use Rattle.slip.specs.declared.Slip.TheVariants.{TooShort, LeftOver, UnknownKind, TooMany}
-use Rattle.slip.specs.declared.Slip.TheVariants as slip
+use Rattle.std.specs.Prelude.{Ok, Err}
+use Rattle.slip.specs.declared.SlipJob.{SlipJob}
+use Rattle.slip.specs.declared.SlipRefusal.{SlipRefusal}
+use Rattle.slip.specs.declared.SlipRefusal.TheVariants.{TooShort, TooMany}
 use Rattle.slip.specs.Format.{is_job, vertex_count_in, triangle_count_in, piece_count_in, pieces_from, exceeds, after_pieces, answer_to}
 use Rattle.slip.specs.Format.{job_in}
 use Rattle.slip.specs.Reading.{Rows, vertex_slots, triangle_slots, piece_slots, filled, written, slip_answer, reading}
@@ -31,10 +32,10 @@ pub job_fits : (s : List ℕ) (v t p : ℕ) → is_job (answer_to s v t p) ≡ t
 unfolding answer_to exceeds
 job_fits s v t p h =
     let behind = after_pieces s (piece_count_in s) (pieces_from s) in
-    let whole-mesh = cond (ltb (length s) (pieces_from s)) TooShort behind in
-    let a = job_else (ltb (length s) 12) TooShort (cond (exceeds s v t p) TooMany whole-mesh) refl h in
-    let b = job_else (exceeds s v t p) TooMany whole-mesh refl a.1 in
-    let c = job_else (ltb (length s) (pieces_from s)) TooShort behind refl b.1 in
+    let whole-mesh = cond (ltb (length s) (pieces_from s)) (Err TooShort) behind in
+    let a = job_else (ltb (length s) 12) (Err TooShort) (cond (exceeds s v t p) (Err TooMany) whole-mesh) refl h in
+    let b = job_else (exceeds s v t p) (Err TooMany) whole-mesh refl a.1 in
+    let c = job_else (ltb (length s) (pieces_from s)) (Err TooShort) behind refl b.1 in
     let most = or_false (ltb v (vertex_count_in s) || ltb t (triangle_count_in s)) (ltb p (piece_count_in s)) b.0 in
     let two = or_false (ltb v (vertex_count_in s)) (ltb t (triangle_count_in s)) most.0 in
     record {
@@ -75,27 +76,10 @@ ready s b h =
 
 -- a job is read, and a refusal leaves all as it is
 module _ (s : List ℕ) (b : Rows) where
-  of_job : (r : Slip) → is_job r ≡ true → filled (job_in s) b ≡ written s r b
-  unfolding written
-  of_job TooShort h = absurd (true≢false (sym h))
-  of_job LeftOver h = absurd (true≢false (sym h))
-  of_job UnknownKind h = absurd (true≢false (sym h))
-  of_job TooMany h = absurd (true≢false (sym h))
-  of_job (slip.Job j) h = refl
+  pub did_read : (j : SlipJob) → Ok j ≡ slip_answer s b → (b' : Rows) → b' ≡ filled (job_in s) b → (Ok j, b') ≡ reading s b
+  unfolding reading written
+  did_read j e b' w = λ i. (e i, (w ∙ ap (λ a. written s a b) e) i)
 
-  of_refusal : (r : Slip) → is_job r ≡ false → b ≡ written s r b
-  unfolding written
-  of_refusal TooShort h = refl
-  of_refusal LeftOver h = refl
-  of_refusal UnknownKind h = refl
-  of_refusal TooMany h = refl
-  of_refusal (slip.Job j) h = absurd (true≢false h)
-
-  module _ (r : Slip) (e : r ≡ slip_answer s b) where
-    pub did_read : (b' : Rows) → is_job r ≡ true → b' ≡ filled (job_in s) b → (r, b') ≡ reading s b
-    unfolding reading
-    did_read b' j w = λ i. (e i, (w ∙ of_job r j ∙ ap (λ a. written s a b) e) i)
-
-    pub did_refuse : is_job r ≡ false → (r, b) ≡ reading s b
-    unfolding reading
-    did_refuse j = λ i. (e i, (of_refusal r j ∙ ap (λ a. written s a b) e) i)
+  pub did_refuse : (why : SlipRefusal) → Err why ≡ slip_answer s b → (Err why, b) ≡ reading s b
+  unfolding reading written
+  did_refuse why e = λ i. (e i, ap (λ a. written s a b) e i)

@@ -1,28 +1,28 @@
 -- Document 01's slip. Little-endian: counts of vertices, triangles, pieces; three doubles a vertex; three numbers a triangle; a byte a flag; the
 -- pieces, each a kind byte, a face and three doubles, of a segment six; the limit. Definitions only.
-use Rattle.std.specs.Prelude.{ℕ, zero, suc, ◌+◌, ◌*◌, Bool, true, false, cond, ◌||◌, List, [], ◌∷◌, ◌++◌, eqb, ltb, length, get_or, Float}
+use Rattle.std.specs.Prelude.{ℕ, zero, suc, ◌+◌, ◌*◌, Bool, true, false, cond, ◌||◌, List, [], ◌∷◌, ◌++◌, eqb, ltb, length, get_or, Float, Result, Ok, Err}
 use Rattle.nat_laws.specs.Lists.{list_of}
 use Rattle.float64.specs.Scalar.{zero64}
 use Rattle.job_checks.specs.Job.{Job}
 use Rattle.little_endian.specs.Bytes.{number_from, double_from, doubles_from, numbers_from, bytes_from}
-use Rattle.slip.specs.declared.Slip.{Slip}
-use Rattle.slip.specs.declared.Slip.TheVariants.{TooShort, LeftOver, UnknownKind, TooMany}
-use Rattle.slip.specs.declared.Slip.TheVariants as slip
+use Rattle.slip.specs.declared.SlipJob.{SlipJob}
+use Rattle.slip.specs.declared.SlipRefusal.{SlipRefusal}
+use Rattle.slip.specs.declared.SlipRefusal.TheVariants.{TooShort, LeftOver, UnknownKind, TooMany}
 
 -- each answer's number in document 01; 0 is no refusal
-abbrev pub slip_number : Slip → ℕ
-slip_number TooShort = 30
-slip_number LeftOver = 31
-slip_number UnknownKind = 32
-slip_number TooMany = 33
-slip_number (slip.Job j) = 0
+abbrev pub refusal_number : SlipRefusal → ℕ
+refusal_number TooShort = 30
+refusal_number LeftOver = 31
+refusal_number UnknownKind = 32
+refusal_number TooMany = 33
 
-abbrev pub is_job : Slip → Bool
-is_job TooShort = false
-is_job LeftOver = false
-is_job UnknownKind = false
-is_job TooMany = false
-is_job (slip.Job j) = true
+abbrev pub slip_number : Result SlipJob SlipRefusal → ℕ
+slip_number (Ok j) = 0
+slip_number (Err why) = refusal_number why
+
+abbrev pub is_job : Result SlipJob SlipRefusal → Bool
+is_job (Ok j) = true
+is_job (Err why) = false
 
 -- ---- where the parts stand
 
@@ -95,26 +95,26 @@ job_in s = record {
 -- ---- what reading answers: 33 once the counts are read, 30 and 32 as met, 31 last
 
 -- n pieces from byte i on, then the limit
-unfoldable pub after_pieces : List ℕ → ℕ → ℕ → Slip
+unfoldable pub after_pieces : List ℕ → ℕ → ℕ → Result SlipJob SlipRefusal
 unfolding piece_size
 after_pieces s zero i =
-    cond (ltb (length s) (i + 8)) TooShort
-    (cond (ltb (i + 8) (length s)) LeftOver
-    (slip.Job (record { vertices = vertex_count_in s; triangles = triangle_count_in s; pieces = piece_count_in s; limit = double_from s i })))
+    cond (ltb (length s) (i + 8)) (Err TooShort)
+    (cond (ltb (i + 8) (length s)) (Err LeftOver)
+    (Ok (record { vertices = vertex_count_in s; triangles = triangle_count_in s; pieces = piece_count_in s; limit = double_from s i })))
 after_pieces s (suc n) i =
-    cond (ltb (length s) (i + 1)) TooShort
-    (cond (ltb 1 (get_or s i 0)) UnknownKind
-    (cond (ltb (length s) (i + piece_size (get_or s i 0))) TooShort
+    cond (ltb (length s) (i + 1)) (Err TooShort)
+    (cond (ltb 1 (get_or s i 0)) (Err UnknownKind)
+    (cond (ltb (length s) (i + piece_size (get_or s i 0))) (Err TooShort)
     (after_pieces s n (i + piece_size (get_or s i 0)))))
 
 -- a count is above what there is room for
 unfoldable pub exceeds : List ℕ → ℕ → ℕ → ℕ → Bool
 exceeds s vertices triangles pieces = ltb vertices (vertex_count_in s) || ltb triangles (triangle_count_in s) || ltb pieces (piece_count_in s)
 
-unfoldable pub answer_to : List ℕ → ℕ → ℕ → ℕ → Slip
+unfoldable pub answer_to : List ℕ → ℕ → ℕ → ℕ → Result SlipJob SlipRefusal
 unfolding exceeds after_pieces
 answer_to s vertices triangles pieces =
-    cond (ltb (length s) 12) TooShort
-    (cond (exceeds s vertices triangles pieces) TooMany
-    (cond (ltb (length s) (pieces_from s)) TooShort
+    cond (ltb (length s) 12) (Err TooShort)
+    (cond (exceeds s vertices triangles pieces) (Err TooMany)
+    (cond (ltb (length s) (pieces_from s)) (Err TooShort)
     (after_pieces s (piece_count_in s) (pieces_from s))))

@@ -1,9 +1,9 @@
 -- What reading a slip leaves in the slices that are lent for its job. Definitions only.
-use Rattle.std.specs.Prelude.{ℕ, ◌/◌, min, List, length, Float}
+use Rattle.std.specs.Prelude.{ℕ, ◌/◌, min, List, length, Float, Result, Ok, Err}
 use Rattle.job_checks.specs.Job.{Job}
 use Rattle.little_endian.specs.Bytes.{put_in_front}
-use Rattle.slip.specs.declared.Slip.{Slip}
-use Rattle.slip.specs.declared.Slip.TheVariants as slip
+use Rattle.slip.specs.declared.SlipJob.{SlipJob}
+use Rattle.slip.specs.declared.SlipRefusal.{SlipRefusal}
 use Rattle.slip.specs.Format.{job_in, answer_to}
 
 pub record Rows : Type 0 where
@@ -35,18 +35,15 @@ filled j b =
     (put_in_front j.kinds b.kinds) (put_in_front j.faces b.faces) (put_in_front j.coords b.coords)
 
 -- a refusal changes nothing
-unfoldable pub written : List ℕ → Slip → Rows → Rows
+unfoldable pub written : List ℕ → Result SlipJob SlipRefusal → Rows → Rows
 unfolding job_in filled
-written s slip.TooShort b = b
-written s slip.LeftOver b = b
-written s slip.UnknownKind b = b
-written s slip.TooMany b = b
-written s (slip.Job j) b = filled (job_in s) b
+written s (Ok job) b = filled (job_in s) b
+written s (Err why) b = b
 
-unfoldable pub slip_answer : List ℕ → Rows → Slip
+unfoldable pub slip_answer : List ℕ → Rows → Result SlipJob SlipRefusal
 unfolding vertex_slots triangle_slots piece_slots answer_to
 slip_answer s b = answer_to s (vertex_slots b) (triangle_slots b) (piece_slots b)
 
-unfoldable pub reading : List ℕ → Rows → Slip × Rows
+unfoldable pub reading : List ℕ → Rows → Result SlipJob SlipRefusal × Rows
 unfolding written slip_answer
 reading s b = (slip_answer s b, written s (slip_answer s b) b)

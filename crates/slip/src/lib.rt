@@ -4,7 +4,7 @@
 ghost use Rattle.std.specs.Prelude.{◌≡◌, true, ◌+◌, ◌*◌, ◌≤◌, ◌<◌, min, length, get_or};
 ghost use Rattle.buffers.specs.Slots.{fill};
 ghost use Rattle.little_endian.specs.Bytes.{number_from, put_in_front};
-ghost use Rattle.slip.specs.Format.{slip_number, is_job, vertex_count_in, triangle_count_in, piece_count_in, triangles_from, flags_from, pieces_from, piece_size, second_double_at, piece_coords, job_in, exceeds, after_pieces, answer_to};
+ghost use Rattle.slip.specs.Format.{refusal_number, slip_number, is_job, vertex_count_in, triangle_count_in, piece_count_in, triangles_from, flags_from, pieces_from, piece_size, second_double_at, piece_coords, job_in, exceeds, after_pieces, answer_to};
 ghost use Rattle.slip.specs.Reading.{job_rows, reading};
 
 use little_endian::{double_at, number_at, read_bytes, read_doubles, read_numbers};
@@ -18,38 +18,41 @@ pub struct SlipJob {
     pub limit: f64,
 }
 
-#[derive(Clone, Copy)]
-pub enum Slip {
+// Why a slip is refused.
+#[derive(Clone, Copy, PartialEq, Eq, Debug)]
+pub enum SlipRefusal {
     TooShort,
     LeftOver,
     UnknownKind,
     TooMany,
-    Job(SlipJob),
 }
 
-// The number of a refusal in document 01, 0 of a job.
-pub fn slip_number(slip: Slip) -> u32
+// The number of a refusal in document 01.
+pub fn refusal_number(refusal: SlipRefusal) -> u32
+    ensures { result ≡ refusal_number refusal }
+{
+    match refusal {
+        SlipRefusal::TooShort => 30,
+        SlipRefusal::LeftOver => 31,
+        SlipRefusal::UnknownKind => 32,
+        SlipRefusal::TooMany => 33,
+    }
+}
+
+// The same of an answer: 0 of a job.
+pub fn slip_number(slip: Result<SlipJob, SlipRefusal>) -> u32
     ensures { result ≡ slip_number slip }
 {
     match slip {
-        Slip::TooShort => 30,
-        Slip::LeftOver => 31,
-        Slip::UnknownKind => 32,
-        Slip::TooMany => 33,
-        Slip::Job(_) => 0,
+        Ok(_) => 0,
+        Err(why) => refusal_number(why),
     }
 }
 
-pub fn is_job(slip: Slip) -> bool
+pub fn is_job(slip: Result<SlipJob, SlipRefusal>) -> bool
     ensures { result ≡ is_job slip }
 {
-    match slip {
-        Slip::TooShort => false,
-        Slip::LeftOver => false,
-        Slip::UnknownKind => false,
-        Slip::TooMany => false,
-        Slip::Job(_) => true,
-    }
+    slip.is_ok()
 }
 
 // The lesser of two numbers.
@@ -117,18 +120,18 @@ fn has_too_many(s: &[u8], vertices: usize, triangles: usize, pieces: usize) -> b
 }
 
 // What the last bytes answer, from byte i on: the limit is due.
-fn check_limit(s: &[u8], i: usize) -> Slip
+fn check_limit(s: &[u8], i: usize) -> Result<SlipJob, SlipRefusal>
     requires { (12 ≤ length s.now) × (i ≤ length s.now) }
     ensures { result ≡ after_pieces s.now 0 i }
 {
     let rest = s.len() - i;
     if rest < 8 {
-        return Slip::TooShort;
+        return Err(SlipRefusal::TooShort);
     }
     if 8 < rest {
-        return Slip::LeftOver;
+        return Err(SlipRefusal::LeftOver);
     }
-    Slip::Job(SlipJob {
+    Ok(SlipJob {
         vertices: number_at(s, 0),
         triangles: number_at(s, 4),
         pieces: number_at(s, 8),
@@ -137,43 +140,41 @@ fn check_limit(s: &[u8], i: usize) -> Slip
 }
 
 // The same where n pieces come before the limit.
-fn check_pieces(s: &[u8], from: usize, n: u32) -> Slip
+fn check_pieces(s: &[u8], from: usize, n: u32) -> Result<SlipJob, SlipRefusal>
     requires { (12 ≤ length s.now) × (from ≤ length s.now) }
     ensures { result ≡ after_pieces s.now n from }
 {
     let mut i = from;
-    let mut more = n;
-    while 0 < more {
+    for _ in 0..n {
         if s.len() <= i {
-            return Slip::TooShort;
+            return Err(SlipRefusal::TooShort);
         }
         let kind = s[i];
         if 1 < kind {
-            return Slip::UnknownKind;
+            return Err(SlipRefusal::UnknownKind);
         }
         let size = piece_size(kind);
         if s.len() - i < size {
-            return Slip::TooShort;
+            return Err(SlipRefusal::TooShort);
         }
         i += size;
-        more -= 1;
     }
     check_limit(s, i)
 }
 
 // What reading answers where there is room for so many vertices, triangles and pieces.
-fn check(s: &[u8], vertices: usize, triangles: usize, pieces: usize) -> Slip
+fn check(s: &[u8], vertices: usize, triangles: usize, pieces: usize) -> Result<SlipJob, SlipRefusal>
     ensures { result ≡ answer_to s.now vertices triangles pieces }
 {
     if s.len() < 12 {
-        return Slip::TooShort;
+        return Err(SlipRefusal::TooShort);
     }
     if has_too_many(s, vertices, triangles, pieces) {
-        return Slip::TooMany;
+        return Err(SlipRefusal::TooMany);
     }
     let from = pieces_from(s);
     if s.len() < from {
-        return Slip::TooShort;
+        return Err(SlipRefusal::TooShort);
     }
     check_pieces(s, from, number_at(s, 8))
 }
@@ -224,14 +225,12 @@ fn write_pieces(s: &[u8], kinds: &mut [u8], faces: &mut [u32], coords: &mut [f64
 {
     let n = count(s, 8);
     let mut at = pieces_from(s);
-    let mut k: usize = 0;
-    while k < n {
+    for k in 0..n {
         let kind = s[at];
         kinds[k] = kind;
         faces[k] = number_at(s, at + 1);
         write_coords(s, at, k, coords);
         at += piece_size(kind);
-        k += 1;
     }
 }
 
@@ -244,16 +243,14 @@ pub fn read(
     kinds: &mut [u8],
     faces: &mut [u32],
     coords: &mut [f64],
-) -> Slip
+) -> Result<SlipJob, SlipRefusal>
     ensures { (result, job_rows vertices.new triangles.new flags.new kinds.new faces.new coords.new) ≡ reading s.now
         (job_rows vertices.old triangles.old flags.old kinds.old faces.old coords.old) }
 {
     let vertex_room = least(vertices.len() / 3, flags.len());
     let piece_room = least(kinds.len(), least(faces.len(), coords.len() / 6));
-    let slip = check(s, vertex_room, triangles.len() / 3, piece_room);
-    if is_job(slip) {
-        write_mesh(s, vertices, triangles, flags);
-        write_pieces(s, kinds, faces, coords);
-    }
-    slip
+    let job = check(s, vertex_room, triangles.len() / 3, piece_room)?;
+    write_mesh(s, vertices, triangles, flags);
+    write_pieces(s, kinds, faces, coords);
+    Ok(job)
 }

@@ -15,9 +15,10 @@ use Rattle.nat_laws.proofs.Lists.{length_list_of, get_d_list_of}
 use Rattle.job_checks.specs.Job.{Job}
 use Rattle.job_checks.specs.Job as job
 use Rattle.little_endian.specs.Bytes.{number_from, double_from, doubles_from, numbers_from, bytes_from, number_bytes, double_bytes}
-use Rattle.slip.specs.declared.Slip.{Slip}
-use Rattle.slip.specs.declared.Slip.TheVariants.{TooShort, LeftOver, UnknownKind}
-use Rattle.slip.specs.declared.Slip.TheVariants as slip
+use Rattle.std.specs.Prelude.{Result, Ok, Err}
+use Rattle.slip.specs.declared.SlipJob.{SlipJob}
+use Rattle.slip.specs.declared.SlipRefusal.{SlipRefusal}
+use Rattle.slip.specs.declared.SlipRefusal.TheVariants.{TooShort, LeftOver, UnknownKind, TooMany}
 use Rattle.slip.specs.Format.{is_job, vertex_count_in, triangle_count_in, piece_count_in, triangles_from, flags_from, pieces_from, piece_size, piece_from, second_double_at, piece_coords, kinds_in, faces_in, coords_in, job_in, exceeds, after_pieces, answer_to}
 use Rattle.slip.proofs.Pieces.{job_else, size_bounds, stands}
 use Rattle.slip.proofs.Room.{job_fits}
@@ -35,16 +36,16 @@ module _ (s : List ℕ) where
   known_kind zero i h j = absurd (omega arith)
   known_kind (suc n) i h j =
       let kind = get_or s i 0 in
-      let whole-piece = cond (ltb (length s) (i + piece_size kind)) TooShort (after_pieces s n (i + piece_size kind)) in
-      let known = job_else (ltb (length s) (i + 1)) TooShort (cond (ltb 1 kind) UnknownKind whole-piece) refl j in
-      ltb-false _ _ (job_else (ltb 1 kind) UnknownKind whole-piece refl known.1).0
+      let whole-piece = cond (ltb (length s) (i + piece_size kind)) (Err TooShort) (after_pieces s n (i + piece_size kind)) in
+      let known = job_else (ltb (length s) (i + 1)) (Err TooShort) (cond (ltb 1 kind) (Err UnknownKind) whole-piece) refl j in
+      ltb-false _ _ (job_else (ltb 1 kind) (Err UnknownKind) whole-piece refl known.1).0
 
   ends_there : (i : ℕ) → is_job (after_pieces s 0 i) ≡ true → i + 8 ≡ length s
   unfolding after_pieces
   ends_there i j =
-      let answer = slip.Job (record { vertices = vertex_count_in s; triangles = triangle_count_in s; pieces = piece_count_in s; limit = double_from s i }) in
-      let a = job_else (ltb (length s) (i + 8)) TooShort (cond (ltb (i + 8) (length s)) LeftOver answer) refl j in
-      let b = job_else (ltb (i + 8) (length s)) LeftOver answer refl a.1 in
+      let answer : Result SlipJob SlipRefusal = Ok (record { vertices = vertex_count_in s; triangles = triangle_count_in s; pieces = piece_count_in s; limit = double_from s i }) in
+      let a = job_else (ltb (length s) (i + 8)) (Err TooShort) (cond (ltb (i + 8) (length s)) (Err LeftOver) answer) refl j in
+      let b = job_else (ltb (i + 8) (length s)) (Err LeftOver) answer refl a.1 in
       omega (arith, ltb-false (length s) (i + 8) a.0, ltb-false (i + 8) (length s) b.0)
 
   module _ (all : ℕ) (job : is_job (after_pieces s all (pieces_from s)) ≡ true) where
@@ -201,21 +202,21 @@ module _ (s : List ℕ) where
 
   -- the limit is the last double of an accepted slip
   limit_last : (n i : ℕ) → is_job (after_pieces s n i) ≡ true
-      → after_pieces s n i ≡ slip.Job (record { vertices = vertex_count_in s; triangles = triangle_count_in s; pieces = piece_count_in s; limit = double_from s (length s - 8) })
+      → after_pieces s n i ≡ Ok (record { vertices = vertex_count_in s; triangles = triangle_count_in s; pieces = piece_count_in s; limit = double_from s (length s - 8) })
   unfolding after_pieces
   limit_last zero i j =
-      let answer : ℕ → Slip = λ k. slip.Job (record { vertices = vertex_count_in s; triangles = triangle_count_in s; pieces = piece_count_in s; limit = double_from s k }) in
-      let a = job_else (ltb (length s) (i + 8)) TooShort (cond (ltb (i + 8) (length s)) LeftOver (answer i)) refl j in
-      let b = job_else (ltb (i + 8) (length s)) LeftOver (answer i) refl a.1 in
+      let answer : ℕ → Result SlipJob SlipRefusal = λ k. Ok (record { vertices = vertex_count_in s; triangles = triangle_count_in s; pieces = piece_count_in s; limit = double_from s k }) in
+      let a = job_else (ltb (length s) (i + 8)) (Err TooShort) (cond (ltb (i + 8) (length s)) (Err LeftOver) (answer i)) refl j in
+      let b = job_else (ltb (i + 8) (length s)) (Err LeftOver) (answer i) refl a.1 in
       let e : i ≡ length s - 8 = omega (arith, ltb-false (length s) (i + 8) a.0, ltb-false (i + 8) (length s) b.0) in
       rw (a.0, b.0) (ap answer e)
   limit_last (suc n) i j =
       let kind = get_or s i 0 in
       let behind = after_pieces s n (i + piece_size kind) in
-      let whole-piece = cond (ltb (length s) (i + piece_size kind)) TooShort behind in
-      let there = job_else (ltb (length s) (i + 1)) TooShort (cond (ltb 1 kind) UnknownKind whole-piece) refl j in
-      let known = job_else (ltb 1 kind) UnknownKind whole-piece refl there.1 in
-      let whole = job_else (ltb (length s) (i + piece_size kind)) TooShort behind refl known.1 in
+      let whole-piece = cond (ltb (length s) (i + piece_size kind)) (Err TooShort) behind in
+      let there = job_else (ltb (length s) (i + 1)) (Err TooShort) (cond (ltb 1 kind) (Err UnknownKind) whole-piece) refl j in
+      let known = job_else (ltb 1 kind) (Err UnknownKind) whole-piece refl there.1 in
+      let whole = job_else (ltb (length s) (i + piece_size kind)) (Err TooShort) behind refl known.1 in
       rw (there.0, known.0, whole.0) (limit_last n (i + piece_size kind) whole.1)
 
   limit_told : is_job (after_pieces s (piece_count_in s) (pieces_from s)) ≡ true → double_from s (length s - 8) ≡ (job_in s).limit
@@ -227,13 +228,13 @@ module _ (s : List ℕ) where
   unfolding answer_to
   answer_told vertices triangles pieces h =
       let behind = after_pieces s (piece_count_in s) (pieces_from s) in
-      let whole-mesh = cond (ltb (length s) (pieces_from s)) TooShort behind in
-      let a = job_else (ltb (length s) 12) TooShort (cond (exceeds s vertices triangles pieces) slip.TooMany whole-mesh) refl h in
-      let b = job_else (exceeds s vertices triangles pieces) slip.TooMany whole-mesh refl a.1 in
-      let c = job_else (ltb (length s) (pieces_from s)) TooShort behind refl b.1 in
+      let whole-mesh = cond (ltb (length s) (pieces_from s)) (Err TooShort) behind in
+      let a = job_else (ltb (length s) 12) (Err TooShort) (cond (exceeds s vertices triangles pieces) (Err TooMany) whole-mesh) refl h in
+      let b = job_else (exceeds s vertices triangles pieces) (Err TooMany) whole-mesh refl a.1 in
+      let c = job_else (ltb (length s) (pieces_from s)) (Err TooShort) behind refl b.1 in
       rw (a.0, b.0, c.0)
       (limit_last (piece_count_in s) (pieces_from s) c.1
-      ∙ (λ k. slip.Job (record { vertices = sym vertices_told k; triangles = sym triangles_told k; pieces = sym pieces_told k; limit = limit_told c.1 k })))
+      ∙ (λ k. Ok (record { vertices = sym vertices_told k; triangles = sym triangles_told k; pieces = sym pieces_told k; limit = limit_told c.1 k })))
 
 -- ---- the laws
 module _ (s : List ℕ) (bytes : All IsByte s) (plain : Plain s) (vertices triangles pieces : ℕ) (accepted : is_job (answer_to s vertices triangles pieces) ≡ true) where

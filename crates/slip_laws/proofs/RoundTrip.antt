@@ -6,9 +6,9 @@ use mathlib.Core.List.{List, [], ◌++◌, append_assoc, append-nil}
 use borrow.Author.Tests.{le-ltb}
 use lib.ListN.{length, drop, length-append}
 use lib.Ieee.{nan}
+use Rattle.std.specs.Prelude.{Ok}
 use Rattle.job_checks.specs.Job.{Job, vertex_count, triangle_count, piece_count}
 use Rattle.little_endian.specs.Bytes.{number_from, double_from, doubles_from, numbers_from, bytes_from, number_bytes, double_bytes}
-use Rattle.slip.specs.declared.Slip.TheVariants as slip
 use Rattle.slip.specs.Format.{triangles_from, flags_from, pieces_from, piece_from, kinds_in, faces_in, coords_in, job_in, after_pieces, exceeds, answer_to}
 use Rattle.slip.specs.Reading.{Rows, vertex_slots, triangle_slots, piece_slots, filled, written, slip_answer, reading}
 use Rattle.slip_write.specs.Write.{doubles_bytes, numbers_bytes, pieces_bytes, counts_bytes, mesh_bytes, rest_bytes, slip_of}
@@ -154,7 +154,7 @@ module _ (j : Job) (w : Whole j) (s : List ℕ) (h : drop 0 s ≡ count_bytes j 
       ends =
           unfold after_pieces in
           rw (le-ltb (length s) (piece_from s (piece_count j) + 8) (omega (arith, long)), le-ltb (piece_from s (piece_count j) + 8) (length s) (omega (arith, long)))
-          (λ t. slip.Job (record { vertices = vertex_count_held t; triangles = triangle_count_held t; pieces = piece_count_held t; limit = limit_is t }))
+          (λ t. Ok (record { vertices = vertex_count_held t; triangles = triangle_count_held t; pieces = piece_count_held t; limit = limit_is t }))
 
   answer_is : (vertices triangles pieces : ℕ) → vertex_count j ≤ vertices → triangle_count j ≤ triangles → piece_count j ≤ pieces
       → answer_to s vertices triangles pieces ≡ answer_of j

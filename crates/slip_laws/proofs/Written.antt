@@ -10,7 +10,7 @@ use lib.Seq.{take_at}
 use Rattle.job_checks.specs.Job.{Job, vertex_count, triangle_count, piece_count}
 use Rattle.little_endian.specs.Bytes.{put_in_front}
 use Rattle.slip.specs.Reading.{Rows, vertex_slots, triangle_slots, piece_slots, filled, reading}
-use Rattle.slip_write.specs.declared.Written.TheVariants.{Length}
+use Rattle.std.specs.Prelude.{Some}
 use Rattle.slip_write.specs.Write.{slip_of, oversized, writing}
 use Rattle.slip_laws.specs.Whole.{Whole, answer_of}
 use Rattle.slip_laws.proofs.RoundTrip.{slip_read}
@@ -27,7 +27,7 @@ module _ (j : Job) (w : Whole j) (out : List ℕ) where
       )
 
   -- a job that a slip can hold is written wherever there is room for its slip
-  pub slip_written : length (slip_of j) ≤ length out → writing j out ≡ (Length (length (slip_of j)), put_in_front (slip_of j) out)
+  pub slip_written : length (slip_of j) ≤ length out → writing j out ≡ (Some (length (slip_of j)), put_in_front (slip_of j) out)
   unfolding writing
   slip_written h = rw (not_oversized, le-ltb (length out) (length (slip_of j)) h)
 

@@ -1,12 +1,12 @@
 -- The jobs that a slip can hold, and what reading such a slip answers. Definitions only.
-use Rattle.std.specs.Prelude.{ℕ, ◌+◌, ◌*◌, ◌≤◌, ◌<◌, ◌≡◌, List, T, length, get_or, Float}
+use Rattle.std.specs.Prelude.{ℕ, ◌+◌, ◌*◌, ◌≤◌, ◌<◌, ◌≡◌, List, T, length, get_or, Float, Result, Ok}
 use Rattle.std.specs.Float.{nan, binary64}
 use Rattle.std.specs.Float.Ieee.{fits}
 use Rattle.nat_laws.specs.Lists.{All}
 use Rattle.float64.specs.Scalar.{zero64}
 use Rattle.job_checks.specs.Job.{Job, vertex_count, triangle_count, piece_count}
-use Rattle.slip.specs.declared.Slip.{Slip}
-use Rattle.slip.specs.declared.Slip.TheVariants as slip
+use Rattle.slip.specs.declared.SlipJob.{SlipJob}
+use Rattle.slip.specs.declared.SlipRefusal.{SlipRefusal}
 
 -- a double: every number of the format, both infinities and the one NaN there is
 abbrev pub IsDouble : Float → Type 0
@@ -39,5 +39,5 @@ pub record Whole (j : Job) : Type 0 where
   pub kinds_are : All (λ n. n ≤ 1) j.kinds
   pub points : (k : ℕ) → k < piece_count j → get_or j.kinds k 0 ≡ 0 → NoSecond j.coords k
 
-abbrev pub answer_of : Job → Slip
-answer_of j = slip.Job (record { vertices = vertex_count j; triangles = triangle_count j; pieces = piece_count j; limit = j.limit })
+abbrev pub answer_of : Job → Result SlipJob SlipRefusal
+answer_of j = Ok (record { vertices = vertex_count j; triangles = triangle_count j; pieces = piece_count j; limit = j.limit })

@@ -6,16 +6,14 @@ use mathlib.Core.Bool.{Bool, true, false, cond}
 use mathlib.Core.List.{List, [], ◌++◌}
 use lib.Dec.{eqb, ltb}
 use lib.ListN.{length, get_or, take, drop, length-append, length-take}
+use Rattle.std.specs.Prelude.{Result, Ok, Err}
 use Rattle.groups.specs.declared.Form.{Form}
-use Rattle.groups.specs.declared.Number.{Number}
-use Rattle.groups.specs.declared.Number.TheVariants.{Short, Over, Is}
+use Rattle.groups.specs.declared.NumberRefusal.{NumberRefusal}
 use Rattle.groups.specs.Groups.{number_at, number_of}
 use Rattle.groups.proofs.Small.{number_near, number_length}
 use Rattle.slip_moves.specs.declared.Refusal.{Refusal}
-use Rattle.slip_moves.specs.declared.Step.{Step}
-use Rattle.slip_moves.specs.declared.Step.TheVariants.{Went}
 use Rattle.slip_moves.specs.Moves.{Part, put, stop, also, then, bytes_moved, number_written, ends_size, number_moved, numbers_moved, piece_of_kind, piece_moved, pieces_moved, mesh_moved, Moves}
-use Rattle.slip_moves.proofs.Parts.{no_step}
+use Rattle.slip_moves.proofs.Parts.{no_step, same_places}
 
 -- from place i on
 abbrev pub Reach : ℕ → ℕ → Part → Type 0
@@ -57,10 +55,9 @@ module _ (from to : Form) (s : List ℕ) where
   unfolding number_moved number_written
   reach_number i = go (number_at from s i) refl
     where
-      go : (x : Number) → number_at from s i ≡ x → Reach i 5 (number_written to x)
-      go Short e = reach_stop i 5 _
-      go Over e = reach_stop i 5 _
-      go (Is n next) e = reach_put i 5 next (number_of to n) (number_near from s i n next e) (number_length to n)
+      go : (x : Result (ℕ × ℕ) NumberRefusal) → number_at from s i ≡ x → Reach i 5 (number_written to x)
+      go (Err why) e = reach_stop i 5 _
+      go (Ok (n, next)) e = reach_put i 5 next (number_of to n) (number_near from s i n next e) (number_length to n)
 
   pub reach_numbers : (n i : ℕ) → Reach i (5 * n) (numbers_moved from to s n i)
   unfolding numbers_moved
@@ -99,11 +96,9 @@ module _ (from to : Form) (s : List ℕ) where
       (λ j. reach_then j (5 * (3 * t)) v (15 * t + v) (numbers_moved from to s (3 * t) j) (bytes_moved s v) (omega arith) (reach_numbers (3 * t) j) (reach_bytes s v))
 
 -- what a step then tells
-pub stepped : {l m : List ℕ} {o a b : ℕ} {r : Step} (i d : ℕ) (x : Part) → Reach i d x → Moves l o x m r → r ≡ Went a b → (a ≤ i + d) × (b ≤ o + d)
+pub stepped : {l m : List ℕ} {o a b : ℕ} {r : Result (ℕ × ℕ) Refusal} (i d : ℕ) (x : Part) → Reach i d x → Moves l o x m r → r ≡ Ok (a, b) → (a ≤ i + d) × (b ≤ o + d)
 stepped {l} {m} {o} {a} {b} {r} i d (put j bs) f h e =
-    let q : Went a b ≡ Went j (o + length bs) = sym e ∙ (h.went j bs refl).0 in
-    let ea : a ≡ j = cc q in
-    let eb : b ≡ o + length bs = cc q in
+    let same = same_places (sym e ∙ (h.went j bs refl).0) in
     let g = f j bs refl in
-    (omega (arith, g.0, ea), omega (arith, g.1, eb))
+    (omega (arith, g.0, same.0), omega (arith, g.1, same.1))
 stepped i d (stop w) f h e = no_step (sym e ∙ h.stopped w refl)

@@ -5,12 +5,12 @@ use mathlib.Core.Path.{◌≡◌, refl, sym, ◌∙◌}
 use mathlib.Core.List.{List, []}
 use borrow.Author.Tests.{lt-ltb, le-ltb}
 use lib.ListN.{length, get_or, take, drop}
+use Rattle.std.specs.Prelude.{Result, Ok, Err}
 use Rattle.groups.specs.declared.Form.{Form}
-use Rattle.groups.specs.declared.Number.{Number}
-use Rattle.groups.specs.declared.Number.TheVariants.{Short, Over, Is}
+use Rattle.groups.specs.declared.NumberRefusal.{NumberRefusal}
 use Rattle.groups.specs.Groups.{number_of, Found}
-use Rattle.slip_moves.specs.declared.Refusal.TheVariants.{TooShort, LeftOver, UnknownKind, TooManyGroups}
-use Rattle.slip_moves.specs.Moves.{put, stop, then, number_written, bytes_moved, ended, number_moved, numbers_moved, piece_of_kind, piece_moved, pieces_moved}
+use Rattle.slip_moves.specs.declared.Refusal.TheVariants.{TooShort, LeftOver, UnknownKind}
+use Rattle.slip_moves.specs.Moves.{put, stop, number_refusal, then, number_written, bytes_moved, ended, number_moved, numbers_moved, piece_of_kind, piece_moved, pieces_moved}
 
 module _ (s : List ℕ) (i : ℕ) where
   pub bytes_short : (n : ℕ) → length s < i + n → bytes_moved s n i ≡ stop TooShort
@@ -30,16 +30,12 @@ module _ (s : List ℕ) (i : ℕ) where
   at_end_lem h = rw (le-ltb i (length s) h)
 
 module _ (from to : Form) (s : List ℕ) (i : ℕ) where
-  module _ {x : Number} (f : Found from s i x) where
-    pub number_short : x ≡ Short → number_moved from to s i ≡ stop TooShort
+  module _ {x : Result (ℕ × ℕ) NumberRefusal} (f : Found from s i x) where
+    pub number_refused : (why : NumberRefusal) → x ≡ Err why → number_moved from to s i ≡ stop (number_refusal why)
     unfolding number_moved number_written
-    number_short e = rw (sym f.answer ∙ e)
+    number_refused why e = rw (sym f.answer ∙ e)
 
-    pub number_over : x ≡ Over → number_moved from to s i ≡ stop TooManyGroups
-    unfolding number_moved number_written
-    number_over e = rw (sym f.answer ∙ e)
-
-    pub number_is : {n next : ℕ} → x ≡ Is n next → number_moved from to s i ≡ put next (number_of to n)
+    pub number_is : {n next : ℕ} → x ≡ Ok (n, next) → number_moved from to s i ≡ put next (number_of to n)
     unfolding number_moved number_written
     number_is e = rw (sym f.answer ∙ e)
 

@@ -2,22 +2,19 @@
 use Prim.Native.Nat.{ℕ, zero, suc, ◌+◌, ◌*◌, ◌≤◌, ◌<◌}
 use Rattle.std.proofs.Math.Bool.{cond}
 use mathlib.Core.List.{List, [], ◌∷◌, ◌++◌}
-use Rattle.std.specs.Prelude.{◌≡◌, eqb, ltb, length, get_or, take, drop}
+use Rattle.std.specs.Prelude.{◌≡◌, eqb, ltb, length, get_or, take, drop, Result, Ok, Err}
 use Rattle.std.proofs.lemmas.List.Edits.{sets}
 use Rattle.little_endian.specs.Bytes.{put_in_front}
 use Rattle.groups.specs.declared.Form.{Form}
 use Rattle.groups.specs.declared.Form.TheVariants.{Plain, Groups}
-use Rattle.groups.specs.declared.Number.{Number}
-use Rattle.groups.specs.declared.Number.TheVariants.{Short, Over, Is}
+use Rattle.groups.specs.declared.NumberRefusal.{NumberRefusal}
+use Rattle.groups.specs.declared.NumberRefusal.TheVariants.{Short, Over}
 use Rattle.groups.specs.Groups.{number_at, number_of}
 use Rattle.slip_moves.specs.declared.Refusal.{Refusal}
 use Rattle.slip_moves.specs.declared.Refusal.TheVariants.{TooShort, LeftOver, UnknownKind, NotGroups, TooManyGroups}
-use Rattle.slip_moves.specs.declared.Head.{Head}
-use Rattle.slip_moves.specs.declared.Head.TheVariants.{Counts, Refused}
-use Rattle.slip_moves.specs.declared.Step.{Step}
-use Rattle.slip_moves.specs.declared.Step.TheVariants.{Went, Stopped}
-use Rattle.slip_moves.specs.declared.Moved.{Moved}
-use Rattle.slip_moves.specs.declared.Moved.TheVariants as moved
+use Rattle.slip_moves.specs.declared.Counts.{Counts}
+use Rattle.slip_moves.specs.declared.MoveRefusal.{MoveRefusal}
+use Rattle.slip_moves.specs.declared.MoveRefusal.TheVariants.{NoRoom, Slip}
 
 -- each refusal's number: 30 to 32 in document 01, 34 and 35 in document 02
 abbrev pub slip_refusal_number : Refusal → ℕ
@@ -27,31 +24,37 @@ slip_refusal_number UnknownKind = 32
 slip_refusal_number NotGroups = 34
 slip_refusal_number TooManyGroups = 35
 
+-- a slip is refused where a number in it is
+abbrev pub number_refusal : NumberRefusal → Refusal
+number_refusal Short = TooShort
+number_refusal Over = TooManyGroups
+
 -- ---- the first byte and the three counts
 
 -- the counts of vertices, triangles and pieces, one behind the other, as met
-unfoldable pub with_count : Number → (ℕ → ℕ → Head) → Head
-with_count Short rest = Refused TooShort
-with_count Over rest = Refused TooManyGroups
-with_count (Is n next) rest = rest n next
+unfoldable pub with_count : Result (ℕ × ℕ) NumberRefusal → (ℕ → ℕ → Result Counts Refusal) → Result Counts Refusal
+with_count (Err why) rest = Err (number_refusal why)
+with_count (Ok (n, next)) rest = rest n next
 
-unfoldable pub counts_at : Form → List ℕ → ℕ → Head
+abbrev pub counted : ℕ → ℕ → ℕ → ℕ → Result Counts Refusal
+counted vertices triangles pieces next = Ok (record { vertices = vertices; triangles = triangles; pieces = pieces; next = next })
+
+unfoldable pub counts_at : Form → List ℕ → ℕ → Result Counts Refusal
 unfolding number_at with_count
 counts_at form s i =
     with_count (number_at form s i)
     (λ vertices j. with_count (number_at form s j)
     (λ triangles k. with_count (number_at form s k)
-    (λ pieces l. Counts vertices triangles pieces l)))
+    (λ pieces l. counted vertices triangles pieces l)))
 
-pub record SmallCounts (h : Head) (far : ℕ) : Type 0 where
-  pub small : (vertices triangles pieces i : ℕ) → h ≡ Counts vertices triangles pieces i
-      → (vertices < 4_294_967_296) × ((triangles < 4_294_967_296) × ((pieces < 4_294_967_296) × (i ≤ far)))
+pub record SmallCounts (head : Result Counts Refusal) (far : ℕ) : Type 0 where
+  pub small : (c : Counts) → head ≡ Ok c → (c.vertices < 4_294_967_296) × ((c.triangles < 4_294_967_296) × ((c.pieces < 4_294_967_296) × (c.next ≤ far)))
 
 -- a slip in groups starts with the byte 2, a plain one with its counts
-unfoldable pub form_head_at : Form → List ℕ → Head
+unfoldable pub form_head_at : Form → List ℕ → Result Counts Refusal
 unfolding counts_at
 form_head_at Plain s = counts_at Plain s 0
-form_head_at Groups s = cond (ltb 0 (length s)) (cond (eqb (get_or s 0 0) 2) (counts_at Groups s 1) (Refused NotGroups)) (Refused TooShort)
+form_head_at Groups s = cond (ltb 0 (length s)) (cond (eqb (get_or s 0 0) 2) (counts_at Groups s 1) (Err NotGroups)) (Err TooShort)
 
 unfoldable pub first_byte : Form → List ℕ
 first_byte Plain = []
@@ -86,11 +89,10 @@ bytes_moved s n i = cond (ltb (length s) (i + n)) (stop TooShort) (put (i + n) (
 unfoldable pub ended : List ℕ → ℕ → Part
 ended s i = cond (ltb i (length s)) (stop LeftOver) (put i [])
 
-unfoldable pub number_written : Form → Number → Part
+unfoldable pub number_written : Form → Result (ℕ × ℕ) NumberRefusal → Part
 unfolding number_of
-number_written form Short = stop TooShort
-number_written form Over = stop TooManyGroups
-number_written form (Is n next) = put next (number_of form n)
+number_written form (Err why) = stop (number_refusal why)
+number_written form (Ok (n, next)) = put next (number_of form n)
 
 -- how many bytes the ends of a piece have: three doubles of a point, six of a segment
 unfoldable pub ends_size : ℕ → ℕ
@@ -133,10 +135,10 @@ module _ (from to : Form) (s : List ℕ) where
   unfolding then mesh_moved rest_moved
   body_moved vertices triangles pieces i = then (mesh_moved vertices triangles i) (rest_moved pieces)
 
-  unfoldable pub behind_head : Head → Part
+  unfoldable pub behind_head : Result Counts Refusal → Part
   unfolding also then head_bytes body_moved ended
-  behind_head (Refused r) = stop r
-  behind_head (Counts vertices triangles pieces i) = also (head_bytes to vertices triangles pieces) (then (body_moved vertices triangles pieces i) (ended s))
+  behind_head (Err r) = stop r
+  behind_head (Ok c) = also (head_bytes to c.vertices c.triangles c.pieces) (then (body_moved c.vertices c.triangles c.pieces c.next) (ended s))
 
   -- the whole slip
   unfoldable pub slip_moved : Part
@@ -144,27 +146,27 @@ module _ (from to : Form) (s : List ℕ) where
   slip_moved = behind_head (form_head_at from s)
 
 -- each answer's number in document 02, 0 of a move that is done; and the length that it tells
-abbrev pub moved_number : Moved → ℕ
-moved_number (moved.Length n) = 0
-moved_number (moved.NoRoom n) = 36
-moved_number (moved.Refused r) = slip_refusal_number r
+abbrev pub moved_number : Result ℕ MoveRefusal → ℕ
+moved_number (Ok n) = 0
+moved_number (Err (NoRoom n)) = 36
+moved_number (Err (Slip r)) = slip_refusal_number r
 
-abbrev pub length_moved : Moved → ℕ
-length_moved (moved.Length n) = n
-length_moved (moved.NoRoom n) = n
-length_moved (moved.Refused r) = 0
+abbrev pub length_moved : Result ℕ MoveRefusal → ℕ
+length_moved (Ok n) = n
+length_moved (Err (NoRoom n)) = n
+length_moved (Err (Slip r)) = 0
 
 -- the answer of a move and the slice that it writes to, at its front; where that is too short nothing is written
-unfoldable pub answer_of_move : Part → List ℕ → Moved × List ℕ
+unfoldable pub answer_of_move : Part → List ℕ → Result ℕ MoveRefusal × List ℕ
 unfolding put_in_front
-answer_of_move (stop r) out = (moved.Refused r, out)
-answer_of_move (put j bytes) out = cond (ltb (length out) (length bytes)) (moved.NoRoom (length bytes), out) (moved.Length (length bytes), put_in_front bytes out)
+answer_of_move (stop r) out = (Err (Slip r), out)
+answer_of_move (put j bytes) out = cond (ltb (length out) (length bytes)) (Err (NoRoom (length bytes)), out) (Ok (length bytes), put_in_front bytes out)
 
-unfoldable pub moving : Form → Form → List ℕ → List ℕ → Moved × List ℕ
+unfoldable pub moving : Form → Form → List ℕ → List ℕ → Result ℕ MoveRefusal × List ℕ
 unfolding slip_moved answer_of_move
 moving from to s out = answer_of_move (slip_moved from to s) out
 
 -- `after` is the list `before` with a part's bytes in it from place o on, as far as it goes; a step tells the places behind the part and behind its bytes
-pub record Moves (before : List ℕ) (o : ℕ) (part : Part) (after : List ℕ) (r : Step) : Type 0 where
-  pub went : (j : ℕ) (bytes : List ℕ) → part ≡ put j bytes → (r ≡ Went j (o + length bytes)) × (after ≡ sets before o bytes)
-  pub stopped : (why : Refusal) → part ≡ stop why → r ≡ Stopped why
+pub record Moves (before : List ℕ) (o : ℕ) (part : Part) (after : List ℕ) (r : Result (ℕ × ℕ) Refusal) : Type 0 where
+  pub went : (j : ℕ) (bytes : List ℕ) → part ≡ put j bytes → (r ≡ Ok (j, o + length bytes)) × (after ≡ sets before o bytes)
+  pub stopped : (why : Refusal) → part ≡ stop why → r ≡ Err why

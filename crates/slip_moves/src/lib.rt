@@ -3,13 +3,13 @@
 
 ghost use Rattle.std.specs.Prelude.{◌≡◌, [], ◌∷◌, ℕ, ◌+◌, ◌*◌, ◌≤◌, ◌<◌, length, get_or};
 ghost use Rattle.text_out.specs.Text.{Puts};
-ghost use Rattle.groups.specs.Groups.{number_at};
-ghost use Rattle.slip_moves.specs.Moves.{slip_refusal_number, moved_number, length_moved, with_count, counts_at, form_head_at, first_byte, head_bytes, bytes_moved, ends_size, number_moved, numbers_moved, piece_of_kind, piece_moved, pieces_moved, mesh_moved, rest_moved, body_moved, ended, then, slip_moved, moving, Moves, SmallCounts};
+ghost use Rattle.slip_moves.specs.declared.MoveRefusal.TheVariants.{Slip};
+ghost use Rattle.slip_moves.specs.Moves.{slip_refusal_number, number_refusal, moved_number, length_moved, counts_at, form_head_at, first_byte, head_bytes, bytes_moved, ends_size, number_moved, numbers_moved, piece_of_kind, piece_moved, pieces_moved, mesh_moved, rest_moved, body_moved, ended, then, slip_moved, moving, Moves, SmallCounts};
 
-use groups::{Form, Number, put_number, read_number};
+use groups::{Form, NumberRefusal, put_number, read_number};
 use text_out::put_text;
 
-#[derive(Clone, Copy)]
+#[derive(Clone, Copy, PartialEq, Eq, Debug)]
 pub enum Refusal {
     TooShort,
     LeftOver,
@@ -31,99 +31,94 @@ pub fn refusal_number(refusal: Refusal) -> u32
     }
 }
 
-// The counts of vertices, triangles and pieces and the place behind them.
-#[derive(Clone, Copy)]
-pub enum Head {
-    Counts(usize, usize, usize, usize),
-    Refused(Refusal),
-}
+// A slip is refused where a number in it is.
+impl From<NumberRefusal> for Refusal {
+    ghost from_gives = { λ why refusal. refusal ≡ number_refusal why };
 
-// What moving a part answers: the places behind it in the slip and in the output.
-#[derive(Clone, Copy)]
-pub enum Step {
-    Went(usize, usize),
-    Stopped(Refusal),
-}
-
-// The answer of a move: how long the moved slip is, how long the output would have to be, or the refusal.
-#[derive(Clone, Copy)]
-pub enum Moved {
-    Length(usize),
-    NoRoom(usize),
-    Refused(Refusal),
-}
-
-// The number of an answer, and the length that it tells.
-pub fn moved_number(moved: Moved) -> u32
-    ensures { result ≡ moved_number moved }
-{
-    match moved {
-        Moved::Length(_) => 0,
-        Moved::NoRoom(_) => 36,
-        Moved::Refused(r) => refusal_number(r),
+    fn from(why: NumberRefusal) -> Refusal {
+        match why {
+            NumberRefusal::Short => Refusal::TooShort,
+            NumberRefusal::Over => Refusal::TooManyGroups,
+        }
     }
 }
 
-pub fn moved_length(moved: Moved) -> usize
+// The counts of vertices, triangles and pieces and the place behind them.
+#[derive(Clone, Copy)]
+pub struct Counts {
+    pub vertices: usize,
+    pub triangles: usize,
+    pub pieces: usize,
+    pub next: usize,
+}
+
+// Why a slip is not moved: the output is too short, and how long it would have to be, or the slip is refused.
+#[derive(Clone, Copy, PartialEq, Eq, Debug)]
+pub enum MoveRefusal {
+    NoRoom(usize),
+    Slip(Refusal),
+}
+
+impl From<Refusal> for MoveRefusal {
+    ghost from_gives = { λ why refusal. refusal ≡ Slip why };
+
+    fn from(why: Refusal) -> MoveRefusal {
+        MoveRefusal::Slip(why)
+    }
+}
+
+// The number of an answer, and the length that it tells.
+pub fn moved_number(moved: Result<usize, MoveRefusal>) -> u32
+    ensures { result ≡ moved_number moved }
+{
+    match moved {
+        Ok(_) => 0,
+        Err(MoveRefusal::NoRoom(_)) => 36,
+        Err(MoveRefusal::Slip(why)) => refusal_number(why),
+    }
+}
+
+pub fn moved_length(moved: Result<usize, MoveRefusal>) -> usize
     ensures { result ≡ length_moved moved }
 {
     match moved {
-        Moved::Length(n) => n,
-        Moved::NoRoom(n) => n,
-        Moved::Refused(_) => 0,
+        Ok(n) => n,
+        Err(MoveRefusal::NoRoom(n)) => n,
+        Err(MoveRefusal::Slip(_)) => 0,
     }
 }
 
 // ---- the head
 
-fn third_count(form: Form, s: &[u8], i: usize, vertices: usize, triangles: usize) -> Head
-    requires { (i < 100) × ((vertices < 4_294_967_296) × (triangles < 4_294_967_296)) }
-    ensures { (result ≡ with_count (number_at form s.now i) (λ pieces l. Head.Counts vertices triangles pieces l)) × SmallCounts result (i + 5) }
-{
-    match read_number(form, s, i) {
-        Number::Short => Head::Refused(Refusal::TooShort),
-        Number::Over => Head::Refused(Refusal::TooManyGroups),
-        Number::Is(n, next) => Head::Counts(vertices, triangles, n, next),
-    }
-}
-
-fn second_count(form: Form, s: &[u8], i: usize, vertices: usize) -> Head
-    requires { (i < 90) × (vertices < 4_294_967_296) }
-    ensures { (result ≡ with_count (number_at form s.now i) (λ triangles k. with_count (number_at form s.now k) (λ pieces l. Head.Counts vertices triangles pieces l)))
-        × SmallCounts result (i + 10) }
-{
-    match read_number(form, s, i) {
-        Number::Short => Head::Refused(Refusal::TooShort),
-        Number::Over => Head::Refused(Refusal::TooManyGroups),
-        Number::Is(n, next) => third_count(form, s, next, vertices, n),
-    }
-}
-
-fn read_counts(form: Form, s: &[u8], i: usize) -> Head
+fn read_counts(form: Form, s: &[u8], i: usize) -> Result<Counts, Refusal>
     requires { i ≤ 1 }
     ensures { (result ≡ counts_at form s.now i) × SmallCounts result 16 }
 {
-    match read_number(form, s, i) {
-        Number::Short => Head::Refused(Refusal::TooShort),
-        Number::Over => Head::Refused(Refusal::TooManyGroups),
-        Number::Is(n, next) => second_count(form, s, next, n),
-    }
+    let (vertices, j) = read_number(form, s, i)?;
+    let (triangles, k) = read_number(form, s, j)?;
+    let (pieces, next) = read_number(form, s, k)?;
+    Ok(Counts {
+        vertices,
+        triangles,
+        pieces,
+        next,
+    })
 }
 
-fn read_groups_head(s: &[u8]) -> Head
+fn read_groups_head(s: &[u8]) -> Result<Counts, Refusal>
     ensures { (result ≡ form_head_at Form.Groups s.now) × SmallCounts result 16 }
 {
     if s.len() == 0 {
-        return Head::Refused(Refusal::TooShort);
+        return Err(Refusal::TooShort);
     }
     if s[0] != 2 {
-        return Head::Refused(Refusal::NotGroups);
+        return Err(Refusal::NotGroups);
     }
     read_counts(Form::Groups, s, 1)
 }
 
 // The first byte, where the form has one, and the counts.
-pub fn read_head(form: Form, s: &[u8]) -> Head
+pub fn read_head(form: Form, s: &[u8]) -> Result<Counts, Refusal>
     ensures { (result ≡ form_head_at form s.now) × SmallCounts result 16 }
 {
     match form {
@@ -151,32 +146,40 @@ fn put_head(form: Form, out: &mut [u8], vertices: usize, triangles: usize, piece
     put_number(form, out, c, pieces)
 }
 
-// ---- the parts, from byte i on to place o
+// ---- the parts, from byte i on to place o: what is answered are the places behind them in the slip and in the output
 
-fn move_bytes(s: &[u8], i: usize, n: usize, out: &mut [u8], o: usize) -> Step
+fn move_bytes(
+    s: &[u8],
+    i: usize,
+    n: usize,
+    out: &mut [u8],
+    o: usize,
+) -> Result<(usize, usize), Refusal>
     requires { (i < 4_000_000_000_000_000_000) × ((o < 4_000_000_000_000_000_000) × (n < 4_000_000_000_000_000_000)) }
     ensures { Moves out.old o (bytes_moved s.now n i) out.new result }
 {
     let end = i + n;
     if s.len() < end {
-        return Step::Stopped(Refusal::TooShort);
+        return Err(Refusal::TooShort);
     }
     let p = put_text(out, o, &s[i..end]);
-    Step::Went(end, p)
+    Ok((end, p))
 }
 
-fn move_number(from: Form, to: Form, s: &[u8], i: usize, out: &mut [u8], o: usize) -> Step
+fn move_number(
+    from: Form,
+    to: Form,
+    s: &[u8],
+    i: usize,
+    out: &mut [u8],
+    o: usize,
+) -> Result<(usize, usize), Refusal>
     requires { (i < 4_000_000_000_000_000_000) × (o < 4_000_000_000_000_000_000) }
     ensures { Moves out.old o (number_moved from to s.now i) out.new result }
 {
-    match read_number(from, s, i) {
-        Number::Short => Step::Stopped(Refusal::TooShort),
-        Number::Over => Step::Stopped(Refusal::TooManyGroups),
-        Number::Is(n, next) => {
-            let p = put_number(to, out, o, n);
-            Step::Went(next, p)
-        }
-    }
+    let (n, next) = read_number(from, s, i)?;
+    let p = put_number(to, out, o, n);
+    Ok((next, p))
 }
 
 fn move_numbers(
@@ -187,26 +190,16 @@ fn move_numbers(
     n: usize,
     out: &mut [u8],
     o: usize,
-) -> Step
+) -> Result<(usize, usize), Refusal>
     requires { (i < 1_000_000_000_000_000_000) × ((o < 1_000_000_000_000_000_000) × (n < 100_000_000_000)) }
     ensures { Moves out.old o (numbers_moved from to s.now n i) out.new result }
 {
     let mut at = i;
     let mut p = o;
-    let mut more = n;
-    while 0 < more {
-        match move_number(from, to, s, at, out, p) {
-            Step::Went(next, behind) => {
-                at = next;
-                p = behind;
-            }
-            Step::Stopped(r) => {
-                return Step::Stopped(r);
-            }
-        }
-        more -= 1;
+    for _ in 0..n {
+        (at, p) = move_number(from, to, s, at, out, p)?;
     }
-    Step::Went(at, p)
+    Ok((at, p))
 }
 
 // How many bytes the ends of a piece of a kind have.
@@ -220,53 +213,62 @@ pub fn ends_size(kind: u8) -> usize
 }
 
 // A piece of a kind.
-fn move_kind(from: Form, to: Form, s: &[u8], i: usize, kind: u8, out: &mut [u8], o: usize) -> Step
+fn move_kind(
+    from: Form,
+    to: Form,
+    s: &[u8],
+    i: usize,
+    kind: u8,
+    out: &mut [u8],
+    o: usize,
+) -> Result<(usize, usize), Refusal>
     requires { (i < 2_000_000_000_000_000_000) × (o < 2_000_000_000_000_000_000) }
     ensures { Moves out.old o (piece_of_kind from to s.now kind i) out.new result }
 {
-    match move_bytes(s, i, 1, out, o) {
-        Step::Stopped(r) => Step::Stopped(r),
-        Step::Went(j, p) => match move_number(from, to, s, j, out, p) {
-            Step::Stopped(r) => Step::Stopped(r),
-            Step::Went(k, q) => move_bytes(s, k, ends_size(kind), out, q),
-        },
-    }
+    let (j, p) = move_bytes(s, i, 1, out, o)?;
+    let (k, q) = move_number(from, to, s, j, out, p)?;
+    move_bytes(s, k, ends_size(kind), out, q)
 }
 
-fn move_piece(from: Form, to: Form, s: &[u8], i: usize, out: &mut [u8], o: usize) -> Step
+fn move_piece(
+    from: Form,
+    to: Form,
+    s: &[u8],
+    i: usize,
+    out: &mut [u8],
+    o: usize,
+) -> Result<(usize, usize), Refusal>
     requires { (i < 2_000_000_000_000_000_000) × (o < 2_000_000_000_000_000_000) }
     ensures { Moves out.old o (piece_moved from to s.now i) out.new result }
 {
     if s.len() <= i {
-        return Step::Stopped(Refusal::TooShort);
+        return Err(Refusal::TooShort);
     }
     let kind = s[i];
     if 1 < kind {
-        return Step::Stopped(Refusal::UnknownKind);
+        return Err(Refusal::UnknownKind);
     }
     move_kind(from, to, s, i, kind, out, o)
 }
 
-fn move_pieces(from: Form, to: Form, s: &[u8], i: usize, n: usize, out: &mut [u8], o: usize) -> Step
+fn move_pieces(
+    from: Form,
+    to: Form,
+    s: &[u8],
+    i: usize,
+    n: usize,
+    out: &mut [u8],
+    o: usize,
+) -> Result<(usize, usize), Refusal>
     requires { (i < 1_000_000_000_000_000_000) × ((o < 1_000_000_000_000_000_000) × (n < 100_000_000_000)) }
     ensures { Moves out.old o (pieces_moved from to s.now n i) out.new result }
 {
     let mut at = i;
     let mut p = o;
-    let mut more = n;
-    while 0 < more {
-        match move_piece(from, to, s, at, out, p) {
-            Step::Went(next, behind) => {
-                at = next;
-                p = behind;
-            }
-            Step::Stopped(r) => {
-                return Step::Stopped(r);
-            }
-        }
-        more -= 1;
+    for _ in 0..n {
+        (at, p) = move_piece(from, to, s, at, out, p)?;
     }
-    Step::Went(at, p)
+    Ok((at, p))
 }
 
 fn move_mesh(
@@ -278,17 +280,13 @@ fn move_mesh(
     triangles: usize,
     out: &mut [u8],
     o: usize,
-) -> Step
+) -> Result<(usize, usize), Refusal>
     requires { (i ≤ 16) × ((o ≤ 16) × ((vertices < 4_294_967_296) × (triangles < 4_294_967_296))) }
     ensures { Moves out.old o (mesh_moved from to s.now vertices triangles i) out.new result }
 {
-    match move_bytes(s, i, 24 * vertices, out, o) {
-        Step::Stopped(r) => Step::Stopped(r),
-        Step::Went(j, p) => match move_numbers(from, to, s, j, 3 * triangles, out, p) {
-            Step::Stopped(r) => Step::Stopped(r),
-            Step::Went(k, q) => move_bytes(s, k, vertices, out, q),
-        },
-    }
+    let (j, p) = move_bytes(s, i, 24 * vertices, out, o)?;
+    let (k, q) = move_numbers(from, to, s, j, 3 * triangles, out, p)?;
+    move_bytes(s, k, vertices, out, q)
 }
 
 // The pieces and the limit.
@@ -300,14 +298,12 @@ fn move_rest(
     pieces: usize,
     out: &mut [u8],
     o: usize,
-) -> Step
+) -> Result<(usize, usize), Refusal>
     requires { (i < 500_000_000_000_000_000) × ((o < 500_000_000_000_000_000) × (pieces < 4_294_967_296)) }
     ensures { Moves out.old o (rest_moved from to s.now pieces i) out.new result }
 {
-    match move_pieces(from, to, s, i, pieces, out, o) {
-        Step::Stopped(r) => Step::Stopped(r),
-        Step::Went(j, p) => move_bytes(s, j, 8, out, p),
-    }
+    let (j, p) = move_pieces(from, to, s, i, pieces, out, o)?;
+    move_bytes(s, j, 8, out, p)
 }
 
 // What stands behind the counts, and nothing behind that.
@@ -321,62 +317,58 @@ fn move_body(
     pieces: usize,
     out: &mut [u8],
     o: usize,
-) -> Step
+) -> Result<(usize, usize), Refusal>
     requires { (i ≤ 16) × ((o ≤ 16) × ((vertices < 4_294_967_296) × ((triangles < 4_294_967_296) × (pieces < 4_294_967_296)))) }
     ensures { Moves out.old o (then (body_moved from to s.now vertices triangles pieces i) (ended s.now)) out.new result }
 {
-    match move_mesh(from, to, s, i, vertices, triangles, out, o) {
-        Step::Stopped(r) => Step::Stopped(r),
-        Step::Went(j, p) => match move_rest(from, to, s, j, pieces, out, p) {
-            Step::Stopped(r) => Step::Stopped(r),
-            Step::Went(k, q) => {
-                if k < s.len() {
-                    return Step::Stopped(Refusal::LeftOver);
-                }
-                Step::Went(k, q)
-            }
-        },
+    let (j, p) = move_mesh(from, to, s, i, vertices, triangles, out, o)?;
+    let (k, q) = move_rest(from, to, s, j, pieces, out, p)?;
+    if k < s.len() {
+        return Err(Refusal::LeftOver);
     }
+    Ok((k, q))
 }
 
 // The whole slip from place 0 on; what is past the end of the output is left out, and counted all the same.
-fn move_whole(from: Form, to: Form, s: &[u8], out: &mut [u8]) -> Step
+fn move_whole(from: Form, to: Form, s: &[u8], out: &mut [u8]) -> Result<(usize, usize), Refusal>
     ensures { Moves out.old 0 (slip_moved from to s.now) out.new result }
 {
-    match read_head(from, s) {
-        Head::Refused(r) => Step::Stopped(r),
-        Head::Counts(vertices, triangles, pieces, i) => {
-            let o = put_head(to, out, vertices, triangles, pieces);
-            move_body(from, to, s, i, vertices, triangles, pieces, out, o)
-        }
-    }
+    let head = read_head(from, s)?;
+    let o = put_head(to, out, head.vertices, head.triangles, head.pieces);
+    move_body(
+        from,
+        to,
+        s,
+        head.next,
+        head.vertices,
+        head.triangles,
+        head.pieces,
+        out,
+        o,
+    )
 }
 
-// Moves a slip from one form to another, to the front of a slice. Refused, or where the slice is too short, it writes nothing: a first pass only counts.
-pub fn move_slip(from: Form, to: Form, s: &[u8], out: &mut [u8]) -> Moved
+// Moves a slip from one form to another, to the front of a slice, and answers how long it is there. Refused, or where the slice is too short, it writes nothing: a first pass only counts.
+pub fn move_slip(from: Form, to: Form, s: &[u8], out: &mut [u8]) -> Result<usize, MoveRefusal>
     ensures { (result, out.new) ≡ moving from to s.now out.old }
 {
     let mut none = [0u8; 1];
-    match move_whole(from, to, s, &mut none) {
-        Step::Stopped(r) => Moved::Refused(r),
-        Step::Went(_, n) => {
-            if out.len() < n {
-                return Moved::NoRoom(n);
-            }
-            move_whole(from, to, s, out);
-            Moved::Length(n)
-        }
+    let (_, n) = move_whole(from, to, s, &mut none)?;
+    if out.len() < n {
+        return Err(MoveRefusal::NoRoom(n));
     }
+    move_whole(from, to, s, out)?;
+    Ok(n)
 }
 
 // Moves a plain slip to groups, and back.
-pub fn to_groups(s: &[u8], out: &mut [u8]) -> Moved
+pub fn to_groups(s: &[u8], out: &mut [u8]) -> Result<usize, MoveRefusal>
     ensures { (result, out.new) ≡ moving Form.Plain Form.Groups s.now out.old }
 {
     move_slip(Form::Plain, Form::Groups, s, out)
 }
 
-pub fn from_groups(s: &[u8], out: &mut [u8]) -> Moved
+pub fn from_groups(s: &[u8], out: &mut [u8]) -> Result<usize, MoveRefusal>
     ensures { (result, out.new) ≡ moving Form.Groups Form.Plain s.now out.old }
 {
     move_slip(Form::Groups, Form::Plain, s, out)

@@ -1,5 +1,5 @@
 -- Document 01's program `fieldslip`: what it prints for the bytes that it is given. Definitions only.
-use Rattle.std.specs.Prelude.{ℕ, ◌+◌, cond, List, [], ◌∷◌, length, Float}
+use Rattle.std.specs.Prelude.{ℕ, ◌+◌, cond, List, [], ◌∷◌, length, Float, Result, Ok, Err}
 use Rattle.windows.specs.declared.WindowRecord.{WindowRecord}
 use Rattle.job_checks.specs.Job.{Job}
 use Rattle.job_checks.specs.declared.BufferCounts.{BufferCounts}
@@ -10,10 +10,9 @@ use Rattle.compute.specs.of_field_model.Queue.{queue_in_order}
 use Rattle.compute.specs.of_field_model.Field.{Reply, refused, gives, Slots}
 use Rattle.compute.specs.of_field_model.Job.{Finished, job_of}
 use Rattle.compute.specs.of_field_model.Lent.{answer_over}
-use Rattle.slip.specs.declared.Slip.{Slip}
-use Rattle.slip.specs.declared.Slip.TheVariants.{TooShort, LeftOver, UnknownKind, TooMany}
-use Rattle.slip.specs.declared.Slip.TheVariants as slip
-use Rattle.slip.specs.Format.{slip_number, job_in, answer_to}
+use Rattle.slip.specs.declared.SlipJob.{SlipJob}
+use Rattle.slip.specs.declared.SlipRefusal.{SlipRefusal}
+use Rattle.slip.specs.Format.{refusal_number, job_in, answer_to}
 use Rattle.print_out.specs.PrintOut.{refused_line, text_of}
 
 -- ---- "allows 100,000 steps, and holds up to 64 corners, 96 triangles, 32 pieces, 400 windows, 600 events, 100 cuts, 1,000 face entries"
@@ -56,13 +55,10 @@ abbrev pub job_text : Job → List ℕ
 job_text j = reply_text j (job_of queue_in_order program_counts program_slots j max_steps)
 
 -- ---- the print-out of a slip, which is read or refused
-unfoldable pub slip_text : List ℕ → Slip → List ℕ
+unfoldable pub slip_text : List ℕ → Result SlipJob SlipRefusal → List ℕ
 unfolding refused_line reply_text job_in
-slip_text s TooShort = refused_line (slip_number TooShort)
-slip_text s LeftOver = refused_line (slip_number LeftOver)
-slip_text s UnknownKind = refused_line (slip_number UnknownKind)
-slip_text s TooMany = refused_line (slip_number TooMany)
-slip_text s (slip.Job n) = job_text (job_in s)
+slip_text s (Ok n) = job_text (job_in s)
+slip_text s (Err why) = refused_line (refusal_number why)
 
 -- "a slip with larger counts is 33"
 abbrev pub program_text : List ℕ → List ℕ

@@ -11,7 +11,7 @@ ghost use Rattle.slip_program.specs.Program.{job_text, program_text};
 ghost use Rattle.slip_program.specs.Fronts.{windows_told, front_job};
 
 use computed::Computed;
-use slip::{Slip, SlipJob, least};
+use slip::{SlipJob, least};
 
 const MAX_STEPS: u32 = 100_000;
 
@@ -151,15 +151,13 @@ pub fn print_slip(s: &[u8], text: &mut [u8]) -> usize
         &mut faces,
         &mut coords,
     );
-    let Slip::Job(job) = read else {
-        return print_out::print_out(
-            Computed::Refused(slip::slip_number(read)),
-            0,
-            &vertices,
-            text,
-        );
-    };
-    print_read(
-        job, &vertices, &triangles, &flags, &kinds, &faces, &coords, text,
-    )
+    match read {
+        Ok(job) => print_read(
+            job, &vertices, &triangles, &flags, &kinds, &faces, &coords, text,
+        ),
+        Err(why) => {
+            let refused = Computed::Refused(slip::refusal_number(why));
+            print_out::print_out(refused, 0, &vertices, text)
+        }
+    }
 }

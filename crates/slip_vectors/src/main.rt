@@ -6,17 +6,14 @@ ghost use Rattle.std.specs.Prelude.{◌≤◌, ◌<◌};
 
 use little_endian::read_bytes;
 use std::io;
-use std::rt::Files;
 use stored_numbers::{at_most, count, number, record_size, u32_of_byte};
 use vectors::Tally;
 
 // The check sum of stored jobs, of bytes.
 fn check_sum(text: &[u8]) -> u32 {
     let mut sum: u64 = 0;
-    let mut i: usize = 0;
-    while i < text.len() {
-        sum = (sum * 65_599 + (u32_of_byte(text[i]) as u64)) % 4_294_967_291;
-        i += 1;
+    for b in text {
+        sum = (sum * 65_599 + (u32_of_byte(*b) as u64)) % 4_294_967_291;
     }
     sum as u32
 }
@@ -90,10 +87,8 @@ fn differences(s: &[u8], k: usize, from: usize, n: usize) -> u64
     ensures { result ≤ n }
 {
     let mut found: u64 = 0;
-    let mut i: usize = 0;
-    while i < n {
+    for i in 0..n {
         found += difference(s, k, from + 4 * i);
-        i += 1;
     }
     found
 }
@@ -116,20 +111,8 @@ fn replay(s: &[u8]) -> Tally {
     }
 }
 
-// Reads the file of the name into the buffer, replays it and reports.
-fn replay_into(rt: &(impl Files + Print), name: &str, buf: &mut [u8]) -> io::Result<()> {
-    let got = vectors::read_file(rt, name, buf)?;
-    let tally = replay(&buf[..got]);
-    vectors::report(rt, name, tally.cases, tally.differences)
-}
-
-fn replay_file(rt: &(impl Files + Print), name: &str) -> io::Result<()> {
-    let mut buf = [0u8; 1048576];
-    replay_into(rt, name, &mut buf)
-}
-
 fn main(rt: HostRuntime) -> io::Result<()> {
-    replay_file(&rt, "refused")?;
-    replay_file(&rt, "damaged")?;
-    replay_file(&rt, "fresh")
+    vectors::replay_file::<1048576, _>(&rt, "refused", replay)?;
+    vectors::replay_file::<1048576, _>(&rt, "damaged", replay)?;
+    vectors::replay_file::<1048576, _>(&rt, "fresh", replay)
 }

@@ -13,7 +13,7 @@ use Rattle.little_endian.specs.Bytes.{put_in_front}
 use Rattle.text_out.specs.Text.{Puts}
 use Rattle.slip_write.specs.Write.{slip_of, oversized, writing}
 use Rattle.job_checks.specs.Job.{Job}
-use Rattle.slip_write.specs.declared.Written.TheVariants.{Length, TooShort}
+use Rattle.std.specs.Prelude.{Some, None}
 
 pub at_front : {l m : List ℕ} {j : ℕ} {x : List ℕ} → Puts l 0 x m j → length x ≤ length l → m ≡ put_in_front x l
 unfolding put_in_front
@@ -33,15 +33,15 @@ in_bounds a b c d h =
 
 -- ---- the three ways to answer
 module _ (j : Job) (out : List ℕ) where
-  pub has_oversized : oversized (length j.vertices) (length j.triangles) (length j.flags) (length j.kinds) ≡ true → (TooShort, out) ≡ writing j out
+  pub has_oversized : oversized (length j.vertices) (length j.triangles) (length j.flags) (length j.kinds) ≡ true → (None, out) ≡ writing j out
   unfolding writing
   has_oversized h = rw h
 
   module _ (n : ℕ) (h : oversized (length j.vertices) (length j.triangles) (length j.flags) (length j.kinds) ≡ false) (e : n ≡ 0 + length (slip_of j)) where
-    pub too_short : length out < n → (TooShort, out) ≡ writing j out
+    pub too_short : length out < n → (None, out) ≡ writing j out
     unfolding writing
     too_short l = rw (h, lt-ltb (length out) (length (slip_of j)) (omega (arith, e)))
 
-    pub done : (m : List ℕ) (r : ℕ) → n ≤ length out → Puts out 0 (slip_of j) m r → (Length n, m) ≡ writing j out
+    pub done : (m : List ℕ) (r : ℕ) → n ≤ length out → Puts out 0 (slip_of j) m r → (Some n, m) ≡ writing j out
     unfolding writing
-    done m r l p = rw (h, le-ltb (length out) (length (slip_of j)) (omega (arith, e))) (λ i. (Length ((e ∙ zero-add (length (slip_of j))) i), at_front p (omega (arith, e)) i))
+    done m r l p = rw (h, le-ltb (length out) (length (slip_of j)) (omega (arith, e))) (λ i. (Some ((e ∙ zero-add (length (slip_of j))) i), at_front p (omega (arith, e)) i))

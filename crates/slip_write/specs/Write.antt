@@ -1,10 +1,8 @@
 -- The slip of a job. A count is written by its low 32 bits; where a piece has no face or coordinates, 0 and NaN are written. Definitions only.
-use Rattle.std.specs.Prelude.{ℕ, zero, suc, ◌+◌, ◌*◌, ◌%◌, Bool, cond, ◌||◌, List, [], ◌∷◌, ◌++◌, eqb, ltb, length, get_or, Float}
+use Rattle.std.specs.Prelude.{ℕ, zero, suc, ◌+◌, ◌*◌, ◌%◌, Bool, cond, ◌||◌, List, [], ◌∷◌, ◌++◌, eqb, ltb, length, get_or, Float, Option, Some, None}
 use Rattle.std.specs.Float.{nan}
 use Rattle.job_checks.specs.Job.{Job, vertex_count, triangle_count, piece_count}
 use Rattle.little_endian.specs.Bytes.{number_bytes, double_bytes, put_in_front}
-use Rattle.slip_write.specs.declared.Written.{Written}
-use Rattle.slip_write.specs.declared.Written.TheVariants.{Length, TooShort}
 
 -- the bytes of the first n elements of a row
 unfoldable pub doubles_bytes : List Float → ℕ → List ℕ
@@ -56,8 +54,8 @@ oversized vertices triangles flags kinds =
     ltb 72_057_594_037_927_936 vertices || ltb 72_057_594_037_927_936 triangles || ltb 72_057_594_037_927_936 flags || ltb 72_057_594_037_927_936 kinds
 
 -- the answer and the slice; no slice that is lent has room for so long a list
-unfoldable pub writing : Job → List ℕ → Written × List ℕ
+unfoldable pub writing : Job → List ℕ → Option ℕ × List ℕ
 unfolding slip_of oversized put_in_front
 writing j out =
-    cond (oversized (length j.vertices) (length j.triangles) (length j.flags) (length j.kinds)) (TooShort, out)
-    (cond (ltb (length out) (length (slip_of j))) (TooShort, out) (Length (length (slip_of j)), put_in_front (slip_of j) out))
+    cond (oversized (length j.vertices) (length j.triangles) (length j.flags) (length j.kinds)) (None, out)
+    (cond (ltb (length out) (length (slip_of j))) (None, out) (Some (length (slip_of j)), put_in_front (slip_of j) out))

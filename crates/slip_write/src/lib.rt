@@ -38,10 +38,8 @@ fn put_doubles(out: &mut [u8], i: usize, xs: &[f64]) -> usize
     ensures { Puts out.old i (doubles_bytes xs.now (length xs.now)) out.new result × (result ≡ i + 8 * length xs.now) }
 {
     let mut at = i;
-    let mut k: usize = 0;
-    while k < xs.len() {
-        at = put_double(out, at, xs[k]);
-        k += 1;
+    for x in xs {
+        at = put_double(out, at, *x);
     }
     at
 }
@@ -51,10 +49,8 @@ fn put_numbers(out: &mut [u8], i: usize, xs: &[u32]) -> usize
     ensures { Puts out.old i (numbers_bytes xs.now (length xs.now)) out.new result × (result ≡ i + 4 * length xs.now) }
 {
     let mut at = i;
-    let mut k: usize = 0;
-    while k < xs.len() {
-        at = put_number(out, at, xs[k]);
-        k += 1;
+    for x in xs {
+        at = put_number(out, at, *x);
     }
     at
 }
@@ -108,10 +104,8 @@ fn put_pieces(out: &mut [u8], i: usize, kinds: &[u8], faces: &[u32], coords: &[f
     ensures { Puts out.old i (pieces_bytes kinds.now faces.now coords.now (length kinds.now)) out.new result × (result ≤ i + 53 * length kinds.now) }
 {
     let mut at = i;
-    let mut k: usize = 0;
-    while k < kinds.len() {
+    for k in 0..kinds.len() {
         at = put_piece(out, at, kinds, faces, coords, k);
-        k += 1;
     }
     at
 }
@@ -186,13 +180,7 @@ fn is_oversized(vertices: usize, triangles: usize, flags: usize, kinds: usize) -
     false
 }
 
-#[derive(Clone, Copy)]
-pub enum Written {
-    Length(usize),
-    TooShort,
-}
-
-// The slip of a job to the front of a slice: answers how long it is, or that the slice is too short, and then nothing is written. A first pass only counts.
+// The slip of a job to the front of a slice: answers how long it is, or nothing where the slice is too short, and then nothing is written. A first pass only counts.
 pub fn write(
     vertices: &[f64],
     triangles: &[u32],
@@ -202,19 +190,19 @@ pub fn write(
     coords: &[f64],
     limit: f64,
     out: &mut [u8],
-) -> Written
+) -> Option<usize>
     ensures { (result, out.new) ≡ writing (job vertices.now triangles.now flags.now kinds.now faces.now coords.now limit) out.old }
 {
     if is_oversized(vertices.len(), triangles.len(), flags.len(), kinds.len()) {
-        return Written::TooShort;
+        return None;
     }
     let mut none = [0u8; 1];
     let n = put_slip(
         vertices, triangles, flags, kinds, faces, coords, limit, &mut none,
     );
     if out.len() < n {
-        return Written::TooShort;
+        return None;
     }
     put_slip(vertices, triangles, flags, kinds, faces, coords, limit, out);
-    Written::Length(n)
+    Some(n)
 }

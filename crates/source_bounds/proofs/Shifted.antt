@@ -1,5 +1,6 @@
 -- Bounds of a distance from those of the root, and of a line. Assumes nothing.
-use mathlib.Core.Bool.{Bool, true, false}
+use Rattle.std.specs.Prelude.{Option, Some, None, IfSome}
+use mathlib.Core.Bool.{true, false}
 use mathlib.Core.Path.{◌≡◌}
 use lib.Dec.{T}
 use lib.Ieee.{Float, nan, inf, fin, binary64, add, neg, le, of_bits}
@@ -10,11 +11,12 @@ use Rattle.float_laws.proofs.Order.{finite_number, le_refl, le_number_l, finite_
 use Rattle.float_laws.proofs.Sum.{add_mono}
 use Rattle.source.specs.declared.Src.TheVariants.{Point, Line}
 use Rattle.source.specs.Distance.{edge_of}
+use Rattle.source_bounds.specs.declared.Enclosure.{Enclosure}
 use Rattle.source_bounds.specs.Bounds.{least_bound, greatest_bound, Bounded, Encloses}
 
 -- what `limited` says
-abbrev Limited : Float → Float → Float → Float → Bool → Type 0
-Limited lo hi a b known = (a ≡ lo) × (b ≡ hi) × (T known → T (le least_bound lo) × T (le hi greatest_bound))
+abbrev Limited : Float → Float → Option Enclosure → Type 0
+Limited lo hi r = IfSome r (λ e. (e.lo ≡ lo) × (e.hi ≡ hi) × (T (le least_bound lo) × T (le hi greatest_bound)))
 
 -- sums from -1 to 1e100 are of a finite s
 addend_finite : (l u s : Float) → T (finite l) → T (finite u) → T (le least_bound (l ⊕ s)) → T (le (u ⊕ s) greatest_bound) → T (finite s)
@@ -40,13 +42,15 @@ sum_bounded lo hi v s e h k =
       greatest = k;
     }
 
-pub point_bounded : (sx y s x lo hi a b : Float) (known : Bool) → Encloses lo hi (hypot_of binary64 (x ⊖ sx) y) → Limited (lo ⊕ s) (hi ⊕ s) a b known → T known → Bounded a b (edge_of (Point sx y s) x)
+pub point_bounded : (sx y s x lo hi : Float) (r : Option Enclosure) → Encloses lo hi (hypot_of binary64 (x ⊖ sx) y) → Limited (lo ⊕ s) (hi ⊕ s) r → IfSome r (λ e. Bounded e.lo e.hi (edge_of (Point sx y s) x))
 unfolding edge_of
-point_bounded sx y s x lo hi a b known e l k = rw (l.0, l.1) (sum_bounded lo hi (hypot_of binary64 (x ⊖ sx) y) s e (l.2 k).0 (l.2 k).1)
+point_bounded sx y s x lo hi None e l = tt
+point_bounded sx y s x lo hi (Some b) e l = rw (l.0, l.1) (sum_bounded lo hi (hypot_of binary64 (x ⊖ sx) y) s e l.2.0 l.2.1)
 
-pub line_bounded : (ux uy c x a b : Float) (known : Bool) → Limited (c ⊕ ux ⊗ x) (c ⊕ ux ⊗ x) a b known → T known → Bounded a b (edge_of (Line ux uy c) x)
+pub line_bounded : (ux uy c x : Float) (r : Option Enclosure) → Limited (c ⊕ ux ⊗ x) (c ⊕ ux ⊗ x) r → IfSome r (λ e. Bounded e.lo e.hi (edge_of (Line ux uy c) x))
 unfolding edge_of
-line_bounded ux uy c x a b known l k =
+line_bounded ux uy c x None l = tt
+line_bounded ux uy c x (Some b) l =
     let v = c ⊕ ux ⊗ x in
-    let r = le_refl v (le_number_l v greatest_bound (l.2 k).1) in
-    rw (l.0, l.1) (record { least = (l.2 k).0; from = r; upto = r; greatest = (l.2 k).1 })
+    let r = le_refl v (le_number_l v greatest_bound l.2.1) in
+    rw (l.0, l.1) (record { least = l.2.0; from = r; upto = r; greatest = l.2.1 })

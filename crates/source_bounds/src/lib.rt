@@ -1,7 +1,7 @@
 // Bounds of a source's distance at a point of its edge, without a root: a number near the root is guessed, and a test on squares certifies the bounds beside it.
 #![tactic(auto)]
 
-ghost use Rattle.std.specs.Prelude.{◌≡◌, T};
+ghost use Rattle.std.specs.Prelude.{◌≡◌, T, IfSome};
 ghost use Rattle.std.specs.Float.Ieee.{le};
 ghost use Rattle.std.specs.Float.{binary64};
 ghost use Rattle.root_spec.specs.Root.{hypot_of};
@@ -10,12 +10,11 @@ ghost use Rattle.source_bounds.specs.Bounds.{least_bound, greatest_bound, Bounde
 
 use source::Src;
 
-// Bounds of a number, where they are known.
+// Bounds of a number.
 #[derive(Clone, Copy)]
 pub struct Enclosure {
     pub lo: f64,
     pub hi: f64,
-    pub known: bool,
 }
 
 // A number near the root of z, by two refinements of a guess of 1 / sqrt(z) from its bits. How near is not stated: only whether bounds are known rests on it.
@@ -35,63 +34,45 @@ fn near_root(z: f64) -> f64 {
 fn is_certified(z: f64, lo: f64, hi: f64) -> bool
     ensures { T result → Certified z lo hi }
 {
-    if 1e-100 < z {
-        if lo * lo < z * 0.9999999999995453 {
-            if z * 1.0000000000004547 < hi * hi {
-                if 0.0 < hi {
-                    if hi < 1e100 {
-                        return true;
-                    }
-                }
-            }
-        }
-    }
-    false
+    1e-100 < z
+        && lo * lo < z * 0.9999999999995453
+        && z * 1.0000000000004547 < hi * hi
+        && 0.0 < hi
+        && hi < 1e100
 }
 
-// Bounds of the hypotenuse of d and y.
-fn hypot_bounds(d: f64, y: f64) -> Enclosure
-    ensures { T result.known → Encloses result.lo result.hi (hypot_of binary64 d y) }
+// Bounds of the hypotenuse of d and y, where they are certified.
+fn hypot_bounds(d: f64, y: f64) -> Option<Enclosure>
+    ensures { IfSome result (λ e. Encloses e.lo e.hi (hypot_of binary64 d y)) }
 {
     let z = d * d + y * y;
     let q = near_root(z);
     let lo = q * 0.9999999999990905;
     let hi = q * 1.0000000000009095;
-    let known = is_certified(z, lo, hi);
-    Enclosure { lo, hi, known }
+    if is_certified(z, lo, hi) {
+        return Some(Enclosure { lo, hi });
+    }
+    None
 }
 
-// lo and hi, known where they are from -1 to 1e100.
-fn limited(lo: f64, hi: f64) -> Enclosure
-    ensures { (result.lo ≡ lo) × (result.hi ≡ hi) × (T result.known → T (le least_bound lo) × T (le hi greatest_bound)) }
+// lo and hi, where they are from -1 to 1e100.
+fn limited(lo: f64, hi: f64) -> Option<Enclosure>
+    ensures { IfSome result (λ e. (e.lo ≡ lo) × (e.hi ≡ hi) × (T (le least_bound lo) × T (le hi greatest_bound))) }
 {
-    if -1.0 <= lo {
-        if hi <= 1e100 {
-            return Enclosure {
-                lo,
-                hi,
-                known: true,
-            };
-        }
+    if -1.0 <= lo && hi <= 1e100 {
+        return Some(Enclosure { lo, hi });
     }
-    Enclosure {
-        lo,
-        hi,
-        known: false,
-    }
+    None
 }
 
-// Bounds of the distance at x on the edge. A line's are exact.
-pub fn bounds(src: Src, x: f64) -> Enclosure
-    ensures { T result.known → Bounded result.lo result.hi (edge_of src x) }
+// Bounds of the distance at x on the edge, where they are known. A line's are exact.
+pub fn bounds(src: Src, x: f64) -> Option<Enclosure>
+    ensures { IfSome result (λ e. Bounded e.lo e.hi (edge_of src x)) }
 {
     match src {
         Src::Point { x: sx, y, s } => {
-            let b = hypot_bounds(x - sx, y);
-            if b.known {
-                return limited(b.lo + s, b.hi + s);
-            }
-            b
+            let b = hypot_bounds(x - sx, y)?;
+            limited(b.lo + s, b.hi + s)
         }
         Src::Line { ux, uy: _, c } => {
             let v = c + ux * x;

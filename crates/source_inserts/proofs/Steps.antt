@@ -1,4 +1,5 @@
 -- The answers as the code computes them. Assumes nothing.
+use Rattle.std.specs.declared.option.Option.{Option}
 use Prim.Native.Nat.{ℕ, ◌+◌, ◌-◌, ◌*◌, ◌/◌, ◌%◌, ◌<◌, ◌≤◌, min}
 use mathlib.Core.Path.{◌≡◌, refl, ap, ◌∙◌}
 use mathlib.Core.Bool.{true, false}
@@ -72,7 +73,7 @@ module _ (v : List Float) (ew : List ℕ) (er : List Float) (tw : List ℕ) (tr 
     unfolding segment_insert_at
     segment_entry h = rw (eq-eqb i 0 h) refl
 
-    pub segment_side : (i ≡ 0 → ⊥) → (n : Normal) → n ≡ normal_of_number ((i - 1) % 2) → (o : Offered) → o ≡ segment_offer_at v ew er tw tr f.0 ((i - 1) / 2) a b n
+    pub segment_side : (i ≡ 0 → ⊥) → (n : Normal) → n ≡ normal_of_number ((i - 1) % 2) → (o : Option Offered) → o ≡ segment_offer_at v ew er tw tr f.0 ((i - 1) / 2) a b n
         → Offer o ≡ segment_insert_at v ew er tw tr f.0 a b piece i
     unfolding segment_insert_at
     segment_side h n is-n o is-o =
@@ -81,7 +82,7 @@ module _ (v : List Float) (ew : List ℕ) (er : List Float) (tw : List ℕ) (tr 
 
   -- ---- what a point does
   module _ (vw round kinds faces : List ℕ) (coords : List Float) (words : List ℕ) (reals : List Float) (pieces f : ℕ) (p : Vec3) (c : CarrierSimplex) where
-    pub side_is : (first g k count : ℕ) (h : FaceId) (w : Bounds) (r : Offered)
+    pub side_is : (first g k count : ℕ) (h : FaceId) (w : Bounds) (r : Option Offered)
         → count ≡ carrier_count_at ew vw c → h ≡ record { 0 = other_carrier g (carrier_face_at ew vw round f c 0) (carrier_face_at ew vw round f c 1) }
         → w ≡ bounds_at v ew er tw tr kinds faces coords words reals pieces g k p count h.0 first → r ≡ point_offer_at v ew er tw tr g k p w
         → r ≡ point_side_at v ew er tw tr vw round kinds faces coords words reals pieces f p c first g k
@@ -94,7 +95,7 @@ module _ (v : List Float) (ew : List ℕ) (er : List Float) (tw : List ℕ) (tr 
       unfolding point_insert_at
       point_entry h = rw (eq-eqb (i % 4) 0 h) (λ t. Entry (is-g t) (record { piece = piece; part = part }))
 
-      pub point_side : (i % 4 ≡ 0 → ⊥) → (o : Offered) → o ≡ point_side_at v ew er tw tr vw round kinds faces coords words reals pieces f p c first g.0 (i % 4 - 1)
+      pub point_side : (i % 4 ≡ 0 → ⊥) → (o : Option Offered) → o ≡ point_side_at v ew er tw tr vw round kinds faces coords words reals pieces f p c first g.0 (i % 4 - 1)
           → Offer o ≡ point_insert_at v ew er tw tr vw round kinds faces coords words reals pieces f p piece part c first i
       unfolding point_insert_at
       point_side h o is-o =

@@ -1,4 +1,5 @@
 -- All that a job's sources make is there: each entry's face and each offer's edge is one of the mesh's. Assumes nothing.
+use Rattle.std.specs.Prelude.{Option, Some, None}
 use Prim.Native.Nat.{ℕ, ◌+◌, ◌*◌, ◌/◌, ◌<◌}
 use mathlib.Core.Bool.{Bool, true, cond, not}
 use mathlib.Core.List.{List}
@@ -14,8 +15,7 @@ use Rattle.topology.proofs.Edges.{tri_edge_there}
 use Rattle.topology.proofs.Checked.{inside}
 use Rattle.wedge_refusal.specs.of_source_windows.declared.Bounds.{Bounds}
 use Rattle.wedge_refusal.specs.of_source_windows.declared.Normal.{Normal}
-use Rattle.wedge_refusal.specs.of_source_windows.declared.CandidateRange.{CandidateRange}
-use Rattle.wedge_refusal.specs.of_source_windows.declared.CandidateRange.TheVariants.{Nothing as NoRange, Window as Range}
+use Rattle.wedge_refusal.specs.of_source_windows.declared.CandidateWindow.{CandidateWindow}
 use Rattle.wedge_refusal.specs.of_source_windows.Wedge.{lies_on, point_window_of}
 use Rattle.wedge_refusal.specs.of_source_windows.Segment.{in_frame_of, segment_window_of}
 use Rattle.source_offers.specs.Offering.{offered, segment_on, point_on, segment_offer, point_offer}
@@ -24,10 +24,10 @@ use Rattle.source_inserts.specs.Inserts.{job_inserts, source_inserts, OfferThere
 use Rattle.source_inserts.proofs.Each.{source_all, job_all}
 
 module _ (v : List Float) (triangles : List ℕ) where
-  offered_there : (e into : ℕ) (queued : Bool) (range : CandidateRange) → e < length (edges triangles) → OfferThere triangles (offered e into queued range)
+  offered_there : (e into : ℕ) (queued : Bool) (range : Option CandidateWindow) → e < length (edges triangles) → OfferThere triangles (offered e into queued range)
   unfolding offered
-  offered_there e into queued NoRange l = tt
-  offered_there e into queued (Range b0 b1 src) l = l
+  offered_there e into queued None l = tt
+  offered_there e into queued (Some w) l = l
 
   module _ (n : ℕ) (valid : ValidTriangles triangles n) (f k : ℕ) (l : f < length triangles / 3) (q : k < 3) where
     abbrev e : ℕ

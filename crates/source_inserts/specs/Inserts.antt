@@ -1,12 +1,11 @@
 -- What the sources of a job do, over the topology: the Rust's loop over `sources` in `compute`, with `source_point` and `source_segment`. Definitions only.
 -- Its call of `vertex_wedge` is left out: refusal 11 excludes the jobs that need it.
-use Rattle.std.specs.Prelude.{ℕ, zero, suc, ◌+◌, ◌*◌, ◌/◌, ◌%◌, ◌<◌, ◌≡◌, List, [], ◌∷◌, ◌++◌, eqb, Float, length, get_or, if◌then◌else◌}
+use Rattle.std.specs.Prelude.{ℕ, zero, suc, ◌+◌, ◌*◌, ◌/◌, ◌%◌, ◌<◌, ◌≡◌, List, [], ◌∷◌, ◌++◌, eqb, Float, length, get_or, if◌then◌else◌, Option, None, Some}
 use Rattle.vec3.specs.declared.Vec3.{Vec3}
 use Rattle.topology.specs.Edges.{no_face, edges}
 use Rattle.wedge_refusal.specs.of_source_windows.declared.Normal.TheVariants.{Left, Right}
 use Rattle.source_offers.specs.of_trim_model.Model.{Candidate}
 use Rattle.source_offers.specs.of_offers.declared.Offered.{Offered}
-use Rattle.source_offers.specs.of_offers.declared.Offered.TheVariants.{Nothing, Window}
 use Rattle.source_offers.specs.of_offers.Each.{each_of}
 use Rattle.source_offers.specs.of_offers.Offers.{offer_list}
 use Rattle.source_offers.specs.Offering.{segment_offer, point_offer}
@@ -91,9 +90,9 @@ candidates_in [] = []
 candidates_in (x ∷ xs) = candidates_at x ++ candidates_in xs
 
 -- its face or its edge is one of the mesh's
-abbrev pub OfferThere : List ℕ → Offered → Type 0
-OfferThere triangles Nothing = Unit {0}
-OfferThere triangles (Window e w) = e.0 < length (edges triangles)
+abbrev pub OfferThere : List ℕ → Option Offered → Type 0
+OfferThere triangles None = Unit {0}
+OfferThere triangles (Some o) = o.edge.0 < length (edges triangles)
 
 abbrev pub There : List ℕ → Insert → Type 0
 There triangles (Entry f x) = f.0 < length triangles / 3

@@ -1,10 +1,9 @@
 -- What the sources of a job do, as the buffers are read. Definitions only: `source_is` and `source_inserts_held` in proofs/Held.antt say that it is the Rust's where they hold a job.
-use Rattle.std.specs.Prelude.{ℕ, ◌+◌, ◌-◌, ◌*◌, ◌/◌, ◌%◌, min, cond, List, eqb, Float, get_or}
+use Rattle.std.specs.Prelude.{ℕ, ◌+◌, ◌-◌, ◌*◌, ◌/◌, ◌%◌, min, cond, List, eqb, Float, get_or, Option, None}
 use Rattle.vec3.specs.declared.Vec3.{Vec3}
 use Rattle.wedge_refusal.specs.of_source_windows.declared.Normal.{Normal}
 use Rattle.wedge_refusal.specs.of_source_windows.declared.Normal.TheVariants.{Left, Right}
 use Rattle.source_offers.specs.of_offers.declared.Offered.{Offered}
-use Rattle.source_offers.specs.of_offers.declared.Offered.TheVariants.{Nothing}
 use Rattle.source_offers.specs.Offering.{segment_offer_at, point_offer_at}
 use Rattle.wedge_refusal.specs.of_carriers.declared.CarrierSimplex.{CarrierSimplex}
 use Rattle.wedge_refusal.specs.of_carriers.Carrier.{carrier_at, carrier_count_at, carrier_face_at, other_carrier}
@@ -48,7 +47,7 @@ module _ (v : List Float) (edge_words : List ℕ) (edge_reals : List Float) (tri
 
   module _ (vertex_words round kinds faces : List ℕ) (coords : List Float) (words : List ℕ) (reals : List Float) (pieces : ℕ) where
     -- of the point p of face f, on c, to side k of carrier g; the ends of p's bits are found from the first link on
-    unfoldable pub point_side_at : ℕ → Vec3 → CarrierSimplex → ℕ → ℕ → ℕ → Offered
+    unfoldable pub point_side_at : ℕ → Vec3 → CarrierSimplex → ℕ → ℕ → ℕ → Option Offered
     point_side_at f p c first g k =
         let carrier : ℕ → ℕ = carrier_face_at edge_words vertex_words round f c in
         point_offer_at v edge_words edge_reals triangle_words triangleReals g k p
@@ -62,7 +61,7 @@ module _ (v : List Float) (edge_words : List ℕ) (edge_reals : List Float) (tri
 
     -- the i-th of a source
     unfoldable pub insert_at : Source → ℕ → Insert
-    insert_at Absent i = Offer Nothing
+    insert_at Absent i = Offer None
     insert_at (Point f p piece part on first) i = point_insert_at f.0 p piece part on first i
     insert_at (Segment f a b piece) i = segment_insert_at f.0 a b piece i
 

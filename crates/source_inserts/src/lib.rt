@@ -26,7 +26,7 @@ use wedge_refusal::of_source_windows::Normal;
 #[derive(Clone, Copy)]
 pub enum Insert {
     Entry(FaceId, PiecePart),
-    Offer(Offered),
+    Offer(Option<Offered>),
 }
 
 // A source: none; the point p of a face, which is a part of a piece and lies on a carrier, with the link to the first end of its bits; the segment from a to b of a face, which is a piece.
@@ -197,7 +197,7 @@ fn point_side(
     first: u32,
     g: FaceId,
     k: u32,
-) -> Offered
+) -> Option<Offered>
     ensures { result ≡ point_side_at vertices.now edge_words.now edge_reals.now triangle_words.now triangle_reals.now vertex_words.now round.now
         kinds.now faces.now coords.now piece_words.now piece_reals.now pieces f.0 p c first g.0 k }
 {
@@ -360,7 +360,7 @@ pub fn insert_at(
         kinds.now faces.now coords.now piece_words.now piece_reals.now pieces s i }
 {
     match s {
-        Source::Absent => Insert::Offer(Offered::Nothing),
+        Source::Absent => Insert::Offer(None),
         Source::Point {
             face,
             p,

@@ -1,4 +1,5 @@
 -- Where the buffers hold a mesh's topology, what is offered is what the Rust adds, to an edge of the mesh: segment_held, point_held, side_there, offered_there. Assumes nothing.
+use Rattle.std.specs.Prelude.{Option, Some, None}
 use Prim.Native.Nat.{ℕ, ◌+◌, ◌*◌, ◌/◌, ◌<◌}
 use native.Mathlib.Omega.{arith}
 use mathlib.Core.Bool.{Bool}
@@ -18,8 +19,7 @@ use Rattle.offers.specs.of_mesh_readers.Readers.{side_in, other_at, coords_at}
 use Rattle.offers.proofs.laws_of_mesh_readers.Held.{side_held, other_held, coords_held}
 use Rattle.candidate_laws.specs.of_source_windows.declared.Bounds.{Bounds}
 use Rattle.candidate_laws.specs.of_source_windows.declared.Normal.{Normal}
-use Rattle.candidate_laws.specs.of_source_windows.declared.CandidateRange.{CandidateRange}
-use Rattle.candidate_laws.specs.of_source_windows.declared.CandidateRange.TheVariants.{Nothing as NoRange, Window as Range}
+use Rattle.candidate_laws.specs.of_source_windows.declared.CandidateWindow.{CandidateWindow}
 use Rattle.offers.specs.Offers.{EdgeThere}
 use Rattle.offers.specs.Walks.{MeshIn, edge_data}
 use Rattle.offers.proofs.Walks.{edge_there}
@@ -27,10 +27,10 @@ use Rattle.source_offers.specs.Offering.{offered, segment_on, point_on, segment_
 
 -- an edge that something is offered to is there
 pub offered_there : (v : List Float) (triangles : List ℕ) (n : ℕ) (ew : List ℕ) (er : List Float) (tw : List ℕ) (tr : List Float) → MeshIn v triangles n ew er tw tr → (e : ℕ) → e < length (edges triangles)
-    → (into : ℕ) (queued : Bool) (range : CandidateRange) → EdgeThere (edge_data v triangles) ew er (offered e into queued range)
+    → (into : ℕ) (queued : Bool) (range : Option CandidateWindow) → EdgeThere (edge_data v triangles) ew er (offered e into queued range)
 unfolding offered
-offered_there v triangles n ew er tw tr m e l into queued NoRange = tt
-offered_there v triangles n ew er tw tr m e l into queued (Range b0 b1 src) = edge_there v triangles n ew er tw tr m e l
+offered_there v triangles n ew er tw tr m e l into queued None = tt
+offered_there v triangles n ew er tw tr m e l into queued (Some w) = edge_there v triangles n ew er tw tr m e l
 
 module _ (v : List Float) (triangles : List ℕ) (n : ℕ) (edge_words : List ℕ) (edge_reals : List Float) (triangle_words : List ℕ) (triangleReals : List Float)
     (held : HoldsMesh v triangles n edge_words edge_reals triangle_words triangleReals) (f : ℕ) (l : f < length triangles / 3) (k : ℕ) (q : k < 3) where

@@ -1,4 +1,5 @@
 -- What a source offers is proper where it is admitted, as demand 3 asks, in a mesh whose edges have the lengths of a checked one: segment_proper, point_proper; range_proper, of any range that lies on its edge. Assumes nothing.
+use Rattle.std.specs.Prelude.{Option, Some, None}
 use Prim.Native.Nat.{ℕ, ◌+◌, ◌*◌}
 use mathlib.Core.Bool.{Bool, true, cond, not}
 use mathlib.Core.List.{List}
@@ -13,8 +14,7 @@ use Rattle.topology.specs.Frames.{len, coords_x, coords_y}
 use Rattle.candidate_laws.specs.of_mesh_laws.Bounds.{EdgeLength}
 use Rattle.candidate_laws.specs.of_source_windows.declared.Bounds.{Bounds}
 use Rattle.candidate_laws.specs.of_source_windows.declared.Normal.{Normal}
-use Rattle.candidate_laws.specs.of_source_windows.declared.CandidateRange.{CandidateRange}
-use Rattle.candidate_laws.specs.of_source_windows.declared.CandidateRange.TheVariants.{Nothing as NoRange, Window as Range}
+use Rattle.candidate_laws.specs.of_source_windows.declared.CandidateWindow.{CandidateWindow}
 use Rattle.candidate_laws.specs.of_source_windows.Wedge.{lies_on, point_window_of}
 use Rattle.candidate_laws.specs.of_source_windows.Segment.{in_frame_of, segment_window_of}
 use Rattle.candidate_laws.specs.of_source_windows.Ends.{EndsOn}
@@ -26,11 +26,11 @@ use Rattle.offers.specs.Offers.{offer_list}
 use Rattle.source_offers.specs.Offering.{offered, segment_on, point_on, segment_offer, point_offer}
 
 module _ (limit : Float) (length : ℕ → Float) (e into : ℕ) (queued : Bool) (long : EdgeLength (length e)) where
-  pub range_proper : (r : CandidateRange) → EndsOn (length e) r → All (AdmittedProper limit length) (offer_list (offered e into queued r))
+  pub range_proper : (r : Option CandidateWindow) → EndsOn (length e) r → All (AdmittedProper limit length) (offer_list (offered e into queued r))
   unfolding offered
-  range_proper NoRange on = tt
-  range_proper (Range b0 b1 src) on =
-      (λ admitted. offered_proper limit length (record { edge = e; b0 = b0; b1 = b1; src = src; carried = record { into = record { 0 = into }; queued = queued } }) (length_point (length e) long) long.positive admitted on refl, tt)
+  range_proper None on = tt
+  range_proper (Some w) on =
+      (λ admitted. offered_proper limit length (record { edge = e; b0 = w.b0; b1 = w.b1; src = w.src; carried = record { into = record { 0 = into }; queued = queued } }) (length_point (length e) long) long.positive admitted on refl, tt)
 
 -- of side k of face f, whose edge has a checked length
 module _ (limit : Float) (v : List Float) (triangles : List ℕ) (f k : ℕ) (long : EdgeLength (len v triangles (tri_edge triangles (3 * f + k)))) where

@@ -1,4 +1,6 @@
 -- The offers as the code computes them. Assumes nothing.
+use Rattle.std.specs.declared.option.Option.{Option}
+use Rattle.std.specs.declared.option.Option.TheVariants.{None}
 use Prim.Native.Nat.{ℕ}
 use mathlib.Core.Bool.{Bool, true, false, cond, not}
 use mathlib.Core.List.{List}
@@ -15,15 +17,14 @@ use Rattle.offers.specs.of_mesh_readers.declared.FrameCoords.{FrameCoords}
 use Rattle.offers.specs.of_mesh_readers.Readers.{side_in, other_at, coords_at}
 use Rattle.candidate_laws.specs.of_source_windows.declared.Bounds.{Bounds}
 use Rattle.candidate_laws.specs.of_source_windows.declared.Normal.{Normal}
-use Rattle.candidate_laws.specs.of_source_windows.declared.InFrame.{InFrame}
-use Rattle.candidate_laws.specs.of_source_windows.declared.CandidateRange.{CandidateRange}
+use Rattle.candidate_laws.specs.of_source_windows.declared.EdgeSegment.{EdgeSegment}
+use Rattle.candidate_laws.specs.of_source_windows.declared.CandidateWindow.{CandidateWindow}
 use Rattle.candidate_laws.specs.of_source_windows.Tolerance.{too_narrow}
 use Rattle.candidate_laws.specs.of_source_windows.Back.{goes_back_along}
 use Rattle.candidate_laws.specs.of_source_windows.Wedge.{lies_on, point_window_of}
 use Rattle.candidate_laws.proofs.laws_of_source_windows.Back.{goes_back}
 use Rattle.candidate_laws.specs.of_source_windows.Segment.{in_frame_of, segment_window_of}
 use Rattle.offers.specs.declared.Offered.{Offered}
-use Rattle.offers.specs.declared.Offered.TheVariants.{Nothing}
 use Rattle.source_offers.specs.Offering.{offered, along_at, segment_on, point_on, segment_offer_at, point_offer_at}
 
 module _ (v : List Float) (ew : List ℕ) (er : List Float) (tw : List ℕ) (tr : List Float) (f k : ℕ) (e : EdgeId) (l : Float) (g : FaceId) (side : e ≡ record { 0 = side_in tw f k }) (long : l ≡ length_at er e.0) where
@@ -31,32 +32,32 @@ module _ (v : List Float) (ew : List ℕ) (er : List Float) (tw : List ℕ) (tr 
   Coords q p = q ≡ coords_at v ew er tw tr e.0 f p
 
   -- with the edge's number z
-  abbrev segment_at : Vec3 → Vec3 → Normal → ℕ → Offered
+  abbrev segment_at : Vec3 → Vec3 → Normal → ℕ → Option Offered
   segment_at a b n z =
       segment_on z (length_at er z) (other_at ew z f) (coords_at v ew er tw tr z f a).x (coords_at v ew er tw tr z f a).y (coords_at v ew er tw tr z f b).x (coords_at v ew er tw tr z f b).y n
 
-  abbrev offered_from_point : Vec3 → Bounds → ℕ → Offered
+  abbrev offered_from_point : Vec3 → Bounds → ℕ → Option Offered
   offered_from_point p w z = point_on z (length_at er z) (other_at ew z f) (coords_at v ew er tw tr z f p).x (coords_at v ew er tw tr z f p).y w
 
-  pub segment_is : (a b : Vec3) (n : Normal) (p q : FrameCoords) → Coords p a → Coords q b → (s : InFrame) → s ≡ in_frame_of p.x p.y q.x q.y l
-      → (w : CandidateRange) → w ≡ segment_window_of s l n → g ≡ record { 0 = other_at ew e.0 f } → (r : Offered) → r ≡ offered e.0 g.0 true w
+  pub segment_is : (a b : Vec3) (n : Normal) (p q : FrameCoords) → Coords p a → Coords q b → (s : Option EdgeSegment) → s ≡ in_frame_of p.x p.y q.x q.y l
+      → (w : Option CandidateWindow) → w ≡ segment_window_of s l n → g ≡ record { 0 = other_at ew e.0 f } → (r : Option Offered) → r ≡ offered e.0 g.0 true w
       → r ≡ segment_offer_at v ew er tw tr f k a b n
   unfolding segment_on segment_offer_at
   segment_is a b n p q hp hq s hs w hw hg r hr =
-      let W : w ≡ segment_window_of (in_frame_of p.x p.y q.x q.y l) l n = hw ∙ ap (λ (z : InFrame). segment_window_of z l n) hs in
+      let W : w ≡ segment_window_of (in_frame_of p.x p.y q.x q.y l) l n = hw ∙ ap (λ (z : Option EdgeSegment). segment_window_of z l n) hs in
       hr ∙ (λ i. offered e.0 (hg i).0 true (W i)) ∙ (λ i. segment_on e.0 (long i) (other_at ew e.0 f) (hp i).x (hp i).y (hq i).x (hq i).y n) ∙ (λ i. segment_at a b n (side i).0)
 
-  module _ (p : Vec3) (w : Bounds) (c : FrameCoords) (hc : Coords c p) (range : CandidateRange) (hw : range ≡ point_window_of w c.x c.y l) (on : Bool) (hon : on ≡ lies_on c.y l) where
+  module _ (p : Vec3) (w : Bounds) (c : FrameCoords) (hc : Coords c p) (range : Option CandidateWindow) (hw : range ≡ point_window_of w c.x c.y l) (on : Bool) (hon : on ≡ lies_on c.y l) where
     point_as : (b : Bool) → on ≡ b → offered e.0 (cond b no_face (other_at ew e.0 f)) (not b) range ≡ point_offer_at v ew er tw tr f k p w
     unfolding point_on point_offer_at
     point_as b h =
         let B : b ≡ lies_on c.y l = sym h ∙ hon in
         (λ i. offered e.0 (cond (B i) no_face (other_at ew e.0 f)) (not (B i)) (hw i)) ∙ (λ i. point_on e.0 (long i) (other_at ew e.0 f) (hc i).x (hc i).y w) ∙ (λ i. offered_from_point p w (side i).0)
 
-    pub point_on_lem : on ≡ true → g ≡ record { 0 = no_face } → (r : Offered) → r ≡ offered e.0 g.0 false range → r ≡ point_offer_at v ew er tw tr f k p w
+    pub point_on_lem : on ≡ true → g ≡ record { 0 = no_face } → (r : Option Offered) → r ≡ offered e.0 g.0 false range → r ≡ point_offer_at v ew er tw tr f k p w
     point_on_lem y hg r h = h ∙ (λ i. offered e.0 (hg i).0 false range) ∙ point_as true y
 
-    pub point_off : on ≡ false → g ≡ record { 0 = other_at ew e.0 f } → (r : Offered) → r ≡ offered e.0 g.0 true range → r ≡ point_offer_at v ew er tw tr f k p w
+    pub point_off : on ≡ false → g ≡ record { 0 = other_at ew e.0 f } → (r : Option Offered) → r ≡ offered e.0 g.0 true range → r ≡ point_offer_at v ew er tw tr f k p w
     point_off y hg r h = h ∙ (λ i. offered e.0 (hg i).0 true range) ∙ point_as false y
 
 -- ---- what is told without the frame
@@ -66,7 +67,7 @@ module _ (v : List Float) (ew : List ℕ) (er : List Float) (tw : List ℕ) (tr 
   along_is z p = refl
 
   -- a segment that goes back
-  pub segment_back : (a b : Vec3) (n : Normal) (x y : Float) → x ≡ along_at v ew er e.0 a → y ≡ along_at v ew er e.0 b → (t : Bool) → t ≡ goes_back_along x y n → t ≡ true → Nothing ≡ segment_offer_at v ew er tw tr f k a b n
+  pub segment_back : (a b : Vec3) (n : Normal) (x y : Float) → x ≡ along_at v ew er e.0 a → y ≡ along_at v ew er e.0 b → (t : Bool) → t ≡ goes_back_along x y n → t ≡ true → None ≡ segment_offer_at v ew er tw tr f k a b n
   unfolding segment_on segment_offer_at offered
   segment_back a b n x y hx hy t ht y₁ =
       let z = side_in tw f k in
@@ -78,7 +79,7 @@ module _ (v : List Float) (ew : List ℕ) (er : List Float) (tw : List ℕ) (tr 
       ap (offered z (other_at ew z f) true) (sym (goes_back p.x p.y q.x q.y (length_at er z) n back))
 
   -- a point whose wedge leaves too little
-  pub point_narrow : (p : Vec3) (w : Bounds) (l : Float) → l ≡ length_at er e.0 → (t : Bool) → t ≡ too_narrow w l → t ≡ true → Nothing ≡ point_offer_at v ew er tw tr f k p w
+  pub point_narrow : (p : Vec3) (w : Bounds) (l : Float) → l ≡ length_at er e.0 → (t : Bool) → t ≡ too_narrow w l → t ≡ true → None ≡ point_offer_at v ew er tw tr f k p w
   unfolding point_on point_offer_at offered point_window_of
   point_narrow p w l hl t ht y =
       let z = side_in tw f k in

@@ -9,7 +9,7 @@ ghost use Rattle.source_offers.specs.Offering.{offered as offeredOf};
 use buffers::{EdgeId, FaceId, no_face};
 use candidate_laws::of_source_windows;
 use candidate_laws::of_source_windows::{
-    Bounds, CandidateRange, Normal, goes_back, lies_on, point_window, segment_window, too_narrow,
+    Bounds, CandidateWindow, Normal, goes_back, lies_on, point_window, segment_window, too_narrow,
 };
 pub use offers as of_offers;
 use offers::Offered;
@@ -19,20 +19,23 @@ use vec3::Vec3;
 use windows::{Carried, NewWindow};
 
 // A range of edge e as it is offered: it goes on into a face, and is queued or not.
-pub fn offered(e: EdgeId, into: FaceId, queued: bool, w: CandidateRange) -> Offered
+pub fn offered(e: EdgeId, into: FaceId, queued: bool, w: Option<CandidateWindow>) -> Option<Offered>
     ensures { result ≡ offeredOf e.0 into.0 queued w }
 {
     match w {
-        CandidateRange::Nothing => Offered::Nothing,
-        CandidateRange::Window { b0, b1, src } => {
+        None => None,
+        Some(w) => {
             let carried = Carried { into, queued };
             let new = NewWindow {
-                b0,
-                b1,
-                src,
+                b0: w.b0,
+                b1: w.b1,
+                src: w.src,
                 carried,
             };
-            Offered::Window(e, new)
+            Some(Offered {
+                edge: e,
+                window: new,
+            })
         }
     }
 }
@@ -49,7 +52,7 @@ fn framed_segment(
     a: Vec3,
     b: Vec3,
     n: Normal,
-) -> Offered
+) -> Option<Offered>
     ensures { result ≡ segment_offer_at vertices.now edge_words.now edge_reals.now triangle_words.now triangle_reals.now f.0 k a b n }
 {
     let e = side(triangle_words, f, k);
@@ -100,14 +103,14 @@ pub fn segment_offer(
     a: Vec3,
     b: Vec3,
     n: Normal,
-) -> Offered
+) -> Option<Offered>
     ensures { result ≡ segment_offer_at vertices.now edge_words.now edge_reals.now triangle_words.now triangle_reals.now f.0 k a b n }
 {
     let e = side(triangle_words, f, k);
     let ax = along(vertices, edge_words, edge_reals, e, a);
     let bx = along(vertices, edge_words, edge_reals, e, b);
     if goes_back(ax, bx, n) {
-        return Offered::Nothing;
+        return None;
     }
     framed_segment(
         vertices,
@@ -134,7 +137,7 @@ fn framed_point(
     k: u32,
     p: Vec3,
     w: Bounds,
-) -> Offered
+) -> Option<Offered>
     ensures { result ≡ point_offer_at vertices.now edge_words.now edge_reals.now triangle_words.now triangle_reals.now f.0 k p w }
 {
     let e = side(triangle_words, f, k);
@@ -168,12 +171,12 @@ pub fn point_offer(
     k: u32,
     p: Vec3,
     w: Bounds,
-) -> Offered
+) -> Option<Offered>
     ensures { result ≡ point_offer_at vertices.now edge_words.now edge_reals.now triangle_words.now triangle_reals.now f.0 k p w }
 {
     let e = side(triangle_words, f, k);
     if too_narrow(w, length(edge_reals, e)) {
-        return Offered::Nothing;
+        return None;
     }
     framed_point(
         vertices,

@@ -168,13 +168,11 @@ fn differences(f: Leaf, s: &[u8]) -> u64
     let n = records(f, s);
     let z = size(f);
     let mut count: u64 = 0;
-    let mut k: usize = 0;
-    while k < n {
+    for k in 0..n {
         let i = z * k;
         if !holds(f, &s[i..i + z]) {
             count += 1;
         }
-        k += 1;
     }
     count
 }

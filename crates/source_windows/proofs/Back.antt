@@ -1,8 +1,9 @@
 -- A segment that goes back along an edge gives it no window on that side: `goes_back`. Assumes nothing.
 -- The side's normal rises from the edge by what the segment advances over its length. The length is the root of a sum of squares. Where that is a number, the root has a plus sign, so the rise is at most
 -- zero. Where it is none, neither is the square, and then no foot lies on the segment.
+use Rattle.std.specs.Prelude.{Some, None}
 use Prim.Native.Nat.{ℕ, zero, suc, ◌+◌, ◌-◌, ◌*◌, ◌/◌, ◌%◌, ◌^◌, compare}
-use mathlib.Core.Bool.{Bool, true, false, cond, not, ◌&&◌}
+use mathlib.Core.Bool.{Bool, true, false, cond, ◌&&◌}
 use mathlib.Core.Logic.{◌⊎◌, inl, inr}
 use mathlib.Core.Path.{◌≡◌, refl, sym, ap, ◌∙◌, subst}
 use native.Mathlib.Omega.{arith}
@@ -16,12 +17,9 @@ use Rattle.float64.specs.Scalar.{zero64, max_of, abs_of}
 use Rattle.float64.specs.Notation.{◌⊕◌, ◌⊖◌, ◌⊗◌, ◌⊘◌}
 use Rattle.float_laws.proofs.Order.{le_trans, neg_le, neg_zero_le}
 use Rattle.float_laws.proofs.Round.{round_not, round_nonneg}
-use Rattle.source_windows.specs.declared.CandidateRange.TheVariants.{Nothing}
 use Rattle.source_windows.specs.declared.EdgeSegment.{EdgeSegment}
-use Rattle.source_windows.specs.declared.InFrame.TheVariants.{TooShort, Long}
 use Rattle.source_windows.specs.declared.Normal.{Normal}
 use Rattle.source_windows.specs.declared.Normal.TheVariants.{Left, Right}
-use Rattle.source_windows.specs.declared.FootRange.TheVariants.{Outside}
 use Rattle.source_windows.specs.Tolerance.{narrowest, upright}
 use Rattle.source_windows.specs.Segment.{in_frame_of, nx_of, ny_of, feet_of, wave_of, side_window_of, segment_window_of}
 use Rattle.source_windows.specs.Back.{advance_of, goes_back_along}
@@ -128,10 +126,10 @@ taken true x y t = refl
 taken false x y t = absurd t
 
 -- where the length is a number
-no_rise : (g : EdgeSegment) (l : Float) (n : Normal) → T (finite (advance_of g.dx n)) → T (lt (advance_of g.dx n) zero64) → Signed false g.sl → side_window_of g l n ≡ Nothing
+no_rise : (g : EdgeSegment) (l : Float) (n : Normal) → T (finite (advance_of g.dx n)) → T (lt (advance_of g.dx n) zero64) → Signed false g.sl → side_window_of g l n ≡ None
 unfolding side_window_of
 no_rise g l n F h k =
-    taken (le (ny_of g n) narrowest) Nothing (wave_of (feet_of g l) g (nx_of g n) (ny_of g n) l)
+    taken (le (ny_of g n) narrowest) None (wave_of (feet_of g l) g (nx_of g n) (ny_of g n) l)
     (subst (λ (v : Float). T (le v narrowest)) (sym (rise_is g n)) (le_trans (advance_of g.dx n ⊘ g.sl) zero64 narrowest (quotient_below binary64 (advance_of g.dx n) g.sl F h k) flat))
 
 -- where it is none
@@ -157,7 +155,7 @@ and_false : (a : Bool) → a && false ≡ false
 and_false true = refl
 and_false false = refl
 
-no_feet : (g : EdgeSegment) (l : Float) → g.sl ≡ nan → g.ll ≡ nan → feet_of g l ≡ Outside
+no_feet : (g : EdgeSegment) (l : Float) → g.sl ≡ nan → g.ll ≡ nan → feet_of g l ≡ None
 unfolding feet_of lt
 no_feet g l s q =
     let base = neg g.ax ⊗ g.dx ⊖ g.ay ⊗ g.dy in
@@ -165,7 +163,7 @@ no_feet g l s q =
     let outside : (le zero64 base && le base g.ll) ≡ false = ap (λ (v : Float). le zero64 base && le base v) q ∙ ap (λ (b : Bool). le zero64 base && b) (not_below_none base) ∙ and_false (le zero64 base) in
     rw (upright-none, outside)
 
-no_length : (g : EdgeSegment) (l : Float) (n : Normal) → g.sl ≡ nan → g.ll ≡ nan → side_window_of g l n ≡ Nothing
+no_length : (g : EdgeSegment) (l : Float) (n : Normal) → g.sl ≡ nan → g.ll ≡ nan → side_window_of g l n ≡ None
 unfolding side_window_of wave_of le
 no_length g l n s q =
     let rise : ny_of g n ≡ nan = rise_is g n ∙ ap (λ (v : Float). advance_of g.dx n ⊘ v) s ∙ quotient_none binary64 (advance_of g.dx n) in
@@ -177,7 +175,7 @@ unfolding advance_of neg
 numbered x Left F e = subst (λ (v : Float). T (finite v)) e F
 numbered x Right F e = subst (λ (v : Float). T (finite (neg v))) e F
 
-framed : (b : Bool) (g : EdgeSegment) (l : Float) (n : Normal) → side_window_of g l n ≡ Nothing → segment_window_of (cond b TooShort (Long g)) l n ≡ Nothing
+framed : (b : Bool) (g : EdgeSegment) (l : Float) (n : Normal) → side_window_of g l n ≡ None → segment_window_of (cond b None (Some g)) l n ≡ None
 unfolding segment_window_of
 framed true g l n h = refl
 framed false g l n h = h
@@ -186,7 +184,7 @@ root_none : (f : Format) (x : Float) → x ≡ nan → sqrt_of f x ≡ nan
 unfolding sqrt_of
 root_none f x e = ap (sqrt_of f) e
 
-pub goes_back : (ax ay bx by l : Float) (n : Normal) → T (goes_back_along ax bx n) → segment_window_of (in_frame_of ax ay bx by l) l n ≡ Nothing
+pub goes_back : (ax ay bx by l : Float) (n : Normal) → T (goes_back_along ax bx n) → segment_window_of (in_frame_of ax ay bx by l) l n ≡ None
 unfolding in_frame_of goes_back_along
 goes_back ax ay bx by l n t =
     let a = neg (max_of ay zero64) in

@@ -1,4 +1,5 @@
 -- What `source_point` and `source_segment` give an edge starts from 0 on and ends up to the edge's length, a finite double from 0 on. Assumes nothing.
+use Rattle.std.specs.Prelude.{Option, Some, None}
 use mathlib.Core.Bool.{Bool, true, false, cond, not, ◌&&◌}
 use mathlib.Core.Path.{◌≡◌, subst}
 use mathlib.Core.List.{List, [], ◌∷◌}
@@ -14,26 +15,20 @@ use Rattle.float_laws.proofs.MinMax.{min_fits, max_fits}
 use Rattle.float_bounds.specs.Within.{Start, ClippedEnd}
 use Rattle.float_bounds.proofs.Ends.{start_zero, start_max, end_length, end_min}
 use Rattle.vec3.specs.declared.Vec3.{Vec3}
-use Rattle.source.specs.declared.Src.{Src}
-use Rattle.source_windows.specs.declared.CandidateRange.{CandidateRange}
-use Rattle.source_windows.specs.declared.CandidateRange.TheVariants.{Window}
+use Rattle.source_windows.specs.declared.CandidateWindow.{CandidateWindow}
 use Rattle.source_windows.specs.Tolerance.{narrowest, upright, too_narrow}
 use Rattle.source_windows.specs.Wedge.{whole_of, narrow_of, behind_of, wedge_of, point_window_of}
 use Rattle.source_windows.specs.Segment.{feet_of, ahead_of, wave_of, nx_of, ny_of, side_window_of, segment_window_of}
 use Rattle.source_windows.specs.Ends.{EndsOn, no_window_lem, window}
 use Rattle.source_windows.specs.declared.Bounds.{Bounds}
 use Rattle.source_windows.specs.declared.EdgeSegment.{EdgeSegment}
-use Rattle.source_windows.specs.declared.FootRange.{FootRange}
-use Rattle.source_windows.specs.declared.FootRange.TheVariants.{Outside, Within}
-use Rattle.source_windows.specs.declared.InFrame.{InFrame}
-use Rattle.source_windows.specs.declared.InFrame.TheVariants.{TooShort, Long}
 use Rattle.source_windows.specs.declared.Normal.{Normal}
 
 -- the ends of a window that there is
-pub ends_of : {l b0 b1 : Float} {src : Src} {c : CandidateRange} → EndsOn l c → c ≡ Window b0 b1 src → Start b0 × ClippedEnd l b1
+pub ends_of : {l : Float} {w : CandidateWindow} {c : Option CandidateWindow} → EndsOn l c → c ≡ Some w → Start w.b0 × ClippedEnd l w.b1
 ends_of {l} h e = go (subst (EndsOn l) e h)
   where
-    go : {b0 b1 : Float} {src : Src} → EndsOn l (Window b0 b1 src) → Start b0 × ClippedEnd l b1
+    go : {w : CandidateWindow} → EndsOn l (Some w) → Start w.b0 × ClippedEnd l w.b1
     go (window s t) = (s, t)
 
 pub if_either : {A : Type 0} (P : A → Type 0) (b : Bool) {x y : A} → P x → P y → P (cond b x y)
@@ -71,9 +66,9 @@ module _ (l : Float) (F : T (finite l)) (d : T (fits binary64 l)) (z : T (le zer
   point_window_on w x y h = if_either (EndsOn l) (too_narrow w l) no_window_lem (window h.0 h.1)
 
   -- ---- segments
-  data FeetOn : FootRange → Type 0 where
-    no_feet : FeetOn Outside
-    feet_on : {w : Bounds} → On w → FeetOn (Within w)
+  data FeetOn : Option Bounds → Type 0 where
+    no_feet : FeetOn None
+    feet_on : {w : Bounds} → On w → FeetOn (Some w)
 
   feet_within : (g : EdgeSegment) → FeetOn (feet_of g l)
   unfolding feet_of
@@ -95,12 +90,12 @@ module _ (l : Float) (F : T (finite l)) (d : T (fits binary64 l)) (z : T (le zer
       if_either On (lt zero64 nx) (start_max w.b0 x h.0 e, h.1)
       (if_either On (lt nx zero64) (h.0, end_min l w.b1 x h.1 e) h)
 
-  wave_on : {feet : FootRange} (g : EdgeSegment) (nx ny : Float) → FeetOn feet → EndsOn l (wave_of feet g nx ny l)
+  wave_on : {feet : Option Bounds} (g : EdgeSegment) (nx ny : Float) → FeetOn feet → EndsOn l (wave_of feet g nx ny l)
   unfolding wave_of
   wave_on g nx ny no_feet = no_window_lem
   wave_on g nx ny (feet_on {w} h) = let a = ahead_on w g nx ny h in if_either (EndsOn l) (too_narrow (ahead_of w g nx ny) l) no_window_lem (window a.0 a.1)
 
-  pub segment_window_on : (s : InFrame) (n : Normal) → EndsOn l (segment_window_of s l n)
+  pub segment_window_on : (s : Option EdgeSegment) (n : Normal) → EndsOn l (segment_window_of s l n)
   unfolding segment_window_of side_window_of
-  segment_window_on TooShort n = no_window_lem
-  segment_window_on (Long g) n = if_either (EndsOn l) (le (ny_of g n) narrowest) no_window_lem (wave_on g (nx_of g n) (ny_of g n) (feet_within g))
+  segment_window_on None n = no_window_lem
+  segment_window_on (Some g) n = if_either (EndsOn l) (le (ny_of g n) narrowest) no_window_lem (wave_on g (nx_of g n) (ny_of g n) (feet_within g))

@@ -1,6 +1,6 @@
 -- The Rust's `source_point` on values: the part of an edge that lies behind a point's segments, and the window there. Definitions only.
 -- In an edge's frame x goes along the edge from its first vertex, and the y of `coords` into the face.
-use Rattle.std.specs.Prelude.{Bool, List, [], ◌∷◌, Float, if◌then◌else◌}
+use Rattle.std.specs.Prelude.{Bool, List, [], ◌∷◌, Float, if◌then◌else◌, Option, Some, None}
 use Rattle.std.specs.Float.Ieee.{neg, lt, le}
 use Rattle.float64.specs.Scalar.{zero64, one, min_of, max_of}
 use Rattle.float64.specs.Notation.{◌⊗◌, ◌⊘◌}
@@ -10,8 +10,7 @@ use Rattle.source.specs.declared.Src.{Src}
 use Rattle.source.specs.declared.Src.TheVariants.{Point}
 use Rattle.source_windows.specs.Tolerance.{near_edge, too_narrow}
 use Rattle.source_windows.specs.declared.Bounds.{Bounds}
-use Rattle.source_windows.specs.declared.CandidateRange.{CandidateRange}
-use Rattle.source_windows.specs.declared.CandidateRange.TheVariants.{Nothing, Window}
+use Rattle.source_windows.specs.declared.CandidateWindow.{CandidateWindow}
 
 -- `carrier`'s test, and `on` of `source_point`
 abbrev pub lies_on : Float → Float → Bool
@@ -47,5 +46,5 @@ unfoldable pub point_source_of : Float → Float → Float → Src
 point_source_of x y s = Point x (min_of (neg y) zero64) s
 
 -- the window of a source point over what is left of the edge
-unfoldable pub point_window_of : Bounds → Float → Float → Float → CandidateRange
-point_window_of w x y l = if too_narrow w l then Nothing else Window w.b0 w.b1 (point_source_of x y zero64)
+unfoldable pub point_window_of : Bounds → Float → Float → Float → Option CandidateWindow
+point_window_of w x y l = if too_narrow w l then None else Some (record { b0 = w.b0; b1 = w.b1; src = point_source_of x y zero64 })

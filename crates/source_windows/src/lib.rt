@@ -2,7 +2,7 @@
 // without their walks over the mesh. In an edge's frame x goes along the edge from its first vertex; the y of `coords` goes into the face.
 #![tactic(auto)]
 
-ghost use Rattle.std.specs.Prelude.{◌≡◌};
+ghost use Rattle.std.specs.Prelude.{◌≡◌, Some};
 ghost use Rattle.source_windows.specs.Tolerance.{too_narrow};
 ghost use Rattle.source_windows.specs.Wedge.{lies_on, unfolded_of, whole_of, narrow_of, behind_of, point_source_of, point_window_of};
 ghost use Rattle.source_windows.specs.Back.{advance_of, goes_back_along};
@@ -18,11 +18,12 @@ pub struct Bounds {
     pub b1: f64,
 }
 
-// What a source gives an edge: nothing, or the ends and the source of a candidate window.
+// A candidate window of an edge: its ends and its source.
 #[derive(Clone, Copy)]
-pub enum CandidateRange {
-    Nothing,
-    Window { b0: f64, b1: f64, src: Src },
+pub struct CandidateWindow {
+    pub b0: f64,
+    pub b1: f64,
+    pub src: Src,
 }
 
 // A segment in the window's frame of an edge, y positive away from the face: its first end, its vector, the vector's square and its length.
@@ -36,24 +37,11 @@ pub struct EdgeSegment {
     pub sl: f64,
 }
 
-#[derive(Clone, Copy)]
-pub enum InFrame {
-    TooShort,
-    Long(EdgeSegment),
-}
-
 // A segment's two sides, in the Rust's order: left of its direction, then right.
 #[derive(Clone, Copy)]
 pub enum Normal {
     Left,
     Right,
-}
-
-// Where on an edge the feet lie on a segment.
-#[derive(Clone, Copy)]
-pub enum FootRange {
-    Outside,
-    Within(Bounds),
 }
 
 pub fn too_narrow(w: Bounds, l: f64) -> bool
@@ -122,21 +110,21 @@ pub fn point_source(x: f64, y: f64, s: f64) -> Src
     }
 }
 
-pub fn point_window(w: Bounds, x: f64, y: f64, l: f64) -> CandidateRange
+pub fn point_window(w: Bounds, x: f64, y: f64, l: f64) -> Option<CandidateWindow>
     ensures { result ≡ point_window_of w x y l }
 {
     if too_narrow(w, l) {
-        return CandidateRange::Nothing;
+        return None;
     }
-    CandidateRange::Window {
+    Some(CandidateWindow {
         b0: w.b0,
         b1: w.b1,
         src: point_source(x, y, 0.0),
-    }
+    })
 }
 
-// A segment by the `coords` of its ends.
-pub fn in_frame(ax: f64, ay: f64, bx: f64, by: f64, l: f64) -> InFrame
+// A segment by the `coords` of its ends, unless it is too short.
+pub fn in_frame(ax: f64, ay: f64, bx: f64, by: f64, l: f64) -> Option<EdgeSegment>
     ensures { result ≡ in_frame_of ax ay bx by l }
 {
     let ay = -float64::max(ay, 0.0);
@@ -146,9 +134,9 @@ pub fn in_frame(ax: f64, ay: f64, bx: f64, by: f64, l: f64) -> InFrame
     let ll = dx * dx + dy * dy;
     let short = 1e-12 * l;
     if ll <= short * short {
-        return InFrame::TooShort;
+        return None;
     }
-    InFrame::Long(EdgeSegment {
+    Some(EdgeSegment {
         ax,
         ay,
         dx,
@@ -177,25 +165,23 @@ fn normal_y(g: EdgeSegment, n: Normal) -> f64
     }
 }
 
-fn feet(g: EdgeSegment, l: f64) -> FootRange
+// Where on an edge the feet lie on a segment.
+fn feet(g: EdgeSegment, l: f64) -> Option<Bounds>
     ensures { result ≡ feet_of g l }
 {
     let base = -g.ax * g.dx - g.ay * g.dy;
     if float64::abs(g.dx) > 1e-15 * g.sl {
         let x0 = -base / g.dx;
         let x1 = (g.ll - base) / g.dx;
-        return FootRange::Within(Bounds {
+        return Some(Bounds {
             b0: float64::max(0.0, float64::min(x0, x1)),
             b1: float64::min(l, float64::max(x0, x1)),
         });
     }
-    if 0.0 <= base {
-        if base <= g.ll {
-            return FootRange::Within(whole_edge(l));
-        }
-        return FootRange::Outside;
+    if 0.0 <= base && base <= g.ll {
+        return Some(whole_edge(l));
     }
-    FootRange::Outside
+    None
 }
 
 // The part of a range on the side of the segment's line that the normal points to.
@@ -217,17 +203,15 @@ fn ahead(w: Bounds, g: EdgeSegment, nx: f64, ny: f64) -> Bounds
     w
 }
 
-fn wave(feet: FootRange, g: EdgeSegment, nx: f64, ny: f64, l: f64) -> CandidateRange
-    ensures { result ≡ wave_of feet g nx ny l }
+// The wave of a side over the range of the feet.
+fn wave(w: Bounds, g: EdgeSegment, nx: f64, ny: f64, l: f64) -> Option<CandidateWindow>
+    ensures { result ≡ wave_of (Some w) g nx ny l }
 {
-    let FootRange::Within(w) = feet else {
-        return CandidateRange::Nothing;
-    };
     let part = ahead(w, g, nx, ny);
     if too_narrow(part, l) {
-        return CandidateRange::Nothing;
+        return None;
     }
-    CandidateRange::Window {
+    Some(CandidateWindow {
         b0: part.b0,
         b1: part.b1,
         src: Src::Line {
@@ -235,17 +219,18 @@ fn wave(feet: FootRange, g: EdgeSegment, nx: f64, ny: f64, l: f64) -> CandidateR
             uy: ny,
             c: -(g.ax * nx + g.ay * ny),
         },
-    }
+    })
 }
 
-fn side_window(g: EdgeSegment, l: f64, n: Normal) -> CandidateRange
+fn side_window(g: EdgeSegment, l: f64, n: Normal) -> Option<CandidateWindow>
     ensures { result ≡ side_window_of g l n }
 {
     let ny = normal_y(g, n);
     if ny <= 1e-12 {
-        return CandidateRange::Nothing;
+        return None;
     }
-    wave(feet(g, l), g, normal_x(g, n), ny, l)
+    let w = feet(g, l)?;
+    wave(w, g, normal_x(g, n), ny, l)
 }
 
 // How far along an edge a segment that goes by dx advances, with the normal of a side to its left.
@@ -270,11 +255,9 @@ pub fn goes_back(ax: f64, bx: f64, n: Normal) -> bool
 }
 
 // The window of one side of a segment.
-pub fn segment_window(s: InFrame, l: f64, n: Normal) -> CandidateRange
+pub fn segment_window(s: Option<EdgeSegment>, l: f64, n: Normal) -> Option<CandidateWindow>
     ensures { result ≡ segment_window_of s l n }
 {
-    match s {
-        InFrame::TooShort => CandidateRange::Nothing,
-        InFrame::Long(g) => side_window(g, l, n),
-    }
+    let g = s?;
+    side_window(g, l, n)
 }

@@ -1,12 +1,14 @@
 -- What is read for a window or a vertex, candidate by candidate, is what the Rust adds. Assumes nothing.
+use Rattle.std.specs.declared.option.Option.{Option}
 use Prim.Native.Nat.{ℕ}
 use mathlib.Core.List.{List}
 use mathlib.Core.Path.{◌≡◌, ◌∙◌, subst}
 use lib.Ieee.{Float}
+use Rattle.buffers.specs.declared.Lack.{Lack}
 use Rattle.spread_offers.specs.of_cut_lists.Buffers.{Cuts}
 use Rattle.spread_offers.specs.of_trim_split.declared.Counts.{Counts}
 use Rattle.spread_offers.specs.of_trim.Buffers.{Slices}
-use Rattle.spread_offers.specs.of_trim.declared.Added.{Added}
+use Rattle.std.specs.declared.result.Result.{Result}
 use Rattle.spread_offers.specs.of_offers.declared.Offered.{Offered}
 use Rattle.spread_offers.specs.of_offers.Walks.{MeshIn, AddsCandidates}
 use Rattle.spread_offers.proofs.laws_of_offers.Loop.{ReadsOffers}
@@ -18,7 +20,7 @@ use Rattle.spread.specs.Walk.{SpreadIn}
 
 -- o is the face ahead, as it is read before the first candidate, from the edges ew₀
 module _ (v : List Float) (buffer : List ℕ) (er : List Float) (tw : List ℕ) (tr : List Float) (vw round : List ℕ) (s : Spread) (ew₀ : List ℕ) (o : Opposite) where
-  abbrev pub spread_read_at : List ℕ → ℕ → Offered
+  abbrev pub spread_read_at : List ℕ → ℕ → Option Offered
   spread_read_at ew i = spread_offer_at v ew er tw tr vw round o s i
 
   -- those edges are the mesh's too
@@ -33,7 +35,7 @@ module _ (v : List Float) (buffer : List ℕ) (er : List Float) (tw : List ℕ) 
     all = λ triangles n ew m a. spread_all v triangles n m.mesh.valid vw round a.0.rounds s a.0.there;
   }
 
-  pub read_first : o ≡ opposite_at v buffer ew₀ er tw tr s → (limit : Float) (counts : Counts) (b : Slices) → b.edges ≡ ew₀ → (c : Cuts) (r : Added) (b' : Slices)
+  pub read_first : o ≡ opposite_at v buffer ew₀ er tw tr s → (limit : Float) (counts : Counts) (b : Slices) → b.edges ≡ ew₀ → (c : Cuts) (r : Result Counts Lack) (b' : Slices)
       → AddsCandidates limit vw v er tw tr ReadFirst (λ triangles. spread_candidates v triangles s) counts b c r b'
       → AddsCandidates limit vw v er tw tr (SpreadIn buffer vw round s) (λ triangles. spread_candidates v triangles s) counts b c r b'
   read_first known limit counts b same c r b' h = record {

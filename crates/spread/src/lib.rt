@@ -10,8 +10,8 @@ ghost use Rattle.spread_offers.specs.of_offers.Walks.{AddsCandidates};
 ghost use Rattle.spread_offers.specs.Spreading.{spread_candidates};
 ghost use Rattle.spread.specs.Walk.{SpreadIn};
 
+use buffers::Lack;
 pub use spread_offers as of_spread_offers;
-use spread_offers::of_trim::Added;
 use spread_offers::of_trim_split::Counts;
 pub use spread_offers::{of_trim, of_trim_split};
 use spread_offers::{Spread, of_offers};
@@ -38,7 +38,7 @@ pub fn spread(
     counts: Counts,
     s: Spread,
     limit: f64,
-) -> Added
+) -> Result<Counts, Lack>
     requires { (counts.made ≤ capacity_of (length words.old) (length reals.old)) × Sizes (length pts.old) out.old keep.old next.old }
     ensures { AddsCandidates limit vertex_words.now vertices.now edge_reals.now triangle_words.now triangle_reals.now
         (SpreadIn triangles.now vertex_words.now round.now s) (λ triangles. spread_candidates vertices.now triangles s)
@@ -55,8 +55,7 @@ pub fn spread(
     );
     let n = spread_offers::spread_count(vertex_words, s);
     let mut now = counts;
-    let mut i = 0;
-    while i < n {
+    for i in 0..n {
         let x = spread_offers::spread_offer(
             vertices,
             edge_words,
@@ -69,7 +68,7 @@ pub fn spread(
             s,
             i,
         );
-        let added = of_offers::offer(
+        now = of_offers::offer(
             edge_words,
             words,
             reals,
@@ -85,14 +84,7 @@ pub fn spread(
             now,
             x,
             limit,
-        );
-        match added {
-            Added::Stopped(lack) => return Added::Stopped(lack),
-            Added::Went(c) => {
-                now = c;
-                i += 1;
-            }
-        }
+        )?;
     }
-    Added::Went(now)
+    Ok(now)
 }

@@ -1,6 +1,8 @@
 -- Where the buffers hold a mesh's topology, what is offered is what the Rust adds, to an edge of the mesh. Assumes nothing.
 --     of a window     opposite_held, propagate_held, propagate_there, next_there (the next edge is one of the mesh's)
 --     of a vertex     emit_held, emit_there
+use Rattle.std.specs.declared.option.Option.{Option}
+use Rattle.std.specs.declared.option.Option.TheVariants.{None}
 use Prim.Native.Nat.{ℕ, ◌+◌, ◌*◌, ◌/◌, ◌<◌}
 use native.Mathlib.Omega.{arith}
 use mathlib.Core.Bool.{Bool, true, false, cond}
@@ -27,7 +29,6 @@ use Rattle.propagation.specs.declared.Side.{Side}
 use Rattle.propagation.specs.declared.FaceAhead.{FaceAhead}
 use Rattle.propagation.specs.Propagate.{propagate_of, emit_of}
 use Rattle.source_offers.specs.of_offers.declared.Offered.{Offered}
-use Rattle.source_offers.specs.of_offers.declared.Offered.TheVariants.{Nothing}
 use Rattle.source_offers.specs.of_offers.Offers.{EdgeThere}
 use Rattle.source_offers.specs.of_offers.Walks.{MeshIn, edge_data}
 use Rattle.source_offers.specs.Offering.{offered}
@@ -57,7 +58,7 @@ module _ (triangles : List ℕ) (n : ℕ) (valid : ValidTriangles triangles n) (
       (tri_edge triangles (3 * g)) (tri_edge triangles (3 * g + 1)) (tri_edge triangles (3 * g + 2)) (length (edges triangles))
       (tri_edge_there triangles (3 * g) (omega (arith, last))) (side_there 1 (omega arith)) (side_there 2 (omega arith))
 
-nothing_there : (v : List Float) (triangles ew : List ℕ) (er : List Float) (b : Bool) (o : Offered) → EdgeThere (edge_data v triangles) ew er o → EdgeThere (edge_data v triangles) ew er (cond b Nothing o)
+nothing_there : (v : List Float) (triangles ew : List ℕ) (er : List Float) (b : Bool) (o : Option Offered) → EdgeThere (edge_data v triangles) ew er o → EdgeThere (edge_data v triangles) ew er (cond b None o)
 nothing_there v triangles ew er true o h = tt
 nothing_there v triangles ew er false o h = h
 
@@ -115,8 +116,8 @@ module _ (v : List Float) (triangles : List ℕ) (n : ℕ) (ew : List ℕ) (er :
         let P = coords_are e g l there p in
         let E = edge_held triangles ew held.ends e l in
         let beyond = other_held triangles ew held.faces e l g in
-        (λ i. let z = S i in cond (at_end vx (edge_at ew z)) Nothing (offered z (other_at ew z g) true (emit_of (coords_at v ew er tw tr z g p).x (coords_at v ew er tw tr z g p).y (length_at er z) d)))
-        ∙ (λ i. cond (at_end vx (E i)) Nothing (offered e (beyond i) true (emit_of (P i).x (P i).y (held.lengths.length_is e l i) d)))
+        (λ i. let z = S i in cond (at_end vx (edge_at ew z)) None (offered z (other_at ew z g) true (emit_of (coords_at v ew er tw tr z g p).x (coords_at v ew er tw tr z g p).y (length_at er z) d)))
+        ∙ (λ i. cond (at_end vx (E i)) None (offered e (beyond i) true (emit_of (P i).x (P i).y (held.lengths.length_is e l i) d)))
 
   -- ---- what it is offered to
   module _ (m : MeshIn v triangles n ew er tw tr) where

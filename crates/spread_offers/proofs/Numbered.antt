@@ -1,5 +1,6 @@
 -- All that is offered as one numbered row, in the Rust's order: candidate i of a vertex is to side i % 3 of face i / 3 round it. Assumes nothing.
 --     spread_all (the row is the Rust's list), opposite_is_held and spread_held (the face ahead and candidate i as they are read), spread_there (its edge is one of the mesh's)
+use Rattle.std.specs.declared.option.Option.{Option}
 use Prim.Native.Nat.{ℕ, ◌+◌, ◌*◌, ◌/◌, ◌%◌, ◌<◌, min}
 use native.Mathlib.Omega.{arith}
 use mathlib.Core.List.{List}
@@ -28,7 +29,7 @@ use Rattle.spread_offers.specs.Spreading.{propagate_candidates, emit_candidates,
 use Rattle.spread_offers.proofs.Held.{opposite_of, opposite_held, propagate_held, propagate_there, emit_held, emit_there}
 
 -- candidate i of a mesh
-unfoldable pub spread_nth : List Float → List ℕ → Spread → ℕ → Offered
+unfoldable pub spread_nth : List Float → List ℕ → Spread → ℕ → Option Offered
 spread_nth v triangles (Window e g b0 b1 src) i = propagate_offer v triangles e.0 g.0 b0 b1 src i
 spread_nth v triangles (Vertex vx d) i = emit_offer v triangles (get_or (vertex_faces triangles vx.0) (i / 3) 0) (i % 3) vx.0 d
 

@@ -1,5 +1,7 @@
 -- What a window passes on and what a vertex emits is proper where it is admitted, as demand 3 asks, in a mesh whose edges have the lengths of a checked one. Assumes nothing.
 --     propagate_proper, emit_proper (one candidate), spread_proper (all)
+use Rattle.std.specs.declared.option.Option.{Option}
+use Rattle.std.specs.declared.option.Option.TheVariants.{None}
 use Prim.Native.Nat.{ℕ, ◌+◌, ◌*◌, ◌/◌, ◌<◌}
 use mathlib.Core.Bool.{Bool, true, false, cond}
 use mathlib.Core.List.{List}
@@ -20,7 +22,6 @@ use Rattle.source_offers.specs.of_better.Claim.{All}
 use Rattle.source_offers.specs.of_trim_model.Model.{Candidate}
 use Rattle.source_offers.specs.of_trim_model.Claim.{AdmittedProper}
 use Rattle.source_offers.specs.of_offers.declared.Offered.{Offered}
-use Rattle.source_offers.specs.of_offers.declared.Offered.TheVariants.{Nothing}
 use Rattle.source_offers.specs.of_offers.Offers.{offer_list}
 use Rattle.source_offers.specs.of_offers.Each.{each_of}
 use Rattle.source_offers.proofs.laws_of_offers.Each.{each_all}
@@ -36,7 +37,7 @@ module _ (limit : Float) (v : List Float) (triangles : List ℕ) (n : ℕ) (vali
   abbrev Fine : List Candidate → Type 0
   Fine = All (AdmittedProper limit (len v triangles))
 
-  nothing_fine : (b : Bool) (o : Offered) → Fine (offer_list o) → Fine (offer_list (cond b Nothing o))
+  nothing_fine : (b : Bool) (o : Option Offered) → Fine (offer_list o) → Fine (offer_list (cond b None o))
   nothing_fine true o h = tt
   nothing_fine false o h = h
 

@@ -1,4 +1,6 @@
 -- The offers as the code computes them. Assumes nothing.
+use Rattle.std.specs.declared.option.Option.{Option}
+use Rattle.std.specs.declared.option.Option.TheVariants.{None}
 use Prim.Native.Nat.{ℕ, ◌+◌, ◌/◌, ◌%◌, ◌≤◌, ◌<◌}
 use native.Mathlib.Omega.{arith}
 use mathlib.Core.Bool.{Bool, true, false}
@@ -18,7 +20,7 @@ use Rattle.source_offers.specs.of_mesh_readers.declared.RoundRange.{RoundRange}
 use Rattle.source_offers.specs.of_mesh_readers.Readers.{edge_at, ends_at, other_at, side_in, third_at, edge_between_at, coords_at, range_at, degree_at, round_at}
 use Rattle.source.specs.declared.Src.{Src}
 use Rattle.propagation.specs.of_source_windows.declared.Bounds.{Bounds}
-use Rattle.propagation.specs.of_source_windows.declared.CandidateRange.{CandidateRange}
+use Rattle.propagation.specs.of_source_windows.declared.CandidateWindow.{CandidateWindow}
 use Rattle.propagation.specs.declared.Side.{Side}
 use Rattle.propagation.specs.declared.Side.TheVariants.{First, Second}
 use Rattle.propagation.specs.declared.FaceVertex.{FaceVertex}
@@ -27,7 +29,6 @@ use Rattle.propagation.specs.declared.NextEdge.{NextEdge}
 use Rattle.propagation.specs.Plane.{vertex_of}
 use Rattle.propagation.specs.Propagate.{propagate_of, emit_of}
 use Rattle.source_offers.specs.of_offers.declared.Offered.{Offered}
-use Rattle.source_offers.specs.of_offers.declared.Offered.TheVariants.{Nothing}
 use Rattle.source_offers.specs.Offering.{offered}
 use Rattle.spread_offers.specs.Offering.{side_number, side_end, next_edge_of, at_end, ahead_at, next_edge_at, propagate_offer_at, emit_offer_at}
 use Rattle.spread_offers.specs.declared.Spread.TheVariants.{Window}
@@ -68,7 +69,7 @@ module _ (ew : List ℕ) (e : ℕ) (both : EdgeEnds) (read : both ≡ ends_at ew
 module _ (ew : List ℕ) (er : List Float) (tw : List ℕ) where
   pub propagate_is : (o : Opposite) (e g : ℕ) (b0 b1 : Float) (src : Src) (k : ℕ) (side : Side) → side ≡ side_number k
       → (from : VertexId) → from ≡ record { 0 = side_end side (edge_at ew e) } → (ne : EdgeId) → ne ≡ record { 0 = edge_between_at ew tw g from.0 o.c.0 } → (next : NextEdge) → next ≡ next_edge_at ew er e ne.0
-      → (range : CandidateRange) → range ≡ propagate_of src (record { b0 = b0; b1 = b1 }) o.ahead side next → (beyond : FaceId) → beyond ≡ record { 0 = other_at ew ne.0 g } → (r : Offered) → r ≡ offered ne.0 beyond.0 true range
+      → (range : Option CandidateWindow) → range ≡ propagate_of src (record { b0 = b0; b1 = b1 }) o.ahead side next → (beyond : FaceId) → beyond ≡ record { 0 = other_at ew ne.0 g } → (r : Option Offered) → r ≡ offered ne.0 beyond.0 true range
       → r ≡ propagate_offer_at ew er tw o e g b0 b1 src k
   unfolding propagate_offer_at
   propagate_is o e g b0 b1 src k side hs from hf ne hn next hx range hr beyond hb r h =
@@ -100,12 +101,12 @@ module _ (v : List Float) (ew : List ℕ) (er : List Float) (tw : List ℕ) (tr 
     on_is : on ≡ at_end vx (edge_at ew (side_in tw g k))
     on_is = hon ∙ (λ i. at_end vx (edge_at ew (side i).0))
 
-    pub emit_none : on ≡ true → Nothing ≡ emit_offer_at v ew er tw tr g k vx d
+    pub emit_none : on ≡ true → None ≡ emit_offer_at v ew er tw tr g k vx d
     unfolding emit_offer_at
     emit_none h = rw (sym on_is ∙ h)
 
-    pub emit_is : on ≡ false → (l : Float) → l ≡ length_at er e.0 → (x : Vec3) → x ≡ vertex_at v vx → (p : FrameCoords) → p ≡ coords_at v ew er tw tr e.0 g x → (range : CandidateRange) → range ≡ emit_of p.x p.y l d
-        → (beyond : FaceId) → beyond ≡ record { 0 = other_at ew e.0 g } → (r : Offered) → r ≡ offered e.0 beyond.0 true range → r ≡ emit_offer_at v ew er tw tr g k vx d
+    pub emit_is : on ≡ false → (l : Float) → l ≡ length_at er e.0 → (x : Vec3) → x ≡ vertex_at v vx → (p : FrameCoords) → p ≡ coords_at v ew er tw tr e.0 g x → (range : Option CandidateWindow) → range ≡ emit_of p.x p.y l d
+        → (beyond : FaceId) → beyond ≡ record { 0 = other_at ew e.0 g } → (r : Option Offered) → r ≡ offered e.0 beyond.0 true range → r ≡ emit_offer_at v ew er tw tr g k vx d
     unfolding emit_offer_at
     emit_is h l hl x hx p hp range hr beyond hb r q =
         let P : p ≡ coords_at v ew er tw tr e.0 g (vertex_at v vx) = hp ∙ ap (coords_at v ew er tw tr e.0 g) hx in
@@ -117,11 +118,11 @@ module _ (v : List Float) (ew : List ℕ) (er : List Float) (tw : List ℕ) (tr 
 
   -- candidate i of a vertex
   module _ (vw round : List ℕ) (vx : ℕ) (d : Float) (i degree : ℕ) (known : degree ≡ degree_at vw vx) where
-    pub round_none : degree ≤ i / 3 → Nothing ≡ round_offer_at v ew er tw tr vw round vx d i
+    pub round_none : degree ≤ i / 3 → None ≡ round_offer_at v ew er tw tr vw round vx d i
     unfolding round_offer_at
     round_none h = rw (le-ltb (i / 3) (degree_at vw vx) (omega (arith, h, known)))
 
-    pub round_is : i / 3 < degree → (range : RoundRange) → range ≡ range_at vw vx → (g : FaceId) → g ≡ record { 0 = round_at round (range.start + i / 3) } → (r : Offered) → r ≡ emit_offer_at v ew er tw tr g.0 (i % 3) vx d
+    pub round_is : i / 3 < degree → (range : RoundRange) → range ≡ range_at vw vx → (g : FaceId) → g ≡ record { 0 = round_at round (range.start + i / 3) } → (r : Option Offered) → r ≡ emit_offer_at v ew er tw tr g.0 (i % 3) vx d
         → r ≡ round_offer_at v ew er tw tr vw round vx d i
     unfolding round_offer_at
     round_is h range hr g hg r q =

@@ -1,6 +1,6 @@
 -- What a window that is propagated, and a vertex that passes distances on, offer: one turn of the loop of the Rust's `propagate`, and one of `emit`. Definitions only.
 -- First as the Rust has it, of a mesh's topology; then as the mesh's buffers are read.
-use Rattle.std.specs.Prelude.{ℕ, ◌+◌, ◌*◌, Bool, cond, ◌||◌, List, eqb, Float, if◌then◌else◌}
+use Rattle.std.specs.Prelude.{ℕ, ◌+◌, ◌*◌, Bool, cond, ◌||◌, List, eqb, Float, if◌then◌else◌, Option, None}
 use Rattle.std.proofs.Math.Bool.{true}
 use Rattle.std.proofs.Math.ListN.{get_or}
 use Rattle.job_checks.specs.Edge.{vertex_at}
@@ -16,7 +16,6 @@ use Rattle.propagation.specs.declared.NextEdge.{NextEdge}
 use Rattle.propagation.specs.Plane.{vertex_of}
 use Rattle.propagation.specs.Propagate.{propagate_of, emit_of}
 use Rattle.source_offers.specs.of_offers.declared.Offered.{Offered}
-use Rattle.source_offers.specs.of_offers.declared.Offered.TheVariants.{Nothing}
 use Rattle.source_offers.specs.Offering.{offered}
 use Rattle.spread_offers.specs.declared.Opposite.{Opposite}
 
@@ -44,7 +43,7 @@ at_end vx ab = eqb ab.low vx || eqb ab.high vx
 -- ---- of a mesh
 module _ (v : List Float) (triangles : List ℕ) where
   -- `propagate` of the window b0 to b1 of edge e into face g; its `find(..).unwrap()` finds the next edge where g is a face of e (`next_edge` of topology)
-  unfoldable pub propagate_offer : ℕ → ℕ → Float → Float → Src → ℕ → Offered
+  unfoldable pub propagate_offer : ℕ → ℕ → Float → Float → Src → ℕ → Option Offered
   unfolding offered
   propagate_offer e g b0 b1 src k =
       let ab = get_or (edges triangles) e no_edge in
@@ -56,12 +55,12 @@ module _ (v : List Float) (triangles : List ℕ) where
       offered ne (other triangles ne g) true (propagate_of src (record { b0 = b0; b1 = b1 }) ahead side next)
 
   -- `emit` of vertex vx at distance d, on side k of face g
-  unfoldable pub emit_offer : ℕ → ℕ → ℕ → Float → Offered
+  unfoldable pub emit_offer : ℕ → ℕ → ℕ → Float → Option Offered
   unfolding offered
   emit_offer g k vx d =
       let e = tri_edge triangles (3 * g + k) in
       let p = vertex_at v vx in
-      if at_end vx (get_or (edges triangles) e no_edge) then Nothing else
+      if at_end vx (get_or (edges triangles) e no_edge) then None else
       offered e (other triangles e g) true (emit_of (coords_x v triangles e p) (coords_y v triangles e g p) (len v triangles e) d)
 
 -- ---- as the buffers are read
@@ -71,12 +70,12 @@ module _ (v : List Float) (edge_words : List ℕ) (edge_reals : List Float) (tri
       let p = coords_at v edge_words edge_reals triangle_words triangleReals e g (vertex_at v c) in
       record { l = length_at edge_reals e; cx = p.x; cy = p.y }
 
-  unfoldable pub emit_offer_at : ℕ → ℕ → ℕ → Float → Offered
+  unfoldable pub emit_offer_at : ℕ → ℕ → ℕ → Float → Option Offered
   unfolding offered
   emit_offer_at g k vx d =
       let e = side_in triangle_words g k in
       let p = coords_at v edge_words edge_reals triangle_words triangleReals e g (vertex_at v vx) in
-      if at_end vx (edge_at edge_words e) then Nothing else
+      if at_end vx (edge_at edge_words e) then None else
       offered e (other_at edge_words e g) true (emit_of p.x p.y (length_at edge_reals e) d)
 
 abbrev pub next_edge_at : List ℕ → List Float → ℕ → ℕ → NextEdge
@@ -84,7 +83,7 @@ next_edge_at edge_words edge_reals e ne = next_edge_of (edge_at edge_words e) (e
 
 module _ (edge_words : List ℕ) (edge_reals : List Float) (triangle_words : List ℕ) where
   -- o is the face ahead
-  unfoldable pub propagate_offer_at : Opposite → ℕ → ℕ → Float → Float → Src → ℕ → Offered
+  unfoldable pub propagate_offer_at : Opposite → ℕ → ℕ → Float → Float → Src → ℕ → Option Offered
   unfolding offered
   propagate_offer_at o e g b0 b1 src k =
       let side = side_number k in

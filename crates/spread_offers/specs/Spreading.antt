@@ -1,12 +1,11 @@
 -- All that a window passes on, and all that a vertex emits, in the Rust's order; and the same numbered, as the buffers are read. Definitions only.
-use Rattle.std.specs.Prelude.{ℕ, ◌+◌, ◌*◌, ◌/◌, ◌%◌, ◌<◌, min, List, ltb, length, get_or, Float, if◌then◌else◌}
+use Rattle.std.specs.Prelude.{ℕ, ◌+◌, ◌*◌, ◌/◌, ◌%◌, ◌<◌, min, List, ltb, length, get_or, Float, if◌then◌else◌, Option, None}
 use Rattle.float64.specs.Scalar.{zero64}
 use Rattle.topology.specs.Edges.{edges, vertex_faces}
 use Rattle.source_offers.specs.of_mesh_readers.Readers.{third_at, degree_at, range_at, round_at}
 use Rattle.source.specs.declared.Src.{Src}
 use Rattle.source_offers.specs.of_trim_model.Model.{Candidate}
 use Rattle.source_offers.specs.of_offers.declared.Offered.{Offered}
-use Rattle.source_offers.specs.of_offers.declared.Offered.TheVariants.{Nothing}
 use Rattle.source_offers.specs.of_offers.Offers.{offer_list}
 use Rattle.source_offers.specs.of_offers.Each.{each_of}
 use Rattle.spread_offers.specs.declared.Spread.{Spread}
@@ -45,10 +44,10 @@ spread_count_at vertex_words (Window e g b0 b1 src) = 2
 spread_count_at vertex_words (Vertex vx d) = 3 * min (degree_at vertex_words vx.0) most_faces
 
 module _ (v : List Float) (edge_words : List ℕ) (edge_reals : List Float) (triangle_words : List ℕ) (triangleReals : List Float) (vertex_words round : List ℕ) where
-  unfoldable pub round_offer_at : ℕ → Float → ℕ → Offered
+  unfoldable pub round_offer_at : ℕ → Float → ℕ → Option Offered
   round_offer_at vx d i =
       if ltb (i / 3) (degree_at vertex_words vx) then emit_offer_at v edge_words edge_reals triangle_words triangleReals (round_at round ((range_at vertex_words vx).start + i / 3)) (i % 3) vx d else
-      Nothing
+      None
 
 -- what both candidates of a window ask for; those of a vertex ask for nothing
 module _ (v : List Float) (triangles edge_words : List ℕ) (edge_reals : List Float) (triangle_words : List ℕ) (triangleReals : List Float) where
@@ -59,6 +58,6 @@ module _ (v : List Float) (triangles edge_words : List ℕ) (edge_reals : List F
   opposite_at (Vertex vx d) = record { c = vx; ahead = record { l = zero64; cx = zero64; cy = zero64 } }
 
 module _ (v : List Float) (edge_words : List ℕ) (edge_reals : List Float) (triangle_words : List ℕ) (triangleReals : List Float) (vertex_words round : List ℕ) (o : Opposite) where
-  unfoldable pub spread_offer_at : Spread → ℕ → Offered
+  unfoldable pub spread_offer_at : Spread → ℕ → Option Offered
   spread_offer_at (Window e g b0 b1 src) i = propagate_offer_at edge_words edge_reals triangle_words o e.0 g.0 b0 b1 src i
   spread_offer_at (Vertex vx d) i = round_offer_at v edge_words edge_reals triangle_words triangleReals vertex_words round vx.0 d i

@@ -111,7 +111,7 @@ pub fn propagate_offer(
     b1: f64,
     src: Src,
     k: u32,
-) -> Offered
+) -> Option<Offered>
     ensures { result ≡ propagate_offer_at edge_words.now edge_reals.now triangle_words.now o e.0 g.0 b0 b1 src k }
 {
     let c = o.c;
@@ -150,12 +150,12 @@ pub fn emit_offer(
     k: u32,
     vx: VertexId,
     d: f64,
-) -> Offered
+) -> Option<Offered>
     ensures { result ≡ emit_offer_at vertices.now edge_words.now edge_reals.now triangle_words.now triangle_reals.now g.0 k vx.0 d }
 {
     let e = side(triangle_words, g, k);
     if at_end(edge_words, e, vx) {
-        return Offered::Nothing;
+        return None;
     }
     let l = length(edge_reals, e);
     let p = coords(
@@ -207,13 +207,13 @@ fn round_offer(
     vx: VertexId,
     d: f64,
     i: u32,
-) -> Offered
+) -> Option<Offered>
     ensures { result ≡ round_offer_at vertices.now edge_words.now edge_reals.now triangle_words.now triangle_reals.now
         vertex_words.now round.now vx.0 d i }
 {
     let fi = i / 3;
     if vertex_degree(vertex_words, vx) <= fi {
-        return Offered::Nothing;
+        return None;
     }
     let range = faces_round(vertex_words, vx);
     let g = face_round(round, range.start + fi);
@@ -286,7 +286,7 @@ pub fn spread_offer(
     o: Opposite,
     s: Spread,
     i: u32,
-) -> Offered
+) -> Option<Offered>
     ensures { result ≡ spread_offer_at vertices.now edge_words.now edge_reals.now triangle_words.now triangle_reals.now
         vertex_words.now round.now o s i }
 {

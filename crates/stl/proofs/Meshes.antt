@@ -15,8 +15,10 @@ use Rattle.job_checks.proofs.Any.{none_below}
 use Rattle.little_endian.specs.Bytes.{put_in_front}
 use Rattle.nat_laws.specs.Lists.{list_of}
 use Rattle.nat_laws.proofs.Lists.{list_of_same}
-use Rattle.stl_format.specs.declared.Stl.{Stl}
-use Rattle.stl_format.specs.declared.Stl.TheVariants as stl
+use Rattle.std.specs.Prelude.{Result, Ok, Err}
+use Rattle.stl_format.specs.declared.StlCounts.{StlCounts}
+use Rattle.stl_format.specs.declared.StlRefusal.{StlRefusal}
+use Rattle.stl_format.specs.declared.StlRefusal.TheVariants as stl
 use Rattle.stl_format.specs.Format.{StlMesh, record_count, file_length, coordinate, bytes_not_finite, same_point, link_among, first_points, vertex_points, vertex_of_point, mesh_in}
 use Rattle.stl_format.specs.Answers.{counts_too_many, read_answer, after_reading, mesh_lists, stl_reading}
 use Rattle.stl_table.specs.Keys.{same_at, key_bucket_at}
@@ -31,32 +33,32 @@ use Rattle.stl.proofs.Agreeing.{first_agree, vertex_agree}
 pub has_points : (s : List ℕ) (n : ℕ) → length s ≡ file_length n → HasPoints s (3 * n)
 has_points s n e h l = omega arith
 
-pub answered : (s : List ℕ) (m : StlMesh) (a : Stl) → read_answer s (length m.vertices / 3) (length m.triangles / 3) ≡ a → (a, after_reading s a m) ≡ stl_reading s m
+pub answered : (s : List ℕ) (m : StlMesh) (a : Result StlCounts StlRefusal) → read_answer s (length m.vertices / 3) (length m.triangles / 3) ≡ a → (a, after_reading s a m) ≡ stl_reading s m
 unfolding stl_reading
 answered s m a e = ap (λ x. (x, after_reading s x m)) (sym e)
 
 -- ---- 40 to 43, for any number of slots
 module _ (s : List ℕ) (v t : ℕ) where
-  pub is_short : length s < 84 → read_answer s v t ≡ stl.TooShort
+  pub is_short : length s < 84 → read_answer s v t ≡ Err stl.TooShort
   unfolding read_answer
   is_short l = rw (lt-ltb _ _ l)
 
   module _ (l : 84 ≤ length s) where
-    pub is_wrong : (length s ≡ file_length (record_count s) → ⊥) → read_answer s v t ≡ stl.WrongLength
+    pub is_wrong : (length s ≡ file_length (record_count s) → ⊥) → read_answer s v t ≡ Err stl.WrongLength
     unfolding read_answer
     is_wrong e = rw (le-ltb _ _ l, ne_eqb _ _ e)
 
     module _ (e : length s ≡ file_length (record_count s)) where
-      pub is_infinite : any_below (bytes_not_finite s) (3 * record_count s) ≡ true → read_answer s v t ≡ stl.NotFinite
+      pub is_infinite : any_below (bytes_not_finite s) (3 * record_count s) ≡ true → read_answer s v t ≡ Err stl.NotFinite
       unfolding read_answer
       is_infinite f = rw (le-ltb _ _ l, eq-eqb _ _ e, f)
 
       module _ (f : any_below (bytes_not_finite s) (3 * record_count s) ≡ false) where
-        pub is_many : counts_too_many s ≡ true → read_answer s v t ≡ stl.TooMany
+        pub is_many : counts_too_many s ≡ true → read_answer s v t ≡ Err stl.TooMany
         unfolding read_answer
         is_many k = rw (le-ltb _ _ l, eq-eqb _ _ e, f, k)
 
-        pub is_mesh_lem : counts_too_many s ≡ false → read_answer s v t ≡ cond (ltb v (length (vertex_points s)) || ltb t (record_count s)) stl.ShortBuffer (stl.Mesh (record { vertices = length (vertex_points s); triangles = record_count s }))
+        pub is_mesh_lem : counts_too_many s ≡ false → read_answer s v t ≡ cond (ltb v (length (vertex_points s)) || ltb t (record_count s)) (Err stl.ShortBuffer) (Ok (record { vertices = length (vertex_points s); triangles = record_count s }))
         unfolding read_answer
         is_mesh_lem k = rw (le-ltb _ _ l, eq-eqb _ _ e, f, k)
 
@@ -93,7 +95,7 @@ module _ (s : List ℕ) (bytes : Bytes s) (n : ℕ) (c : CheckedFile s n) where
   finite_all = subst (λ (k : ℕ). any_below (bytes_not_finite s) (3 * k) ≡ false) c.counted c.finite
 
   module _ (r : ℕ) (heads links firsts : List ℕ) (b : TableBuilt s (3 * n) r heads links firsts) where
-    pub over_many : (v t : ℕ) → 65535 < r → read_answer s v t ≡ stl.TooMany
+    pub over_many : (v t : ℕ) → 65535 < r → read_answer s v t ≡ Err stl.TooMany
     unfolding counts_too_many
     over_many v t l =
         let k : 65535 < length (vertex_points s) = subst (λ vs. 65535 < length vs) points_are (b.many l) in
@@ -113,16 +115,16 @@ module _ (s : List ℕ) (bytes : Bytes s) (n : ℕ) (c : CheckedFile s n) where
       unfolding counts_too_many
       not_many = rw (few_records, le-ltb max_vertices (length (vertex_points s)) (omega (arith, count_is)))
 
-      pub no_vertices : (v t : ℕ) → v < r → read_answer s v t ≡ stl.ShortBuffer
+      pub no_vertices : (v t : ℕ) → v < r → read_answer s v t ≡ Err stl.ShortBuffer
       no_vertices v t k = is_mesh_lem s v t long_enough long_is finite_all not_many ∙ rw (lt-ltb v (length (vertex_points s)) (omega (arith, count_is)))
 
-      pub no_triangles : (v t : ℕ) → r ≤ v → t < n → read_answer s v t ≡ stl.ShortBuffer
+      pub no_triangles : (v t : ℕ) → r ≤ v → t < n → read_answer s v t ≡ Err stl.ShortBuffer
       no_triangles v t j k = is_mesh_lem s v t long_enough long_is finite_all not_many ∙ rw (le-ltb v (length (vertex_points s)) (omega (arith, count_is)), lt-ltb t (record_count s) (omega (arith, c.counted)))
 
-      mesh_answer_lem : (v t : ℕ) → r ≤ v → n ≤ t → read_answer s v t ≡ stl.Mesh (record { vertices = r; triangles = n })
+      mesh_answer_lem : (v t : ℕ) → r ≤ v → n ≤ t → read_answer s v t ≡ Ok (record { vertices = r; triangles = n })
       mesh_answer_lem v t j k =
           is_mesh_lem s v t long_enough long_is finite_all not_many
-          ∙ rw (le-ltb v (length (vertex_points s)) (omega (arith, count_is)), le-ltb t (record_count s) (omega (arith, c.counted))) (λ i. stl.Mesh (record { vertices = sym count_is i; triangles = sym c.counted i }))
+          ∙ rw (le-ltb v (length (vertex_points s)) (omega (arith, count_is)), le-ltb t (record_count s) (omega (arith, c.counted))) (λ i. Ok (record { vertices = sym count_is i; triangles = sym c.counted i }))
 
       first_is : (i : ℕ) → i < r → get_or firsts i 0 ≡ get_or (vertex_points s) i 0
       first_is i k = sym (get_or-take r firsts i 0 k) ∙ ap (λ vs. get_or vs i 0) front
@@ -154,12 +156,12 @@ module _ (s : List ℕ) (bytes : Bytes s) (n : ℕ) (c : CheckedFile s n) where
       -- both lists are written
       pub read_done : (m : StlMesh) (vs : List Float) (ts : List ℕ) → r ≤ length m.vertices / 3 → n ≤ length m.triangles / 3
           → vs ≡ put_in_front (list_of (3 * r) (λ j. coordinate s (get_or firsts (j / 3) 0) (j % 3))) m.vertices → ts ≡ put_in_front (list_of (3 * n) (λ h. found_at s heads links firsts h - 1)) m.triangles
-          → (stl.Mesh (record { vertices = r; triangles = n }), mesh_lists vs ts) ≡ stl_reading s m
+          → (Ok (record { vertices = r; triangles = n }), mesh_lists vs ts) ≡ stl_reading s m
       unfolding after_reading
       read_done m vs ts j k ev et =
-          ap (λ x. (stl.Mesh (record { vertices = r; triangles = n }), x))
+          ap (λ x. (Ok (record { vertices = r; triangles = n }), x))
           (λ i. mesh_lists ((ev ∙ ap (λ l. put_in_front l m.vertices) vertices_are) i) ((et ∙ ap (λ l. put_in_front l m.triangles) triangles_are) i))
-          ∙ answered s m (stl.Mesh (record { vertices = r; triangles = n })) (mesh_answer_lem (length m.vertices / 3) (length m.triangles / 3) j k)
+          ∙ answered s m (Ok (record { vertices = r; triangles = n })) (mesh_answer_lem (length m.vertices / 3) (length m.triangles / 3) j k)
 
       pub there : (i : ℕ) → i < r → HasPoint s (get_or firsts i 0)
       there i k = table.there i k

@@ -17,7 +17,8 @@ use Rattle.job_checks.proofs.Tests.{present}
 use Rattle.little_endian.specs.Bytes.{number_bytes, put_in_front}
 use Rattle.single.specs.Single.{is_single}
 use Rattle.text_out.specs.Text.{Puts}
-use Rattle.stl_format.specs.declared.Stl.TheVariants as stl
+use Rattle.std.specs.Prelude.{Ok, Err}
+use Rattle.stl_format.specs.declared.StlRefusal.TheVariants as stl
 use Rattle.stl_format.specs.Format.{file_length, single_bytes, vertex_bytes, record_bytes, records_bytes, file_of}
 use Rattle.stl_format.specs.Answers.{wrong_sizes, not_single, write_answer, after_writing, stl_writing}
 use Rattle.stl.specs.Parts.{WritableTriangles}
@@ -76,27 +77,27 @@ writable v t m s h l =
 -- ---- the answers
 
 module _ (v : List Float) (t out : List ℕ) where
-  pub wrong : wrong_sizes (length v) (length t) ≡ true → (stl.Malformed, out) ≡ stl_writing v t out
+  pub wrong : wrong_sizes (length v) (length t) ≡ true → (Err stl.Malformed, out) ≡ stl_writing v t out
   unfolding stl_writing write_answer after_writing
   wrong h = rw h
 
   module _ (h : wrong_sizes (length v) (length t) ≡ false) where
-    pub names_none : missing_vertex v t ≡ true → (stl.MissingVertex, out) ≡ stl_writing v t out
+    pub names_none : missing_vertex v t ≡ true → (Err stl.MissingVertex, out) ≡ stl_writing v t out
     unfolding stl_writing write_answer after_writing
     names_none m = rw (h, m)
 
     module _ (m : missing_vertex v t ≡ false) where
-      pub no_single : any_below (not_single v) (length v) ≡ true → (stl.NotSingle, out) ≡ stl_writing v t out
+      pub no_single : any_below (not_single v) (length v) ≡ true → (Err stl.NotSingle, out) ≡ stl_writing v t out
       unfolding stl_writing write_answer after_writing
       no_single s = rw (h, m, s)
 
       module _ (s : any_below (not_single v) (length v) ≡ false) where
-        pub too_short : length out < file_length (length t / 3) → (stl.ShortBuffer, out) ≡ stl_writing v t out
+        pub too_short : length out < file_length (length t / 3) → (Err stl.ShortBuffer, out) ≡ stl_writing v t out
         unfolding stl_writing write_answer after_writing
         too_short l = rw (h, m, s, lt-ltb _ _ l)
 
-        pub written : file_length (length t / 3) ≤ length out → (left : List ℕ) (r : ℕ) → Puts out 0 (file_of v t) left r → (stl.File (file_length (length t / 3)), left) ≡ stl_writing v t out
+        pub written : file_length (length t / 3) ≤ length out → (left : List ℕ) (r : ℕ) → Puts out 0 (file_of v t) left r → (Ok (file_length (length t / 3)), left) ≡ stl_writing v t out
         unfolding stl_writing write_answer after_writing put_in_front
         written l left r p =
             let e : left ≡ put_in_front (file_of v t) out = p.holds ∙ (sets-eq (file_of v t) out 0 (rw (zero-add, length_file v t) l) ∙ rw zero-add) in
-            rw (h, m, s, le-ltb _ _ l) (ap (λ o. (stl.File (file_length (length t / 3)), o)) e)
+            rw (h, m, s, le-ltb _ _ l) (ap (λ o. (Ok (file_length (length t / 3)), o)) e)

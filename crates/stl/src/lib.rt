@@ -17,7 +17,7 @@ ghost use Rattle.stl.specs.Parts.{Writable, WritableTriangles, CheckedFile};
 use float64::is_finite;
 use single::{is_single, single_bits};
 use slip_write::put_number;
-use stl_format::{Stl, StlCounts, coordinate_at, word_at};
+use stl_format::{StlCounts, StlRefusal, coordinate_at, word_at};
 use stl_table::{build, find};
 use text_out::put_text;
 
@@ -51,12 +51,10 @@ fn wide(x: u32) -> usize
 fn any_missing(triangles: &[u32], count: usize) -> bool
     ensures { result ≡ any_below (missing count triangles.now) (length triangles.now) }
 {
-    let mut i = 0;
-    while i < triangles.len() {
-        if wide(triangles[i]) >= count {
+    for v in triangles {
+        if wide(*v) >= count {
             return true;
         }
-        i += 1;
     }
     false
 }
@@ -64,12 +62,10 @@ fn any_missing(triangles: &[u32], count: usize) -> bool
 fn any_not_single(vertices: &[f64]) -> bool
     ensures { result ≡ any_below (not_single vertices.now) (length vertices.now) }
 {
-    let mut i = 0;
-    while i < vertices.len() {
-        if !is_single(vertices[i]) {
+    for x in vertices {
+        if !is_single(*x) {
             return true;
         }
-        i += 1;
     }
     false
 }
@@ -111,10 +107,8 @@ fn put_records(out: &mut [u8], i: usize, vertices: &[f64], triangles: &[u32]) ->
 {
     let n = triangles.len() / 3;
     let mut at = i;
-    let mut t: usize = 0;
-    while t < n {
+    for t in 0..n {
         at = put_record(out, at, vertices, triangles, t);
-        t += 1;
     }
     at
 }
@@ -129,25 +123,25 @@ fn put_file(out: &mut [u8], vertices: &[f64], triangles: &[u32]) -> usize
     put_records(out, b, vertices, triangles)
 }
 
-// The file of a mesh to the front of a slice. Refused, it writes nothing.
-pub fn write(vertices: &[f64], triangles: &[u32], out: &mut [u8]) -> Stl
+// The file of a mesh to the front of a slice: how many bytes it has. Refused, it writes nothing.
+pub fn write(vertices: &[f64], triangles: &[u32], out: &mut [u8]) -> Result<usize, StlRefusal>
     ensures { (result, out.new) ≡ stl_writing vertices.now triangles.now out.old }
 {
     if has_wrong_sizes(vertices.len(), triangles.len()) {
-        return Stl::Malformed;
+        return Err(StlRefusal::Malformed);
     }
     if any_missing(triangles, vertices.len() / 3) {
-        return Stl::MissingVertex;
+        return Err(StlRefusal::MissingVertex);
     }
     if any_not_single(vertices) {
-        return Stl::NotSingle;
+        return Err(StlRefusal::NotSingle);
     }
     let n = 84 + 50 * (triangles.len() / 3);
     if out.len() < n {
-        return Stl::ShortBuffer;
+        return Err(StlRefusal::ShortBuffer);
     }
     put_file(out, vertices, triangles);
-    Stl::File(n)
+    Ok(n)
 }
 
 // ---- reading
@@ -172,12 +166,10 @@ fn any_not_finite(s: &[u8], points: usize) -> bool
     requires { HasPoints s.now points }
     ensures { result ≡ any_below (bytes_not_finite s.now) points }
 {
-    let mut h: usize = 0;
-    while h < points {
+    for h in 0..points {
         if is_not_finite(s, h) {
             return true;
         }
-        h += 1;
     }
     false
 }
@@ -187,10 +179,8 @@ fn write_vertices(s: &[u8], firsts: &[u32], n: usize, vertices: &mut [f64])
     requires { (n ≤ length firsts.now) × ((3 * n ≤ length vertices.old) × ((i : ℕ) → i < n → HasPoint s.now (get_or firsts.now i 0))) }
     ensures { vertices.new ≡ put_in_front (list_of (3 * n) (λ j. coordinate s.now (get_or firsts.now (j / 3) 0) (j % 3))) vertices.old }
 {
-    let mut j: usize = 0;
-    while j < 3 * n {
+    for j in 0..(3 * n) {
         vertices[j] = coordinate_at(s, wide(firsts[j / 3]), j % 3);
-        j += 1;
     }
 }
 
@@ -216,15 +206,18 @@ fn write_triangles(
     requires { (n ≤ length triangles.old) × ((h : ℕ) → h < n → Findable s.now heads.now links.now firsts.now h) }
     ensures { triangles.new ≡ put_in_front (list_of n (λ h. found_at s.now heads.now links.now firsts.now h - 1)) triangles.old }
 {
-    let mut h: u32 = 0;
-    while h < n {
+    for h in 0..n {
         triangles[h as usize] = number_of(find(s, heads, links, firsts, h));
-        h += 1;
     }
 }
 
 // The mesh of a file of n records that 40 to 42 passed. Its vertices are counted in arrays of its own before anything is written.
-fn read_mesh(s: &[u8], n: u32, vertices: &mut [f64], triangles: &mut [u32]) -> Stl
+fn read_mesh(
+    s: &[u8],
+    n: u32,
+    vertices: &mut [f64],
+    triangles: &mut [u32],
+) -> Result<StlCounts, StlRefusal>
     requires { CheckedFile s.now n }
     ensures { (result, mesh_lists vertices.new triangles.new) ≡ stl_reading s.now (mesh_lists vertices.old triangles.old) }
 {
@@ -233,38 +226,38 @@ fn read_mesh(s: &[u8], n: u32, vertices: &mut [f64], triangles: &mut [u32]) -> S
     let mut firsts = [0u32; 65536];
     let count = build(s, 3 * n, &mut heads, &mut links, &mut firsts);
     if 65_535 < count {
-        return Stl::TooMany;
+        return Err(StlRefusal::TooMany);
     }
     if vertices.len() / 3 < count as usize {
-        return Stl::ShortBuffer;
+        return Err(StlRefusal::ShortBuffer);
     }
     if triangles.len() / 3 < n as usize {
-        return Stl::ShortBuffer;
+        return Err(StlRefusal::ShortBuffer);
     }
     write_vertices(s, &firsts, count as usize, vertices);
     write_triangles(s, &heads, &links, &firsts, 3 * n, triangles);
-    Stl::Mesh(StlCounts {
+    Ok(StlCounts {
         vertices: count,
         triangles: n,
     })
 }
 
 // Reads a file: its mesh to the fronts of the two slices, where there is room for it. Refused, it writes nothing.
-pub fn read(s: &[u8], vertices: &mut [f64], triangles: &mut [u32]) -> Stl
+pub fn read(s: &[u8], vertices: &mut [f64], triangles: &mut [u32]) -> Result<StlCounts, StlRefusal>
     ensures { (result, mesh_lists vertices.new triangles.new) ≡ stl_reading s.now (mesh_lists vertices.old triangles.old) }
 {
     if s.len() < 84 {
-        return Stl::TooShort;
+        return Err(StlRefusal::TooShort);
     }
     let n = word_at(s, 80) as usize;
     if s.len() != 84 + 50 * n {
-        return Stl::WrongLength;
+        return Err(StlRefusal::WrongLength);
     }
     if any_not_finite(s, 3 * n) {
-        return Stl::NotFinite;
+        return Err(StlRefusal::NotFinite);
     }
     if 131_070 < n {
-        return Stl::TooMany;
+        return Err(StlRefusal::TooMany);
     }
     read_mesh(s, n as u32, vertices, triangles)
 }

@@ -3,24 +3,31 @@
 
 ghost use Rattle.std.specs.Prelude.{◌≡◌};
 ghost use Rattle.stl_format.specs.Answers.{mesh_lists};
-ghost use Rattle.stl_c.specs.Exports.{packed_stl, packed_reading, packed_writing};
+ghost use Rattle.stl_c.specs.Exports.{packed_refusal, packed_mesh, packed_file, packed_reading, packed_writing};
 
-use stl_format::Stl;
+use stl_format::{StlCounts, StlRefusal, refusal_number};
 
-fn packed(answer: Stl) -> u64
-    ensures { result ≡ packed_stl answer }
+fn packed_refusal(why: StlRefusal) -> u64
+    ensures { result ≡ packed_refusal why }
+{
+    0x1_0000_0000 * refusal_number(why) as u64
+}
+
+fn packed_mesh(answer: Result<StlCounts, StlRefusal>) -> u64
+    ensures { result ≡ packed_mesh answer }
 {
     match answer {
-        Stl::Mesh(counts) => counts.vertices as u64,
-        Stl::File(bytes) => bytes as u64,
-        Stl::Malformed => 0x1_0000_0000,
-        Stl::MissingVertex => 0x2_0000_0000,
-        Stl::TooShort => 0x28_0000_0000,
-        Stl::WrongLength => 0x29_0000_0000,
-        Stl::NotFinite => 0x2a_0000_0000,
-        Stl::TooMany => 0x2b_0000_0000,
-        Stl::NotSingle => 0x2c_0000_0000,
-        Stl::ShortBuffer => 0x2d_0000_0000,
+        Ok(counts) => counts.vertices as u64,
+        Err(why) => packed_refusal(why),
+    }
+}
+
+fn packed_file(answer: Result<usize, StlRefusal>) -> u64
+    ensures { result ≡ packed_file answer }
+{
+    match answer {
+        Ok(bytes) => bytes as u64,
+        Err(why) => packed_refusal(why),
     }
 }
 
@@ -29,7 +36,7 @@ fn packed(answer: Stl) -> u64
 pub extern "C" fn sirmolaat_stl_read(s: &[u8], vertices: &mut [f64], triangles: &mut [u32]) -> u64
     ensures { (result, mesh_lists vertices.new triangles.new) ≡ packed_reading s.now (mesh_lists vertices.old triangles.old) }
 {
-    packed(stl::read(s, vertices, triangles))
+    packed_mesh(stl::read(s, vertices, triangles))
 }
 
 // Writes a file: a refusal in the upper 32 bits, or else the number of bytes.
@@ -37,5 +44,5 @@ pub extern "C" fn sirmolaat_stl_read(s: &[u8], vertices: &mut [f64], triangles: 
 pub extern "C" fn sirmolaat_stl_write(vertices: &[f64], triangles: &[u32], out: &mut [u8]) -> u64
     ensures { (result, out.new) ≡ packed_writing vertices.now triangles.now out.old }
 {
-    packed(stl::write(vertices, triangles, out))
+    packed_file(stl::write(vertices, triangles, out))
 }

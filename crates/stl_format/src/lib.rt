@@ -4,7 +4,7 @@
 ghost use Rattle.std.specs.Prelude.{◌≡◌, ◌+◌, ◌*◌, ◌≤◌, ◌<◌, length};
 ghost use Rattle.little_endian.specs.Bytes.{number_from};
 ghost use Rattle.stl_format.specs.Format.{point_from, coordinate};
-ghost use Rattle.stl_format.specs.Answers.{stl_number};
+ghost use Rattle.stl_format.specs.Answers.{refusal_number, stl_number};
 
 use single::single_value;
 
@@ -15,11 +15,9 @@ pub struct StlCounts {
     pub triangles: u32,
 }
 
-// A mesh that was read, the length of a file that was written, or a refusal.
-#[derive(Clone, Copy)]
-pub enum Stl {
-    Mesh(StlCounts),
-    File(usize),
+// Why a file is not read, or not written.
+#[derive(Clone, Copy, PartialEq, Eq, Debug)]
+pub enum StlRefusal {
     Malformed,
     MissingVertex,
     TooShort,
@@ -30,21 +28,29 @@ pub enum Stl {
     ShortBuffer,
 }
 
-// The number of a refusal, 0 of what was read or written.
-pub fn stl_number(answer: Stl) -> u32
+// The number of a refusal.
+pub fn refusal_number(refusal: StlRefusal) -> u32
+    ensures { result ≡ refusal_number refusal }
+{
+    match refusal {
+        StlRefusal::Malformed => 1,
+        StlRefusal::MissingVertex => 2,
+        StlRefusal::TooShort => 40,
+        StlRefusal::WrongLength => 41,
+        StlRefusal::NotFinite => 42,
+        StlRefusal::TooMany => 43,
+        StlRefusal::NotSingle => 44,
+        StlRefusal::ShortBuffer => 45,
+    }
+}
+
+// The number of an answer: 0 of what was read or written.
+pub fn stl_number<A: Copy>(answer: Result<A, StlRefusal>) -> u32
     ensures { result ≡ stl_number answer }
 {
     match answer {
-        Stl::Mesh(_) => 0,
-        Stl::File(_) => 0,
-        Stl::Malformed => 1,
-        Stl::MissingVertex => 2,
-        Stl::TooShort => 40,
-        Stl::WrongLength => 41,
-        Stl::NotFinite => 42,
-        Stl::TooMany => 43,
-        Stl::NotSingle => 44,
-        Stl::ShortBuffer => 45,
+        Ok(_) => 0,
+        Err(why) => refusal_number(why),
     }
 }
 

@@ -14,8 +14,10 @@ use Rattle.job_checks.specs.Refusals.{max_vertices, max_triangles}
 use Rattle.job_checks.proofs.Any.{none_all, none_below}
 use Rattle.little_endian.specs.Bytes.{put_in_front}
 use Rattle.nat_laws.proofs.Lists.{get_d_list_of}
-use Rattle.stl_format.specs.declared.Stl.{Stl}
-use Rattle.stl_format.specs.declared.Stl.TheVariants as stl
+use Rattle.std.specs.Prelude.{Result, Err}
+use Rattle.stl_format.specs.declared.StlCounts.{StlCounts}
+use Rattle.stl_format.specs.declared.StlRefusal.{StlRefusal}
+use Rattle.stl_format.specs.declared.StlRefusal.TheVariants as stl
 use Rattle.stl_format.specs.Format.{StlMesh, record_count, file_length, coordinate, bytes_not_finite, same_point, vertex_points, vertex_of_point, mesh_in}
 use Rattle.stl_format.specs.Answers.{counts_too_many, read_answer, after_reading, mesh_lists, stl_reading}
 use Rattle.stl.proofs.Agreeing.{first_below}
@@ -31,7 +33,7 @@ or_false true b h = absurd (true≢false h)
 or_false false b h = (refl, h)
 
 -- a refusal was not picked
-on : (b : Bool) (x r : Stl) → is_mesh x ≡ false → is_mesh (cond b x r) ≡ true → (b ≡ false) × (is_mesh r ≡ true)
+on : (b : Bool) (x r : Result StlCounts StlRefusal) → is_mesh x ≡ false → is_mesh (cond b x r) ≡ true → (b ≡ false) × (is_mesh r ≡ true)
 on true x r e h = absurd (true≢false (sym h ∙ e))
 on false x r e h = (refl, h)
 
@@ -43,15 +45,15 @@ module _ (s : List ℕ) (b : StlMesh) where
   pub read_needs : is_mesh (stl_reading s b).0 ≡ true → Readable s × Room s b
   unfolding stl_reading read_answer counts_too_many
   read_needs h =
-      let e5 = cond (ltb (length b.vertices / 3) (length (vertex_points s)) || ltb (length b.triangles / 3) (record_count s)) stl.ShortBuffer (mesh_answer s) in
-      let e4 = cond (ltb max_triangles (record_count s) || ltb max_vertices (length (vertex_points s))) stl.TooMany e5 in
-      let e3 = cond (any_below (bytes_not_finite s) (3 * record_count s)) stl.NotFinite e4 in
-      let e2 = cond (not (eqb (length s) (file_length (record_count s)))) stl.WrongLength e3 in
-      let a = on (ltb (length s) 84) stl.TooShort e2 refl h in
-      let c = on (not (eqb (length s) (file_length (record_count s)))) stl.WrongLength e3 refl a.1 in
-      let d = on (any_below (bytes_not_finite s) (3 * record_count s)) stl.NotFinite e4 refl c.1 in
-      let m = on (ltb max_triangles (record_count s) || ltb max_vertices (length (vertex_points s))) stl.TooMany e5 refl d.1 in
-      let r = on (ltb (length b.vertices / 3) (length (vertex_points s)) || ltb (length b.triangles / 3) (record_count s)) stl.ShortBuffer (mesh_answer s) refl m.1 in
+      let e5 = cond (ltb (length b.vertices / 3) (length (vertex_points s)) || ltb (length b.triangles / 3) (record_count s)) (Err stl.ShortBuffer) (mesh_answer s) in
+      let e4 = cond (ltb max_triangles (record_count s) || ltb max_vertices (length (vertex_points s))) (Err stl.TooMany) e5 in
+      let e3 = cond (any_below (bytes_not_finite s) (3 * record_count s)) (Err stl.NotFinite) e4 in
+      let e2 = cond (not (eqb (length s) (file_length (record_count s)))) (Err stl.WrongLength) e3 in
+      let a = on (ltb (length s) 84) (Err stl.TooShort) e2 refl h in
+      let c = on (not (eqb (length s) (file_length (record_count s)))) (Err stl.WrongLength) e3 refl a.1 in
+      let d = on (any_below (bytes_not_finite s) (3 * record_count s)) (Err stl.NotFinite) e4 refl c.1 in
+      let m = on (ltb max_triangles (record_count s) || ltb max_vertices (length (vertex_points s))) (Err stl.TooMany) e5 refl d.1 in
+      let r = on (ltb (length b.vertices / 3) (length (vertex_points s)) || ltb (length b.triangles / 3) (record_count s)) (Err stl.ShortBuffer) (mesh_answer s) refl m.1 in
       let few = or_false (ltb max_triangles (record_count s)) (ltb max_vertices (length (vertex_points s))) m.0 in
       let room = or_false (ltb (length b.vertices / 3) (length (vertex_points s))) (ltb (length b.triangles / 3) (record_count s)) r.0 in (
         record {

@@ -20,7 +20,7 @@ use Rattle.job_checks.proofs.Tests.{not_missing}
 use Rattle.little_endian.specs.Bytes.{number_from, put_in_front}
 use Rattle.nat_laws.proofs.Lists.{length_list_of, get_d_list_of}
 use Rattle.single.specs.Single.{is_single}
-use Rattle.stl_format.specs.declared.Stl.TheVariants as stl
+use Rattle.std.specs.Prelude.{Ok}
 use Rattle.stl_format.specs.Format.{StlMesh, record_count, file_length, point_from, coordinate, bytes_not_finite, same_point, first_points, vertex_points, vertex_of_point, mesh_in, file_of}
 use Rattle.stl_format.specs.Answers.{mesh_lists, stl_reading, wrong_sizes, not_single, write_answer, after_writing, stl_writing}
 use Rattle.stl_table.specs.Keys.{zero_unsigned}
@@ -48,7 +48,7 @@ module _ (v : List Float) (t out : List ℕ) (w : WritableMesh v t) where
   all_singles = none_all (not_single v) (length v) (λ i l. ap not (is_true (is_single (get_or v i nan)) (w.singles i l)))
 
   -- it is written wherever there is room for its file
-  pub write_gives : file_length (length t / 3) ≤ length out → stl_writing v t out ≡ (stl.File (file_length (length t / 3)), put_in_front (file_of v t) out)
+  pub write_gives : file_length (length t / 3) ≤ length out → stl_writing v t out ≡ (Ok (file_length (length t / 3)), put_in_front (file_of v t) out)
   unfolding stl_writing write_answer after_writing
   write_gives l = rw (sizes, names, all_singles, le-ltb (length out) (file_length (length t / 3)) l)
 
@@ -123,10 +123,10 @@ module _ (s : List ℕ) (bytes : Bytes s) (r : Readable s) where
       ap zero_unsigned b ∙ equal_bits s bytes p h c (vertex_finite (vertex_of_point s h) c a.0 k) (finite_at s h (r.finite h l) c k) (equal_at s p h a.1 c k)
 
   -- so it is written back where there are as many bytes
-  pub read_written : (out : List ℕ) → length s ≤ length out → stl_writing vs ts out ≡ (stl.File (length s), put_in_front (file_of vs ts) out)
+  pub read_written : (out : List ℕ) → length s ≤ length out → stl_writing vs ts out ≡ (Ok (length s), put_in_front (file_of vs ts) out)
   read_written out l =
       let e : file_length (length ts / 3) ≡ length s = ap file_length triangles_are ∙ sym r.long in
-      write_gives vs ts out mesh_writable (subst (λ (k : ℕ). k ≤ length out) (sym e) l) ∙ ap (λ (k : ℕ). (stl.File k, put_in_front (file_of vs ts) out)) e
+      write_gives vs ts out mesh_writable (subst (λ (k : ℕ). k ≤ length out) (sym e) l) ∙ ap (λ (k : ℕ). (Ok k, put_in_front (file_of vs ts) out)) e
 
 -- ---- read after write
 module _ (v : List Float) (t : List ℕ) (w : WritableMesh v t) where

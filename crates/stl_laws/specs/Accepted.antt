@@ -1,10 +1,10 @@
 -- Which files are read and which meshes written, and meshes whose vertices are numbered as reading numbers them. Definitions only.
-use Rattle.std.specs.Prelude.{ℕ, ◌+◌, ◌*◌, ◌/◌, ◌%◌, ◌≤◌, ◌<◌, ◌≡◌, Bool, true, false, List, T, eqb, length, get_or, Float}
+use Rattle.std.specs.Prelude.{ℕ, ◌+◌, ◌*◌, ◌/◌, ◌%◌, ◌≤◌, ◌<◌, ◌≡◌, Bool, true, false, List, T, eqb, length, get_or, Float, Result, Ok, Err}
 use Rattle.std.specs.Float.{nan}
 use Rattle.std.specs.Float.Ieee.{eq}
 use Rattle.single.specs.Single.{is_single}
-use Rattle.stl_format.specs.declared.Stl.{Stl}
-use Rattle.stl_format.specs.declared.Stl.TheVariants as stl
+use Rattle.stl_format.specs.declared.StlCounts.{StlCounts}
+use Rattle.stl_format.specs.declared.StlRefusal.{StlRefusal}
 use Rattle.stl_format.specs.Format.{StlMesh, record_count, file_length, bytes_not_finite, first_points, vertex_points}
 
 -- a file that 40 to 43 pass
@@ -19,20 +19,12 @@ pub record Room (s : List ℕ) (b : StlMesh) : Type 0 where
   pub vertices : length (vertex_points s) ≤ length b.vertices / 3
   pub triangles : record_count s ≤ length b.triangles / 3
 
-abbrev pub is_mesh : Stl → Bool
-is_mesh (stl.Mesh counts) = true
-is_mesh (stl.File bytes) = false
-is_mesh stl.Malformed = false
-is_mesh stl.MissingVertex = false
-is_mesh stl.TooShort = false
-is_mesh stl.WrongLength = false
-is_mesh stl.NotFinite = false
-is_mesh stl.TooMany = false
-is_mesh stl.NotSingle = false
-is_mesh stl.ShortBuffer = false
+abbrev pub is_mesh : Result StlCounts StlRefusal → Bool
+is_mesh (Ok counts) = true
+is_mesh (Err why) = false
 
-abbrev pub mesh_answer : List ℕ → Stl
-mesh_answer s = stl.Mesh (record { vertices = length (vertex_points s); triangles = record_count s })
+abbrev pub mesh_answer : List ℕ → Result StlCounts StlRefusal
+mesh_answer s = Ok (record { vertices = length (vertex_points s); triangles = record_count s })
 
 -- a mesh that 1, 2 and 44 pass
 pub record WritableMesh (v : List Float) (t : List ℕ) : Type 0 where

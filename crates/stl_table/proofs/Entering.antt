@@ -20,6 +20,15 @@ both : (a b : Bool) → a && b ≡ true → (a ≡ true) × (b ≡ true)
 both true b h = (refl, h)
 both false b h = (h, absurd (true≢false (sym h)))
 
+together : (p q r : Bool) → p && q && r ≡ p && (q && r)
+together true q r = refl
+together false q r = refl
+
+-- `==` of two keys, as it is derived
+pub same_key_from : (a b : PointKey) → same_key a b ≡ eqb a.x b.x && (eqb a.y b.y && eqb a.z b.z)
+unfolding same_key
+same_key_from a b = together (eqb a.x b.x) (eqb a.y b.y) (eqb a.z b.z)
+
 -- points with the same key are in one bucket
 same_key_is : (a b : PointKey) → same_key a b ≡ true → a ≡ b
 unfolding same_key

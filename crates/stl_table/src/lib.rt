@@ -12,7 +12,7 @@ use buffers::zero_u32;
 use stl_format::{point_from, word_at};
 
 // The bits of a point's three coordinates, minus zero's as zero's.
-#[derive(Clone, Copy)]
+#[derive(Clone, Copy, PartialEq, Eq)]
 pub struct PointKey {
     pub x: u32,
     pub y: u32,
@@ -42,21 +42,6 @@ fn key_at(s: &[u8], h: u32) -> PointKey
     }
 }
 
-fn same_key(a: PointKey, b: PointKey) -> bool
-    ensures { result ≡ same_key a b }
-{
-    if a.x != b.x {
-        return false;
-    }
-    if a.y != b.y {
-        return false;
-    }
-    if a.z != b.z {
-        return false;
-    }
-    true
-}
-
 fn mix(h: u32, x: u32) -> u32
     ensures { result ≡ mixed_key h x }
 {
@@ -78,7 +63,7 @@ fn seek(s: &[u8], links: &[u32], firsts: &[u32], k: PointKey, head: u32) -> u32
     let mut at = head;
     while at != 0 {
         let i = (at - 1) as usize;
-        if same_key(key_at(s, firsts[i]), k) {
+        if key_at(s, firsts[i]) == k {
             return at;
         }
         at = links[i];
@@ -128,13 +113,11 @@ pub fn build(s: &[u8], points: u32, heads: &mut [u32], links: &mut [u32], firsts
 {
     zero_u32(heads);
     let mut count: u32 = 0;
-    let mut h: u32 = 0;
-    while h < points {
+    for h in 0..points {
         count = enter(s, heads, links, firsts, h, count);
         if 65535 < count {
             return count;
         }
-        h += 1;
     }
     count
 }

@@ -2,15 +2,12 @@
 // other element of the lent slices changed. tests/stl/make_vectors.py has the format and makes the files.
 #![tactic(auto)]
 
-ghost use Rattle.std.specs.Prelude.{◌≤◌, ◌<◌};
+ghost use Rattle.std.specs.Prelude.{◌<◌};
 
 use std::io;
-use std::rt::Files;
 use stl_format::stl_number;
 use stored_bytes::holds_bytes;
-use stored_numbers::{
-    all_f64, all_u32, at_most, count, number, read_doubles, read_numbers, record_size,
-};
+use stored_numbers::{all_f64, all_u32, count, number, read_doubles, read_numbers, replay_records};
 use stored_slots::{start_at, visit_f64, visit_u32};
 use vectors::Tally;
 
@@ -95,54 +92,15 @@ fn is_written(s: &[u8], k: usize) -> bool
     writes_into(s, k, at + nt, v, t, &mut out[..lent])
 }
 
-// 1 where the record at number k is read or written otherwise than stored, else 0.
-fn difference(s: &[u8], k: usize, reads: bool) -> u64
-    requires { k < 500_000 }
-    ensures { result ≤ 1 }
-{
-    if reads {
-        if is_read(s, k) {
-            return 0;
-        }
-        return 1;
-    }
-    if is_written(s, k) {
-        return 0;
-    }
-    1
+fn replay_read(s: &[u8]) -> Tally {
+    replay_records(s, 0, |k| is_read(s, k))
 }
 
-fn replay(s: &[u8], reads: bool) -> Tally {
-    let end = at_most(s.len() / 4, 400_000);
-    let mut cases: u64 = 0;
-    let mut differences: u64 = 0;
-    let mut k: usize = 0;
-    while k < end {
-        differences += difference(s, k, reads);
-        cases += 1;
-        k += record_size(s, k);
-    }
-    Tally { cases, differences }
-}
-
-// Reads the file of the name into the buffer, replays it and reports.
-fn replay_into(
-    rt: &(impl Files + Print),
-    name: &str,
-    reads: bool,
-    buf: &mut [u8],
-) -> io::Result<()> {
-    let got = vectors::read_file(rt, name, buf)?;
-    let tally = replay(&buf[..got], reads);
-    vectors::report(rt, name, tally.cases, tally.differences)
-}
-
-fn replay_file(rt: &(impl Files + Print), name: &str, reads: bool) -> io::Result<()> {
-    let mut buf = [0u8; 524288];
-    replay_into(rt, name, reads, &mut buf)
+fn replay_written(s: &[u8]) -> Tally {
+    replay_records(s, 0, |k| is_written(s, k))
 }
 
 fn main(rt: HostRuntime) -> io::Result<()> {
-    replay_file(&rt, "read", true)?;
-    replay_file(&rt, "write", false)
+    vectors::replay_file::<524288, _>(&rt, "read", replay_read)?;
+    vectors::replay_file::<524288, _>(&rt, "write", replay_written)
 }

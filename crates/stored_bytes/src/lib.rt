@@ -26,12 +26,10 @@ fn expected(s: &[u8], from: usize, n: usize, i: usize) -> u32
 pub fn holds_bytes(s: &[u8], from: usize, out: &[u8], n: usize) -> bool
     ensures { result ≡ holds_bytes s.now from out.now n }
 {
-    let mut i: usize = 0;
-    while i < out.len() {
+    for i in 0..out.len() {
         if u32_of_byte(out[i]) != expected(s, from, n, i) {
             return false;
         }
-        i += 1;
     }
     true
 }

@@ -1,11 +1,14 @@
 // Stored cases as rows of numbers of 4 bytes, the least significant first; a double is two, the low half first. For the programs that replay such files.
 #![tactic(auto)]
 
-ghost use Rattle.std.specs.Prelude.{◌+◌, ◌*◌, ◌%◌, ◌≤◌, ◌<◌, min, ◌≡◌, length, get_or, drop};
+ghost use Rattle.std.specs.Prelude.{ℕ, true, ◌+◌, ◌*◌, ◌%◌, ◌≤◌, ◌<◌, min, ◌≡◌, length, get_or, drop};
 ghost use Rattle.std.specs.Float.{binary64};
 ghost use Rattle.std.specs.Float.Ieee.{to_bits};
 ghost use Rattle.nat_laws.specs.Lists.{list_of};
 ghost use Rattle.stored_numbers.specs.Numbers.{stored_number, double_at, each_is};
+ghost use Rattle.stored_numbers.specs.Records.{size_at, numbers_in, EachRecord};
+
+use vectors::Tally;
 
 pub fn u32_of_byte(x: u8) -> u32
     ensures { (result ≡ x) × (result ≤ 255) }
@@ -59,10 +62,8 @@ pub fn read_doubles(s: &[u8], k: usize, to: &mut [f64])
     requires { (k < 1_000_000) × (length to.old ≤ 200_000) }
     ensures { to.new ≡ list_of (length to.old) (λ i. double_at s.now (k + 2 * i)) }
 {
-    let mut i = 0;
-    while i < to.len() {
+    for i in 0..to.len() {
         to[i] = double(s, k + 2 * i);
-        i += 1;
     }
 }
 
@@ -70,10 +71,8 @@ pub fn read_numbers(s: &[u8], k: usize, to: &mut [u32])
     requires { (k < 1_000_000) × (length to.old ≤ 200_000) }
     ensures { to.new ≡ list_of (length to.old) (λ i. stored_number s.now (k + i)) }
 {
-    let mut i = 0;
-    while i < to.len() {
+    for i in 0..to.len() {
         to[i] = number(s, k + i);
-        i += 1;
     }
 }
 
@@ -81,10 +80,8 @@ pub fn read_bytes(s: &[u8], k: usize, to: &mut [u8])
     requires { (k < 1_000_000) × (length to.old ≤ 200_000) }
     ensures { to.new ≡ list_of (length to.old) (λ i. stored_number s.now (k + i) % 256) }
 {
-    let mut i = 0;
-    while i < to.len() {
+    for i in 0..to.len() {
         to[i] = (number(s, k + i) % 256) as u8;
-        i += 1;
     }
 }
 
@@ -92,12 +89,10 @@ pub fn read_bytes(s: &[u8], k: usize, to: &mut [u8])
 pub fn all_u32(s: &[u32], n: usize, x: u32) -> bool
     ensures { result ≡ each_is (λ y. y) x (drop n s.now) }
 {
-    let mut i = n;
-    while i < s.len() {
+    for i in n..s.len() {
         if s[i] != x {
             return false;
         }
-        i += 1;
     }
     true
 }
@@ -105,12 +100,10 @@ pub fn all_u32(s: &[u32], n: usize, x: u32) -> bool
 pub fn all_f64(s: &[f64], n: usize, x: f64) -> bool
     ensures { result ≡ each_is (to_bits binary64) (to_bits binary64 x) (drop n s.now) }
 {
-    let mut i = n;
-    while i < s.len() {
+    for i in n..s.len() {
         if vectors::pattern(s[i]) != vectors::pattern(x) {
             return false;
         }
-        i += 1;
     }
     true
 }
@@ -118,13 +111,32 @@ pub fn all_f64(s: &[f64], n: usize, x: f64) -> bool
 // How many numbers a record has, as number k says. One that says none is the last: it is as long as a file.
 pub fn record_size(s: &[u8], k: usize) -> usize
     requires { k < 4_000_000 }
-    ensures { (1 ≤ result) × (result ≤ 400_000) }
+    ensures { (result ≡ size_at s.now k) × ((1 ≤ result) × (result ≤ 400_000)) }
 {
     let n = count(s, k, 400_000);
     if n == 0 {
         return 400_000;
     }
     n
+}
+
+// The records of s, one behind another: how many there are, and how many of them do not replay. The size of the record at number k stands at number k + at.
+pub fn replay_records<F: Fn(usize) -> bool>(s: &[u8], at: usize, replays: F) -> Tally
+    requires { (at < 400_000) × ((k : ℕ) → k < 400_000 → F.pre replays k) }
+    ensures { result.differences ≡ 0 → EachRecord (numbers_in s.now) (λ k. F.post replays k true) s.now at 0 }
+{
+    let end = at_most(s.len() / 4, 400_000);
+    let mut cases: u64 = 0;
+    let mut differences: u64 = 0;
+    let mut k: usize = 0;
+    while k < end {
+        if !replays(k) {
+            differences += 1;
+        }
+        cases += 1;
+        k += record_size(s, k + at);
+    }
+    Tally { cases, differences }
 }
 
 // Where in a file the next expected number is, and whether all that was compared agrees.

@@ -66,10 +66,8 @@ pub fn visit_slot_u32(
     fields: u32,
 ) -> SummedWalk {
     let mut now = w;
-    let mut k: u32 = 0;
-    while k < fields {
+    for k in 0..fields {
         now = compare_or_sum(s, detail, now, read_u32(words, stride, slot, k));
-        k += 1;
     }
     now
 }
@@ -83,10 +81,8 @@ pub fn visit_slot_f64(
     slot: u32,
 ) -> SummedWalk {
     let mut now = w;
-    let mut k: u32 = 0;
-    while k < fields {
+    for k in 0..fields {
         now = compare_or_sum_double(s, detail, now, read_f64(reals, fields, slot, k));
-        k += 1;
     }
     now
 }
@@ -102,10 +98,8 @@ pub fn visit_u32(
     fields: u32,
 ) -> SummedWalk {
     let mut now = w;
-    let mut i: u32 = 0;
-    while i < n {
+    for i in 0..n {
         now = visit_slot_u32(s, detail, now, words, stride, i, fields);
-        i += 1;
     }
     section(s, detail, now)
 }
@@ -119,10 +113,8 @@ pub fn visit_f64(
     n: u32,
 ) -> SummedWalk {
     let mut now = w;
-    let mut i: u32 = 0;
-    while i < n {
+    for i in 0..n {
         now = visit_slot_f64(s, detail, now, reals, fields, i);
-        i += 1;
     }
     section(s, detail, now)
 }
@@ -167,11 +159,9 @@ pub fn visit_all_links(
     slots: u32,
 ) -> SummedWalk {
     let mut now = w;
-    let mut i: u32 = 0;
-    while i < n {
+    for i in 0..n {
         let head = read_u32(heads, heads_stride, i, heads_field);
         now = visit_links(s, detail, now, head, links, stride, field, slots);
-        i += 1;
     }
     section(s, detail, now)
 }

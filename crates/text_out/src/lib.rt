@@ -18,12 +18,10 @@ pub fn put_text(out: &mut [u8], i: usize, text: &[u8]) -> usize
     requires { i + length text.now < 9_223_372_036_854_775_808 }
     ensures { Puts out.old i text.now out.new result }
 {
-    let mut k: usize = 0;
-    while k < text.len() {
-        put_byte(out, i + k, text[k]);
-        k += 1;
+    for (k, b) in text.iter().enumerate() {
+        put_byte(out, i + k, *b);
     }
-    i + k
+    i + text.len()
 }
 
 // A number's decimal digits.

@@ -1,19 +1,10 @@
 // A double in thousandths, nearest, halves up.
 #![tactic(auto)]
 
-ghost use Rattle.std.specs.Prelude.{◌≡◌, cond, ◌≤◌, ◌<◌};
+ghost use Rattle.std.specs.Prelude.{◌≡◌, ◌<◌};
 ghost use Rattle.std.specs.Float.{binary64};
 ghost use Rattle.std.specs.Float.Ieee.{of_bits};
 ghost use Rattle.thousandths.specs.Thousandths.{thousandths_of};
-
-fn one_if(b: bool) -> u64
-    ensures { (result ≡ cond b 1 0) × (result ≤ 1) }
-{
-    if b {
-        return 1;
-    }
-    0
-}
 
 // The thousandths of the double whose pattern is b, one below 2^52, or the size of those of its negative. Below 2^-11 there are none.
 pub fn thousandths(minus: bool, b: u64) -> u64
@@ -23,7 +14,7 @@ pub fn thousandths(minus: bool, b: u64) -> u64
     if b < 0x3f40_0000_0000_0000 {
         return 0;
     }
-    let less = one_if(minus);
+    let less = u64::from(minus);
     let m = 1000 * (b % 0x10_0000_0000_0000 + 0x10_0000_0000_0000) - less;
     let k = 1074 - b / 0x10_0000_0000_0000;
     ((m >> k) + 1) / 2

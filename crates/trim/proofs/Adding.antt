@@ -38,7 +38,7 @@ use Rattle.trim_visit.specs.of_trim_split.Running.{Snapshot, snapshot, stock_of,
 use Rattle.trim_visit.specs.of_trim_split.declared.Counts.{Counts}
 use Rattle.trim_visit.proofs.laws_of_trim_split.Edges.{holds_put, holds_equal}
 use Rattle.trim_visit.proofs.laws_of_trim_split.Untouched.{untouched_then}
-use Rattle.trim_visit.specs.declared.Visited.TheVariants.{Stopped, Went}
+use Rattle.std.specs.Prelude.{Ok, Err}
 use Rattle.trim_visit.specs.Visiting.{VisitsAll, Kept}
 use Rattle.trim_keep.specs.Keeping.{Seats, SeatsAmong}
 use Rattle.trim.specs.Adding.{LeavesState, SaysResult}
@@ -140,11 +140,11 @@ module _ (cuts windows : ℕ) (limit : Float) (flags : List ℕ) (e : Edge) (w :
       abbrev start₀ : Snapshot
       start₀ = snapshot made queued before lk f q vertex
 
-      pub visit_stopped : (n : Lack) (keep' : List Float) → VisitsAll cuts windows limit flags id t w Few first start₀ (Stopped n) (stopped (lack_number n)) keep' → result ≡ state.stopped (lack_number n)
+      pub visit_stopped : (n : Lack) (keep' : List Float) → VisitsAll cuts windows limit flags id t w Few first start₀ (Err n) (stopped (lack_number n)) keep' → result ≡ state.stopped (lack_number n)
       visit_stopped n keep' d = stop (lack_number n) (played_one ∙ play_stop_append cuts windows limit flags visiting (kept walk.made walk.keep) stock₀ (lack_number n) (d wins live front rest few link stand).0)
 
       module _ (c : Counts) (last k : ℕ) (lk' : Links) (f' : List Float) (q' : Queue) (keep' : List Float)
-          (d : VisitsAll cuts windows limit flags id t w Few first start₀ (Went c last k) (at (snapshot c.made c.queued last lk' f' q' vertex)) keep') where
+          (d : VisitsAll cuts windows limit flags id t w Few first start₀ (Ok (record { counts = c; last = last; kept = k })) (at (snapshot c.made c.queued last lk' f' q' vertex)) keep') where
         abbrev there₁ : Snapshot
         there₁ = snapshot c.made c.queued before lk' f' q' vertex
 

@@ -6,6 +6,8 @@ use mathlib.Core.Logic.{◌≢◌}
 use mathlib.Core.Path.{◌≡◌, refl, sym, ap, ◌∙◌, subst}
 use native.Mathlib.Omega.{arith}
 use native.Mathlib.Nat.{le_trans}
+use Rattle.std.specs.declared.result.Result.{Result}
+use Rattle.std.specs.declared.result.Result.TheVariants.{Ok}
 use lib.Dec.{T}
 use lib.ListN.{length, get_or}
 use lib.Seq.{get_or-set_other}
@@ -30,7 +32,7 @@ use Rattle.trim_visit.proofs.laws_of_trim_model.Ranks.{Nonneg}
 use Rattle.trim_visit.proofs.laws_of_trim_model.Windows.{Wide}
 use Rattle.trim_visit.proofs.laws_of_trim_model.Order.{Tidy}
 use Rattle.trim_visit.specs.of_trim_state.State as state
-use Rattle.trim_visit.specs.of_trim_state.State.{State, Result, EdgeData, edge_in, put, finish, admit_of, add_of}
+use Rattle.trim_visit.specs.of_trim_state.State.{State, EdgeData, edge_in, put, finish, admit_of, add_of}
 use Rattle.trim_visit.specs.of_trim_state.Trace.{adding}
 use Rattle.trim_visit.proofs.laws_of_trim_state.Follows.{follows_tidy}
 use Rattle.trim_visit.proofs.laws_of_trim_state.Seated.{proper_nonneg, admitted_wide}
@@ -41,11 +43,9 @@ use Rattle.trim_visit.specs.of_trim_split.declared.Made.{Made}
 use Rattle.trim_visit.specs.of_cut_lists.Cut.{Sizes}
 use Rattle.trim_visit.proofs.laws_of_trim_split.Untouched.{untouched_same, untouched_then}
 use Rattle.trim_visit.proofs.laws_of_trim_split.Loops.{WindowSlices, window_slices, SameWindowSlices, same_windows, windows_of, snapshot_of, ReadyIn, ready_same}
-use Rattle.trim_visit.specs.declared.Visited.TheVariants.{Stopped, Went}
+use Rattle.std.specs.Prelude.{Result as Prelude·Result, Ok, Err}
 use Rattle.trim_visit.specs.Visiting.{VisitsAll}
 use Rattle.trim_keep.specs.Keeping.{Seats, MadeWithin}
-use Rattle.trim.specs.declared.Added.{Added}
-use Rattle.trim.specs.declared.Added.TheVariants.{Went as Went₁}
 use Rattle.trim.specs.Adding.{candidate_of, new_of, Given, SaysResult, Admits, AddsFrom, Unchanged}
 use Rattle.trim.specs.Buffers.{Slices as Slices₁}
 use Rattle.trim_visit.specs.of_cut_lists.Buffers.{Cuts}
@@ -53,7 +53,7 @@ use Rattle.trim.proofs.Front.{tidy_leads}
 use Rattle.trim.proofs.Adding.{no_cuts, visit_stopped, all_seated}
 
 -- what was done before is no more than what is done
-says_from : (e : ℕ) (p p1 : Snapshot) (end : End) (r : Result) → Untouched (λ k. k ≡ e) p p1 → SaysResult e p1 end r → SaysResult e p end r
+says_from : (e : ℕ) (p p1 : Snapshot) (end : End) (r : state.Result) → Untouched (λ k. k ≡ e) p p1 → SaysResult e p1 end r → SaysResult e p end r
 says_from e p p1 (stopped n) r u h = h
 says_from e p p1 (at p2) r u h = record { wins = h.wins; live = h.live; is = h.is; holds = h.holds; untouched = untouched_then (λ k. k ≡ e) p p1 p2 u h.untouched }
 
@@ -131,24 +131,24 @@ module _ (cuts : ℕ) (limit : Float) (flags : List ℕ) (e : Edge) (x : WindowR
     Few zs = length zs ≤ made
 
     -- a visit is stopped
-    pub admit_stopped : (n : Lack) (keep' : List Float) → ((limit : Float) (flags : List ℕ) (vertex : List Float) → VisitsAll cuts (windows_of s) limit flags id tiny w Few (pairs 1 keep) (snapshot_of s₁ made queued before vertex) (Stopped n) (stopped (lack_number n)) keep')
+    pub admit_stopped : (n : Lack) (keep' : List Float) → ((limit : Float) (flags : List ℕ) (vertex : List Float) → VisitsAll cuts (windows_of s) limit flags id tiny w Few (pairs 1 keep) (snapshot_of s₁ made queued before vertex) (Err n) (stopped (lack_number n)) keep')
         → LowIs → tiny ≡ tiny_of e.len → Admits cuts (windows_of s) limit flags e new p (stopped (lack_number n))
     admit_stopped n keep' d low is = admitted (stopped (lack_number n))
         (λ wins live h n0 W t. visit_stopped cuts (windows_of s) limit flags e w made queued (links edges₁ s.words) p.reals p.queue vertex wins live (held wins live h) n0 W t above before (link wins live h is t) n keep'
-        (subst (λ (y : Float). VisitsAll cuts (windows_of s) limit flags id y w Few (interval x.win.b0 x.win.b1 ∷ []) (snapshot_of s₁ made queued before vertex) (Stopped n) (stopped (lack_number n)) keep') is
-        (subst (λ (ks : List Interval). VisitsAll cuts (windows_of s) limit flags id tiny w Few ks (snapshot_of s₁ made queued before vertex) (Stopped n) (stopped (lack_number n)) keep') one
+        (subst (λ (y : Float). VisitsAll cuts (windows_of s) limit flags id y w Few (interval x.win.b0 x.win.b1 ∷ []) (snapshot_of s₁ made queued before vertex) (Err n) (stopped (lack_number n)) keep') is
+        (subst (λ (ks : List Interval). VisitsAll cuts (windows_of s) limit flags id tiny w Few ks (snapshot_of s₁ made queued before vertex) (Err n) (stopped (lack_number n)) keep') one
         (d limit flags vertex))))
         low
 
     -- the windows that are kept are seated, or that is stopped
     module _ (n : Counts) (last k : ℕ) (s' : WindowSlices) (keep' : List Float) (same : SameWindowSlices s s')
-        (d : (limit : Float) (flags : List ℕ) (vertex : List Float) → VisitsAll cuts (windows_of s) limit flags id tiny w Few (pairs 1 keep) (snapshot_of s₁ made queued before vertex) (Went n last k) (at (snapshot_of s' n.made n.queued last vertex)) keep') where
+        (d : (limit : Float) (flags : List ℕ) (vertex : List Float) → VisitsAll cuts (windows_of s) limit flags id tiny w Few (pairs 1 keep) (snapshot_of s₁ made queued before vertex) (Ok (record { counts = n; last = last; kept = k })) (at (snapshot_of s' n.made n.queued last vertex)) keep') where
       pub admit_seated : (end : End) → ((cuts j : ℕ) → Seats cuts (windows_of s') limit flags e (live_of x j) (wide_of tiny (pairs k keep')) (snapshot_of s' n.made n.queued before vertex) end)
           → LowIs → tiny ≡ tiny_of e.len → Admits cuts (windows_of s) limit flags e new p end
       admit_seated end seats low is = admitted end
           (λ wins live h n0 W t. says_from id p (snapshot_of s₁ made queued before vertex) end _ front_untouched (all_seated cuts (windows_of s) limit flags e w made queued (links edges₁ s.words) p.reals p.queue vertex wins live (held wins live h) n0 W t above before (link wins live h is t) n last k (links s'.edges s'.words) s'.reals (queue s'.keys s'.events) keep'
-          (subst (λ (y : Float). VisitsAll cuts (windows_of s) limit flags id y w Few (interval x.win.b0 x.win.b1 ∷ []) (snapshot_of s₁ made queued before vertex) (Went n last k) (at (snapshot_of s' n.made n.queued last vertex)) keep') is
-          (subst (λ (ks : List Interval). VisitsAll cuts (windows_of s) limit flags id tiny w Few ks (snapshot_of s₁ made queued before vertex) (Went n last k) (at (snapshot_of s' n.made n.queued last vertex)) keep') one
+          (subst (λ (y : Float). VisitsAll cuts (windows_of s) limit flags id y w Few (interval x.win.b0 x.win.b1 ∷ []) (snapshot_of s₁ made queued before vertex) (Ok (record { counts = n; last = last; kept = k })) (at (snapshot_of s' n.made n.queued last vertex)) keep') is
+          (subst (λ (ks : List Interval). VisitsAll cuts (windows_of s) limit flags id tiny w Few ks (snapshot_of s₁ made queued before vertex) (Ok (record { counts = n; last = last; kept = k })) (at (snapshot_of s' n.made n.queued last vertex)) keep') one
           (d limit flags vertex)))
           end
           (subst (λ (y : Float). Seats cuts (windows_of s) limit flags e w (wide_of y (pairs k keep')) (snapshot_of s' n.made n.queued before vertex) end) is
@@ -201,7 +201,7 @@ module _ (cuts windows : ℕ) (limit : Float) (flags : List ℕ) (e : Edge) (new
         subst (λ (z : Bool). SaysResult e.id.0 p end (cond z (admit_of cuts windows limit flags mesh c₁ s) (state.went s))) (sym y) (d mesh s g (subst T (sym y) tt))
 
     -- so it is not one that changes nothing
-    pub add_not_skipped : lt limit low ≡ false → (counts : Counts) (b : Slices₁) (x : Cuts) (r : Added) (b' : Slices₁) (x' : Cuts) → T (not (admits limit (λ k. e.len) (candidate_of e new))) → Unchanged counts b x r b' x'
+    pub add_not_skipped : lt limit low ≡ false → (counts : Counts) (b : Slices₁) (x : Cuts) (r : Result Counts Lack) (b' : Slices₁) (x' : Cuts) → T (not (admits limit (λ k. e.len) (candidate_of e new))) → Unchanged counts b x r b' x'
     add_not_skipped h counts b x r b' x' z = absurd (subst (λ (d : Bool). T (not d)) (passed false h) z)
 
   -- the link where it ended is of no use any more
@@ -209,7 +209,7 @@ module _ (cuts windows : ℕ) (limit : Float) (flags : List ℕ) (e : Edge) (new
   add_went made queued last s vertex d mesh k g = let l = d mesh k g in let u = l.untouched in record { wins = l.wins; live = l.live; is = l.is; holds = l.holds; untouched = record { more = u.more; edges = u.edges; words = u.words; reals = u.reals } }
 
 -- nothing is changed
-pub unchanged : (counts : Counts) (b : Slices₁) (x : Cuts) → Unchanged counts b x (Went₁ counts) b x
+pub unchanged : (counts : Counts) (b : Slices₁) (x : Cuts) → Unchanged counts b x (Ok counts) b x
 unchanged counts b x = record { answer = refl; slices = refl; cuts = refl }
 
 -- ---- what the parts require
@@ -220,5 +220,5 @@ seat_ready e made before made' last k cuts s s' same r i h = ready_same e made' 
 pub kept_fit : (size k : ℕ) (out keep next keep' : List Float) → Sizes size out keep next → length keep' ≡ length keep → k ≤ size → k + k ≤ length keep'
 kept_fit size k out keep next keep' h same i = omega (arith, h.keeps, same, i)
 
-pub bounded_in : (s s' : WindowSlices) (r : Made) → SameWindowSlices s s' → MadeWithin (windows_of s') r → MadeWithin (windows_of s) r
+pub bounded_in : (s s' : WindowSlices) (r : Prelude·Result Made Lack) → SameWindowSlices s s' → MadeWithin (windows_of s') r → MadeWithin (windows_of s) r
 bounded_in s s' r same = subst (λ (n : ℕ). MadeWithin n r) (same_windows s s' same)

@@ -1,5 +1,6 @@
 -- What an addition does to the buffers, as the state of window trimming has it. Definitions only.
-use Rattle.std.specs.Prelude.{ℕ, ◌≤◌, not, List, ◌≡◌, T, length, Float}
+use Rattle.std.specs.Prelude.{ℕ, ◌≤◌, not, List, ◌≡◌, T, length, Float, Result, Ok, Err}
+use Rattle.buffers.specs.declared.Lack.{Lack}
 use Rattle.buffers.specs.Lack.{lack_number}
 use Rattle.heap.specs.Queue.{Queue, queue}
 use Rattle.windows.specs.declared.Edge.{Edge}
@@ -11,15 +12,13 @@ use Rattle.trim_visit.specs.of_trim_model.Windows.{Window}
 use Rattle.trim_visit.specs.of_trim_model.Model.{Candidate, admits}
 use Rattle.trim_visit.specs.of_trim_model.Claim.{AdmittedProper}
 use Rattle.trim_visit.specs.of_trim_state.State as state
-use Rattle.trim_visit.specs.of_trim_state.State.{State, Result, EdgeData, edge_in, admit_of, add_of}
+use Rattle.trim_visit.specs.of_trim_state.State.{State, EdgeData, edge_in, admit_of, add_of}
 use Rattle.trim_visit.specs.of_trim_state.Follows.{Follows}
 use Rattle.trim_visit.specs.of_live_windows.Live.{HoldsWindows}
 use Rattle.trim_visit.specs.of_trim_split.Running.{Snapshot, snapshot, stock_of, End, stopped, at, Untouched}
 use Rattle.trim_visit.specs.of_trim_split.declared.Counts.{Counts}
 use Rattle.trim.specs.Buffers.{Slices}
 use Rattle.trim_visit.specs.of_cut_lists.Buffers.{Cuts}
-use Rattle.trim.specs.declared.Added.{Added}
-use Rattle.trim.specs.declared.Added.TheVariants.{Stopped, Went}
 
 -- a window that is to be added to an edge, as the model has it
 abbrev pub candidate_of : Edge → NewWindow → Candidate
@@ -30,24 +29,24 @@ abbrev pub new_of : WindowRecord → NewWindow
 new_of x = record { b0 = x.win.b0; b1 = x.win.b1; src = x.win.src; carried = x.carried }
 
 -- what an answer says, with what the buffers hold then
-abbrev pub added_end : Added → Links → List Float → Queue → List Float → End
-added_end (Stopped lack) b f q vertex = stopped (lack_number lack)
-added_end (Went c) b f q vertex = at (snapshot c.made c.queued 0 b f q vertex)
+abbrev pub added_end : Result Counts Lack → Links → List Float → Queue → List Float → End
+added_end (Err lack) b f q vertex = stopped (lack_number lack)
+added_end (Ok c) b f q vertex = at (snapshot c.made c.queued 0 b f q vertex)
 
 -- if it was not stopped, the windows are within the buffer
-abbrev pub AddedWithin : ℕ → Added → Type 0
-AddedWithin windows (Stopped n) = Unit {0}
-AddedWithin windows (Went c) = c.made ≤ windows
+abbrev pub AddedWithin : ℕ → Result Counts Lack → Type 0
+AddedWithin windows (Err lack) = Unit {0}
+AddedWithin windows (Ok c) = c.made ≤ windows
 
 -- a result is what the buffers hold: the counts, the queue and the vertex distances, all windows made and the live windows of every edge; from p₀ to p only edge e was at work
-pub record LeavesState (e : ℕ) (p₀ p : Snapshot) (r : Result) : Type 0 where
+pub record LeavesState (e : ℕ) (p₀ p : Snapshot) (r : state.Result) : Type 0 where
   pub wins : List WindowRecord
   pub live : ℕ → List Window
   pub is : r ≡ state.went (record { wins = wins; live = live; stock = stock_of p })
   pub holds : HoldsWindows p.made wins p.links p.reals live
   pub untouched : Untouched (λ k. k ≡ e) p₀ p
 
-abbrev pub SaysResult : ℕ → Snapshot → End → Result → Type 0
+abbrev pub SaysResult : ℕ → Snapshot → End → state.Result → Type 0
 SaysResult e p₀ (stopped n) r = r ≡ state.stopped n
 SaysResult e p₀ (at p) r = LeavesState e p₀ p r
 
@@ -78,15 +77,15 @@ module _ (cuts windows : ℕ) (limit : Float) (flags : List ℕ) (e : Edge) (w :
 abbrev pub snapshot_at : Counts → Slices → Snapshot
 snapshot_at n b = snapshot n.made n.queued 0 (links b.edges b.words) b.reals (queue b.keys b.events) b.vertex
 
-abbrev pub added_end_in : Added → Slices → End
+abbrev pub added_end_in : Result Counts Lack → Slices → End
 added_end_in r b = added_end r (links b.edges b.words) b.reals (queue b.keys b.events) b.vertex
 
-pub record Unchanged (counts : Counts) (b : Slices) (c : Cuts) (r : Added) (b' : Slices) (c' : Cuts) : Type 0 where
-  pub answer : r ≡ Went counts
+pub record Unchanged (counts : Counts) (b : Slices) (c : Cuts) (r : Result Counts Lack) (b' : Slices) (c' : Cuts) : Type 0 where
+  pub answer : r ≡ Ok counts
   pub slices : b' ≡ b
   pub cuts : c' ≡ c
 
-pub record AddsTo (limit : Float) (vertex_words : List ℕ) (e : Edge) (w : NewWindow) (counts : Counts) (b : Slices) (c : Cuts) (r : Added) (b' : Slices) (c' : Cuts) : Type 0 where
+pub record AddsTo (limit : Float) (vertex_words : List ℕ) (e : Edge) (w : NewWindow) (counts : Counts) (b : Slices) (c : Cuts) (r : Result Counts Lack) (b' : Slices) (c' : Cuts) : Type 0 where
   -- no more windows are made than the buffer has slots for
   pub bounded : AddedWithin (capacity_of (length b.words) (length b.reals)) r
   -- from buffers that hold a state they come to hold the state after `add_of`, or what there is no slot for is told

@@ -16,17 +16,10 @@ ghost use Rattle.buffers.specs.Lent.{given, left};
 
 use buffers::Lack;
 use source::Win;
+use trim_visit::of_live_windows;
 pub use trim_visit::of_trim_split as of_trim_split;
 use trim_visit::of_trim_split::{Counts, Made};
-use trim_visit::{Visited, of_live_windows};
 use windows::{Edge, NewWindow, WindowRecord};
-
-// What there is no slot for; or how many windows and events there are now.
-#[derive(Clone, Copy)]
-pub enum Added {
-    Stopped(Lack),
-    Went(Counts),
-}
 
 // `keep` at first: the whole of the new window.
 fn whole(keep: &mut [f64], b0: f64, b1: f64)
@@ -55,7 +48,7 @@ fn admit(
     w: WindowRecord,
     tiny: f64,
     limit: f64,
-) -> Made
+) -> Result<Made, Lack>
     requires { Ready e.id.0 counts.made 0 edges.old words.old reals.old
         × (Sizes (length pts.old) out.old keep.old next.old × (w.win.low ≡ lowest_of w.win.src w.win.b0 w.win.b1)) }
     ensures { MadeWithin (room_for words reals) result × (tiny ≡ tiny_of e.len →
@@ -64,37 +57,35 @@ fn admit(
         (end_after edges words reals keys events (made_end result) (left vertex))) }
 {
     if pts.len() == 0 {
-        return Made::Stopped(Lack::Cuts);
+        return Err(Lack::Cuts);
     }
     let win = w.win;
     whole(keep, win.b0, win.b1);
     let before = of_live_windows::pass_front(edges, words, reals, counts.made, e.id, win.b0, tiny);
     let visited = trim_visit::visits(
         edges, words, reals, keys, events, pts, out, keep, next, counts, e.id, before, 1, w, tiny,
-    );
-    match visited {
-        Visited::Stopped(lack) => Made::Stopped(lack),
-        Visited::Went(c, _, k) => trim_keep::keep_parts(
-            edges,
-            words,
-            reals,
-            keys,
-            events,
-            vertex,
-            vertex_words,
-            keep,
-            k,
-            c,
-            e,
-            before,
-            w,
-            tiny,
-            limit,
-        ),
-    }
+    )?;
+    trim_keep::keep_parts(
+        edges,
+        words,
+        reals,
+        keys,
+        events,
+        vertex,
+        vertex_words,
+        keep,
+        visited.kept,
+        visited.counts,
+        e,
+        before,
+        w,
+        tiny,
+        limit,
+    )
 }
 
-// The Rust's `add`: the window w is added to edge e, if it is wide enough and not all beyond the limit.
+// The Rust's `add`: the window w is added to edge e, if it is wide enough and not all beyond the limit. The answer is how many windows and events there are now, or
+// what there is no slot for.
 pub fn add(
     edges: &mut [u32],
     words: &mut [u32],
@@ -111,7 +102,7 @@ pub fn add(
     e: Edge,
     w: NewWindow,
     limit: f64,
-) -> Added
+) -> Result<Counts, Lack>
     requires { Ready e.id.0 counts.made 0 edges.old words.old reals.old × Sizes (length pts.old) out.old keep.old next.old }
     ensures { AddsTo limit vertex_words.now e w counts (before edges words reals keys events vertex) (cuts_before pts out keep next)
         result (after edges words reals keys events vertex) (cuts_after pts out keep next) }
@@ -123,11 +114,11 @@ pub fn add(
     let carried = w.carried;
     let id = e.id;
     if b1 - b0 <= tiny {
-        return Added::Went(counts);
+        return Ok(counts);
     }
     let low = source::lowest(src, b0, b1);
     if low > limit {
-        return Added::Went(counts);
+        return Ok(counts);
     }
     let win = Win { b0, b1, low, src };
     let x = WindowRecord {
@@ -137,7 +128,7 @@ pub fn add(
         link: 0,
         win,
     };
-    let admitted = admit(
+    let made = admit(
         edges,
         words,
         reals,
@@ -154,9 +145,6 @@ pub fn add(
         x,
         tiny,
         limit,
-    );
-    match admitted {
-        Made::Stopped(lack) => Added::Stopped(lack),
-        Made::Went(c, _) => Added::Went(c),
-    }
+    )?;
+    Ok(made.counts)
 }

@@ -7,23 +7,25 @@ ghost use Rattle.std.specs.Prelude.{◌≡◌};
 ghost use Rattle.trim_c.specs.Exports.{told_run, AnsweredList};
 
 use buffers::write_u32;
-use run_operations::Ran;
+use run_operations::Ended;
+use run_operations::of_trim::of_trim_split::Counts;
+use run_operations::of_trim_operations::refusal_number;
 
 // The answer is 0 where all operations went, else the number that refuses one. The first two numbers of `told` are then the windows made and the
 // events queued, or the operation that is refused and 0.
-fn tell(ran: Ran, told: &mut [u32]) -> u32
+fn tell(ran: Result<Counts, Ended>, told: &mut [u32]) -> u32
     ensures { (result, told.new) ≡ told_run ran told.old }
 {
     match ran {
-        Ran::Done { made, queued } => {
-            write_u32(told, 2, 0, 0, made);
-            write_u32(told, 2, 0, 1, queued);
+        Ok(counts) => {
+            write_u32(told, 2, 0, 0, counts.made);
+            write_u32(told, 2, 0, 1, counts.queued);
             0
         }
-        Ran::Ended { at, number } => {
-            write_u32(told, 2, 0, 0, at);
+        Err(ended) => {
+            write_u32(told, 2, 0, 0, ended.at);
             write_u32(told, 2, 0, 1, 0);
-            number
+            refusal_number(ended.refusal)
         }
     }
 }

@@ -14,9 +14,10 @@ use Rattle.source.specs.declared.Win.{Win}
 use Rattle.source.specs.Distance.{eval_of}
 use Rattle.windows.specs.declared.Edge.{Edge}
 use Rattle.windows.specs.declared.WindowRecord.{WindowRecord}
-use Rattle.heap.specs.declared.Pushed.{Pushed}
-use Rattle.heap.specs.declared.Pushed.TheVariants.{Full, Queued}
-use Rattle.heap.specs.Queue.{Queue}
+use Rattle.std.specs.Prelude.{Err, Ok}
+use Rattle.buffers.specs.declared.Lack.{Lack}
+use Rattle.buffers.specs.Lack.{lack_number}
+use Rattle.heap.specs.Queue.{Queue, Pushed}
 use Rattle.actions.specs.Actions as actions
 use Rattle.actions.specs.Actions.{Action, touch, Stock, stock, act, and_then, play, queueing, distance_of}
 use Rattle.actions.proofs.Play.{play_nil, play_stop_append, play_go_append}
@@ -26,11 +27,11 @@ use Rattle.trim_split.specs.of_trim_state.Trace.{near, touching}
 use Rattle.trim_split.specs.of_live_windows.Live.{live_of}
 
 -- what a queue answers, at the end
-pub queue_full : (made : ℕ) (vertex : List Float) (q : Queue) → queueing made vertex (Full, q) ≡ actions.stopped 13
+pub queue_full : (made : ℕ) (vertex : List Float) (l : Lack) (q : Queue) → queueing made vertex (Err l, q) ≡ actions.stopped (lack_number l)
 unfolding queueing
-queue_full made vertex q = refl
+queue_full made vertex l q = refl
 
-pub queue_more : (made n : ℕ) (vertex : List Float) (q : Queue) → queueing made vertex (Queued n, q) ≡ actions.went (stock made n q vertex)
+pub queue_more : (made n : ℕ) (vertex : List Float) (q : Queue) → queueing made vertex (Ok n, q) ≡ actions.went (stock made n q vertex)
 unfolding queueing
 queue_more made n vertex q = refl
 
@@ -40,8 +41,8 @@ module _ (cuts windows : ℕ) (limit : Float) (flags : List ℕ) where
 
   then_done : (made : ℕ) (vertex : List Float) (x : Pushed × Queue) → and_then (queueing made vertex x) (played []) ≡ queueing made vertex x
   unfolding and_then queueing
-  then_done made vertex (Full, q) = refl
-  then_done made vertex (Queued n, q) = play_nil cuts windows limit flags (stock made n q vertex)
+  then_done made vertex (Err l, q) = refl
+  then_done made vertex (Ok n, q) = play_nil cuts windows limit flags (stock made n q vertex)
 
   one : (t : Action) (s : Stock) → played (t ∷ []) s ≡ and_then (act cuts windows limit flags t s) (played [])
   unfolding play
@@ -64,14 +65,14 @@ module _ (cuts windows : ℕ) (limit : Float) (flags : List ℕ) where
   pub touched_yes : (c : Bool) → c ≡ true → (v : ℕ) (d : Float) (s : Stock) (made : ℕ) (vertex : List Float) (x : Pushed × Queue) → act cuts windows limit flags (touch v d) s ≡ queueing made vertex x → played (push_if c (touch v d)) s ≡ queueing made vertex x
   touched_yes c y v d s made vertex x h = rw y (one (touch v d) s ∙ ap (λ (o : actions.Outcome). and_then o (played [])) h ∙ then_done made vertex x)
 
-  pub touched_no : (c : Bool) → c ≡ false → (v : ℕ) (d : Float) (made n : ℕ) (q : Queue) (vertex : List Float) → played (push_if c (touch v d)) (stock made n q vertex) ≡ queueing made vertex (Queued n, q)
+  pub touched_no : (c : Bool) → c ≡ false → (v : ℕ) (d : Float) (made n : ℕ) (q : Queue) (vertex : List Float) → played (push_if c (touch v d)) (stock made n q vertex) ≡ queueing made vertex (Ok n, q)
   touched_no c y v d made n q vertex = rw y (play_nil cuts windows limit flags (stock made n q vertex) ∙ sym (queue_more made n vertex q))
 
   -- one end after the other
-  pub ends_full : (us vs : List Action) (s : Stock) (made : ℕ) (vertex : List Float) (q : Queue) (vertex' : List Float) (q' : Queue) → played us s ≡ queueing made vertex (Full, q) → played (us ++ vs) s ≡ queueing made vertex' (Full, q')
-  ends_full us vs s made vertex q vertex' q' h = play_stop_append cuts windows limit flags us vs s 13 (h ∙ queue_full made vertex q) ∙ sym (queue_full made vertex' q')
+  pub ends_full : (us vs : List Action) (s : Stock) (made : ℕ) (vertex : List Float) (l : Lack) (q : Queue) (vertex' : List Float) (q' : Queue) → played us s ≡ queueing made vertex (Err l, q) → played (us ++ vs) s ≡ queueing made vertex' (Err l, q')
+  ends_full us vs s made vertex l q vertex' q' h = play_stop_append cuts windows limit flags us vs s (lack_number l) (h ∙ queue_full made vertex l q) ∙ sym (queue_full made vertex' l q')
 
-  pub ends_on : (us vs : List Action) (s : Stock) (made n : ℕ) (vertex : List Float) (q : Queue) → played us s ≡ queueing made vertex (Queued n, q) → (o : actions.Outcome) → played vs (stock made n q vertex) ≡ o → played (us ++ vs) s ≡ o
+  pub ends_on : (us vs : List Action) (s : Stock) (made n : ℕ) (vertex : List Float) (q : Queue) → played us s ≡ queueing made vertex (Ok n, q) → (o : actions.Outcome) → played vs (stock made n q vertex) ≡ o → played (us ++ vs) s ≡ o
   ends_on us vs s made n vertex q h o k = play_go_append cuts windows limit flags us vs s (stock made n q vertex) (h ∙ queue_more made n vertex q) ∙ k
 
 -- the new window is a part of x
@@ -90,8 +91,8 @@ module _ (cuts windows : ℕ) (limit : Float) (flags : List ℕ) (e : Edge) (x :
   touching_is = refl
 
   module _ (made n : ℕ) (q : Queue) (vertex : List Float) where
-    pub touching_full : (vertex' : List Float) (q' : Queue) → play cuts windows limit flags first_end (stock made n q vertex) ≡ queueing made vertex' (Full, q') → play cuts windows limit flags (touching e (part (live_of x k) b0 b1 j)) (stock made n q vertex) ≡ queueing made vertex' (Full, q')
-    touching_full vertex' q' h = ap (λ (l : List Action). play cuts windows limit flags l (stock made n q vertex)) touching_is ∙ ends_full cuts windows limit flags first_end other_end (stock made n q vertex) made vertex' q' vertex' q' h
+    pub touching_full : (l : Lack) (vertex' : List Float) (q' : Queue) → play cuts windows limit flags first_end (stock made n q vertex) ≡ queueing made vertex' (Err l, q') → play cuts windows limit flags (touching e (part (live_of x k) b0 b1 j)) (stock made n q vertex) ≡ queueing made vertex' (Err l, q')
+    touching_full l vertex' q' h = ap (λ (todo : List Action). play cuts windows limit flags todo (stock made n q vertex)) touching_is ∙ ends_full cuts windows limit flags first_end other_end (stock made n q vertex) made vertex' l q' vertex' q' h
 
-    pub touching_on : (m : ℕ) (vertex' : List Float) (q' : Queue) → play cuts windows limit flags first_end (stock made n q vertex) ≡ queueing made vertex' (Queued m, q') → (o : actions.Outcome) → play cuts windows limit flags other_end (stock made m q' vertex') ≡ o → play cuts windows limit flags (touching e (part (live_of x k) b0 b1 j)) (stock made n q vertex) ≡ o
+    pub touching_on : (m : ℕ) (vertex' : List Float) (q' : Queue) → play cuts windows limit flags first_end (stock made n q vertex) ≡ queueing made vertex' (Ok m, q') → (o : actions.Outcome) → play cuts windows limit flags other_end (stock made m q' vertex') ≡ o → play cuts windows limit flags (touching e (part (live_of x k) b0 b1 j)) (stock made n q vertex) ≡ o
     touching_on m vertex' q' h o g = ap (λ (l : List Action). play cuts windows limit flags l (stock made n q vertex)) touching_is ∙ ends_on cuts windows limit flags first_end other_end (stock made n q vertex) made m vertex' q' h o g

@@ -1,6 +1,7 @@
 -- The loop of `add` over the intervals that the new window keeps: those that are wide become windows, each seated by its start. Definitions only.
-use Rattle.std.specs.Prelude.{ℕ, ◌≤◌, List, ◌∷◌, ◌++◌, ◌≡◌, Float}
+use Rattle.std.specs.Prelude.{ℕ, ◌≤◌, List, ◌∷◌, ◌++◌, ◌≡◌, Float, Result, Ok, Err}
 use Rattle.trim_split.specs.of_better.Stretches.{Interval}
+use Rattle.buffers.specs.declared.Lack.{Lack}
 use Rattle.windows.specs.declared.Edge.{Edge}
 use Rattle.windows.specs.declared.WindowRecord.{WindowRecord}
 use Rattle.actions.specs.Actions as actions
@@ -11,13 +12,12 @@ use Rattle.trim_split.specs.of_trim_state.State.{put}
 use Rattle.trim_split.specs.of_trim_state.Trace.{keeping}
 use Rattle.trim_split.specs.of_live_windows.Live.{HoldsWindows, last_link}
 use Rattle.trim_split.specs.declared.Made.{Made}
-use Rattle.trim_split.specs.declared.Made.TheVariants.{Stopped, Went}
 use Rattle.trim_split.specs.Running.{Snapshot, stock_of, End, stopped, at, Untouched}
 
 -- if it was not stopped, the counts are within the buffers
-abbrev pub MadeWithin : ℕ → Made → Type 0
-MadeWithin windows (Stopped n) = Unit {0}
-MadeWithin windows (Went c last) = (c.made ≤ windows) × (last ≤ c.made)
+abbrev pub MadeWithin : ℕ → Result Made Lack → Type 0
+MadeWithin windows (Err lack) = Unit {0}
+MadeWithin windows (Ok m) = (m.counts.made ≤ windows) × (m.last ≤ m.counts.made)
 
 -- the counts of the cut buffer and the window buffer, the limit, the flags of the vertices; the edge; and the new window
 module _ (cuts windows : ℕ) (limit : Float) (flags : List ℕ) (e : Edge) (w : Window) where

@@ -17,7 +17,6 @@ ghost use Rattle.trim_split.specs.Running.{Ready, room_for, snapshot_before, end
 ghost use Rattle.trim_keep.specs.Keeping.{MadeWithin, Seats, KeptOne};
 
 use buffers::{Lack, VertexId};
-use heap::Pushed;
 use source::Win;
 use trim_split::{Counts, Made, of_cut_lists, of_live_windows};
 use windows::{Edge, WindowRecord};
@@ -34,7 +33,7 @@ fn touch_reached(
     v: VertexId,
     x: f64,
     win: Win,
-) -> Pushed
+) -> Result<u32, Lack>
     ensures { (cuts windows made : ℕ) →
         play cuts windows limit vertex_words.now (push_if reached (touch v.0 (eval_of win x zero64))) (stock made n (queue (given keys) (given events)) (given vertex))
         ≡ queueing made (left vertex) (result, queue (left keys) (left events)) }
@@ -44,7 +43,7 @@ fn touch_reached(
         let d = distance_tests::nearer(known, win, x);
         return actions::touch(vertex, vertex_words, keys, events, n, limit, v, d);
     }
-    Pushed::Queued(n)
+    Ok(n)
 }
 
 // Both ends of an edge, one after the other. The part of window x from b0 to b1 is the new window; no distance depends on its lowest value, so it keeps x's.
@@ -59,7 +58,7 @@ fn touch_ends(
     x: WindowRecord,
     b0: f64,
     b1: f64,
-) -> Pushed
+) -> Result<u32, Lack>
     ensures { (cuts windows made k j : ℕ) →
         play cuts windows limit vertex_words.now (touching e (part (live_of x k) b0 b1 j)) (stock made n (queue (given keys) (given events)) (given vertex))
         ≡ queueing made (left vertex) (result, queue (left keys) (left events)) }
@@ -69,7 +68,7 @@ fn touch_ends(
     let low = old.low;
     let win = Win { b0, b1, low, src };
     let near = 1e-9 * e.len;
-    let first = touch_reached(
+    let m = touch_reached(
         vertex,
         vertex_words,
         keys,
@@ -80,10 +79,7 @@ fn touch_ends(
         e.a,
         0.0,
         win,
-    );
-    let Pushed::Queued(m) = first else {
-        return Pushed::Full;
-    };
+    )?;
     touch_reached(
         vertex,
         vertex_words,
@@ -128,7 +124,7 @@ fn keep_part(
     b0: f64,
     b1: f64,
     limit: f64,
-) -> Made
+) -> Result<Made, Lack>
     requires { Ready e.id.0 counts.made before edges.old words.old reals.old × (x.win.low ≡ lowest_of x.win.src x.win.b0 x.win.b1) }
     ensures { MadeWithin (room_for words reals) result × ((cuts k : ℕ) →
         KeptOne cuts (room_for words reals) limit vertex_words.now e (live_of x k) (interval b0 b1)
@@ -140,34 +136,27 @@ fn keep_part(
     let low = kept_low(old, b0, b1);
     let part = trim_split::make_part(
         edges, words, reals, keys, events, counts, e.id, seat, x, b0, b1, low,
-    );
-    match part {
-        Made::Stopped(lack) => Made::Stopped(lack),
-        Made::Went(c, last) => {
-            let touched = touch_ends(
-                vertex,
-                vertex_words,
-                keys,
-                events,
-                c.queued,
-                limit,
-                e,
-                x,
-                b0,
-                b1,
-            );
-            let Pushed::Queued(m) = touched else {
-                return Made::Stopped(Lack::Events);
-            };
-            Made::Went(
-                Counts {
-                    made: c.made,
-                    queued: m,
-                },
-                last,
-            )
-        }
-    }
+    )?;
+    let c = part.counts;
+    let queued = touch_ends(
+        vertex,
+        vertex_words,
+        keys,
+        events,
+        c.queued,
+        limit,
+        e,
+        x,
+        b0,
+        b1,
+    )?;
+    Ok(Made {
+        counts: Counts {
+            made: c.made,
+            queued,
+        },
+        last: part.last,
+    })
 }
 
 // Each of the k intervals that is wider than tiny becomes a window, behind a link of edge e.
@@ -187,7 +176,7 @@ pub fn keep_parts(
     x: WindowRecord,
     tiny: f64,
     limit: f64,
-) -> Made
+) -> Result<Made, Lack>
     requires { Ready e.id.0 counts.made before edges.old words.old reals.old
         × ((k + k ≤ length keep.now) × (x.win.low ≡ lowest_of x.win.src x.win.b0 x.win.b1)) }
     ensures { MadeWithin (room_for words reals) result × ((cuts j : ℕ) →
@@ -195,40 +184,32 @@ pub fn keep_parts(
         (snapshot_before edges words reals keys events counts.made counts.queued before (given vertex))
         (end_after edges words reals keys events (made_end result) (left vertex))) }
 {
-    let mut now = counts;
-    let mut last = before;
-    let mut i = 0;
-    while i < k {
+    let mut now = Made {
+        counts,
+        last: before,
+    };
+    for i in 0..k {
         let b0 = of_cut_lists::from_of(keep, i);
         let b1 = of_cut_lists::to_of(keep, i);
         if b1 - b0 <= tiny {
-            i += 1;
-        } else {
-            let part = keep_part(
-                edges,
-                words,
-                reals,
-                keys,
-                events,
-                vertex,
-                vertex_words,
-                now,
-                e,
-                last,
-                x,
-                b0,
-                b1,
-                limit,
-            );
-            match part {
-                Made::Stopped(lack) => return Made::Stopped(lack),
-                Made::Went(c, l) => {
-                    now = c;
-                    last = l;
-                    i += 1;
-                }
-            }
+            continue;
         }
+        now = keep_part(
+            edges,
+            words,
+            reals,
+            keys,
+            events,
+            vertex,
+            vertex_words,
+            now.counts,
+            e,
+            now.last,
+            x,
+            b0,
+            b1,
+            limit,
+        )?;
     }
-    Made::Went(now, last)
+    Ok(now)
 }

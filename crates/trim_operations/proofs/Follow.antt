@@ -10,9 +10,8 @@ use lib.Ieee.Fits.{and_l, and_r}
 use lib.Ieee.Scale.{finite}
 use Rattle.float64.specs.Scalar.{zero64}
 use Rattle.float_laws.proofs.Order.{finite_between, zero_finite}
-use Rattle.heap.specs.declared.Popped.{Popped}
-use Rattle.heap.specs.declared.Popped.TheVariants.{Empty, First}
-use Rattle.heap.specs.Queue.{Queue, popping}
+use Rattle.std.specs.Prelude.{None, Some}
+use Rattle.heap.specs.Queue.{Queue, popping, Popped}
 use Rattle.actions.specs.Actions as actions
 use Rattle.actions.specs.Actions.{act}
 use Rattle.pop.specs.of_better.Claim.{Point}
@@ -56,8 +55,8 @@ module _ (cuts windows : ℕ) (limit : Float) (flags : List ℕ) (mesh : EdgeDat
 
   pop_after : (x : Popped × Queue) → Next [] (after_pop s x)
   unfolding after_pop
-  pop_after (Empty, q) = same_list s F
-  pop_after (First x n, q) =
+  pop_after (None, q) = same_list s F
+  pop_after (Some (x, n), q) =
       same_list (record { wins = wins_claimed x.item s.wins; live = λ (e : ℕ). live_claimed x.item (s.live e); stock = actions.stock s.stock.made n q s.stock.vertex })
       (follows_unqueue F (λ (e : ℕ). live_claimed x.item (s.live e)) (λ e. live_claimed_lem x.item (s.live e)))
 

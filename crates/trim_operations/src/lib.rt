@@ -3,10 +3,11 @@
 
 ghost use Rattle.std.specs.Prelude.{◌≡◌};
 ghost use Rattle.trim_operations.specs.Operations.{is_queued, source_at, new_window_at, operation_at, as_operation};
+ghost use Rattle.trim_operations.specs.declared.OperationRefusal.TheVariants.{NoSlot};
 ghost use Rattle.trim_operations.specs.Run.{has_length, is_on_edge};
-ghost use Rattle.trim_operations.specs.Represents.{CheckedCandidate};
+ghost use Rattle.trim_operations.specs.Represents.{refusal_number, checked_number, CheckedCandidate};
 
-use buffers::{EdgeId, FaceId, VertexId, read_f64, read_u32};
+use buffers::{EdgeId, FaceId, Lack, VertexId, lack_number, read_f64, read_u32};
 use layout::{
     OPERATION_B0, OPERATION_B1, OPERATION_INTO, OPERATION_KIND, OPERATION_NUMBER, OPERATION_QUEUED,
     OPERATION_S0, OPERATION_S1, OPERATION_S2, REALS_PER_OPERATION, WORDS_PER_OPERATION,
@@ -22,6 +23,38 @@ pub enum Op {
     Pop,
     Touch(VertexId, f64),
     Unknown,
+}
+
+// Why an operation is refused: its kind is unknown; its edge is not there or has no finite length above zero; an end is no number from 0 to the
+// edge's length; its vertex is not there; or what there is no slot for.
+#[derive(Clone, Copy)]
+pub enum OperationRefusal {
+    UnknownKind,
+    NoEdge,
+    EndOutside,
+    NoVertex,
+    NoSlot(Lack),
+}
+
+impl From<Lack> for OperationRefusal {
+    ghost from_gives = { λ lack refusal. refusal ≡ NoSlot lack };
+
+    fn from(lack: Lack) -> OperationRefusal {
+        OperationRefusal::NoSlot(lack)
+    }
+}
+
+// A refusal as the number that programs in C and Rust are told.
+pub fn refusal_number(refusal: OperationRefusal) -> u32
+    ensures { result ≡ refusal_number refusal }
+{
+    match refusal {
+        OperationRefusal::UnknownKind => 70,
+        OperationRefusal::NoEdge => 71,
+        OperationRefusal::EndOutside => 72,
+        OperationRefusal::NoVertex => 73,
+        OperationRefusal::NoSlot(lack) => lack_number(lack),
+    }
 }
 
 fn source_at(args: &[f64], k: u32, line: bool) -> Src
@@ -118,20 +151,20 @@ fn is_on_edge(l: f64, x: f64) -> bool
     false
 }
 
-// Why a candidate on edge e of m edges, whose length is l, is refused: 71 for the edge, 72 for its ends; 0 where it is not.
-pub fn refusal(m: u32, e: EdgeId, l: f64, b0: f64, b1: f64) -> u32
-    ensures { CheckedCandidate m e.0 l b0 b1 result }
+// Whether a candidate from b0 to b1 on edge e of m edges, whose length is l, may be added.
+pub fn check_candidate(m: u32, e: EdgeId, l: f64, b0: f64, b1: f64) -> Result<(), OperationRefusal>
+    ensures { CheckedCandidate m e.0 l b0 b1 (checked_number result) }
 {
     if m <= e.0 {
-        return 71;
+        return Err(OperationRefusal::NoEdge);
     }
     if has_length(l) {
         if is_on_edge(l, b0) {
             if is_on_edge(l, b1) {
-                return 0;
+                return Ok(());
             }
         }
-        return 72;
+        return Err(OperationRefusal::EndOutside);
     }
-    71
+    Err(OperationRefusal::NoEdge)
 }

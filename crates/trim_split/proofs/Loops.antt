@@ -18,6 +18,8 @@ use Rattle.chains.specs.Chains.{links}
 use Rattle.cut_lists.specs.of_trim_model.Windows.{part, fresh, split}
 use Rattle.live_windows.specs.of_trim_state.Trace.{making, makings, splitting}
 use Rattle.live_windows.specs.Live.{live_of, Kills, Trims}
+use Rattle.std.specs.Prelude.{Result}
+use Rattle.buffers.specs.declared.Lack.{Lack}
 use Rattle.trim_split.specs.declared.Made.{Made}
 use Rattle.trim_split.specs.Running.{Snapshot, snapshot, End, stopped, at, Counted, Ready, Does}
 use Rattle.trim_split.proofs.Parts.{parts_turn, parts_stop, parts_end, split_none, split_some}
@@ -134,7 +136,7 @@ module _ (e : ℕ) (x : WindowRecord) (ps : List Interval) (s₀ : WindowSlices)
 pub here_is : (l rest : List Interval) (b0 b1 c0 c1 : Float) → l ≡ record { from = c0; to = c1 } ∷ rest → b0 ≡ c0 → b1 ≡ c1 → l ≡ record { from = b0; to = b1 } ∷ rest
 here_is l rest b0 b1 c0 c1 h p q = rw (p, q) h
 
-pub counted_as : (r : Made) (a b : ℕ) → a ≡ b → Counted r a → Counted r b
+pub counted_as : (r : Result Made Lack) (a b : ℕ) → a ≡ b → Counted r a → Counted r b
 counted_as r a b h = subst (Counted r) h
 
 pub but_first : (l : List Interval) → length (drop 1 l) ≡ pred (length l)

@@ -10,7 +10,9 @@ use Rattle.buffers.specs.declared.EdgeId.{EdgeId}
 use Rattle.source.specs.Distance.{lowest_of}
 use Rattle.cut_lists.specs.of_better.Stretches.{Interval, interval}
 use Rattle.heap.specs.declared.Event.{Event}
-use Rattle.heap.specs.declared.Pushed.TheVariants.{Full, Queued}
+use Rattle.std.specs.Prelude.{Err, Ok}
+use Rattle.buffers.specs.declared.Lack.{Lack}
+use Rattle.buffers.specs.Lack.{lack_number}
 use Rattle.heap.specs.Queue.{Queue, pushing}
 use Rattle.windows.specs.declared.WindowRecord.{WindowRecord}
 use Rattle.windows.specs.Windows.{trimmed, dead, adjust}
@@ -48,18 +50,18 @@ module _ (cuts windows : ℕ) (limit : Float) (flags : List ℕ) (made queued : 
       one = unfold act in rw (lt-ltb made windows h)
 
   -- what a push at the end answers
-  push_full : (e : Event) (q' : Queue) → (Full, q') ≡ pushing q queued e → played (push e ∷ []) ≡ actions.stopped 13
-  push_full e q' h = play_stop cuts windows limit flags (push e) [] (stock made queued q vertex) 13 (push_is cuts windows limit flags made queued q vertex e (Full, q') h ∙ full)
+  push_full : (e : Event) (q' : Queue) (l : Lack) → (Err l, q') ≡ pushing q queued e → played (push e ∷ []) ≡ actions.stopped (lack_number l)
+  push_full e q' l h = play_stop cuts windows limit flags (push e) [] (stock made queued q vertex) (lack_number l) (push_is cuts windows limit flags made queued q vertex e (Err l, q') h ∙ full)
     where
-      full : queueing made vertex (Full, q') ≡ actions.stopped 13
+      full : queueing made vertex (Err l, q') ≡ actions.stopped (lack_number l)
       full = unfold queueing in refl
 
-  push_one : (e : Event) (n : ℕ) (q' : Queue) → (Queued n, q') ≡ pushing q queued e → played (push e ∷ []) ≡ actions.went (stock made n q' vertex)
+  push_one : (e : Event) (n : ℕ) (q' : Queue) → (Ok n, q') ≡ pushing q queued e → played (push e ∷ []) ≡ actions.went (stock made n q' vertex)
   push_one e n q' h =
-      play_go cuts windows limit flags (push e) [] (stock made queued q vertex) (stock made n q' vertex) (push_is cuts windows limit flags made queued q vertex e (Queued n, q') h ∙ one)
+      play_go cuts windows limit flags (push e) [] (stock made queued q vertex) (stock made n q' vertex) (push_is cuts windows limit flags made queued q vertex e (Ok n, q') h ∙ one)
       ∙ play_nil cuts windows limit flags (stock made n q' vertex)
     where
-      one : queueing made vertex (Queued n, q') ≡ actions.went (stock made n q' vertex)
+      one : queueing made vertex (Ok n, q') ≡ actions.went (stock made n q' vertex)
       one = unfold queueing in refl
 
 -- the window that was made is the part
@@ -118,10 +120,10 @@ module _ (cuts windows : ℕ) (limit : Float) (flags : List ℕ) (e : EdgeId) (x
       start : play cuts windows limit flags todo (stock made queued q vertex) ≡ play cuts windows limit flags (push ev ∷ []) (stock (suc made) queued q vertex)
       start = make_one cuts windows limit flags made queued q vertex new room (push_if x.carried.queued (push (window_event (lowest_of x.win.src b0 b1) made))) ∙ rw (h, isEvent, isLow) refl
 
-      pub part_full : (Full, q') ≡ pushing q queued ev → DoesPart (stopped 13)
-      part_full p = start ∙ push_full cuts windows limit flags (suc made) queued q vertex ev q' p
+      pub part_full : (l : Lack) → (Err l, q') ≡ pushing q queued ev → DoesPart (stopped (lack_number l))
+      part_full l p = start ∙ push_full cuts windows limit flags (suc made) queued q vertex ev q' l p
 
-      pub part_queued : (n1 : ℕ) → n1 ≡ suc made → (n : ℕ) → (Queued n, q') ≡ pushing q queued ev → DoesPart (at (snapshot n1 n n1 b' f' q' vertex))
+      pub part_queued : (n1 : ℕ) → n1 ≡ suc made → (n : ℕ) → (Ok n, q') ≡ pushing q queued ev → DoesPart (at (snapshot n1 n n1 b' f' q' vertex))
       part_queued n1 next n p = as_next n1 next n q' (ran n q' (start ∙ push_one cuts windows limit flags (suc made) queued q vertex ev n q' p))
 
 -- ---- parts one behind the other

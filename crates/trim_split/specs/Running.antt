@@ -1,6 +1,7 @@
 -- What a part of `add` does to the buffers: its actions, and the windows that it puts in the place of others on the chain of the edge. Definitions only.
-use Rattle.std.specs.Prelude.{ℕ, ◌+◌, ◌*◌, ◌≤◌, ◌<◌, List, ◌++◌, ◌≢◌, ◌≡◌, length, get_or, drop, Float}
+use Rattle.std.specs.Prelude.{ℕ, ◌+◌, ◌*◌, ◌≤◌, ◌<◌, List, ◌++◌, ◌≢◌, ◌≡◌, length, get_or, drop, Float, Result, Ok, Err}
 use Rattle.layout.specs.Layout.{words_per_edge, edge_head, edge_scratch, words_per_window, reals_per_window}
+use Rattle.buffers.specs.declared.Lack.{Lack}
 use Rattle.buffers.specs.Lack.{lack_number}
 use Rattle.buffers.specs.Lent.{Lent, given, left}
 use Rattle.buffers.specs.Slots.{slots_of}
@@ -14,7 +15,6 @@ use Rattle.cut_lists.specs.of_trim_model.Windows.{Window}
 use Rattle.live_windows.specs.of_trim_state.State.{put}
 use Rattle.live_windows.specs.Live.{HoldsWindows, last_link}
 use Rattle.trim_split.specs.declared.Made.{Made}
-use Rattle.trim_split.specs.declared.Made.TheVariants.{Stopped, Went}
 
 -- what the buffers hold, how many windows and events there are, and the link behind which the chain goes on
 pub record Snapshot : Type 0 where
@@ -38,9 +38,9 @@ pub data End : Type 0 where
   at : Snapshot → End
 
 -- what an answer says, with what the buffers hold then
-abbrev pub made_end : Made → Links → List Float → Queue → List Float → End
-made_end (Stopped lack) b f q vertex = stopped (lack_number lack)
-made_end (Went c last) b f q vertex = at (snapshot c.made c.queued last b f q vertex)
+abbrev pub made_end : Result Made Lack → Links → List Float → Queue → List Float → End
+made_end (Err lack) b f q vertex = stopped (lack_number lack)
+made_end (Ok m) b f q vertex = at (snapshot m.counts.made m.counts.queued m.last b f q vertex)
 
 -- ---- of lent slices: the windows that there are slots for, a place at the call, and an end at the return
 abbrev pub room_for : Lent ℕ → Lent Float → ℕ
@@ -54,9 +54,9 @@ module _ (edges words : Lent ℕ) (reals keys : Lent Float) (events : Lent ℕ) 
   end_after end vertex = end (links (left edges) (left words)) (left reals) (queue (left keys) (left events)) vertex
 
 -- so many windows are made, if it was not stopped
-abbrev pub Counted : Made → ℕ → Type 0
-Counted (Stopped n) made = Unit {0}
-Counted (Went c last) made = c.made ≡ made
+abbrev pub Counted : Result Made Lack → ℕ → Type 0
+Counted (Err lack) made = Unit {0}
+Counted (Ok m) made = m.counts.made ≡ made
 
 -- a window of edge e can be made behind a link
 pub record Ready (e made last : ℕ) (edges words : List ℕ) (reals : List Float) : Type 0 where

@@ -14,7 +14,6 @@ ghost use Rattle.trim_split.specs.Running.{Ready, Counted, room_for, snapshot_be
 
 use buffers::{EdgeId, Lack, WindowId};
 pub use cut_lists as of_cut_lists;
-use heap::Pushed;
 pub use live_windows as of_live_windows;
 use source::Win;
 use windows::WindowRecord;
@@ -26,11 +25,11 @@ pub struct Counts {
     pub queued: u32,
 }
 
-// What there is no slot for; or how many there are now, and the link of the last window that was put on the chain.
+// How many there are now, and the link of the last window that was put on the chain.
 #[derive(Clone, Copy)]
-pub enum Made {
-    Stopped(Lack),
-    Went(Counts, u32),
+pub struct Made {
+    pub counts: Counts,
+    pub last: u32,
 }
 
 // The part of a window from b0 to b1, with its lowest value there.
@@ -56,7 +55,7 @@ pub fn make_part(
     b0: f64,
     b1: f64,
     low: f64,
-) -> Made
+) -> Result<Made, Lack>
     requires { Ready e.0 counts.made before edges.old words.old reals.old × (low ≡ lowest_of x.win.src b0 b1) }
     ensures { Counted result (suc counts.made) × ((cuts : ℕ) (limit : Float) (flags : List ℕ) (vertex : List Float) (k : ℕ) →
         Does cuts (room_for words reals) limit flags e.0 (making e.0 (live_of x k) counts.made (interval b0 b1)) [] (part (live_of x k) b0 b1 counts.made ∷ [])
@@ -68,32 +67,29 @@ pub fn make_part(
     let old = x.win;
     let carried = x.carried;
     if windows::capacity(words, reals) <= made {
-        return Made::Stopped(Lack::Windows);
+        return Err(Lack::Windows);
     }
     let src = old.src;
     let win = Win { b0, b1, low, src };
     live_windows::make_window(edges, words, reals, made, e, before, carried, win);
     if carried.queued {
         let event = heap::window_event(low, WindowId(made));
-        let pushed = heap::push(keys, events, queued, event);
-        let Pushed::Queued(n) = pushed else {
-            return Made::Stopped(Lack::Events);
-        };
-        return Made::Went(
-            Counts {
+        let n = heap::push(keys, events, queued, event)?;
+        return Ok(Made {
+            counts: Counts {
                 made: made + 1,
                 queued: n,
             },
-            made + 1,
-        );
+            last: made + 1,
+        });
     }
-    Made::Went(
-        Counts {
+    Ok(Made {
+        counts: Counts {
             made: made + 1,
             queued,
         },
-        made + 1,
-    )
+        last: made + 1,
+    })
 }
 
 // The pieces of window x but for the first are made, one behind the other.
@@ -109,7 +105,7 @@ fn make_parts(
     x: WindowRecord,
     pieces: &[f64],
     n: usize,
-) -> Made
+) -> Result<Made, Lack>
     requires { Ready e.0 counts.made before edges.old words.old reals.old × (n + n ≤ length pieces.now) }
     ensures { Counted result (counts.made + length (drop 1 (pairs n pieces.now))) × ((cuts : ℕ) (limit : Float) (flags : List ℕ) (vertex : List Float) (k : ℕ) →
         Does cuts (room_for words reals) limit flags e.0 (makings e.0 (live_of x k) counts.made (drop 1 (pairs n pieces.now)))
@@ -117,28 +113,21 @@ fn make_parts(
         (snapshot_before edges words reals keys events counts.made counts.queued before vertex)
         (end_after edges words reals keys events (made_end result) vertex)) }
 {
-    let mut now = counts;
-    let mut last = before;
-    let mut i = 1;
-    while i < n {
+    let mut now = Made {
+        counts,
+        last: before,
+    };
+    for i in 1..n {
         let b0 = cut_lists::from_of(pieces, i);
         let b1 = cut_lists::to_of(pieces, i);
         let old = x.win;
         let src = old.src;
         let low = source::lowest(src, b0, b1);
-        let part = make_part(
-            edges, words, reals, keys, events, now, e, last, x, b0, b1, low,
-        );
-        match part {
-            Made::Stopped(lack) => return Made::Stopped(lack),
-            Made::Went(c, l) => {
-                now = c;
-                last = l;
-                i += 1;
-            }
-        }
+        now = make_part(
+            edges, words, reals, keys, events, now.counts, e, now.last, x, b0, b1, low,
+        )?;
     }
-    Made::Went(now, last)
+    Ok(now)
 }
 
 // Window x, of number id, becomes its n pieces: it is trimmed to the first, and the others are made behind it; or it is taken out.
@@ -155,7 +144,7 @@ pub fn split_window(
     x: WindowRecord,
     pieces: &[f64],
     n: usize,
-) -> Made
+) -> Result<Made, Lack>
     requires { Ready e.0 counts.made before edges.old words.old reals.old × ((id.0 < counts.made) × (n + n ≤ length pieces.now)) }
     ensures { Counted result (counts.made + pred (length (pairs n pieces.now))) × ((cuts : ℕ) (limit : Float) (flags : List ℕ) (vertex : List Float) →
         Does cuts (room_for words reals) limit flags e.0 (splitting e.0 (live_of x id.0) counts.made (pairs n pieces.now))
@@ -167,7 +156,10 @@ pub fn split_window(
     let old = x.win;
     if n == 0 {
         live_windows::kill_window(edges, words, reals, made, e, before, id);
-        return Made::Went(counts, before);
+        return Ok(Made {
+            counts,
+            last: before,
+        });
     }
     let b0 = cut_lists::from_of(pieces, 0);
     let b1 = cut_lists::to_of(pieces, 0);

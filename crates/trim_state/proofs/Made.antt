@@ -12,10 +12,9 @@ use Rattle.float64.specs.Notation.{◌⊖◌, ◌⊗◌}
 use Rattle.source.specs.Distance.{eval_of, lowest_of}
 use Rattle.better.specs.Points.{pts_of, walk_of}
 use Rattle.better.specs.Stretches.{Interval, better_of}
-use Rattle.heap.specs.declared.Pushed.{Pushed}
-use Rattle.heap.specs.declared.Pushed.TheVariants.{Full, Queued}
+use Rattle.std.specs.Prelude.{Err, Ok}
 use Rattle.heap.specs.declared.Item.TheVariants.{Vertex}
-use Rattle.heap.specs.Queue.{Queue, pushing}
+use Rattle.heap.specs.Queue.{Queue, pushing, Pushed}
 use Rattle.windows.specs.declared.Edge.{Edge}
 use Rattle.windows.specs.declared.WindowRecord.{WindowRecord}
 use Rattle.actions.specs.Actions.{Action, list, make, trim, kill, push, touch, wins_after, Stock, stock, Outcome, stopped, went, distance_of, with_distance, queueing, and_then, act, play}
@@ -51,8 +50,8 @@ Made m (went s) = s.made ≡ m
 
 queueing_made : (m : ℕ) (v : List Float) (x : Pushed × Queue) → Made m (queueing m v x)
 unfolding queueing
-queueing_made m v (Full, q) = tt
-queueing_made m v (Queued n, q) = refl
+queueing_made m v (Err l, q) = tt
+queueing_made m v (Ok n, q) = refl
 
 then_made : (m n : ℕ) (o : Outcome) (f : Stock → Outcome) → Made m o → ((s : Stock) → s.made ≡ m → Made n (f s)) → Made n (and_then o f)
 unfolding and_then

@@ -6,27 +6,25 @@
 ghost use Rattle.std.specs.Prelude.{◌<◌};
 
 use buffers::{read_f64, read_u32};
-use heap::Popped;
 use layout::{
     EDGE_HEAD, REALS_PER_VERTEX, REALS_PER_WINDOW, WINDOW_FLAGS, WINDOW_INTO, WINDOW_LINK,
     WORDS_PER_EDGE, WORDS_PER_WINDOW,
 };
-use run_operations::Ran;
+use run_operations::Ended;
+use run_operations::of_trim::of_trim_split::Counts;
+use run_operations::of_trim_operations::refusal_number;
 use std::io;
-use std::rt::Files;
 use stored_numbers::{
     Walk, all_f64, all_u32, at_most, count, double, number, read_bytes, read_doubles, read_numbers,
-    record_size, u32_of_byte, visit, visit_double, wrong,
+    replay_records, u32_of_byte, visit, visit_double, wrong,
 };
 use vectors::Tally;
 
 // The first fields of slot i.
 fn visit_reals(s: &[u8], w: Walk, reals: &[f64], stride: u32, i: u32, fields: u32) -> Walk {
     let mut now = w;
-    let mut k: u32 = 0;
-    while k < fields {
+    for k in 0..fields {
         now = visit_double(s, now, read_f64(reals, stride, i, k));
-        k += 1;
     }
     now
 }
@@ -56,24 +54,20 @@ fn visit_chain(s: &[u8], w: Walk, edges: &[u32], words: &[u32], reals: &[f64], e
     let n = number(s, at);
     let mut now = visit(s, w, n);
     let mut link = read_u32(edges, WORDS_PER_EDGE, e, EDGE_HEAD);
-    let mut i: u32 = 0;
-    while i < n {
+    for i in 0..n {
         if link == 0 {
             return wrong();
         }
         now = visit_window(s, now, words, reals, link - 1);
         link = read_u32(words, WORDS_PER_WINDOW, link - 1, WINDOW_LINK);
-        i += 1;
     }
     visit_end(now, link)
 }
 
 fn visit_chains(s: &[u8], w: Walk, edges: &[u32], words: &[u32], reals: &[f64], n: u32) -> Walk {
     let mut now = w;
-    let mut e: u32 = 0;
-    while e < n {
+    for e in 0..n {
         now = visit_chain(s, now, edges, words, reals, e);
-        e += 1;
     }
     now
 }
@@ -81,10 +75,8 @@ fn visit_chains(s: &[u8], w: Walk, edges: &[u32], words: &[u32], reals: &[f64], 
 // The distances of the first n vertices.
 fn visit_distances(s: &[u8], w: Walk, vertex: &[f64], n: u32) -> Walk {
     let mut now = w;
-    let mut v: u32 = 0;
-    while v < n {
+    for v in 0..n {
         now = visit_reals(s, now, vertex, REALS_PER_VERTEX, v, 1);
-        v += 1;
     }
     now
 }
@@ -98,11 +90,11 @@ struct Left {
 
 fn visit_first(s: &[u8], w: Walk, keys: &mut [f64], events: &mut [u32], n: u32) -> Left {
     match heap::pop(keys, events, n) {
-        Popped::Empty => Left {
+        None => Left {
             walk: wrong(),
             events: 0,
         },
-        Popped::First(x, m) => {
+        Some((x, m)) => {
             let item = x.item;
             let keyed = visit_double(s, w, x.key);
             let numbered = visit(s, keyed, heap::number_of(item));
@@ -118,12 +110,10 @@ fn visit_first(s: &[u8], w: Walk, keys: &mut [f64], events: &mut [u32], n: u32) 
 fn visit_events(s: &[u8], w: Walk, keys: &mut [f64], events: &mut [u32], n: u32) -> Walk {
     let mut now = visit(s, w, n);
     let mut left = n;
-    let mut i: u32 = 0;
-    while i < n {
+    for i in 0..n {
         let next = visit_first(s, now, keys, events, left);
         now = next.walk;
         left = next.events;
-        i += 1;
     }
     now
 }
@@ -170,10 +160,8 @@ fn load_edges(s: &[u8], k: usize, flags: &mut [u8; 8], ends: &mut [u32; 16], len
 
 // The third of each vertex's three words is its flag.
 fn flag_words(flags: &[u8; 8], vertex_words: &mut [u32; 24]) {
-    let mut v: usize = 0;
-    while v < 8 {
+    for v in 0..8usize {
         vertex_words[3 * v + 2] = u32_of_byte(flags[v]);
-        v += 1;
     }
 }
 
@@ -270,7 +258,7 @@ fn same_refusal(s: &[u8], k: usize, at: u32, refusal: u32) -> bool
 fn same_ran(
     s: &[u8],
     k: usize,
-    answer: Ran,
+    answer: Result<Counts, Ended>,
     edges: &[u32],
     words: &[u32],
     reals: &[f64],
@@ -280,19 +268,25 @@ fn same_ran(
 ) -> bool {
     let at = at_most(k, 399_999);
     match answer {
-        Ran::Done { made, queued } => {
+        Ok(counts) => {
             if number(s, at + 7) != 0 {
                 return false;
             }
             same_state(
-                s, at, made, queued, edges, words, reals, keys, events, vertex,
+                s,
+                at,
+                counts.made,
+                counts.queued,
+                edges,
+                words,
+                reals,
+                keys,
+                events,
+                vertex,
             )
         }
-        Ran::Ended {
-            at: place,
-            number: refusal,
-        } => {
-            if same_refusal(s, at, place, refusal) {
+        Err(ended) => {
+            if same_refusal(s, at, ended.at, refusal_number(ended.refusal)) {
                 return all_zero(edges, words, reals, keys, events, vertex);
             }
             false
@@ -477,35 +471,12 @@ fn list_replays(s: &[u8], k: usize) -> bool
 }
 
 fn replay(s: &[u8]) -> Tally {
-    let end = at_most(s.len() / 4, 400_000);
-    let mut cases: u64 = 0;
-    let mut differences: u64 = 0;
-    let mut k: usize = 0;
-    while k < end {
-        if !list_replays(s, k) {
-            differences += 1;
-        }
-        cases += 1;
-        k += record_size(s, k);
-    }
-    Tally { cases, differences }
-}
-
-// Reads the file of the name into the buffer, replays it and reports.
-fn replay_into(rt: &(impl Files + Print), name: &str, buf: &mut [u8]) -> io::Result<()> {
-    let got = vectors::read_file(rt, name, buf)?;
-    let tally = replay(&buf[..got]);
-    vectors::report(rt, name, tally.cases, tally.differences)
-}
-
-fn replay_file(rt: &(impl Files + Print), name: &str) -> io::Result<()> {
-    let mut buf = [0u8; 524288];
-    replay_into(rt, name, &mut buf)
+    replay_records(s, 0, |k| list_replays(s, k))
 }
 
 fn main(rt: HostRuntime) -> io::Result<()> {
-    replay_file(&rt, "scope")?;
-    replay_file(&rt, "short")?;
-    replay_file(&rt, "long")?;
-    replay_file(&rt, "wild")
+    vectors::replay_file::<524288, _>(&rt, "scope", replay)?;
+    vectors::replay_file::<524288, _>(&rt, "short", replay)?;
+    vectors::replay_file::<524288, _>(&rt, "long", replay)?;
+    vectors::replay_file::<524288, _>(&rt, "wild", replay)
 }

@@ -25,7 +25,7 @@ use Rattle.trim_split.specs.declared.Counts.{Counts}
 use Rattle.trim_split.specs.Running.{End, stopped, at}
 use Rattle.trim_split.proofs.Loops.{WindowSlices, SameWindowSlices, same_refl, same_trans, same_windows, windows_of, snapshot_of, ReadyIn, ready_same}
 use Rattle.trim_visit.specs.declared.Visited.{Visited}
-use Rattle.trim_visit.specs.declared.Visited.TheVariants.{Stopped, Went}
+use Rattle.std.specs.Prelude.{Result, Ok, Err}
 use Rattle.trim_visit.specs.Visiting.{from, Kept, Visits1, VisitsAll}
 use Rattle.trim_visit.proofs.Lists.{visit_grows}
 use Rattle.trim_visit.proofs.Turns.{all_spent, all_end, all_over, all_stop, all_turn}
@@ -53,7 +53,7 @@ module _ (e : ℕ) (t : Float) (w : Window) (s₀ : WindowSlices) (c₀ : Cuts) 
   abbrev size : ℕ
   size = length c₀.pts
 
-  abbrev All : ℕ → WindowSlices → Cuts → ℕ → ℕ → ℕ → ℕ → (limit : Float) (flags : List ℕ) (vertex : List Float) → Visited → End → List Float → Type 0
+  abbrev All : ℕ → WindowSlices → Cuts → ℕ → ℕ → ℕ → ℕ → (limit : Float) (flags : List ℕ) (vertex : List Float) → Result Visited Lack → End → List Float → Type 0
   All left s c made queued last k limit flags vertex = VisitsAll size (windows_of s₀) limit flags e t w (λ zs. length zs ≤ left) (pairs k c.keep) (snapshot_of s made queued last vertex)
 
   pub record VisitsInv (s : WindowSlices) (c : Cuts) (made queued last k left : ℕ) : Type 0 where
@@ -65,10 +65,10 @@ module _ (e : ℕ) (t : Float) (w : Window) (s₀ : WindowSlices) (c₀ : Cuts) 
     pub linked : last ≤ made
     pub few : k ≤ size
     pub grown : made₀ ≤ made
-    pub goal : (limit : Float) (flags : List ℕ) (vertex : List Float) (r : Visited) (end : End) (keep' : List Float) → All left s c made queued last k limit flags vertex r end keep' → All made₀ s₀ c₀ made₀ queued₀ last₀ k₀ limit flags vertex r end keep'
+    pub goal : (limit : Float) (flags : List ℕ) (vertex : List Float) (r : Result Visited Lack) (end : End) (keep' : List Float) → All left s c made queued last k limit flags vertex r end keep' → All made₀ s₀ c₀ made₀ queued₀ last₀ k₀ limit flags vertex r end keep'
 
-  pub visits_start : ReadyIn e made₀ last₀ s₀ → SizesOf c₀ → k₀ ≤ size → VisitsInv s₀ c₀ made₀ queued₀ last₀ k₀ made₀
-  visits_start r z i = record {
+  pub visits_start : (left : ℕ) → left ≡ made₀ → ReadyIn e made₀ last₀ s₀ → SizesOf c₀ → k₀ ≤ size → VisitsInv s₀ c₀ made₀ queued₀ last₀ k₀ left
+  visits_start left is r z i = subst (VisitsInv s₀ c₀ made₀ queued₀ last₀ k₀) (sym is) (record {
     same = same_refl s₀;
     same_cuts = record { keep = refl; pts = refl; out = refl; next = refl };
     sizes = z;
@@ -78,7 +78,7 @@ module _ (e : ℕ) (t : Float) (w : Window) (s₀ : WindowSlices) (c₀ : Cuts) 
     few = i;
     grown = le_refl made₀;
     goal = λ limit flags vertex r end keep' d. d;
-  }
+  })
 
   module _ (s : WindowSlices) (c : Cuts) (now : Counts) (last k left : ℕ) (inv : VisitsInv s c now.made now.queued last k left) where
     abbrev made : ℕ
@@ -97,19 +97,19 @@ module _ (e : ℕ) (t : Float) (w : Window) (s₀ : WindowSlices) (c₀ : Cuts) 
     visits_few = subst (λ (n : ℕ). k ≤ n) (sym inv.same_cuts.pts) inv.few
 
     -- it ends here
-    pub visits_spent : left ≡ 0 → (limit : Float) (flags : List ℕ) (vertex : List Float) → All made₀ s₀ c₀ made₀ queued₀ last₀ k₀ limit flags vertex (Went now last k) (at (snapshot_of s made queued last vertex)) c.keep
-    visits_spent z limit flags vertex = inv.goal limit flags vertex (Went now last k) (at (snapshot_of s made queued last vertex)) c.keep
-        (subst (λ (n : ℕ). All n s c made queued last k limit flags vertex (Went now last k) (at (snapshot_of s made queued last vertex)) c.keep) (sym z)
+    pub visits_spent : left ≡ 0 → (limit : Float) (flags : List ℕ) (vertex : List Float) → All made₀ s₀ c₀ made₀ queued₀ last₀ k₀ limit flags vertex (Ok (record { counts = now; last = last; kept = k })) (at (snapshot_of s made queued last vertex)) c.keep
+    visits_spent z limit flags vertex = inv.goal limit flags vertex (Ok (record { counts = now; last = last; kept = k })) (at (snapshot_of s made queued last vertex)) c.keep
+        (subst (λ (n : ℕ). All n s c made queued last k limit flags vertex (Ok (record { counts = now; last = last; kept = k })) (at (snapshot_of s made queued last vertex)) c.keep) (sym z)
         (all_spent size (windows_of s₀) limit flags e t w (pairs k c.keep) (snapshot_of s made queued last vertex) now k c.keep refl inv.few refl inv.fits inv.linked))
 
     module _ (link : ℕ) (follows : LinkFollows made (links s.edges s.words) e last link) where
-      pub visits_end : link ≡ 0 → (limit : Float) (flags : List ℕ) (vertex : List Float) → All made₀ s₀ c₀ made₀ queued₀ last₀ k₀ limit flags vertex (Went now last k) (at (snapshot_of s made queued last vertex)) c.keep
-      visits_end z limit flags vertex = inv.goal limit flags vertex (Went now last k) (at (snapshot_of s made queued last vertex)) c.keep
+      pub visits_end : link ≡ 0 → (limit : Float) (flags : List ℕ) (vertex : List Float) → All made₀ s₀ c₀ made₀ queued₀ last₀ k₀ limit flags vertex (Ok (record { counts = now; last = last; kept = k })) (at (snapshot_of s made queued last vertex)) c.keep
+      visits_end z limit flags vertex = inv.goal limit flags vertex (Ok (record { counts = now; last = last; kept = k })) (at (snapshot_of s made queued last vertex)) c.keep
           (all_end size (windows_of s₀) limit flags e t w (pairs k c.keep) (snapshot_of s made queued last vertex) now k c.keep refl inv.few refl inv.fits inv.linked left link follows z)
 
       module _ (i : ℕ) (is : link ≡ suc i) (x : WindowRecord) (loads : Loads s.words s.reals i x) where
-        pub visits_over : lt x.win.b0 (w.b1 ⊕ t) ≡ false → (limit : Float) (flags : List ℕ) (vertex : List Float) → All made₀ s₀ c₀ made₀ queued₀ last₀ k₀ limit flags vertex (Went now last k) (at (snapshot_of s made queued last vertex)) c.keep
-        visits_over b limit flags vertex = inv.goal limit flags vertex (Went now last k) (at (snapshot_of s made queued last vertex)) c.keep
+        pub visits_over : lt x.win.b0 (w.b1 ⊕ t) ≡ false → (limit : Float) (flags : List ℕ) (vertex : List Float) → All made₀ s₀ c₀ made₀ queued₀ last₀ k₀ limit flags vertex (Ok (record { counts = now; last = last; kept = k })) (at (snapshot_of s made queued last vertex)) c.keep
+        visits_over b limit flags vertex = inv.goal limit flags vertex (Ok (record { counts = now; last = last; kept = k })) (at (snapshot_of s made queued last vertex)) c.keep
             (all_over size (windows_of s₀) limit flags e t w (pairs k c.keep) (snapshot_of s made queued last vertex) now k c.keep refl inv.few refl inv.fits inv.linked left link follows i is x loads b)
 
         pub visits_inside : i < made
@@ -125,8 +125,8 @@ module _ (e : ℕ) (t : Float) (w : Window) (s₀ : WindowSlices) (c₀ : Cuts) 
               subst (λ (n : ℕ). Visits1 n (windows_of s₀) limit flags e t w (pairs k c.keep) (live_of x i) (snapshot_of s made queued last vertex) (end vertex)) inv.same_cuts.pts
               (subst (λ (n : ℕ). Visits1 (length c.pts) n limit flags e t w (pairs k c.keep) (live_of x i) (snapshot_of s made queued last vertex) (end vertex)) (same_windows s₀ s inv.same) (d limit flags vertex))
 
-          pub visits_stopped : (n : Lack) (keep' : List Float) → OneDoes (λ vertex. stopped (lack_number n)) → (limit : Float) (flags : List ℕ) (vertex : List Float) → All made₀ s₀ c₀ made₀ queued₀ last₀ k₀ limit flags vertex (Stopped n) (stopped (lack_number n)) keep'
-          visits_stopped n keep' d limit flags vertex = inv.goal limit flags vertex (Stopped n) (stopped (lack_number n)) keep'
+          pub visits_stopped : (n : Lack) (keep' : List Float) → OneDoes (λ vertex. stopped (lack_number n)) → (limit : Float) (flags : List ℕ) (vertex : List Float) → All made₀ s₀ c₀ made₀ queued₀ last₀ k₀ limit flags vertex (Err n) (stopped (lack_number n)) keep'
+          visits_stopped n keep' d limit flags vertex = inv.goal limit flags vertex (Err n) (stopped (lack_number n)) keep'
               (all_stop size (windows_of s₀) limit flags e t w (pairs k c.keep) (snapshot_of s made queued last vertex) left link follows i is x loads b n keep' (in_first (λ vertex. stopped (lack_number n)) d limit flags vertex))
 
           pub visits_next : (s' : WindowSlices) (c' : Cuts) (now' : Counts) (last' k' left' : ℕ) → SameWindowSlices s s' → SameCuts c c' → 0 < left → left' ≡ left - 1

@@ -14,17 +14,16 @@ ghost use Rattle.trim_visit.specs.Visiting.{from, visited_end, Keeps, VisitedWit
 
 use buffers::{EdgeId, Lack, WindowId};
 pub use trim_split as of_trim_split;
-use trim_split::of_cut_lists::Met;
 pub use trim_split::of_live_windows as of_live_windows;
-use trim_split::{Counts, Made, of_cut_lists};
+use trim_split::{Counts, of_cut_lists};
 use windows::WindowRecord;
 
-// What there is no slot for; or how many windows and events there are now, the link of the last window that survived, and how many intervals the new
-// window keeps.
+// How many windows and events there are now, the link of the last window that survived, and how many intervals the new window keeps.
 #[derive(Clone, Copy)]
-pub enum Visited {
-    Stopped(Lack),
-    Went(Counts, u32, usize),
+pub struct Visited {
+    pub counts: Counts,
+    pub last: u32,
+    pub kept: usize,
 }
 
 // The new window w, which keeps k intervals, meets window x, of number id.
@@ -46,7 +45,7 @@ fn visit(
     k: usize,
     w: WindowRecord,
     tiny: f64,
-) -> Visited
+) -> Result<Visited, Lack>
     requires { Ready e.0 counts.made before edges.old words.old reals.old
         × ((id.0 < counts.made) × (Sizes (length pts.old) out.old keep.old next.old × (k ≤ length pts.old))) }
     ensures { Keeps (length (given pts)) result (left keep) (Add·visit better_of tiny (live_of w 0) (live_of x id.0) (from (pairs k (given keep)) counts.made))
@@ -60,7 +59,11 @@ fn visit(
     let lo = float64::max(old.b0, new.b0);
     let hi = float64::min(old.b1, new.b1);
     if hi - lo <= tiny {
-        return Visited::Went(counts, id.0 + 1, k);
+        return Ok(Visited {
+            counts,
+            last: id.0 + 1,
+            kept: k,
+        });
     }
     let p = new.src;
     let q = old.src;
@@ -81,19 +84,35 @@ fn visit(
         new.b1 - new.b0,
         old.low,
     );
-    let Met::Left { kept, lost, pieces } = met else {
-        return Visited::Stopped(Lack::Cuts);
+    let Some(shared) = met else {
+        return Err(Lack::Cuts);
     };
-    if lost == 0 {
-        return Visited::Went(counts, id.0 + 1, kept);
+    if shared.lost == 0 {
+        return Ok(Visited {
+            counts,
+            last: id.0 + 1,
+            kept: shared.kept,
+        });
     }
-    let left = trim_split::split_window(
-        edges, words, reals, keys, events, counts, e, before, id, x, next, pieces,
-    );
-    match left {
-        Made::Stopped(lack) => Visited::Stopped(lack),
-        Made::Went(c, last) => Visited::Went(c, last, kept),
-    }
+    let made = trim_split::split_window(
+        edges,
+        words,
+        reals,
+        keys,
+        events,
+        counts,
+        e,
+        before,
+        id,
+        x,
+        next,
+        shared.pieces,
+    )?;
+    Ok(Visited {
+        counts: made.counts,
+        last: made.last,
+        kept: shared.kept,
+    })
 }
 
 // The windows behind a link that start before the new one's end are visited. As many turns as windows are made are enough, whatever the buffers hold.
@@ -113,7 +132,7 @@ pub fn visits(
     k: usize,
     w: WindowRecord,
     tiny: f64,
-) -> Visited
+) -> Result<Visited, Lack>
     requires { Ready e.0 counts.made before edges.old words.old reals.old × (Sizes (length pts.old) out.old keep.old next.old × (k ≤ length pts.old)) }
     ensures { VisitedWithin (length (given pts)) (room_for words reals) counts.made result × ((limit : Float) (flags : List ℕ) (vertex : List Float) →
         VisitsAll (length (given pts)) (room_for words reals) limit flags e.0 tiny (live_of w 0) (λ zs. length zs ≤ counts.made) (pairs k (given keep))
@@ -122,35 +141,27 @@ pub fn visits(
 {
     let new = w.win;
     let end = new.b1 + tiny;
-    let mut now = counts;
-    let mut last = before;
-    let mut kept = k;
-    let mut left = counts.made;
-    while 0 < left {
-        let link = of_live_windows::next_link(edges, words, reals, now.made, e, last);
+    let mut now = Visited {
+        counts,
+        last: before,
+        kept: k,
+    };
+    for _turn in 0..counts.made {
+        let link = of_live_windows::next_link(edges, words, reals, now.counts.made, e, now.last);
         if link == 0 {
-            return Visited::Went(now, last, kept);
+            return Ok(now);
         }
         let id = WindowId(link - 1);
         let x = of_live_windows::load(words, reals, id);
         let old = x.win;
         if old.b0 < end {
-            let visited = visit(
-                edges, words, reals, keys, events, pts, out, keep, next, now, e, last, id, x, kept,
-                w, tiny,
-            );
-            match visited {
-                Visited::Stopped(lack) => return Visited::Stopped(lack),
-                Visited::Went(c, l, j) => {
-                    now = c;
-                    last = l;
-                    kept = j;
-                    left -= 1;
-                }
-            }
+            now = visit(
+                edges, words, reals, keys, events, pts, out, keep, next, now.counts, e, now.last,
+                id, x, now.kept, w, tiny,
+            )?;
         } else {
-            return Visited::Went(now, last, kept);
+            return Ok(now);
         }
     }
-    Visited::Went(now, last, kept)
+    Ok(now)
 }

@@ -21,7 +21,8 @@ use Rattle.advance_c.proofs.laws_of_offers.Walks.{mesh_kept}
 use Rattle.advance_c.specs.of_field_step.Step.{is_empty, idle_of}
 use Rattle.advance_c.specs.of_field_step.Contract.{FieldMesh, FieldStands, FieldEnds}
 use Rattle.advance_c.specs.of_advance.declared.Advanced.{Advanced}
-use Rattle.advance_c.specs.of_advance.declared.Advanced.TheVariants.{Stopped, Went}
+use Rattle.std.specs.declared.result.Result.{Result}
+use Rattle.std.specs.declared.result.Result.TheVariants.{Ok, Err}
 use Rattle.advance_c.specs.of_advance.Advance.{advance_of, steps_of, advance_candidates}
 use Rattle.advance_c.specs.of_advance.Contract.{advanced_end, StepsTold, AdvancesTo}
 use Rattle.advance_c.proofs.laws_of_advance.More.{advance_idle, candidates_idle, steps_idle}
@@ -30,15 +31,15 @@ use Rattle.turns_laws.specs.InTurns.{AsLong}
 use Rattle.turns_laws.proofs.Steps.{advance_then, candidates_then, steps_then, stopped_more, Enough, steps_enough}
 
 -- ---- in the buffers: the answer of the later turns, with the steps of both
-abbrev pub later : ℕ → Advanced → Advanced
-later k (Stopped lack) = Stopped lack
-later k (Went t steps) = Went t (k + steps)
+abbrev pub later : ℕ → Result Advanced Lack → Result Advanced Lack
+later k (Err lack) = Err lack
+later k (Ok a) = Ok (record { counts = a.counts; steps = k + a.steps })
 
 module _ (limit : Float) (n : ℕ) (v : List Float) (buffer vw round : List ℕ) (er : List Float) (tw : List ℕ) (tr : List Float) where
-  abbrev pub Advances : ℕ → Counts → Slices → Cuts → Advanced → Slices → Type 0
+  abbrev pub Advances : ℕ → Counts → Slices → Cuts → Result Advanced Lack → Slices → Type 0
   Advances most counts b c r b' = AdvancesTo limit n most v buffer vw round er tw tr counts b c r b'
 
-  module _ (m₁ m₂ : ℕ) (counts t : Counts) (k : ℕ) (b b₁ : Slices) (c c₁ : Cuts) (long : AsLong b b₁) (pts : length c₁.pts ≡ length c.pts) (A : Advances m₁ counts b c (Went t k) b₁) where
+  module _ (m₁ m₂ : ℕ) (counts t : Counts) (k : ℕ) (b b₁ : Slices) (c c₁ : Cuts) (long : AsLong b b₁) (pts : length c₁.pts ≡ length c.pts) (A : Advances m₁ counts b c (Ok (record { counts = t; steps = k })) b₁) where
     abbrev cuts : ℕ
     cuts = length c.pts
 
@@ -48,7 +49,7 @@ module _ (limit : Float) (n : ℕ) (v : List Float) (buffer vw round : List ℕ)
     same_windows : capacity_of (length b₁.words) (length b₁.reals) ≡ windows
     same_windows = λ i. capacity_of (long.words i) (long.reals i)
 
-    module _ (r : Advanced) (b₂ : Slices) (B : Advances m₂ t b₁ c₁ r b₂)
+    module _ (r : Result Advanced Lack) (b₂ : Slices) (B : Advances m₂ t b₁ c₁ r b₂)
         (triangles : List ℕ) (F : FieldMesh v triangles n buffer b.edges er tw tr vw round) (past : List Candidate) (s : State) (S : FieldStands limit v triangles n past s (snapshot_at counts b)) where
       abbrev first : List Candidate
       first = advance_candidates cuts windows limit vw v triangles m₁ s
@@ -75,26 +76,26 @@ module _ (limit : Float) (n : ℕ) (v : List Float) (buffer vw round : List ℕ)
           append_assoc past first (advance_candidates cuts windows limit vw v triangles m₂ u)
           ∙ ap (λ (l : List Candidate). past ++ l) (sym (candidates_then cuts windows limit vw v triangles m₁ m₂ s u went_u))
 
-    pub advances_then : (r : Advanced) (b₂ : Slices) → Advances m₂ t b₁ c₁ r b₂ → Advances (m₁ + m₂) counts b c (later k r) b₂
-    advances_then (Stopped lack) b₂ B = record {
+    pub advances_then : (r : Result Advanced Lack) (b₂ : Slices) → Advances m₂ t b₁ c₁ r b₂ → Advances (m₁ + m₂) counts b c (later k r) b₂
+    advances_then (Err lack) b₂ B = record {
       bounded = tt;
       advances = λ triangles F past s S. (
-        advance_then cuts windows limit vw v triangles m₁ m₂ s (u (Stopped lack) b₂ B triangles F past s S) (went_u (Stopped lack) b₂ B triangles F past s S) ∙ (turned (Stopped lack) b₂ B triangles F past s S).0,
+        advance_then cuts windows limit vw v triangles m₁ m₂ s (u (Err lack) b₂ B triangles F past s S) (went_u (Err lack) b₂ B triangles F past s S) ∙ (turned (Err lack) b₂ B triangles F past s S).0,
         tt,
       );
     }
-    advances_then (Went t₂ k₂) b₂ B = record {
-      bounded = subst (λ (z : ℕ). t₂.made ≤ z) same_windows B.bounded;
+    advances_then (Ok a₂) b₂ B = record {
+      bounded = subst (λ (z : ℕ). a₂.counts.made ≤ z) same_windows B.bounded;
       advances = λ triangles F past s S.
           let d = A.advances triangles F past s S in
-          let e = turned (Went t₂ k₂) b₂ B triangles F past s S in
-          let w = went_u (Went t₂ k₂) b₂ B triangles F past s S in
+          let e = turned (Ok a₂) b₂ B triangles F past s S in
+          let w = went_u (Ok a₂) b₂ B triangles F past s S in
           let sum = steps_then cuts windows limit vw v triangles m₁ m₂ s d.0.state w in (
             record {
               state = e.0.state;
               is = advance_then cuts windows limit vw v triangles m₁ m₂ s d.0.state w ∙ e.0.is;
-              field = subst (λ (l : List Candidate). FieldStands limit v triangles n l e.0.state (snapshot_at t₂ b₂)) (all_candidates (Went t₂ k₂) b₂ B triangles F past s S) e.0.field;
-              untouched = untouched_then (λ x. Unit {0}) (snapshot_at counts b) (snapshot_at t b₁) (snapshot_at t₂ b₂) d.0.untouched e.0.untouched;
+              field = subst (λ (l : List Candidate). FieldStands limit v triangles n l e.0.state (snapshot_at a₂.counts b₂)) (all_candidates (Ok a₂) b₂ B triangles F past s S) e.0.field;
+              untouched = untouched_then (λ x. Unit {0}) (snapshot_at counts b) (snapshot_at t b₁) (snapshot_at a₂.counts b₂) d.0.untouched e.0.untouched;
             },
             omega (arith, d.1, e.1, sum),
           );
@@ -102,7 +103,7 @@ module _ (limit : Float) (n : ℕ) (v : List Float) (buffer vw round : List ℕ)
 
   -- ---- no event waits
   pub advances_within : (m more : ℕ) (counts t : Counts) (k : ℕ) (b b' : Slices) (c : Cuts) → none_waits b'.keys b'.events t.queued ≡ true
-      → Advances m counts b c (Went t k) b' → Advances (k + more) counts b c (Went t k) b'
+      → Advances m counts b c (Ok (record { counts = t; steps = k })) b' → Advances (k + more) counts b c (Ok (record { counts = t; steps = k })) b'
   advances_within m more counts t k b b' c none A = record {
     bounded = A.bounded;
     advances = λ triangles F past s S.
@@ -128,7 +129,7 @@ module _ (limit : Float) (n : ℕ) (v : List Float) (buffer vw round : List ℕ)
   }
 
   -- no turns
-  pub advances_not : (counts : Counts) (b : Slices) (c : Cuts) → counts.made ≤ capacity_of (length b.words) (length b.reals) → Advances 0 counts b c (Went counts 0) b
+  pub advances_not : (counts : Counts) (b : Slices) (c : Cuts) → counts.made ≤ capacity_of (length b.words) (length b.reals) → Advances 0 counts b c (Ok (record { counts = counts; steps = 0 })) b
   unfolding advance_of advance_candidates steps_of
   advances_not counts b c fits = record {
     bounded = fits;
@@ -144,7 +145,7 @@ module _ (limit : Float) (n : ℕ) (v : List Float) (buffer vw round : List ℕ)
   }
 
   -- ---- a turn was refused
-  pub advances_refused : (m₁ m₂ : ℕ) (counts : Counts) (b : Slices) (c : Cuts) (lack : Lack) (b' : Slices) → Advances m₁ counts b c (Stopped lack) b' → Advances (m₁ + m₂) counts b c (Stopped lack) b'
+  pub advances_refused : (m₁ m₂ : ℕ) (counts : Counts) (b : Slices) (c : Cuts) (lack : Lack) (b' : Slices) → Advances m₁ counts b c (Err lack) b' → Advances (m₁ + m₂) counts b c (Err lack) b'
   advances_refused m₁ m₂ counts b c lack b' A = record {
     bounded = tt;
     advances = λ triangles F past s S. (

@@ -26,13 +26,15 @@ use Rattle.advance_c.specs.of_trim_split.declared.Counts.{Counts}
 use Rattle.advance_c.specs.of_trim.Buffers.{Slices}
 use Rattle.compute.specs.of_begin.Begin.{WorkSlices, work_slices}
 use Rattle.advance_c.specs.of_insertion.declared.InsertCounts.{InsertCounts}
-use Rattle.insert_c.specs.of_insert_job.declared.InsertedJob.{InsertedJob}
-use Rattle.insert_c.specs.of_insert_job.declared.InsertedJob.TheVariants as job
+use Rattle.buffers.specs.declared.Lack.{Lack}
+use Rattle.insert_c.specs.of_insert_job.declared.InsertRefusal.{InsertRefusal}
+use Rattle.std.specs.declared.result.Result.{Result}
+use Rattle.insert_c.specs.of_insert_job.declared.InsertRefusal.TheVariants.{Wedge, NoSlot}
+use Rattle.std.specs.declared.result.Result.TheVariants.{Ok, Err}
 use Rattle.insert_c.specs.of_insert_job.Field.{entry_slices}
 use Rattle.insert_c.specs.of_insert_job.Job.{JobWithin}
 use Rattle.insert_c.proofs.laws_of_insert_job.Begun.{checked}
 use Rattle.advance_c.specs.of_advance.declared.Advanced.{Advanced}
-use Rattle.advance_c.specs.of_advance.declared.Advanced.TheVariants.{Stopped, Went}
 use Rattle.advance_c.specs.of_advance.Contract.{AdvancesTo}
 use Rattle.compute.specs.of_run_steps.declared.FieldWork.{FieldWork}
 use Rattle.compute.specs.of_run_steps.declared.FieldWork.TheVariants.{Refused, Done}
@@ -147,7 +149,7 @@ module _ (j : Job) (b : FieldBuffers) (rows : RowsBeside b) where
           I.long.edges
           ∙ sym (ap (λ (m : MeshBuffers). length m.edge_words_held) (built_is j (other_counts b) I.answers.answer b.mesh built answered passed_over) ∙ length_filled j.vertices j.triangles j.flags b.mesh)
 
-      abbrev Ran : ℕ → InsertedJob → FieldWork → Slices → Type 0
+      abbrev Ran : ℕ → Result InsertCounts InsertRefusal → FieldWork → Slices → Type 0
       Ran most i w z =
           RunsTo j.limit (vertex_count j) most j.vertices j.triangles built.vertex_words_held built.round built.edge_reals_held m₁.triangle_words_held built.triangle_reals
           (slices_inserted j b m₁ s₁ told₁) cut i w z
@@ -166,16 +168,16 @@ module _ (j : Job) (b : FieldBuffers) (rows : RowsBeside b) where
           ((worked most (Refused k) z R).works j.flags (other_counts b) I.answers.answer b.mesh answered passed_over (omega arith)))
 
       -- ---- insertion was refused
-      stopped_by : (most : ℕ) (i : InsertedJob) → In.answer ≡ i → (r, told₁) ≡ insert_told edge_count i I.lent → 0 < r → compute_over queue_in_order j b most ≡ refused r
+      stopped_by : (most : ℕ) (i : Result InsertCounts InsertRefusal) → In.answer ≡ i → (r, told₁) ≡ insert_told edge_count i I.lent → 0 < r → compute_over queue_in_order j b most ≡ refused r
       unfolding insert_told
-      stopped_by most job.Wedge is e some =
+      stopped_by most (Err Wedge) is e some =
           let number : r ≡ 11 = ap (λ (p : ℕ × List ℕ). p.0) e in
-          work_refused most r (slices_inserted j b m₁ s₁ told₁) (subst (λ (i : InsertedJob). Ran most i (Refused r) (slices_inserted j b m₁ s₁ told₁)) (sym is) (record { bounded = omega (arith, number); runs = ap Refused number }))
-      stopped_by most (job.Stopped lack) is e some =
+          work_refused most r (slices_inserted j b m₁ s₁ told₁) (subst (λ (i : Result InsertCounts InsertRefusal). Ran most i (Refused r) (slices_inserted j b m₁ s₁ told₁)) (sym is) (record { bounded = omega (arith, number); runs = ap Refused number }))
+      stopped_by most (Err (NoSlot lack)) is e some =
           let number : r ≡ lack_number lack = ap (λ (p : ℕ × List ℕ). p.0) e in
           work_refused most r (slices_inserted j b m₁ s₁ told₁)
-          (subst (λ (i : InsertedJob). Ran most i (Refused r) (slices_inserted j b m₁ s₁ told₁)) (sym is) (record { bounded = subst (λ (z : ℕ). 9 < z) (sym number) (lack_above lack); runs = ap Refused number }))
-      stopped_by most (job.Went n) is e some = let number : r ≡ 0 = ap (λ (p : ℕ × List ℕ). p.0) e in absurd (omega (arith, number, some))
+          (subst (λ (i : Result InsertCounts InsertRefusal). Ran most i (Refused r) (slices_inserted j b m₁ s₁ told₁)) (sym is) (record { bounded = subst (λ (z : ℕ). 9 < z) (sym number) (lack_above lack); runs = ap Refused number }))
+      stopped_by most (Ok n) is e some = let number : r ≡ 0 = ap (λ (p : ℕ × List ℕ). p.0) e in absurd (omega (arith, number, some))
 
     -- refused by r, whatever the budget is
     pub insertion_refused : (r : ℕ) → 0 < r → InsertCalled j b m₁ s₁ told₁ r → (most : ℕ) → compute_over queue_in_order j b most ≡ refused r
@@ -197,15 +199,15 @@ module _ (j : Job) (b : FieldBuffers) (rows : RowsBeside b) where
 
       pub record Told : Type 0 where
         pub counts : InsertCounts
-        pub is : (In 0 I passed).answer ≡ job.Went counts
+        pub is : (In 0 I passed).answer ≡ Ok counts
         pub trim : counts_inserted told₁ ≡ counts.trim
         pub edge_count_held : get_or told₁ 0 0 ≡ edge_count
 
-      told_of : (i : InsertedJob) → (In 0 I passed).answer ≡ i → (0, told₁) ≡ insert_told edge_count i I.lent → Told
+      told_of : (i : Result InsertCounts InsertRefusal) → (In 0 I passed).answer ≡ i → (0, told₁) ≡ insert_told edge_count i I.lent → Told
       unfolding insert_told
-      told_of job.Wedge is e = let z : ◌≡◌ {A = ℕ} 0 11 = ap (λ (p : ℕ × List ℕ). p.0) e in absurd (omega (arith, z))
-      told_of (job.Stopped lack) is e = let z : 0 ≡ lack_number lack = ap (λ (p : ℕ × List ℕ). p.0) e in absurd (omega (arith, z, lack_above lack))
-      told_of (job.Went n) is e =
+      told_of (Err Wedge) is e = let z : ◌≡◌ {A = ℕ} 0 11 = ap (λ (p : ℕ × List ℕ). p.0) e in absurd (omega (arith, z))
+      told_of (Err (NoSlot lack)) is e = let z : 0 ≡ lack_number lack = ap (λ (p : ℕ × List ℕ). p.0) e in absurd (omega (arith, z, lack_above lack))
+      told_of (Ok n) is e =
           let l : told₁ ≡ set (set (set (set I.lent 0 edge_count) 1 n.trim.made) 2 n.trim.queued) 3 n.entries = ap (λ (p : ℕ × List ℕ). p.1) e in
           record { counts = n; is = is; trim = counts_inserted_lem I.lent told₁ I.four edge_count n l; edge_count_held = edges_inserted I.lent told₁ I.four edge_count n l }
 
@@ -222,19 +224,19 @@ module _ (j : Job) (b : FieldBuffers) (rows : RowsBeside b) where
           (subst (λ (z : ℕ). T.counts.trim.made ≤ z) (λ i. capacity_of (sym I.long.words i) (sym I.long.reals i))
           (subst (JobWithin (capacity_of (length b.words) (length b.reals))) T.is (In 0 I passed).inserts.bounded))
 
-      abbrev Advanced₁ : ℕ → Advanced → Slices → Type 0
+      abbrev Advanced₁ : ℕ → Result Advanced Lack → Slices → Type 0
       Advanced₁ most a z =
           AdvancesTo j.limit (vertex_count j) most j.vertices j.triangles m₁.vertex_words_held m₁.round m₁.edge_reals_held m₁.triangle_words_held m₁.triangle_reals (counts_inserted told₁) at_first cut a z
 
-      abbrev AdvancedIn : MeshBuffers → Counts → ℕ → Advanced → Slices → Type 0
+      abbrev AdvancedIn : MeshBuffers → Counts → ℕ → Result Advanced Lack → Slices → Type 0
       AdvancedIn m counts most a z =
           AdvancesTo j.limit (vertex_count j) most j.vertices j.triangles m.vertex_words_held m.round m.edge_reals_held m.triangle_words_held m.triangle_reals counts at_first cut a z
 
       -- the main loop, from the turns
-      ran : (most : ℕ) (a : Advanced) (z : Slices) (w : FieldWork) → w ≡ work_answer z.keys z.events T.counts.entries a → Advanced₁ most a z → Ran 0 I passed most (In 0 I passed).answer w z
+      ran : (most : ℕ) (a : Result Advanced Lack) (z : Slices) (w : FieldWork) → w ≡ work_answer z.keys z.events T.counts.entries a → Advanced₁ most a z → Ran 0 I passed most (In 0 I passed).answer w z
       ran most a z w is A =
           let m = built 0 I passed in
-          subst (λ (i : InsertedJob). Ran 0 I passed most i w z) (sym T.is)
+          subst (λ (i : Result InsertCounts InsertRefusal). Ran 0 I passed most i w z) (sym T.is)
           (run_answer j.limit (vertex_count j) most j.vertices j.triangles m.vertex_words_held m.round m.edge_reals_held m₁.triangle_words_held m.triangle_reals at_first cut T.counts a z w is
           (subst (λ (x : MeshBuffers). AdvancedIn x T.counts.trim most a z) (In 0 I passed).kept (subst (λ (c : Counts). AdvancedIn m₁ c most a z) T.trim A)))
 
@@ -245,7 +247,10 @@ module _ (j : Job) (b : FieldBuffers) (rows : RowsBeside b) where
         abbrev counts : Counts
         counts = last_counts (counts_inserted told₁) ks
 
-        all_turns : Advanced₁ (turns_asked ks) (Went counts (steps_of_calls ks)) z
+        abbrev turned : Advanced
+        turned = record { counts = counts; steps = steps_of_calls ks }
+
+        all_turns : Advanced₁ (turns_asked ks) (Ok turned) z
         all_turns =
             calls_advance j.limit (vertex_count j) j.vertices j.triangles m₁.vertex_words_held m₁.round m₁.edge_reals_held m₁.triangle_words_held m₁.triangle_reals (cut_count b.cuts) cut cut_length
             (counts_inserted told₁) at_first ks fits C
@@ -256,7 +261,7 @@ module _ (j : Job) (b : FieldBuffers) (rows : RowsBeside b) where
             let stop = calls_stopped j.limit (vertex_count j) j.vertices j.triangles m₁.vertex_words_held m₁.round m₁.edge_reals_held m₁.triangle_words_held m₁.triangle_reals (cut_count b.cuts) cut cut_length
             (counts_inserted told₁) at_first ks k r fits C some other D in
             work_refused 0 I passed ((turns_asked ks + k.most) + more) r k.left
-            (ran ((turns_asked ks + k.most) + more) (Stopped stop.lack) k.left (Refused r) (ap Refused stop.number)
+            (ran ((turns_asked ks + k.most) + more) (Err stop.lack) k.left (Refused r) (ap Refused stop.number)
             (advances_refused j.limit (vertex_count j) j.vertices j.triangles m₁.vertex_words_held m₁.round m₁.edge_reals_held m₁.triangle_words_held m₁.triangle_reals
             (turns_asked ks + k.most) more (counts_inserted told₁) at_first cut stop.lack k.left stop.advances))
 
@@ -265,7 +270,7 @@ module _ (j : Job) (b : FieldBuffers) (rows : RowsBeside b) where
         turns_spent some few =
             let waits : none_waits z.keys z.events counts.queued ≡ false = sym (one_waits (queue z.keys z.events) counts.queued some few) in
             work_refused 0 I passed (turns_asked ks) 15 z
-            (ran (turns_asked ks) (Went counts (steps_of_calls ks)) z (Refused 15) (after_spent z.keys z.events T.counts.entries (Went counts (steps_of_calls ks)) counts (steps_of_calls ks) refl waits) all_turns)
+            (ran (turns_asked ks) (Ok turned) z (Refused 15) (after_spent z.keys z.events T.counts.entries (Ok turned) turned refl waits) all_turns)
 
         -- ---- no event waits, and the field is finished
         module _ (z' : Slices) (c' : Cuts) (E : Finishing j b m₁ s₁ told₁ ks z' c') (idle : counts.queued ≡ 0) where
@@ -287,7 +292,7 @@ module _ (j : Job) (b : FieldBuffers) (rows : RowsBeside b) where
           done = Done (record { trim = counts; entries = T.counts.entries }) (steps_of_calls ks)
 
           -- as many turns as there were steps, or more
-          enough : (more : ℕ) → Advanced₁ (steps_of_calls ks + more) (Went counts (steps_of_calls ks)) z
+          enough : (more : ℕ) → Advanced₁ (steps_of_calls ks + more) (Ok turned) z
           enough more =
               advances_within j.limit (vertex_count j) j.vertices j.triangles m₁.vertex_words_held m₁.round m₁.edge_reals_held m₁.triangle_words_held m₁.triangle_reals
               (turns_asked ks) more (counts_inserted told₁) counts (steps_of_calls ks) at_first z cut none all_turns
@@ -311,7 +316,7 @@ module _ (j : Job) (b : FieldBuffers) (rows : RowsBeside b) where
               makes_field edge_count j.vertices j.triangles j.kinds j.faces j.coords j.limit m (work_slices_in b) b.cuts (steps_of_calls ks + more) 0 (omega arith) (cut_count b.cuts) refl done
               s₁.piece_words s₁.piece_reals z (entry_slices m₁ s₁) E.cuts z' c'
               (worked 0 I passed (steps_of_calls ks + more) done z
-              (ran (steps_of_calls ks + more) (Went counts (steps_of_calls ks)) z done (after_done z.keys z.events T.counts.entries (Went counts (steps_of_calls ks)) counts (steps_of_calls ks) refl none) (enough more)))
+              (ran (steps_of_calls ks + more) (Ok turned) z done (after_done z.keys z.events T.counts.entries (Ok turned) turned refl none) (enough more)))
               (record {
                 words = long.words ∙ I.long.words;
                 reals = long.reals ∙ I.long.reals;

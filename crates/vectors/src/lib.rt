@@ -1,7 +1,7 @@
 // Reading stored cases, comparing floats with them and reporting, for the programs that replay files of cases.
 #![tactic(auto)]
 
-ghost use Rattle.std.specs.Prelude.{◌≡◌, ◌+◌, ◌*◌, ◌≤◌, length};
+ghost use Rattle.std.specs.Prelude.{◌≡◌, ◌+◌, ◌*◌, ◌^◌, ◌<◌, ◌≤◌, length};
 ghost use Rattle.std.specs.Float.{binary64};
 ghost use Rattle.std.specs.Float.Ieee.{of_bits, to_bits};
 ghost use Rattle.std.specs.Io.{ReadsAtMost};
@@ -77,10 +77,8 @@ pub fn print_word(rt: &impl Print, n: u64) -> io::Result<()> {
 pub fn print_words(rt: &impl Print, s: &[u8], k: usize, n: usize) -> io::Result<()>
     requires { 8 * (k + n) ≤ length s.now }
 {
-    let mut i: usize = 0;
-    while i < n {
+    for i in 0..n {
         print_word(rt, word(s, k + i))?;
-        i += 1;
     }
     Ok(())
 }
@@ -118,4 +116,18 @@ pub fn read_file(rt: &impl Files, name: &str, buf: &mut [u8]) -> io::Result<usiz
 // Prints a line that says how many cases a file has and how many of them differ.
 pub fn report(rt: &impl Print, name: &str, cases: u64, differences: u64) -> io::Result<()> {
     println!(rt; "{name}: {cases} cases, {differences} differences")
+}
+
+// Reads the file of the name, as much as N bytes hold, replays it and prints its line.
+pub fn replay_file<const N: usize, F: FnOnce(&[u8]) -> Tally>(
+    rt: &(impl Files + Print),
+    name: &str,
+    replay: F,
+) -> io::Result<()>
+    requires { (N < 2 ^ 32) × F.IsAlwaysCallable replay }
+{
+    let mut buf = [0u8; N];
+    let got = read_file(rt, name, &mut buf)?;
+    let tally = replay(&buf[..got]);
+    report(rt, name, tally.cases, tally.differences)
 }

@@ -106,8 +106,7 @@ pub fn any_wedge(
         triangles.now kinds.now faces.now coords.now words.now }
 {
     let pieces = kinds.len() as u32;
-    let mut e: u32 = 0;
-    while e < 2 * pieces {
+    for e in 0..(2 * pieces) {
         if wedge_at(
             vertices,
             edge_words,
@@ -125,7 +124,6 @@ pub fn any_wedge(
         ) {
             return true;
         }
-        e += 1;
     }
     false
 }

@@ -18,11 +18,13 @@ use Rattle.computed.specs.declared.Computed.{Computed}
 use Rattle.computed.specs.declared.Computed.TheVariants.{Refused, Field as isField}
 use Rattle.computed.specs.declared.Field.{Field}
 use Rattle.query_rows.specs.of_field_check.FieldCheck.{JobSlices, FieldSlices, field_unsound}
-use Rattle.query_rows.specs.of_queries.declared.WindowAnswer.{WindowAnswer}
-use Rattle.query_rows.specs.of_queries.declared.WindowAnswer.TheVariants as window
+use Rattle.std.specs.declared.result.Result.{Result}
+use Rattle.std.specs.declared.result.Result.TheVariants.{Ok, Err}
+use Rattle.query_rows.specs.of_queries.declared.ListedWindow.{ListedWindow}
+use Rattle.query_rows.specs.of_queries.declared.WindowRefusal.{WindowRefusal}
 use Rattle.query_rows.specs.of_queries.Answers.{window_answer_number}
 use Rattle.query_rows.specs.of_queries.Queries.{window_query}
-use Rattle.query_rows.specs.declared.RowAnswer.TheVariants.{NoField, ShortRow, Answered}
+use Rattle.query_rows.specs.declared.RowRefusal.TheVariants.{NoField, ShortRow}
 use Rattle.query_rows.specs.Rows.{row_number, elements, short_for}
 use Rattle.open_rows.specs.Written.{written_row}
 use Rattle.query_rows.proofs.Elements.{both_long, behind_test}
@@ -31,23 +33,17 @@ use Rattle.window_rows.specs.WindowRows.{WindowResult, window_id, words_put, rea
 use Rattle.window_rows.proofs.Stored.{words_row, reals_row, still_there}
 
 -- the window that a slot shows after an answer: the answer's, or the one that was there
-abbrev pub shown : WindowAnswer → WindowRecord → WindowRecord
-shown window.NoField u = u
-shown window.MissingEdge u = u
-shown window.PastEnd u = u
-shown (window.Window x) u = x.window
+abbrev pub shown : Result ListedWindow WindowRefusal → WindowRecord → WindowRecord
+shown (Ok x) u = x.window
+shown (Err r) u = u
 
-put_same : (a : WindowAnswer) (w : List ℕ) (f : List Float) (k : ℕ) → k < capacity_of (length w) (length f) → window_at (words_put a k w) (reals_put a k f) k ≡ shown a (window_at w f k)
-put_same window.NoField w f k h = refl
-put_same window.MissingEdge w f k h = refl
-put_same window.PastEnd w f k h = refl
-put_same (window.Window x) w f k h = let c = counted k (length w) (length f) h in load_same w f k x.window c.0 c.1
+put_same : (a : Result ListedWindow WindowRefusal) (w : List ℕ) (f : List Float) (k : ℕ) → k < capacity_of (length w) (length f) → window_at (words_put a k w) (reals_put a k f) k ≡ shown a (window_at w f k)
+put_same (Err r) w f k h = refl
+put_same (Ok x) w f k h = let c = counted k (length w) (length f) h in load_same w f k x.window c.0 c.1
 
-put_other : (a : WindowAnswer) (w : List ℕ) (f : List Float) (k j : ℕ) → k ≢ j → window_at (words_put a k w) (reals_put a k f) j ≡ window_at w f j
-put_other window.NoField w f k j h = refl
-put_other window.MissingEdge w f k j h = refl
-put_other window.PastEnd w f k j h = refl
-put_other (window.Window x) w f k j h = load_other w f k x.window j h
+put_other : (a : Result ListedWindow WindowRefusal) (w : List ℕ) (f : List Float) (k j : ℕ) → k ≢ j → window_at (words_put a k w) (reals_put a k f) j ≡ window_at w f j
+put_other (Err r) w f k j h = refl
+put_other (Ok x) w f k j h = load_other w f k x.window j h
 
 module _ (n : Field) (b : FieldSlices) (edges places : List ℕ) (w : List ℕ) (f : List Float) where
   abbrev words : ℕ → List ℕ
@@ -75,15 +71,15 @@ module _ (n : Field) (b : FieldSlices) (edges places : List ℕ) (w : List ℕ) 
 -- ---- the row
 module _ (numbers ids : List ℕ) (w : List ℕ) (f : List Float) (M I W : List ℕ) (R : List Float) where
   abbrev refusable : Bool → Bool → Bool → WindowResult
-  refusable s t u = cond s (window_result NoField numbers ids w f) (cond t (window_result ShortRow numbers ids w f) (cond u (window_result ShortRow numbers ids w f) (window_result Answered M I W R)))
+  refusable s t u = cond s (window_result (Err NoField) numbers ids w f) (cond t (window_result (Err ShortRow) numbers ids w f) (cond u (window_result (Err ShortRow) numbers ids w f) (window_result (Ok tt) M I W R)))
 
-  whole : (s t u : Bool) → (refusable s t u).answer ≡ Answered → refusable s t u ≡ window_result Answered M I W R
+  whole : (s t u : Bool) → (refusable s t u).answer ≡ Ok tt → refusable s t u ≡ window_result (Ok tt) M I W R
   whole true t u a = absurd (omega (arith, ap row_number a))
   whole false true u a = absurd (omega (arith, ap row_number a))
   whole false false true a = absurd (omega (arith, ap row_number a))
   whole false false false a = refl
 
-  passed : (s t u : Bool) → (refusable s t u).answer ≡ Answered → (s ≡ false) × ((t ≡ false) × (u ≡ false))
+  passed : (s t u : Bool) → (refusable s t u).answer ≡ Ok tt → (s ≡ false) × ((t ≡ false) × (u ≡ false))
   passed true t u a = absurd (omega (arith, ap row_number a))
   passed false true u a = absurd (omega (arith, ap row_number a))
   passed false false true a = absurd (omega (arith, ap row_number a))
@@ -91,7 +87,7 @@ module _ (numbers ids : List ℕ) (w : List ℕ) (f : List Float) (M I W : List 
 
 module _ (j : JobSlices) (b : FieldSlices) (numbers ids w : List ℕ) (f : List Float) where
   -- of question k: its number, its window's number, and the window in slot k
-  pub window_element : (c : Computed) (edges places : List ℕ) → let r = window_row j b numbers ids w f c edges places in r.answer ≡ Answered → (k : ℕ) → k < elements edges
+  pub window_element : (c : Computed) (edges places : List ℕ) → let r = window_row j b numbers ids w f c edges places in r.answer ≡ Ok tt → (k : ℕ) → k < elements edges
       → let a = window_query j b c (get_or edges k 0) (get_or places k 0) in
       (get_or r.numbers k 0 ≡ window_answer_number a) × ((get_or r.ids k 0 ≡ window_id a) × (window_at r.words r.reals k ≡ shown a (window_at w f k)))
   unfolding window_row window_query
@@ -114,6 +110,6 @@ module _ (j : JobSlices) (b : FieldSlices) (numbers ids w : List ℕ) (f : List 
         ap (λ (r : WindowResult). get_or r.numbers k 0) z ∙ m ∙ behind_test window_answer_number s _ _ p.0,
         (
           ap (λ (r : WindowResult). get_or r.ids k 0) z ∙ i ∙ behind_test window_id s _ _ p.0,
-          ap (λ (r : WindowResult). window_at r.words r.reals k) z ∙ v ∙ behind_test (λ (a : WindowAnswer). shown a (window_at w f k)) s _ _ p.0,
+          ap (λ (r : WindowResult). window_at r.words r.reals k) z ∙ v ∙ behind_test (λ (a : Result ListedWindow WindowRefusal). shown a (window_at w f k)) s _ _ p.0,
         ),
       )

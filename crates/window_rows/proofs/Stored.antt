@@ -11,9 +11,11 @@ use Rattle.buffers.proofs.Strides.{length_fill}
 use Rattle.windows.specs.Windows.{capacity_of, words_with, reals_with}
 use Rattle.computed.specs.declared.Field.{Field}
 use Rattle.query_rows.specs.of_field_check.FieldCheck.{FieldSlices}
-use Rattle.query_rows.specs.of_queries.declared.WindowAnswer.{WindowAnswer}
-use Rattle.query_rows.specs.of_queries.declared.WindowAnswer.TheVariants as window
-use Rattle.query_rows.specs.declared.RowAnswer.{RowAnswer}
+use Rattle.std.specs.declared.result.Result.{Result}
+use Rattle.std.specs.declared.result.Result.TheVariants.{Ok, Err}
+use Rattle.query_rows.specs.of_queries.declared.ListedWindow.{ListedWindow}
+use Rattle.query_rows.specs.of_queries.declared.WindowRefusal.{WindowRefusal}
+use Rattle.query_rows.specs.declared.RowRefusal.{RowRefusal}
 use Rattle.window_rows.specs.WindowRows.{words_put, reals_put, stored_row, window_asked, window_words_of, window_reals_of, window_result}
 
 module _ {A : Type 0} (put : ℕ → List A → List A) (l : List A) where
@@ -33,19 +35,15 @@ module _ {A : Type 0} (put : ℕ → List A → List A) (l : List A) where
   pub stored_count : (l' : List A) (c d : ℕ) → l' ≡ stored_row put c l → c ≡ d → l' ≡ stored_row put d l
   stored_count l' c d h e = h ∙ ap (λ (k : ℕ). stored_row put k l) e
 
-words_length : (a : WindowAnswer) (k : ℕ) (w : List ℕ) → length (words_put a k w) ≡ length w
+words_length : (a : Result ListedWindow WindowRefusal) (k : ℕ) (w : List ℕ) → length (words_put a k w) ≡ length w
 unfolding words_with
-words_length window.NoField k w = refl
-words_length window.MissingEdge k w = refl
-words_length window.PastEnd k w = refl
-words_length (window.Window x) k w = length_fill words_per_window _ w k 0
+words_length (Err r) k w = refl
+words_length (Ok x) k w = length_fill words_per_window _ w k 0
 
-reals_length : (a : WindowAnswer) (k : ℕ) (f : List Float) → length (reals_put a k f) ≡ length f
+reals_length : (a : Result ListedWindow WindowRefusal) (k : ℕ) (f : List Float) → length (reals_put a k f) ≡ length f
 unfolding reals_with
-reals_length window.NoField k f = refl
-reals_length window.MissingEdge k f = refl
-reals_length window.PastEnd k f = refl
-reals_length (window.Window x) k f = length_fill reals_per_window _ f k 0
+reals_length (Err r) k f = refl
+reals_length (Ok x) k f = length_fill reals_per_window _ f k 0
 
 module _ (n : Field) (b : FieldSlices) (edges places : List ℕ) (k : ℕ) where
   pub words_row : (w w' : List ℕ) → w' ≡ stored_row (window_words_of n b edges places) k w → length w' ≡ length w
@@ -58,5 +56,5 @@ module _ (n : Field) (b : FieldSlices) (edges places : List ℕ) (k : ℕ) where
 pub still_there : (i c m m' n n' : ℕ) → i < c → c ≤ capacity_of m n → m' ≡ m → n' ≡ n → i < capacity_of m' n'
 still_there i c m m' n n' h k e d = rw (e, d) (omega (arith, h, k))
 
-pub result_is : (r : RowAnswer) (ns ns' is is' w w' : List ℕ) (f f' : List Float) → ns ≡ ns' → is ≡ is' → w ≡ w' → f ≡ f' → window_result r ns is w f ≡ window_result r ns' is' w' f'
+pub result_is : (r : Result (Unit {0}) RowRefusal) (ns ns' is is' w w' : List ℕ) (f f' : List Float) → ns ≡ ns' → is ≡ is' → w ≡ w' → f ≡ f' → window_result r ns is w f ≡ window_result r ns' is' w' f'
 result_is r ns ns' is is' w w' f f' a b c d = λ i. window_result r (a i) (b i) (c i) (d i)

@@ -17,20 +17,15 @@ use computed::{Computed, Field};
 use layout::{REALS_PER_WINDOW, WORDS_PER_WINDOW};
 pub use query_rows as of_query_rows;
 pub use query_rows::of_queries as of_queries;
-use query_rows::of_queries::WindowAnswer;
-use query_rows::{RowAnswer, of_field_check};
+use query_rows::of_queries::{ListedWindow, WindowRefusal};
+use query_rows::{RowRefusal, of_field_check};
 
-fn window_id(answer: WindowAnswer) -> u32
+fn window_id(answer: Result<ListedWindow, WindowRefusal>) -> u32
     ensures { result ≡ window_id answer }
 {
     match answer {
-        WindowAnswer::NoField => 0,
-        WindowAnswer::MissingEdge => 0,
-        WindowAnswer::PastEnd => 0,
-        WindowAnswer::Window(listed) => {
-            let id = listed.id;
-            id.0
-        }
+        Ok(listed) => listed.id.0,
+        Err(_) => 0,
     }
 }
 
@@ -38,18 +33,13 @@ fn put_window(
     window_words: &mut [u32],
     window_reals: &mut [f64],
     slot: WindowId,
-    answer: WindowAnswer,
+    answer: Result<ListedWindow, WindowRefusal>,
 )
     requires { slot.0 < capacity_of (length window_words.old) (length window_reals.old) }
     ensures { (left window_words ≡ words_put answer slot.0 (given window_words)) × (left window_reals ≡ reals_put answer slot.0 (given window_reals)) }
 {
-    match answer {
-        WindowAnswer::NoField => {}
-        WindowAnswer::MissingEdge => {}
-        WindowAnswer::PastEnd => {}
-        WindowAnswer::Window(listed) => {
-            windows::store(window_words, window_reals, slot, listed.window);
-        }
+    if let Ok(listed) = answer {
+        windows::store(window_words, window_reals, slot, listed.window);
     }
 }
 
@@ -85,8 +75,7 @@ fn answer_windows(
         (field_slices edge_words.now edge_reals.now triangle_words.now triangle_reals.now vertex.now words.now reals.now entry_words.now) edges.now
         places.now) count (given window_reals) }
 {
-    let mut i: u32 = 0;
-    while i < count {
+    for i in 0..count {
         let e = EdgeId(read_u32(edges, 1, i, 0));
         let place = read_u32(places, 1, i, 0);
         let answer = of_queries::window_answer(
@@ -107,7 +96,6 @@ fn answer_windows(
         let id = window_id(answer);
         write_u32(ids, 1, i, 0, id);
         put_window(window_words, window_reals, WindowId(i), answer);
-        i += 1;
     }
 }
 
@@ -133,14 +121,14 @@ pub fn windows_at(
     ids: &mut [u32],
     window_words: &mut [u32],
     window_reals: &mut [f64],
-) -> RowAnswer
+) -> Result<(), RowRefusal>
     ensures { window_result result (left numbers) (left ids) (left window_words) (left window_reals) ≡ window_row
         (job_slices vertices.now triangles.now kinds.now faces.now coords.now)
         (field_slices edge_words.now edge_reals.now triangle_words.now triangle_reals.now vertex.now words.now reals.now entry_words.now) (given numbers)
         (given ids) (given window_words) (given window_reals) computed edges.now places.now }
 {
     let Computed::Field(n) = computed else {
-        return RowAnswer::NoField;
+        return Err(RowRefusal::NoField);
     };
     if of_field_check::is_unsound(
         n,
@@ -158,14 +146,14 @@ pub fn windows_at(
         reals,
         entry_words,
     ) {
-        return RowAnswer::NoField;
+        return Err(RowRefusal::NoField);
     }
     let count = slots(edges.len(), 1);
     let others = slots(places.len(), 1);
     let room = slots(numbers.len(), 1);
     let rest = slots(ids.len(), 1);
     if query_rows::short_for(count, others, room, rest) {
-        return RowAnswer::ShortRow;
+        return Err(RowRefusal::ShortRow);
     }
     let held = buffers::count(
         window_words.len(),
@@ -174,7 +162,7 @@ pub fn windows_at(
         REALS_PER_WINDOW,
     );
     if held < count {
-        return RowAnswer::ShortRow;
+        return Err(RowRefusal::ShortRow);
     }
     answer_windows(
         n,
@@ -194,5 +182,5 @@ pub fn windows_at(
         window_words,
         window_reals,
     );
-    RowAnswer::Answered
+    Ok(())
 }

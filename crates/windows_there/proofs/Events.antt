@@ -11,10 +11,10 @@ use lib.Ieee.{Float, lt, le}
 use Rattle.heap.specs.declared.Event.{Event}
 use Rattle.heap.specs.declared.Item.{Item}
 use Rattle.heap.specs.declared.Item.TheVariants.{Window as Item-as-Window, Vertex as Item-as-Vertex}
-use Rattle.heap.specs.declared.Pushed.TheVariants.{Full, Queued}
-use Rattle.heap.specs.declared.Popped.{Popped}
-use Rattle.heap.specs.declared.Popped.TheVariants.{Empty, First}
-use Rattle.heap.specs.Queue.{Queue, at, slots, pushed, popped, pushing, popping}
+use Rattle.std.specs.Prelude.{Err, Ok}
+use Rattle.buffers.specs.declared.Lack.TheVariants.{Events}
+use Rattle.std.specs.Prelude.{None, Some}
+use Rattle.heap.specs.Queue.{Queue, at, slots, pushed, popped, pushing, popping, Popped}
 use Rattle.heap.specs.Model.{weight_of}
 use Rattle.heap.proofs.HeapOrder.{pop_weight}
 use Rattle.heap.proofs.SameAnswers.{has_slots, push_adds}
@@ -78,7 +78,7 @@ module _ (n : ℕ) where
   push_quiet : (made : ℕ) (vertex : List Float) (q : Queue) (m : ℕ) (e : Event) → ItemThere Below e.item → weight m q ≡ 0 → Quiet (queueing made vertex (pushing q m e))
   unfolding queueing
   push_quiet made vertex q m e t h = go (ltb m (slots q)) refl where
-    go : (b : Bool) → ltb m (slots q) ≡ b → Quiet (queueing made vertex (cond b (Queued (m + 1), pushed q m e) (Full, q)))
+    go : (b : Bool) → ltb m (slots q) ≡ b → Quiet (queueing made vertex (cond b (Ok (m + 1), pushed q m e) (Err Events, q)))
     go true l = let z = push_adds m q e (past_vertex n) (ltb-true m (slots q) l) in omega (arith, z, h, item_none e.item t)
     go false l = tt
 
@@ -153,12 +153,12 @@ module _ (n : ℕ) where
 
   -- ---- a pop
   abbrev Popping : Popped × Queue → Type 0
-  Popping (Empty, q) = Unit {0}
-  Popping (First x k, q) = ItemThere Below x.item × (weight k q ≡ 0)
+  Popping (None, q) = Unit {0}
+  Popping (Some (x, k), q) = ItemThere Below x.item × (weight k q ≡ 0)
 
   pop_quiet : (q : Queue) (m : ℕ) → weight m q ≡ 0 → Popping (popping q m)
   pop_quiet q m h = go (ltb 0 m) refl (leb m (slots q)) refl where
-    go : (a : Bool) → ltb 0 m ≡ a → (b : Bool) → leb m (slots q) ≡ b → Popping (cond {A = Popped × Queue} (a && b) (First (at q 0) (m - 1), popped q (m - 1)) (Empty, q))
+    go : (a : Bool) → ltb 0 m ≡ a → (b : Bool) → leb m (slots q) ≡ b → Popping (cond {A = Popped × Queue} (a && b) (Some (at q 0, m - 1), popped q (m - 1)) (None, q))
     go true x true y =
         let l = ltb-true 0 m x in
         let z : (m - 1) + 1 ≡ m = omega (arith, l) in
@@ -170,9 +170,9 @@ module _ (n : ℕ) where
 
   pub events_pop : (s : State) → EventsThere n s → (p : Popped × Queue) → p ≡ popping s.stock.queue s.stock.queued → EventsThere n (after_pop s p)
   unfolding after_pop
-  events_pop s h (Empty, q) is = h
-  events_pop s h (First x k, q) is = (subst Popping (sym is) (pop_quiet s.stock.queue s.stock.queued h)).1
+  events_pop s h (None, q) is = h
+  events_pop s h (Some (x, k), q) is = (subst Popping (sym is) (pop_quiet s.stock.queue s.stock.queued h)).1
 
   -- the event that it takes out
-  pub popped_there : (s : State) → EventsThere n s → (x : Event) (k : ℕ) (q : Queue) → (First x k, q) ≡ popping s.stock.queue s.stock.queued → ItemThere Below x.item
+  pub popped_there : (s : State) → EventsThere n s → (x : Event) (k : ℕ) (q : Queue) → (Some (x, k), q) ≡ popping s.stock.queue s.stock.queued → ItemThere Below x.item
   popped_there s h x k q is = (subst Popping (sym is) (pop_quiet s.stock.queue s.stock.queued h)).0

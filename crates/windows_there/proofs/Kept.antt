@@ -12,9 +12,8 @@ use Rattle.pop.specs.of_better.Claim.{All}
 use Rattle.pop.specs.of_better.Stretches.{better_of}
 use Rattle.heap.specs.declared.Item.{Item}
 use Rattle.heap.specs.declared.Item.TheVariants.{Window as Item-as-Window, Vertex}
-use Rattle.heap.specs.declared.Popped.{Popped}
-use Rattle.heap.specs.declared.Popped.TheVariants.{Empty, First}
-use Rattle.heap.specs.Queue.{Queue}
+use Rattle.std.specs.Prelude.{None, Some}
+use Rattle.heap.specs.Queue.{Queue, Popped}
 use Rattle.windows.specs.declared.WindowRecord.{WindowRecord}
 use Rattle.windows.specs.Windows.{trimmed, reflagged, relinked, dead, unqueued_record, adjust}
 use Rattle.actions.specs.Actions as actions
@@ -133,8 +132,8 @@ module _ (P : ℕ → ℕ → Type 0) where
 
   pub there_pop : (s : State) → WindowsThere P s → (x : Popped × Queue) → WindowsThere P (after_pop s x)
   unfolding after_pop
-  there_pop s T (Empty, q) = T
-  there_pop s T (First x n, q) = claim_there s T x.item (stock s.stock.made n q s.stock.vertex)
+  there_pop s T (None, q) = T
+  there_pop s T (Some (x, n), q) = claim_there s T x.item (stock s.stock.made n q s.stock.vertex)
 
   -- ---- the window of a number
   all_at : (l : List WindowRecord) → All (RecordThere P) l → (i : ℕ) (d : WindowRecord) → i < length l → RecordThere P (get_or l i d)

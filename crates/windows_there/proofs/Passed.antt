@@ -1,4 +1,6 @@
 -- What a window passes on and what a vertex emits stands on edges of the mesh and goes into a face of its edge, or into none: spread_into. Assumes nothing.
+use Rattle.std.specs.declared.option.Option.{Option}
+use Rattle.std.specs.declared.option.Option.TheVariants.{None}
 use Prim.Native.Nat.{ℕ, ◌+◌, ◌*◌, ◌/◌, ◌<◌}
 use mathlib.Core.Bool.{Bool, true, false, cond}
 use mathlib.Core.List.{List}
@@ -15,7 +17,6 @@ use Rattle.spread_offers.specs.of_propagation.declared.NextEdge.{NextEdge}
 use Rattle.spread_offers.specs.of_propagation.Propagate.{propagate_of, emit_of}
 use Rattle.pop.specs.of_better.Claim.{All}
 use Rattle.spread_offers.specs.of_offers.declared.Offered.{Offered}
-use Rattle.spread_offers.specs.of_offers.declared.Offered.TheVariants.{Nothing}
 use Rattle.spread_offers.specs.of_offers.Offers.{offer_list}
 use Rattle.spread_offers.specs.of_offers.Each.{each_of}
 use Rattle.spread_offers.proofs.laws_of_offers.Each.{each_all}
@@ -29,10 +30,10 @@ use Rattle.windows_there.specs.There.{GoesInto, CandidateThere}
 use Rattle.windows_there.proofs.Sides.{other_into, offered_into}
 
 module _ (v : List Float) (triangles : List ℕ) (n : ℕ) (valid : ValidTriangles triangles n) where
-  abbrev Into : Offered → Type 0
+  abbrev Into : Option Offered → Type 0
   Into o = All (CandidateThere (GoesInto triangles)) (offer_list o)
 
-  nothing_into : (b : Bool) (o : Offered) → Into o → Into (cond b Nothing o)
+  nothing_into : (b : Bool) (o : Option Offered) → Into o → Into (cond b None o)
   nothing_into true o h = tt
   nothing_into false o h = h
 

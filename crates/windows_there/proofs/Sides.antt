@@ -1,4 +1,5 @@
 -- The face beyond an edge is one of its faces, or none; a face of an edge is one of the mesh's. Assumes nothing.
+use Rattle.std.specs.Prelude.{Option, Some, None}
 use Prim.Native.Nat.{ℕ, ◌/◌, ◌<◌}
 use native.Mathlib.Omega.{arith}
 use mathlib.Core.Bool.{Bool}
@@ -11,8 +12,7 @@ use Rattle.topology.proofs.Checked.{edge_ends}
 use Rattle.topology.proofs.Faces.{face_in_range}
 use Rattle.topology.proofs.Other.{other_listed}
 use Rattle.pop.specs.of_better.Claim.{All}
-use Rattle.spread_offers.specs.of_source_windows.declared.CandidateRange.{CandidateRange}
-use Rattle.spread_offers.specs.of_source_windows.declared.CandidateRange.TheVariants.{Nothing as NoRange, Window as Range}
+use Rattle.spread_offers.specs.of_source_windows.declared.CandidateWindow.{CandidateWindow}
 use Rattle.pop.specs.of_trim_model.Model.{Candidate}
 use Rattle.spread_offers.specs.of_offers.Offers.{offer_list}
 use Rattle.spread_offers.specs.of_offers.Walks.{edge_data}
@@ -27,10 +27,10 @@ module _ (triangles : List ℕ) (n : ℕ) (valid : ValidTriangles triangles n) (
   face_there g of = omega (arith, face_in_range triangles e l of.0 of.1.0, of.1.1, valid.whole)
 
 -- what is offered goes into what it is said to
-pub offered_into : (P : ℕ → ℕ → Type 0) (e into : ℕ) → P e into → (queued : Bool) (range : CandidateRange) → All (CandidateThere P) (offer_list (offered e into queued range))
+pub offered_into : (P : ℕ → ℕ → Type 0) (e into : ℕ) → P e into → (queued : Bool) (range : Option CandidateWindow) → All (CandidateThere P) (offer_list (offered e into queued range))
 unfolding offered
-offered_into P e into h queued NoRange = tt
-offered_into P e into h queued (Range b0 b1 src) = (h, tt)
+offered_into P e into h queued None = tt
+offered_into P e into h queued (Some w) = (h, tt)
 
 -- its edge's ends are vertices of the mesh
 pub into_ends : (v : List Float) (triangles : List ℕ) (n : ℕ) → ValidTriangles triangles n → (c : Candidate) → CandidateThere (GoesInto triangles) c → EndsThere n (edge_data v triangles) c

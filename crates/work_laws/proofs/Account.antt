@@ -17,9 +17,8 @@ use Rattle.last_pass.specs.of_better.Points.{pts_of, walk_of}
 use Rattle.last_pass.specs.of_better.Stretches.{Interval, better_of}
 use Rattle.heap.specs.declared.Item.{Item}
 use Rattle.heap.specs.declared.Item.TheVariants.{Window as Item-as-Window, Vertex as Item-as-Vertex}
-use Rattle.heap.specs.declared.Popped.{Popped}
-use Rattle.heap.specs.declared.Popped.TheVariants.{Empty, First}
-use Rattle.heap.specs.Queue.{Queue, at, slots, popped, popping}
+use Rattle.std.specs.Prelude.{None, Some}
+use Rattle.heap.specs.Queue.{Queue, at, slots, popped, popping, Popped}
 use Rattle.heap.specs.Model.{weight_of}
 use Rattle.heap.proofs.HeapOrder.{pop_weight}
 use Rattle.heap.proofs.SameAnswers.{has_slots}
@@ -323,12 +322,12 @@ claim_accounted s A (Item-as-Window id) k h = record {
 
 -- the event that it takes out is no more in the queue
 abbrev Fewer : Queue → ℕ → Popped × Queue → Type 0
-Fewer q m (Empty, r) = Unit {0}
-Fewer q m (First x k, r) = (i : ℕ) → weight_of (names i) m q ≤ weight_of (names i) k r + names_item i x.item
+Fewer q m (None, r) = Unit {0}
+Fewer q m (Some (x, k), r) = (i : ℕ) → weight_of (names i) m q ≤ weight_of (names i) k r + names_item i x.item
 
 pop_fewer : (q : Queue) (m : ℕ) → Fewer q m (popping q m)
 pop_fewer q m = go (ltb 0 m) refl (leb m (slots q)) refl where
-  go : (a : Bool) → ltb 0 m ≡ a → (b : Bool) → leb m (slots q) ≡ b → Fewer q m (cond {A = Popped × Queue} (a && b) (First (at q 0) (m - 1), popped q (m - 1)) (Empty, q))
+  go : (a : Bool) → ltb 0 m ≡ a → (b : Bool) → leb m (slots q) ≡ b → Fewer q m (cond {A = Popped × Queue} (a && b) (Some (at q 0, m - 1), popped q (m - 1)) (None, q))
   go true x true y = λ i.
       let l = ltb-true 0 m x in
       let z : (m - 1) + 1 ≡ m = omega (arith, l) in
@@ -340,8 +339,8 @@ pop_fewer q m = go (ltb 0 m) refl (leb m (slots q)) refl where
 
 pop_accounted : (s : State) → Accounted s → (p : Popped × Queue) → Fewer s.stock.queue s.stock.queued p → Accounted (after_pop s p)
 unfolding after_pop
-pop_accounted s A (Empty, q) h = A
-pop_accounted s A (First x k, q) h = claim_accounted s A x.item (stock s.stock.made k q s.stock.vertex) h
+pop_accounted s A (None, q) h = A
+pop_accounted s A (Some (x, k), q) h = claim_accounted s A x.item (stock s.stock.made k q s.stock.vertex) h
 
 pub accounted_pop : (s : State) → Accounted s → Accounted (after_pop s (popping s.stock.queue s.stock.queued))
 accounted_pop s A = pop_accounted s A (popping s.stock.queue s.stock.queued) (pop_fewer s.stock.queue s.stock.queued)

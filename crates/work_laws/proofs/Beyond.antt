@@ -16,9 +16,8 @@ use Rattle.last_pass.specs.of_better.Claim.{All}
 use Rattle.last_pass.specs.of_better.Stretches.{better_of}
 use Rattle.heap.specs.declared.Event.{Event}
 use Rattle.heap.specs.declared.Item.TheVariants.{Vertex as Item-as-Vertex}
-use Rattle.heap.specs.declared.Pushed.{Pushed}
-use Rattle.heap.specs.declared.Pushed.TheVariants.{Full, Queued}
-use Rattle.heap.specs.Queue.{Queue, pushing}
+use Rattle.std.specs.Prelude.{Err, Ok}
+use Rattle.heap.specs.Queue.{Queue, pushing, Pushed}
 use Rattle.windows.specs.declared.Edge.{Edge}
 use Rattle.windows.specs.declared.WindowRecord.{WindowRecord}
 use Rattle.actions.specs.Actions as actions
@@ -58,8 +57,8 @@ module _ (n : ℕ) where
 
   queueing_beyond : (made : ℕ) (vertex : List Float) (x : Pushed × Queue) → Beyond vertex → Quiet (queueing made vertex x)
   unfolding queueing
-  queueing_beyond made vertex (Full, q) h = tt
-  queueing_beyond made vertex (Queued m, q) h = h
+  queueing_beyond made vertex (Err l, q) h = tt
+  queueing_beyond made vertex (Ok m, q) h = h
 
   module _ (cuts windows : ℕ) (limit : Float) (flags : List ℕ) where
     act_beyond : (a : Action) → Fine a → (k : Stock) → Beyond k.vertex → Quiet (act cuts windows limit flags a k)

@@ -10,9 +10,8 @@ use Rattle.last_pass.specs.of_better.Claim.{All}
 use Rattle.last_pass.specs.of_better.Stretches.{better_of}
 use Rattle.heap.specs.declared.Item.{Item}
 use Rattle.heap.specs.declared.Item.TheVariants.{Window as Item-as-Window, Vertex as Item-as-Vertex}
-use Rattle.heap.specs.declared.Popped.{Popped}
-use Rattle.heap.specs.declared.Popped.TheVariants.{Empty, First}
-use Rattle.heap.specs.Queue.{Queue}
+use Rattle.std.specs.Prelude.{None, Some}
+use Rattle.heap.specs.Queue.{Queue, Popped}
 use Rattle.windows.specs.declared.WindowRecord.{WindowRecord}
 use Rattle.actions.specs.Actions as actions
 use Rattle.actions.specs.Actions.{wins_after, Outcome, play}
@@ -50,8 +49,8 @@ module _ (len : ℕ → Float) where
 
   pub inside_pop : (s : State) → OnEdges s → (p : Popped × Queue) → OnEdges (after_pop s p)
   unfolding after_pop
-  inside_pop s h (Empty, q) = h
-  inside_pop s h (First x n, q) = λ e. claimed_on (len e) x.item (s.live e) (h e)
+  inside_pop s h (None, q) = h
+  inside_pop s h (Some (x, n), q) = λ e. claimed_on (len e) x.item (s.live e) (h e)
 
 -- ---- an addition
 module _ (cuts windows : ℕ) (limit : Float) (flags : List ℕ) (mesh : EdgeData) {past : List Candidate} (c : Candidate) (s : State) (F : Follows limit mesh.len past s.stock.made s.live)

@@ -9,9 +9,8 @@ use lib.Ieee.{Float}
 use Rattle.layout.specs.Layout.{reals_per_vertex}
 use Rattle.float64.specs.Scalar.{zero64}
 use Rattle.last_pass.specs.of_better.Claim.{All}
-use Rattle.heap.specs.declared.Popped.{Popped}
-use Rattle.heap.specs.declared.Popped.TheVariants.{Empty, First}
-use Rattle.heap.specs.Queue.{Queue, popping}
+use Rattle.std.specs.Prelude.{None, Some}
+use Rattle.heap.specs.Queue.{Queue, popping, Popped}
 use Rattle.windows.specs.Windows.{capacity_of}
 use Rattle.job_checks.specs.Job.{Job, vertex_count}
 use Rattle.job_checks.specs.Sound.{ValidTriangles}
@@ -65,13 +64,13 @@ ends_at Q r h t is = subst (EndsIn Q) is h
 -- a pop changes neither the number of windows made nor the vertices, and of the live windows flags alone
 popped_stock : (s : State) (p : Popped × Queue) → ((after_pop s p).stock.made ≡ s.stock.made) × ((after_pop s p).stock.vertex ≡ s.stock.vertex)
 unfolding after_pop
-popped_stock s (Empty, q) = (refl, refl)
-popped_stock s (First x k, q) = (refl, refl)
+popped_stock s (None, q) = (refl, refl)
+popped_stock s (Some (x, k), q) = (refl, refl)
 
 popped_follows : {limit : Float} {l : ℕ → Float} {past : List Candidate} (s : State) → Follows limit l past s.stock.made s.live → (p : Popped × Queue) → Follows limit l past (after_pop s p).stock.made (after_pop s p).live
 unfolding after_pop
-popped_follows s F (Empty, q) = F
-popped_follows s F (First x k, q) = follows_unqueue F (λ (e : ℕ). live_claimed x.item (s.live e)) (λ e. live_claimed_lem x.item (s.live e))
+popped_follows s F (None, q) = F
+popped_follows s F (Some (x, k), q) = follows_unqueue F (λ (e : ℕ). live_claimed x.item (s.live e)) (λ e. live_claimed_lem x.item (s.live e))
 
 marked_length : (x : Spread) (vertex : List Float) → length (marked_vertex x vertex) ≡ length vertex
 unfolding marked_vertex

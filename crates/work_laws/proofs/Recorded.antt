@@ -18,7 +18,8 @@ use Rattle.last_pass.specs.of_better.Points.{pts_of, walk_of}
 use Rattle.last_pass.specs.of_better.Stretches.{Interval, better_of}
 use Rattle.heap.specs.declared.Event.{Event}
 use Rattle.heap.specs.declared.Item.TheVariants.{Vertex as Item-as-Vertex}
-use Rattle.heap.specs.declared.Pushed.TheVariants.{Full, Queued}
+use Rattle.std.specs.Prelude.{Err, Ok}
+use Rattle.buffers.specs.declared.Lack.TheVariants.{Events}
 use Rattle.heap.specs.Queue.{Queue, slots, pushed, pushing}
 use Rattle.heap.proofs.SameAnswers.{push_adds}
 use Rattle.windows.specs.declared.Edge.{Edge}
@@ -66,7 +67,7 @@ module _ (i : ℕ) where
   push_waits : (made : ℕ) (vertex : List Float) (q : Queue) (m : ℕ) (e : Event) (w : ℕ) → waiting (stock made m q vertex) i + names i e ≡ w → Waits i w (queueing made vertex (pushing q m e))
   unfolding queueing
   push_waits made vertex q m e w h = go (ltb m (slots q)) refl where
-    go : (b : Bool) → ltb m (slots q) ≡ b → Waits i w (queueing made vertex (cond b (Queued (m + 1), pushed q m e) (Full, q)))
+    go : (b : Bool) → ltb m (slots q) ≡ b → Waits i w (queueing made vertex (cond b (Ok (m + 1), pushed q m e) (Err Events, q)))
     go true l = push_adds m q e (names i) (ltb-true m (slots q) l) ∙ h
     go false l = tt
 

@@ -10,11 +10,11 @@ use lib.ListN.{length, get_or, length-set}
 use lib.Ieee.{Float, lt, le}
 use Rattle.last_pass.specs.of_better.Stretches.{better_of}
 use Rattle.heap.specs.declared.Item.TheVariants.{Vertex as Item-as-Vertex}
-use Rattle.heap.specs.declared.Pushed.TheVariants.{Full, Queued}
+use Rattle.std.specs.Prelude.{Err, Ok}
+use Rattle.buffers.specs.declared.Lack.TheVariants.{Events}
 use Rattle.heap.specs.declared.Event.{Event}
-use Rattle.heap.specs.declared.Popped.{Popped}
-use Rattle.heap.specs.declared.Popped.TheVariants.{Empty, First}
-use Rattle.heap.specs.Queue.{Queue, at, slots, pushed, popped, pushing, popping}
+use Rattle.std.specs.Prelude.{None, Some}
+use Rattle.heap.specs.Queue.{Queue, at, slots, pushed, popped, pushing, popping, Popped}
 use Rattle.heap.proofs.SameAnswers.{push_slots, pop_slots}
 use Rattle.windows.specs.declared.WindowRecord.{WindowRecord}
 use Rattle.actions.specs.Actions.{Action, list, make, trim, kill, push, touch, wins_after, Stock, stock, Outcome, stopped, went, distance_of, with_distance, queueing, and_then, act, play}
@@ -40,7 +40,7 @@ module _ (cuts windows : ℕ) (limit : Float) (flags : List ℕ) (reals : ℕ) w
   queueing_within : (made : ℕ) (vertex : List Float) (q : Queue) (m : ℕ) (e : Event) → made ≤ windows → length vertex ≡ reals → Ended (queueing made vertex (pushing q m e))
   unfolding queueing
   queueing_within made vertex q m e h l = go (ltb m (slots q)) refl where
-    go : (b : Bool) → ltb m (slots q) ≡ b → Ended (queueing made vertex (cond b (Queued (m + 1), pushed q m e) (Full, q)))
+    go : (b : Bool) → ltb m (slots q) ≡ b → Ended (queueing made vertex (cond b (Ok (m + 1), pushed q m e) (Err Events, q)))
     go true z = (h, (l, omega (arith, ltb-true m (slots q) z, push_slots q m e)))
     go false z = tt
 
@@ -95,20 +95,20 @@ module _ (cuts windows : ℕ) (limit : Float) (flags : List ℕ) (reals : ℕ) w
 
 -- ---- a pop
 abbrev Popping : Popped × Queue → Type 0
-Popping (Empty, q) = Unit {0}
-Popping (First x k, q) = k ≤ slots q
+Popping (None, q) = Unit {0}
+Popping (Some (x, k), q) = k ≤ slots q
 
 pop_within : (q : Queue) (m : ℕ) → Popping (popping q m)
 pop_within q m = go (ltb 0 m) (leb m (slots q)) refl where
-  go : (a b : Bool) → leb m (slots q) ≡ b → Popping (cond {A = Popped × Queue} (a && b) (First (at q 0) (m - 1), popped q (m - 1)) (Empty, q))
+  go : (a b : Bool) → leb m (slots q) ≡ b → Popping (cond {A = Popped × Queue} (a && b) (Some (at q 0, m - 1), popped q (m - 1)) (None, q))
   go true true y = omega (arith, leb-true m (slots q) y, pop_slots q (m - 1))
   go true false y = tt
   go false b y = tt
 
 popped_within : (s : State) → s.stock.queued ≤ slots s.stock.queue → (p : Popped × Queue) → Popping p → (after_pop s p).stock.queued ≤ slots (after_pop s p).stock.queue
 unfolding after_pop
-popped_within s h (Empty, q) k = h
-popped_within s h (First x n, q) k = k
+popped_within s h (None, q) k = h
+popped_within s h (Some (x, n), q) k = k
 
 pub stock_pop : (s : State) → s.stock.queued ≤ slots s.stock.queue → let p = popping s.stock.queue s.stock.queued in (after_pop s p).stock.queued ≤ slots (after_pop s p).stock.queue
 stock_pop s h = popped_within s h (popping s.stock.queue s.stock.queued) (pop_within s.stock.queue s.stock.queued)

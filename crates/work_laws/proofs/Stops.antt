@@ -1,4 +1,6 @@
 -- The numbers that stop the work on a job are 11 to 15 and 17, and it takes no more steps than it is allowed: work_ends. Assumes nothing.
+use Rattle.std.specs.declared.option.Option.{Option}
+use Rattle.std.specs.declared.option.Option.TheVariants.{None, Some}
 use Prim.Native.Nat.{ℕ, zero, suc, ◌+◌, ◌*◌, ◌≤◌}
 use native.Mathlib.Omega.{arith}
 use mathlib.Core.Bool.{Bool, cond, ◌&&◌}
@@ -11,11 +13,10 @@ use lib.Ieee.{Float, lt, le}
 use Rattle.last_pass.specs.of_better.Stretches.{better_of}
 use Rattle.heap.specs.declared.Event.{Event}
 use Rattle.heap.specs.declared.Item.TheVariants.{Vertex as Item-as-Vertex}
-use Rattle.heap.specs.declared.Popped.{Popped}
-use Rattle.heap.specs.declared.Popped.TheVariants.{Empty, First}
-use Rattle.heap.specs.declared.Pushed.{Pushed}
-use Rattle.heap.specs.declared.Pushed.TheVariants.{Full, Queued}
-use Rattle.heap.specs.Queue.{Queue, pushing, popping}
+use Rattle.std.specs.Prelude.{None, Some}
+use Rattle.std.specs.Prelude.{Err, Ok}
+use Rattle.buffers.specs.declared.Lack.TheVariants.{Windows, Events, Cuts as Lack·Cuts, Entries}
+use Rattle.heap.specs.Queue.{Queue, pushing, popping, Popped, Pushed}
 use Rattle.windows.specs.declared.WindowRecord.{WindowRecord}
 use Rattle.windows.specs.Windows.{capacity_of}
 use Rattle.actions.specs.Actions as actions
@@ -38,8 +39,7 @@ use Rattle.field_work.specs.of_source_inserts.declared.Insert.{Insert}
 use Rattle.field_work.specs.of_source_inserts.declared.Insert.TheVariants.{Entry, Offer}
 use Rattle.field_work.specs.of_insertion.Insertion.{Inserted, InsertResult, stopped, went, and_insert, with_entries, insert_one, insert_each}
 use Rattle.field_work.specs.of_spread_offers.Spreading.{spread_candidates}
-use Rattle.field_work.specs.of_field_step.declared.Turn.{Turn}
-use Rattle.field_work.specs.of_field_step.declared.Turn.TheVariants.{Skip, Pass}
+use Rattle.field_work.specs.of_spread_offers.declared.Spread.{Spread}
 use Rattle.field_work.specs.of_field_step.Step.{turn_of, marked, after_turn, step_with, step_of, idle_of}
 use Rattle.last_pass.specs.of_pop.State.{after_pop}
 use Rattle.field_work.specs.of_advance.Advance.{of_state, advance_of, steps_of}
@@ -62,6 +62,9 @@ thirteen = (omega arith, inl (omega arith))
 fourteen : Lacks 14
 fourteen = (omega arith, inl (omega arith))
 
+seventeen : Lacks 17
+seventeen = (omega arith, inr (omega arith))
+
 abbrev Played : Outcome → Type 0
 Played (actions.stopped k) = Lacks k
 Played (actions.went s) = Unit {0}
@@ -76,8 +79,11 @@ InsertedSo (went s) = Unit {0}
 
 queueing_stops : (made : ℕ) (vertex : List Float) (x : Pushed × Queue) → Played (queueing made vertex x)
 unfolding queueing
-queueing_stops made vertex (Full, q) = thirteen
-queueing_stops made vertex (Queued n, q) = tt
+queueing_stops made vertex (Err Windows, q) = twelve
+queueing_stops made vertex (Err Events, q) = thirteen
+queueing_stops made vertex (Err Lack·Cuts, q) = fourteen
+queueing_stops made vertex (Err Entries, q) = seventeen
+queueing_stops made vertex (Ok n, q) = tt
 
 next_stops : (r : Result) (f : State → Result) → Stepped r → ((s : State) → Stepped (f s)) → Stepped (and_next r f)
 unfolding and_next
@@ -155,15 +161,15 @@ module _ (cuts windows : ℕ) (limit : Float) (flags : List ℕ) where
 
   -- ---- the main loop
   module _ (v : List Float) (triangles : List ℕ) where
-    turn_stops : (t : Turn) (s : State) → Stepped (after_turn cuts windows limit flags v triangles t s)
+    turn_stops : (t : Option Spread) (s : State) → Stepped (after_turn cuts windows limit flags v triangles t s)
     unfolding after_turn
-    turn_stops Skip s = tt
-    turn_stops (Pass x) s = adds_stop (edge_data v triangles) (spread_candidates v triangles x) (marked x s)
+    turn_stops None s = tt
+    turn_stops (Some x) s = adds_stop (edge_data v triangles) (spread_candidates v triangles x) (marked x s)
 
     step_stops : (s : State) (p : Popped × Queue) → Stepped (step_with cuts windows limit flags v triangles s p)
     unfolding step_with
-    step_stops s (Empty, q) = tt
-    step_stops s (First x k, q) = turn_stops (turn_of limit x.item x.key s) (after_pop s (First x k, q))
+    step_stops s (None, q) = tt
+    step_stops s (Some (x, k), q) = turn_stops (turn_of limit x.item x.key s) (after_pop s (Some (x, k), q))
 
     advance_stops : (k : ℕ) (s : State) → Stepped (advance_of cuts windows limit flags v triangles k s)
     unfolding advance_of

@@ -1,4 +1,6 @@
 -- A law that additions, pops and marks keep holds of the field that the work on a job comes to: work_kept. Assumes nothing.
+use Rattle.std.specs.declared.option.Option.{Option}
+use Rattle.std.specs.declared.option.Option.TheVariants.{None, Some}
 use Prim.Native.Nat.{ℕ, zero, suc, ◌≤◌, ◌<◌}
 use native.Mathlib.Omega.{arith}
 use mathlib.Core.Bool.{Bool, true, false, cond}
@@ -11,9 +13,8 @@ use lib.Ieee.{Float}
 use Rattle.buffers.specs.Lack.{lack_number}
 use Rattle.buffers.specs.declared.Lack.TheVariants.{Entries}
 use Rattle.last_pass.specs.of_better.Claim.{All}
-use Rattle.heap.specs.declared.Popped.TheVariants.{Empty, First}
-use Rattle.heap.specs.declared.Popped.{Popped}
-use Rattle.heap.specs.Queue.{Queue, popping}
+use Rattle.std.specs.Prelude.{None, Some}
+use Rattle.heap.specs.Queue.{Queue, popping, Popped}
 use Rattle.job_checks.specs.Job.{Job}
 use Rattle.job_checks.specs.Sound.{ValidTriangles}
 use Rattle.topology.specs.Edges.{edges}
@@ -43,8 +44,6 @@ use Rattle.inside_edges.proofs.Spread.{spread_inside}
 use Rattle.field_work.specs.of_windows_there.There.{GoesInto, CandidateThere}
 use Rattle.field_work.proofs.laws_of_windows_there.Passed.{spread_into}
 use Rattle.field_work.proofs.laws_of_windows_there.Events.{popped_there}
-use Rattle.field_work.specs.of_field_step.declared.Turn.{Turn}
-use Rattle.field_work.specs.of_field_step.declared.Turn.TheVariants.{Skip, Pass}
 use Rattle.field_work.specs.of_field_step.Step.{turn_of, marked, after_turn, step_with, step_of, idle_of, turn_candidates, candidates_with, step_candidates}
 use Rattle.field_work.proofs.laws_of_field_step.Turns.{turn_there}
 use Rattle.field_work.specs.of_advance.Advance.{of_state, advance_of, steps_of, advance_candidates}
@@ -97,18 +96,18 @@ module _ (limit : Float) (v : List Float) (triangles : List ℕ) (n : ℕ) (vali
       both (AdmittedProper limit (len v triangles)) (λ (c : Candidate). AdmittedInside limit (len v triangles) c × CandidateThere (GoesInto triangles) c) cs (spread_proper limit v triangles n valid long x of)
       (both (AdmittedInside limit (len v triangles)) (CandidateThere (GoesInto triangles)) cs (spread_inside limit v triangles n valid long x of) (spread_into v triangles n valid x of))
 
-  turn_kept : (t : Turn) → ((x : Spread) → Pass x ≡ t → SpreadOf triangles n x) → (past : List Candidate) (s : State) → P past s → EndsIn (P (past ++ turn_candidates limit v triangles t)) (after_turn cuts windows limit flags v triangles t s)
+  turn_kept : (t : Option Spread) → ((x : Spread) → Some x ≡ t → SpreadOf triangles n x) → (past : List Candidate) (s : State) → P past s → EndsIn (P (past ++ turn_candidates limit v triangles t)) (after_turn cuts windows limit flags v triangles t s)
   unfolding turn_candidates after_turn
-  turn_kept Skip of past s h = subst (λ (l : List Candidate). P l s) (sym (append-nil past)) h
-  turn_kept (Pass x) of past s h = all_kept (spread_candidates v triangles x) (spread_sound x (of x refl)) past (marked x s) (K.mark past s h x (of x refl))
+  turn_kept None of past s h = subst (λ (l : List Candidate). P l s) (sym (append-nil past)) h
+  turn_kept (Some x) of past s h = all_kept (spread_candidates v triangles x) (spread_sound x (of x refl)) past (marked x s) (K.mark past s h x (of x refl))
 
   with_kept : (past : List Candidate) (s : State) → P past s → (p : Popped × Queue) → p ≡ popping s.stock.queue s.stock.queued → EndsIn (P (past ++ candidates_with limit v triangles s p.0)) (step_with cuts windows limit flags v triangles s p)
   unfolding candidates_with step_with
-  with_kept past s h (Empty, q) is = subst (λ (l : List Candidate). P l s) (sym (append-nil past)) h
-  with_kept past s h (First x k, q) is =
+  with_kept past s h (None, q) is = subst (λ (l : List Candidate). P l s) (sym (append-nil past)) h
+  with_kept past s h (Some (x, k), q) is =
       turn_kept (turn_of limit x.item x.key s)
-      (λ y. turn_there triangles n valid limit s (K.there past s h) x.item (popped_there n s (K.events past s h) x k q is) x.key (Pass y))
-      past (after_pop s (First x k, q)) (subst (λ (z : Popped × Queue). P past (after_pop s z)) (sym is) (K.pop past s h))
+      (λ y. turn_there triangles n valid limit s (K.there past s h) x.item (popped_there n s (K.events past s h) x k q is) x.key (Some y))
+      past (after_pop s (Some (x, k), q)) (subst (λ (z : Popped × Queue). P past (after_pop s z)) (sym is) (K.pop past s h))
 
   -- turns
   advance_kept : (k : ℕ) (past : List Candidate) (s : State) → P past s → EndsIn (P (past ++ advance_candidates cuts windows limit flags v triangles k s)) (advance_of cuts windows limit flags v triangles k s)

@@ -1,7 +1,6 @@
 -- `advance::advance` meets its contract. Assumes nothing.
-use Prim.Native.Nat.{◌-◌}
-use native.Mathlib.Omega.{arith}
 use mathlib.Core.Path.{◌∙◌}
+use Rattle.std.proofs.lemmas.Result.{err_from_is_err_and}
 use Rattle.insertion.specs.of_cut_lists.Buffers.{cut_buffers}
 use Rattle.insertion.specs.of_trim.Buffers.{slices}
 use Rattle.insertion.proofs.laws_of_offers.Walks.{sizes_same}
@@ -14,8 +13,8 @@ loop-steps-init c =
     loop_start a.limit a.n a.most a.vertices.now a.triangles.now a.vertex_words.now a.round.now a.edge_reals.now a.triangle_words.now a.triangle_reals.now a.counts
     (slices a.edge_words.now a.words.now a.reals.now a.keys.now a.events.now a.vertex.now) (cut_buffers a.pts.now a.out.now a.keep.now a.next.now) c.requires.0
 
-pub step-stepped-requires : goal.step-stepped-requires
-step-stepped-requires c =
+pub step-requires : goal.step-requires
+step-requires c =
     let a = c.args in
     let l = c.loop-steps in (
       loop_fits a.limit a.n a.most a.vertices.now a.triangles.now a.vertex_words.now a.round.now a.edge_reals.now a.triangle_words.now a.triangle_reals.now a.counts
@@ -25,103 +24,96 @@ step-stepped-requires c =
           (cut_buffers a.pts.now a.out.now a.keep.now a.next.now) (cut_buffers l.pts l.out l.keep l.next) l.invariant.same c.requires.1,
     )
 
-pub shape_of-edge_words-in-Idle : goal.shape_of-edge_words-in-Idle
-shape_of-edge_words-in-Idle c = c.step-stepped.auto.edge_words ∙ c.loop-steps.invariant.same.edges
+pub shape_of-edge_words-in-None : goal.shape_of-edge_words-in-None
+shape_of-edge_words-in-None c = c.step.auto.edge_words ∙ c.loop-steps.invariant.same.edges
 
-pub shape_of-words-in-Idle : goal.shape_of-words-in-Idle
-shape_of-words-in-Idle c = c.step-stepped.auto.words ∙ c.loop-steps.invariant.same.words
+pub shape_of-words-in-None : goal.shape_of-words-in-None
+shape_of-words-in-None c = c.step.auto.words ∙ c.loop-steps.invariant.same.words
 
-pub shape_of-reals-in-Idle : goal.shape_of-reals-in-Idle
-shape_of-reals-in-Idle c = c.step-stepped.auto.reals ∙ c.loop-steps.invariant.same.reals
+pub shape_of-reals-in-None : goal.shape_of-reals-in-None
+shape_of-reals-in-None c = c.step.auto.reals ∙ c.loop-steps.invariant.same.reals
 
-pub shape_of-keys-in-Idle : goal.shape_of-keys-in-Idle
-shape_of-keys-in-Idle c = c.step-stepped.auto.keys ∙ c.loop-steps.invariant.same.keys
+pub shape_of-keys-in-None : goal.shape_of-keys-in-None
+shape_of-keys-in-None c = c.step.auto.keys ∙ c.loop-steps.invariant.same.keys
 
-pub shape_of-events-in-Idle : goal.shape_of-events-in-Idle
-shape_of-events-in-Idle c = c.step-stepped.auto.events ∙ c.loop-steps.invariant.same.events
+pub shape_of-events-in-None : goal.shape_of-events-in-None
+shape_of-events-in-None c = c.step.auto.events ∙ c.loop-steps.invariant.same.events
 
-pub shape_of-vertex-in-Idle : goal.shape_of-vertex-in-Idle
-shape_of-vertex-in-Idle c = c.step-stepped.auto.vertex ∙ c.loop-steps.invariant.same.vertex
+pub shape_of-vertex-in-None : goal.shape_of-vertex-in-None
+shape_of-vertex-in-None c = c.step.auto.vertex ∙ c.loop-steps.invariant.same.vertex
 
-pub shape_of-pts-in-Idle : goal.shape_of-pts-in-Idle
-shape_of-pts-in-Idle c = c.step-stepped.auto.pts ∙ c.loop-steps.invariant.same.pts
+pub shape_of-pts-in-None : goal.shape_of-pts-in-None
+shape_of-pts-in-None c = c.step.auto.pts ∙ c.loop-steps.invariant.same.pts
 
-pub shape_of-out-in-Idle : goal.shape_of-out-in-Idle
-shape_of-out-in-Idle c = c.step-stepped.auto.out ∙ c.loop-steps.invariant.same.out
+pub shape_of-out-in-None : goal.shape_of-out-in-None
+shape_of-out-in-None c = c.step.auto.out ∙ c.loop-steps.invariant.same.out
 
-pub shape_of-keep-in-Idle : goal.shape_of-keep-in-Idle
-shape_of-keep-in-Idle c = c.step-stepped.auto.keep ∙ c.loop-steps.invariant.same.keep
+pub shape_of-keep-in-None : goal.shape_of-keep-in-None
+shape_of-keep-in-None c = c.step.auto.keep ∙ c.loop-steps.invariant.same.keep
 
-pub shape_of-next-in-Idle : goal.shape_of-next-in-Idle
-shape_of-next-in-Idle c = c.step-stepped.auto.next ∙ c.loop-steps.invariant.same.next
+pub shape_of-next-in-None : goal.shape_of-next-in-None
+shape_of-next-in-None c = c.step.auto.next ∙ c.loop-steps.invariant.same.next
 
-pub returns-in-Idle : goal.returns-in-Idle
-returns-in-Idle c =
+pub returns-in-None : goal.returns-in-None
+returns-in-None c =
     let a = c.args in
     let l = c.loop-steps in
-    let r = c.step-stepped in
+    let r = c.step in
     loop_idle a.limit a.n a.most a.vertices.now a.triangles.now a.vertex_words.now a.round.now a.edge_reals.now a.triangle_words.now a.triangle_reals.now a.counts
     (slices a.edge_words.now a.words.now a.reals.now a.keys.now a.events.now a.vertex.now) (cut_buffers a.pts.now a.out.now a.keep.now a.next.now)
     (slices l.edge_words l.words l.reals l.keys l.events l.vertex) (cut_buffers l.pts l.out l.keep l.next) l.now l.steps l.invariant c.loop-steps-test.true
-    (slices r.new.edge_words r.new.words r.new.reals r.new.keys r.new.events r.new.vertex) (rw c.in-Idle.is at r.ensures)
+    (slices r.new.edge_words r.new.words r.new.reals r.new.keys r.new.events r.new.vertex) (rw c.in-None.is at c.in_ok-stepped.ensures)
 
-pub shape_of-edge_words-in-Stopped : goal.shape_of-edge_words-in-Stopped
-shape_of-edge_words-in-Stopped c = c.step-stepped.auto.edge_words ∙ c.loop-steps.invariant.same.edges
+pub shape_of-edge_words-in_err-stepped : goal.shape_of-edge_words-in_err-stepped
+shape_of-edge_words-in_err-stepped c = c.step.auto.edge_words ∙ c.loop-steps.invariant.same.edges
 
-pub shape_of-words-in-Stopped : goal.shape_of-words-in-Stopped
-shape_of-words-in-Stopped c = c.step-stepped.auto.words ∙ c.loop-steps.invariant.same.words
+pub shape_of-words-in_err-stepped : goal.shape_of-words-in_err-stepped
+shape_of-words-in_err-stepped c = c.step.auto.words ∙ c.loop-steps.invariant.same.words
 
-pub shape_of-reals-in-Stopped : goal.shape_of-reals-in-Stopped
-shape_of-reals-in-Stopped c = c.step-stepped.auto.reals ∙ c.loop-steps.invariant.same.reals
+pub shape_of-reals-in_err-stepped : goal.shape_of-reals-in_err-stepped
+shape_of-reals-in_err-stepped c = c.step.auto.reals ∙ c.loop-steps.invariant.same.reals
 
-pub shape_of-keys-in-Stopped : goal.shape_of-keys-in-Stopped
-shape_of-keys-in-Stopped c = c.step-stepped.auto.keys ∙ c.loop-steps.invariant.same.keys
+pub shape_of-keys-in_err-stepped : goal.shape_of-keys-in_err-stepped
+shape_of-keys-in_err-stepped c = c.step.auto.keys ∙ c.loop-steps.invariant.same.keys
 
-pub shape_of-events-in-Stopped : goal.shape_of-events-in-Stopped
-shape_of-events-in-Stopped c = c.step-stepped.auto.events ∙ c.loop-steps.invariant.same.events
+pub shape_of-events-in_err-stepped : goal.shape_of-events-in_err-stepped
+shape_of-events-in_err-stepped c = c.step.auto.events ∙ c.loop-steps.invariant.same.events
 
-pub shape_of-vertex-in-Stopped : goal.shape_of-vertex-in-Stopped
-shape_of-vertex-in-Stopped c = c.step-stepped.auto.vertex ∙ c.loop-steps.invariant.same.vertex
+pub shape_of-vertex-in_err-stepped : goal.shape_of-vertex-in_err-stepped
+shape_of-vertex-in_err-stepped c = c.step.auto.vertex ∙ c.loop-steps.invariant.same.vertex
 
-pub shape_of-pts-in-Stopped : goal.shape_of-pts-in-Stopped
-shape_of-pts-in-Stopped c = c.step-stepped.auto.pts ∙ c.loop-steps.invariant.same.pts
+pub shape_of-pts-in_err-stepped : goal.shape_of-pts-in_err-stepped
+shape_of-pts-in_err-stepped c = c.step.auto.pts ∙ c.loop-steps.invariant.same.pts
 
-pub shape_of-out-in-Stopped : goal.shape_of-out-in-Stopped
-shape_of-out-in-Stopped c = c.step-stepped.auto.out ∙ c.loop-steps.invariant.same.out
+pub shape_of-out-in_err-stepped : goal.shape_of-out-in_err-stepped
+shape_of-out-in_err-stepped c = c.step.auto.out ∙ c.loop-steps.invariant.same.out
 
-pub shape_of-keep-in-Stopped : goal.shape_of-keep-in-Stopped
-shape_of-keep-in-Stopped c = c.step-stepped.auto.keep ∙ c.loop-steps.invariant.same.keep
+pub shape_of-keep-in_err-stepped : goal.shape_of-keep-in_err-stepped
+shape_of-keep-in_err-stepped c = c.step.auto.keep ∙ c.loop-steps.invariant.same.keep
 
-pub shape_of-next-in-Stopped : goal.shape_of-next-in-Stopped
-shape_of-next-in-Stopped c = c.step-stepped.auto.next ∙ c.loop-steps.invariant.same.next
+pub shape_of-next-in_err-stepped : goal.shape_of-next-in_err-stepped
+shape_of-next-in_err-stepped c = c.step.auto.next ∙ c.loop-steps.invariant.same.next
 
-pub returns-in-Stopped : goal.returns-in-Stopped
-returns-in-Stopped c =
+pub returns-in_err-stepped : goal.returns-in_err-stepped
+returns-in_err-stepped c =
     let a = c.args in
     let l = c.loop-steps in
-    let r = c.step-stepped in
-    loop_stopped a.limit a.n a.most a.vertices.now a.triangles.now a.vertex_words.now a.round.now a.edge_reals.now a.triangle_words.now a.triangle_reals.now a.counts
+    let r = c.step in
+    let p = err_from_is_err_and c.from_residual.result c.from_residual.ensures.1 in
+    rw (p.1, p.2) (loop_stopped a.limit a.n a.most a.vertices.now a.triangles.now a.vertex_words.now a.round.now a.edge_reals.now a.triangle_words.now a.triangle_reals.now a.counts
     (slices a.edge_words.now a.words.now a.reals.now a.keys.now a.events.now a.vertex.now) (cut_buffers a.pts.now a.out.now a.keep.now a.next.now)
     (slices l.edge_words l.words l.reals l.keys l.events l.vertex) (cut_buffers l.pts l.out l.keep l.next) l.now l.steps l.invariant c.loop-steps-test.true
-    c.in-Stopped.lack (slices r.new.edge_words r.new.words r.new.reals r.new.keys r.new.events r.new.vertex) (rw c.in-Stopped.is at r.ensures)
-
-pub overflow_add-steps : goal.overflow_add-steps
-overflow_add-steps c =
-    omega (arith, c.loop-steps-test.true, c.ranges.most)
-
-pub loop-steps-smaller : goal.loop-steps-smaller
-loop-steps-smaller c =
-    omega (arith, c.loop-steps-test.true, c.ranges.most)
+    c.in_err-stepped.field-0.0 (slices r.new.edge_words r.new.words r.new.reals r.new.keys r.new.events r.new.vertex) c.in_err-stepped.ensures)
 
 pub loop-steps-preserved : goal.loop-steps-preserved
 loop-steps-preserved c =
     let a = c.args in
     let l = c.loop-steps in
-    let r = c.step-stepped in
+    let r = c.step in
     loop_next a.limit a.n a.most a.vertices.now a.triangles.now a.vertex_words.now a.round.now a.edge_reals.now a.triangle_words.now a.triangle_reals.now a.counts
     (slices a.edge_words.now a.words.now a.reals.now a.keys.now a.events.now a.vertex.now) (cut_buffers a.pts.now a.out.now a.keep.now a.next.now)
     (slices l.edge_words l.words l.reals l.keys l.events l.vertex) (cut_buffers l.pts l.out l.keep l.next) l.now l.steps l.invariant c.loop-steps-test.true
-    c.in-Went.c (slices r.new.edge_words r.new.words r.new.reals r.new.keys r.new.events r.new.vertex)
+    c.in-Some.c (slices r.new.edge_words r.new.words r.new.reals r.new.keys r.new.events r.new.vertex)
     (cut_buffers r.new.pts r.new.out r.new.keep r.new.next)
     (record {
       edges = r.auto.edge_words;
@@ -135,7 +127,7 @@ loop-steps-preserved c =
       keep = r.auto.keep;
       next = r.auto.next;
     })
-    (rw c.in-Went.is at r.ensures)
+    (rw c.in-Some.is at c.in_ok-stepped.ensures)
 
 pub shape_of-edge_words : goal.shape_of-edge_words
 shape_of-edge_words c = c.loop-steps.invariant.same.edges

@@ -7,105 +7,108 @@ use Rattle.cut_lists.proofs.Cutting.{full_better, full_next, full_pieces, none_l
 use Rattle.better.proofs.Stored.{answers_of}
 use Rattle.cut_lists.proofs.cut.Goals as goal
 
-pub shape_of-pts-in_default : goal.shape_of-pts-in_default
-shape_of-pts-in_default c = c.better-better.auto.pts
+pub shape_of-pts-in_err-lost : goal.shape_of-pts-in_err-lost
+shape_of-pts-in_err-lost c = c.better.auto.pts
 
-pub shape_of-out-in_default : goal.shape_of-out-in_default
-shape_of-out-in_default c = c.better-better.auto.out
+pub shape_of-out-in_err-lost : goal.shape_of-out-in_err-lost
+shape_of-out-in_err-lost c = c.better.auto.out
 
-pub returns-in_default : goal.returns-in_default
-returns-in_default c =
+pub returns-in_err-lost : goal.returns-in_err-lost
+returns-in_err-lost c =
     let a = c.args in
-    full_better a.p a.q a.lo a.hi a.b0 a.b1 a.tiny (length a.pts.now) (pairs a.k a.keep.now) c.better-better.new.out
-    (omega (arith, c.better-better.auto.out, c.requires.0.outs)) (rw c.in_default.is at (answers_of _ _ _ _ _ _ c.better-better.ensures.out_after))
+    rw c.from_residual.ensures
+    (full_better a.p a.q a.lo a.hi a.b0 a.b1 a.tiny (length a.pts.now) (pairs a.k a.keep.now) c.better.new.out
+    (omega (arith, c.better.auto.out, c.requires.0.outs)) (answers_of _ _ _ _ _ _ c.in_err-lost.ensures.out_after))
 
-pub next_keep-left-requires : goal.next_keep-left-requires
-next_keep-left-requires c =
-    let h = (rw c.in-Entries.is at (answers_of _ _ _ _ _ _ c.better-better.ensures.out_after)) in
+pub next_keep-requires : goal.next_keep-requires
+next_keep-requires c =
+    let h = (answers_of _ _ _ _ _ _ c.in_ok-lost.ensures.out_after) in
     (omega (arith, c.requires.0.keeps, c.requires.1), h.1.0)
 
-pub shape_of-pts-in_default-left : goal.shape_of-pts-in_default-left
-shape_of-pts-in_default-left c =
-    c.better-better.auto.pts
+pub shape_of-pts-in_err-kept : goal.shape_of-pts-in_err-kept
+shape_of-pts-in_err-kept c =
+    c.better.auto.pts
 
-pub shape_of-out-in_default-left : goal.shape_of-out-in_default-left
-shape_of-out-in_default-left c =
-    c.better-better.auto.out
+pub shape_of-out-in_err-kept : goal.shape_of-out-in_err-kept
+shape_of-out-in_err-kept c =
+    c.better.auto.out
 
-pub shape_of-next-in_default-left : goal.shape_of-next-in_default-left
-shape_of-next-in_default-left c = c.next_keep-left.auto.out
+pub shape_of-next-in_err-kept : goal.shape_of-next-in_err-kept
+shape_of-next-in_err-kept c = c.next_keep.auto.out
 
-pub returns-in_default-left : goal.returns-in_default-left
-returns-in_default-left c =
+pub returns-in_err-kept : goal.returns-in_err-kept
+returns-in_err-kept c =
     let a = c.args in
-    full_next a.p a.q a.lo a.hi a.b0 a.b1 a.tiny (length a.pts.now) (pairs a.k a.keep.now) c.better-better.new.out c.in-Entries.m
-    (rw c.in-Entries.is at (answers_of _ _ _ _ _ _ c.better-better.ensures.out_after)) c.next_keep-left.new.out (omega (arith, c.next_keep-left.auto.out, c.requires.0.nexts))
-    (rw c.in_default-left.is at c.next_keep-left.ensures.holds_pairs)
+    rw c.from_residual-in_err-kept.ensures
+    (full_next a.p a.q a.lo a.hi a.b0 a.b1 a.tiny (length a.pts.now) (pairs a.k a.keep.now) c.better.new.out c.in_ok-lost.lost
+    (answers_of _ _ _ _ _ _ c.in_ok-lost.ensures.out_after) c.next_keep.new.out (omega (arith, c.next_keep.auto.out, c.requires.0.nexts))
+    (c.in_err-kept.ensures.holds_pairs))
 
 pub copy-requires : goal.copy-requires
 copy-requires c =
-    let next = c.next_keep-left in
-    let h = (rw c.in-Entries-left.is at next.ensures.holds_pairs) in
+    let next = c.next_keep in
+    let h = (c.in_ok-kept.ensures.holds_pairs) in
     let g = h.0 in
     (g, omega (arith, g, next.auto.out, c.requires.0.nexts, c.requires.0.keeps))
 
-pub shape_of-pts-then-m-eq0 : goal.shape_of-pts-then-m-eq0
-shape_of-pts-then-m-eq0 c =
-    c.better-better.auto.pts
+pub shape_of-pts-then-lost-eq0 : goal.shape_of-pts-then-lost-eq0
+shape_of-pts-then-lost-eq0 c =
+    c.better.auto.pts
 
-pub shape_of-out-then-m-eq0 : goal.shape_of-out-then-m-eq0
-shape_of-out-then-m-eq0 c =
-    c.better-better.auto.out
+pub shape_of-out-then-lost-eq0 : goal.shape_of-out-then-lost-eq0
+shape_of-out-then-lost-eq0 c =
+    c.better.auto.out
 
-pub shape_of-keep-then-m-eq0 : goal.shape_of-keep-then-m-eq0
-shape_of-keep-then-m-eq0 c = c.copy.auto.to
+pub shape_of-keep-then-lost-eq0 : goal.shape_of-keep-then-lost-eq0
+shape_of-keep-then-lost-eq0 c = c.copy.auto.to
 
-pub shape_of-next-then-m-eq0 : goal.shape_of-next-then-m-eq0
-shape_of-next-then-m-eq0 c =
-    c.next_keep-left.auto.out
+pub shape_of-next-then-lost-eq0 : goal.shape_of-next-then-lost-eq0
+shape_of-next-then-lost-eq0 c =
+    c.next_keep.auto.out
 
-pub returns-then-m-eq0 : goal.returns-then-m-eq0
-returns-then-m-eq0 c =
+pub returns-then-lost-eq0 : goal.returns-then-lost-eq0
+returns-then-lost-eq0 c =
     let a = c.args in
-    none_lost a.p a.q a.lo a.hi a.b0 a.b1 a.tiny (length a.pts.now) (pairs a.k a.keep.now) c.better-better.new.out c.in-Entries.m
-    (rw c.in-Entries.is at (answers_of _ _ _ _ _ _ c.better-better.ensures.out_after)) (omega (arith, c.better-better.auto.out, c.requires.0.outs)) c.next_keep-left.new.out c.copy.new.to
-    (omega (arith, c.next_keep-left.auto.out, c.requires.0.nexts)) c.in-Entries-left.kept (rw c.in-Entries-left.is at c.next_keep-left.ensures.holds_pairs) c.copy.ensures c.if-m-eq0.true c.next_keep-left.new.out
+    none_lost a.p a.q a.lo a.hi a.b0 a.b1 a.tiny (length a.pts.now) (pairs a.k a.keep.now) c.better.new.out c.in_ok-lost.lost
+    (answers_of _ _ _ _ _ _ c.in_ok-lost.ensures.out_after) (omega (arith, c.better.auto.out, c.requires.0.outs)) c.next_keep.new.out c.copy.new.to
+    (omega (arith, c.next_keep.auto.out, c.requires.0.nexts)) c.in_ok-kept.kept (c.in_ok-kept.ensures.holds_pairs) c.copy.ensures c.if-lost-eq0.true c.next_keep.new.out
 
-pub pieces-rest-requires : goal.pieces-rest-requires
-pieces-rest-requires c =
-    let h = (rw c.in-Entries.is at (answers_of _ _ _ _ _ _ c.better-better.ensures.out_after)) in
+pub pieces-requires : goal.pieces-requires
+pieces-requires c =
+    let h = (answers_of _ _ _ _ _ _ c.in_ok-lost.ensures.out_after) in
     h.1.0
 
-pub shape_of-pts-in_default-rest : goal.shape_of-pts-in_default-rest
-shape_of-pts-in_default-rest c =
-    c.better-better.auto.pts
+pub shape_of-pts-in_err-pieces : goal.shape_of-pts-in_err-pieces
+shape_of-pts-in_err-pieces c =
+    c.better.auto.pts
 
-pub shape_of-out-in_default-rest : goal.shape_of-out-in_default-rest
-shape_of-out-in_default-rest c =
-    c.better-better.auto.out
+pub shape_of-out-in_err-pieces : goal.shape_of-out-in_err-pieces
+shape_of-out-in_err-pieces c =
+    c.better.auto.out
 
-pub shape_of-keep-in_default-rest : goal.shape_of-keep-in_default-rest
-shape_of-keep-in_default-rest c =
+pub shape_of-keep-in_err-pieces : goal.shape_of-keep-in_err-pieces
+shape_of-keep-in_err-pieces c =
     c.copy.auto.to
 
-pub shape_of-next-in_default-rest : goal.shape_of-next-in_default-rest
-shape_of-next-in_default-rest c =
-    c.pieces-rest.auto.out ∙ c.next_keep-left.auto.out
+pub shape_of-next-in_err-pieces : goal.shape_of-next-in_err-pieces
+shape_of-next-in_err-pieces c =
+    c.pieces.auto.out ∙ c.next_keep.auto.out
 
-pub returns-in_default-rest : goal.returns-in_default-rest
-returns-in_default-rest c =
+pub returns-in_err-pieces : goal.returns-in_err-pieces
+returns-in_err-pieces c =
     let a = c.args in
-    full_pieces a.p a.q a.lo a.hi a.b0 a.b1 a.tiny (length a.pts.now) (pairs a.k a.keep.now) c.better-better.new.out c.in-Entries.m
-    (rw c.in-Entries.is at (answers_of _ _ _ _ _ _ c.better-better.ensures.out_after)) c.pieces-rest.new.out
-    (omega (arith, c.pieces-rest.auto.out, c.next_keep-left.auto.out, c.requires.0.nexts)) (omega (arith, c.if-m-eq0.false)) (rw c.in_default-rest.is at c.pieces-rest.ensures.holds_pairs)
+    rw c.from_residual-in_err-pieces.ensures
+    (full_pieces a.p a.q a.lo a.hi a.b0 a.b1 a.tiny (length a.pts.now) (pairs a.k a.keep.now) c.better.new.out c.in_ok-lost.lost
+    (answers_of _ _ _ _ _ _ c.in_ok-lost.ensures.out_after) c.pieces.new.out
+    (omega (arith, c.pieces.auto.out, c.next_keep.auto.out, c.requires.0.nexts)) (omega (arith, c.if-lost-eq0.false)) (c.in_err-pieces.ensures.holds_pairs))
 
 pub shape_of-pts : goal.shape_of-pts
 shape_of-pts c =
-    c.better-better.auto.pts
+    c.better.auto.pts
 
 pub shape_of-out : goal.shape_of-out
 shape_of-out c =
-    c.better-better.auto.out
+    c.better.auto.out
 
 pub shape_of-keep : goal.shape_of-keep
 shape_of-keep c =
@@ -113,12 +116,12 @@ shape_of-keep c =
 
 pub shape_of-next : goal.shape_of-next
 shape_of-next c =
-    c.pieces-rest.auto.out ∙ c.next_keep-left.auto.out
+    c.pieces.auto.out ∙ c.next_keep.auto.out
 
 pub returns : goal.returns
 returns c =
     let a = c.args in
-    some_lost a.p a.q a.lo a.hi a.b0 a.b1 a.tiny (length a.pts.now) (pairs a.k a.keep.now) c.better-better.new.out c.in-Entries.m
-    (rw c.in-Entries.is at (answers_of _ _ _ _ _ _ c.better-better.ensures.out_after)) (omega (arith, c.better-better.auto.out, c.requires.0.outs)) c.next_keep-left.new.out c.copy.new.to
-    (omega (arith, c.next_keep-left.auto.out, c.requires.0.nexts)) c.in-Entries-left.kept (rw c.in-Entries-left.is at c.next_keep-left.ensures.holds_pairs) c.copy.ensures c.pieces-rest.new.out
-    (omega (arith, c.pieces-rest.auto.out, c.next_keep-left.auto.out, c.requires.0.nexts)) c.in-Entries-rest.n (rw c.in-Entries-rest.is at c.pieces-rest.ensures.holds_pairs)
+    some_lost a.p a.q a.lo a.hi a.b0 a.b1 a.tiny (length a.pts.now) (pairs a.k a.keep.now) c.better.new.out c.in_ok-lost.lost
+    (answers_of _ _ _ _ _ _ c.in_ok-lost.ensures.out_after) (omega (arith, c.better.auto.out, c.requires.0.outs)) c.next_keep.new.out c.copy.new.to
+    (omega (arith, c.next_keep.auto.out, c.requires.0.nexts)) c.in_ok-kept.kept (c.in_ok-kept.ensures.holds_pairs) c.copy.ensures c.pieces.new.out
+    (omega (arith, c.pieces.auto.out, c.next_keep.auto.out, c.requires.0.nexts)) c.in_ok-pieces.pieces (c.in_ok-pieces.ensures.holds_pairs)

@@ -15,49 +15,49 @@ returns-then-o1-o0 c =
     let better = pairs a.m a.better.now in
     apart a.lo a.hi better a.k0 a.k1 c.max-o0.result c.min-o1.result c.max-o0.ensures c.min-o1.ensures gs c.push.result c.push.new.out c.if-o1-o0.true c.push.ensures
 
-pub shape_of-out-in_default : goal.shape_of-out-in_default
-shape_of-out-in_default c = c.push_if-left.auto.out
+pub shape_of-out-in_err-a : goal.shape_of-out-in_err-a
+shape_of-out-in_err-a c = c.push_if.auto.out
 
-pub returns-in_default : goal.returns-in_default
-returns-in_default c =
+pub returns-in_err-a : goal.returns-in_err-a
+returns-in_err-a c =
     let a = c.args in
     let gs = pairs a.n a.out.now in
     let better = pairs a.m a.better.now in
-    let h = rw c.in_default.is at c.push_if-left.ensures in
-    left_full a.lo a.hi better a.k0 a.k1 c.max-o0.result c.min-o1.result c.max-o0.ensures c.min-o1.ensures gs (length c.push_if-left.new.out) c.if-o1-o0.false h
+    let h = c.in_err-a.ensures in
+    rw c.from_residual.ensures (left_full a.lo a.hi better a.k0 a.k1 c.max-o0.result c.min-o1.result c.max-o0.ensures c.min-o1.ensures gs (length c.push_if.new.out) c.if-o1-o0.false h)
 
-pub push_cuts-inner-requires : goal.push_cuts-inner-requires
-push_cuts-inner-requires c =
-    let e = rw c.in-Entries.is at c.push_if-left.ensures in
+pub push_cuts-requires : goal.push_cuts-requires
+push_cuts-requires c =
+    let e = c.in_ok-a.ensures in
     (c.requires.0, e.0)
 
-pub shape_of-out-in_default-inner : goal.shape_of-out-in_default-inner
-shape_of-out-in_default-inner c =
-    c.push_cuts-inner.auto.out ∙ c.push_if-left.auto.out
+pub shape_of-out-in_err-b : goal.shape_of-out-in_err-b
+shape_of-out-in_err-b c =
+    c.push_cuts.auto.out ∙ c.push_if.auto.out
 
-pub returns-in_default-inner : goal.returns-in_default-inner
-returns-in_default-inner c =
+pub returns-in_err-b : goal.returns-in_err-b
+returns-in_err-b c =
     let a = c.args in
     let gs = pairs a.n a.out.now in
     let better = pairs a.m a.better.now in
-    let e = rw c.in-Entries.is at c.push_if-left.ensures in
-    let h = rw c.in_default-inner.is at c.push_cuts-inner.ensures in
-    inner_full a.lo a.hi better a.k0 a.k1 c.max-o0.result c.min-o1.result c.max-o0.ensures c.min-o1.ensures gs (length c.push_cuts-inner.new.out) (pairs c.in-Entries.a c.push_if-left.new.out) c.if-o1-o0.false e.1 h
+    let e = c.in_ok-a.ensures in
+    let h = c.in_err-b.ensures in
+    rw c.from_residual-in_err-b.ensures (inner_full a.lo a.hi better a.k0 a.k1 c.max-o0.result c.min-o1.result c.max-o0.ensures c.min-o1.ensures gs (length c.push_cuts.new.out) (pairs c.in_ok-a.a c.push_if.new.out) c.if-o1-o0.false e.1 h)
 
-pub push_if-requires : goal.push_if-requires
-push_if-requires c =
-    let d = rw c.in-Entries-inner.is at c.push_cuts-inner.ensures in
+pub push_if-requires-2 : goal.push_if-requires-2
+push_if-requires-2 c =
+    let d = c.in_ok-b.ensures in
     d.0
 
 pub shape_of-out : goal.shape_of-out
 shape_of-out c =
-    c.push_if.auto.out ∙ c.push_cuts-inner.auto.out ∙ c.push_if-left.auto.out
+    c.push_if-2.auto.out ∙ c.push_cuts.auto.out ∙ c.push_if.auto.out
 
 pub returns : goal.returns
 returns c =
     let a = c.args in
     let gs = pairs a.n a.out.now in
     let better = pairs a.m a.better.now in
-    let e = rw c.in-Entries.is at c.push_if-left.ensures in
-    let d = rw c.in-Entries-inner.is at c.push_cuts-inner.ensures in
-    right_held a.lo a.hi better a.k0 a.k1 c.max-o0.result c.min-o1.result c.max-o0.ensures c.min-o1.ensures gs c.push_if.result c.push_if.new.out (pairs c.in-Entries.a c.push_if-left.new.out) (pairs c.in-Entries-inner.b c.push_cuts-inner.new.out) c.if-o1-o0.false e.1 d.1 c.push_if.ensures
+    let e = c.in_ok-a.ensures in
+    let d = c.in_ok-b.ensures in
+    right_held a.lo a.hi better a.k0 a.k1 c.max-o0.result c.min-o1.result c.max-o0.ensures c.min-o1.ensures gs c.push_if-2.result c.push_if-2.new.out (pairs c.in_ok-a.a c.push_if.new.out) (pairs c.in_ok-b.b c.push_cuts.new.out) c.if-o1-o0.false e.1 d.1 c.push_if-2.ensures

@@ -13,44 +13,44 @@ enter_sides-requires c =
       words = none_entered a.triangles.now (length a.triangles.now) _ _ _ (length a.heads.now) (length a.edge_words.now) (length a.triangle_words.now) c.zero_u32.ensures c.zero_u32-2.ensures c.zero_u32-3.ensures;
     }
 
-pub shape_of-heads-in-Edges : goal.shape_of-heads-in-Edges
-shape_of-heads-in-Edges c =
+pub shape_of-heads-in-Ok : goal.shape_of-heads-in-Ok
+shape_of-heads-in-Ok c =
     c.enter_sides.auto.heads ∙ c.zero_u32.auto.s
 
-pub shape_of-edge_words-in-Edges : goal.shape_of-edge_words-in-Edges
-shape_of-edge_words-in-Edges c =
+pub shape_of-edge_words-in-Ok : goal.shape_of-edge_words-in-Ok
+shape_of-edge_words-in-Ok c =
     c.clear_links.auto.edge_words ∙ c.enter_sides.auto.edge_words ∙ c.zero_u32-2.auto.s
 
-pub shape_of-triangle_words-in-Edges : goal.shape_of-triangle_words-in-Edges
-shape_of-triangle_words-in-Edges c =
+pub shape_of-triangle_words-in-Ok : goal.shape_of-triangle_words-in-Ok
+shape_of-triangle_words-in-Ok c =
     c.enter_sides.auto.triangle_words ∙ c.zero_u32-3.auto.s
 
-pub returns-in-Edges : goal.returns-in-Edges
-returns-in-Edges c =
+pub returns-in-Ok : goal.returns-in-Ok
+returns-in-Ok c =
     let a = c.args in
-    let t = turned_on a.triangles.now (length a.triangles.now) _ _ _ _ _ c.enter_sides.ensures _ c.in-Edges.is in
+    let t = turned_on a.triangles.now (length a.triangles.now) _ _ _ _ _ c.enter_sides.ensures _ c.in-Ok.is in
     built_all a.triangles.now (length a.triangles.now) _ _ _ _ _ _ _
     (c.enter_sides.auto.heads ∙ c.zero_u32.auto.s)
     (c.enter_sides.auto.edge_words ∙ c.zero_u32-2.auto.s)
     (c.enter_sides.auto.triangle_words ∙ c.zero_u32-3.auto.s)
     t.1 _ t.0 c.clear_links.ensures
 
-pub shape_of-heads-in-ThirdFace : goal.shape_of-heads-in-ThirdFace
-shape_of-heads-in-ThirdFace c =
-    c.zero_u32-in-ThirdFace.auto.s ∙ c.enter_sides.auto.heads ∙ c.zero_u32.auto.s
+pub shape_of-heads-in-Err : goal.shape_of-heads-in-Err
+shape_of-heads-in-Err c =
+    c.zero_u32-in-Err.auto.s ∙ c.enter_sides.auto.heads ∙ c.zero_u32.auto.s
 
-pub shape_of-edge_words-in-ThirdFace : goal.shape_of-edge_words-in-ThirdFace
-shape_of-edge_words-in-ThirdFace c =
-    c.zero_u32-in-ThirdFace-2.auto.s ∙ c.enter_sides.auto.edge_words ∙ c.zero_u32-2.auto.s
+pub shape_of-edge_words-in-Err : goal.shape_of-edge_words-in-Err
+shape_of-edge_words-in-Err c =
+    c.zero_u32-in-Err-2.auto.s ∙ c.enter_sides.auto.edge_words ∙ c.zero_u32-2.auto.s
 
-pub shape_of-triangle_words-in-ThirdFace : goal.shape_of-triangle_words-in-ThirdFace
-shape_of-triangle_words-in-ThirdFace c =
-    c.zero_u32-in-ThirdFace-3.auto.s ∙ c.enter_sides.auto.triangle_words ∙ c.zero_u32-3.auto.s
+pub shape_of-triangle_words-in-Err : goal.shape_of-triangle_words-in-Err
+shape_of-triangle_words-in-Err c =
+    c.zero_u32-in-Err-3.auto.s ∙ c.enter_sides.auto.triangle_words ∙ c.zero_u32-3.auto.s
 
-pub returns-in-ThirdFace : goal.returns-in-ThirdFace
-returns-in-ThirdFace c =
+pub returns-in-Err : goal.returns-in-Err
+returns-in-Err c =
     let a = c.args in
-    built_third a.triangles.now (length a.triangles.now) _ _ _ _ _ _ (turned_third a.triangles.now (length a.triangles.now) _ _ _ _ _ c.enter_sides.ensures c.in-ThirdFace.is)
-    (c.zero_u32-in-ThirdFace.ensures ∙ same_zeros (c.enter_sides.auto.heads ∙ c.zero_u32.auto.s))
-    (c.zero_u32-in-ThirdFace-2.ensures ∙ same_zeros (c.enter_sides.auto.edge_words ∙ c.zero_u32-2.auto.s))
-    (c.zero_u32-in-ThirdFace-3.ensures ∙ same_zeros (c.enter_sides.auto.triangle_words ∙ c.zero_u32-3.auto.s))
+    built_third a.triangles.now (length a.triangles.now) _ _ _ _ _ _ (turned_third a.triangles.now (length a.triangles.now) _ _ _ _ _ c.enter_sides.ensures _ c.in-Err.is)
+    (c.zero_u32-in-Err.ensures ∙ same_zeros (c.enter_sides.auto.heads ∙ c.zero_u32.auto.s))
+    (c.zero_u32-in-Err-2.ensures ∙ same_zeros (c.enter_sides.auto.edge_words ∙ c.zero_u32-2.auto.s))
+    (c.zero_u32-in-Err-3.ensures ∙ same_zeros (c.enter_sides.auto.triangle_words ∙ c.zero_u32-3.auto.s))

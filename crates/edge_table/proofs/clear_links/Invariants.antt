@@ -1,11 +1,7 @@
-use Prim.Native.Nat.{◌≤◌, ◌-◌}
 use mathlib.Core.Path.{◌≡◌}
 use lib.ListN.{length}
 use Rattle.edge_table.specs.Sides.{without_links}
 use Rattle.edge_table.proofs.clear_links.Given as goal
 
 abbrev pub invariant-loop-e : goal.invariant-loop-e
-invariant-loop-e l = (l.e ≤ l.count) × ((length l.edge_words ≡ length l.initial.edge_words) × (l.edge_words ≡ without_links l.e l.initial.edge_words))
-
-abbrev pub decreases-loop-e : goal.decreases-loop-e
-decreases-loop-e l = l.count - l.e
+invariant-loop-e l = (length l.edge_words ≡ length l.initial.edge_words) × (l.edge_words ≡ without_links l.e l.initial.edge_words)

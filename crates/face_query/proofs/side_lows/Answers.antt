@@ -1,9 +1,12 @@
 use Prim.Native.Nat.{ℕ}
 use native.Mathlib.Omega.{arith}
-use mathlib.Core.Bool.{Bool, true, false, not, ◌||◌, true≢false}
+use mathlib.Core.Bool.{Bool, true, ◌&&◌, true≢false}
 use mathlib.Core.List.{List}
 use mathlib.Core.Path.{◌≡◌, refl, sym, ap, ◌∙◌}
-use lib.Ieee.{Float, inf, binary64, div}
+use lib.Ieee.{Float, binary64, div}
+use Rattle.std.specs.declared.option.Option.{Option}
+use Rattle.std.specs.declared.option.Option.TheVariants.{Some, None}
+use Rattle.std.specs.Option.{is_none}
 use Rattle.float64.specs.Scalar.{zero64, one}
 use Rattle.chains.specs.Chains.{links}
 use Rattle.last_pass.specs.Buffers.{chain_behind}
@@ -14,15 +17,15 @@ use Rattle.face_query.proofs.side_lows.Invariants.{lowest}
 use Rattle.face_query.proofs.side_lows.Goals as goal
 
 -- none of three has more
-none : (x y z r : Bool) → r ≡ not (x || (y || z)) → r ≡ true → (x ≡ false) × ((y ≡ false) × (z ≡ false))
-none true y z r h t = absurd (true≢false (sym t ∙ h))
-none false true z r h t = absurd (true≢false (sym t ∙ h))
-none false false true r h t = absurd (true≢false (sym t ∙ h))
-none false false false r h t = (refl, (refl, refl))
+none : (x y z : Option ℕ) (r : Bool) → r ≡ (is_none x && (is_none y && is_none z)) → r ≡ true → (x ≡ None) × ((y ≡ None) × (z ≡ None))
+none (Some k) y z r h t = absurd (true≢false (sym t ∙ h))
+none None (Some k) z r h t = absurd (true≢false (sym t ∙ h))
+none None None (Some k) r h t = absurd (true≢false (sym t ∙ h))
+none None None None r h t = (refl, (refl, refl))
 
 module _ (ew w : List ℕ) (f : List Float) (made : ℕ) where
   -- a walk that has not begun
-  begins : (e : ℕ) → walk_low made (links ew w) f e made (record { before = 0; low = div binary64 one zero64; more = true }) ≡ lowest ew w f made e
+  begins : (e : ℕ) → walk_low made (links ew w) f e made (record { low = div binary64 one zero64; before = Some 0 }) ≡ lowest ew w f made e
   begins e = ap (λ (v : Float). least_low f v (chain_behind made (links ew w) e made 0)) infinite
 
 pub loop-left-init : goal.loop-left-init
@@ -36,7 +39,7 @@ returns-then-over c =
     let l = c.loop-left in
     let a = c.args in
     let b = links a.edge_words.now a.words.now in
-    let n = none l.a.more l.b.more l.c.more c.over.result c.over.ensures c.if-over.true in (
+    let n = none l.a.before l.b.before l.c.before c.over.result c.over.ensures c.if-over.true in (
       sym (walk_over a.made b a.reals.now a.e0.0 l.left l.a n.0) ∙ l.invariant.0,
       (
         sym (walk_over a.made b a.reals.now a.e1.0 l.left l.b n.1.0) ∙ l.invariant.1.0,

@@ -1,4 +1,4 @@
-use mathlib.Core.Path.{◌≡◌, ap}
+use mathlib.Core.Path.{◌≡◌}
 use lib.ListN.{length}
 use Rattle.face_entries.specs.Buffers.{entry_capacity}
 use Rattle.face_query.proofs.Walks.{to_enter}

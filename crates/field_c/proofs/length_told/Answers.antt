@@ -3,10 +3,10 @@ use Rattle.field_c.specs.Slips.{length_told}
 use borrow.Author.Rules.{rules}
 use Rattle.field_c.proofs.length_told.Goals as goal
 
-pub returns-in-Length : goal.returns-in-Length
+pub returns-in-Some : goal.returns-in-Some
 unfolding length_told
-returns-in-Length c = search rules
+returns-in-Some c = search rules
 
-pub returns-in-TooShort : goal.returns-in-TooShort
+pub returns-in-None : goal.returns-in-None
 unfolding length_told
-returns-in-TooShort c = search rules
+returns-in-None c = search rules

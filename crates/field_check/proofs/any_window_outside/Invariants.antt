@@ -1,12 +1,8 @@
 use mathlib.Core.Path.{◌≡◌}
 use mathlib.Core.Bool.{false}
-use Prim.Native.Nat.{◌≤◌, ◌-◌}
 use Rattle.job_checks.specs.Any.{any_below}
 use Rattle.field_check.specs.FieldCheck.{window_outside}
 use Rattle.field_check.proofs.any_window_outside.Given as goal
 
 abbrev pub invariant-loop-i : goal.invariant-loop-i
-invariant-loop-i l = (l.i ≤ l.made) × (any_below (window_outside l.n l.words) l.i ≡ false)
-
-abbrev pub decreases-loop-i : goal.decreases-loop-i
-decreases-loop-i l = l.made - l.i
+invariant-loop-i l = any_below (window_outside l.n l.words) l.i ≡ false

@@ -1,5 +1,5 @@
 use mathlib.Core.Path.{◌≡◌}
-use Prim.Native.Nat.{ℕ, ◌-◌}
+use Prim.Native.Nat.{ℕ}
 use Rattle.face_entries.specs.Buffers.{next_entry_of}
 use Rattle.field_check.specs.Chains.{walk_of}
 use Rattle.field_check.specs.FieldCheck.{entry_outside}

@@ -4,4 +4,4 @@ use Rattle.form_read.proofs.job.Goals as goal
 
 pub returns : goal.returns
 unfolding passed_answer
-returns c = rw c.double_at-limit.ensures
+returns c = rw c.double_at.ensures

@@ -1,61 +1,21 @@
 -- `form_read::read` meets its contract. Assumes nothing.
+use Rattle.std.proofs.lemmas.Result.{err_from_is_err_and}
 use Rattle.form_read.specs.FormReading.{of_slip, form_reading}
-use mathlib.Core.Path.{ap, ◌∙◌}
+use mathlib.Core.Path.{sym, ap, ◌∙◌}
 use Rattle.form_read.proofs.read.Goals as goal
 
-pub shape_of-vertices-in-Plain : goal.shape_of-vertices-in-Plain
-shape_of-vertices-in-Plain c =
-    c.read.auto.vertices
-
-pub shape_of-triangles-in-Plain : goal.shape_of-triangles-in-Plain
-shape_of-triangles-in-Plain c =
-    c.read.auto.triangles
-
-pub shape_of-flags-in-Plain : goal.shape_of-flags-in-Plain
-shape_of-flags-in-Plain c =
-    c.read.auto.flags
-
-pub shape_of-kinds-in-Plain : goal.shape_of-kinds-in-Plain
-shape_of-kinds-in-Plain c =
-    c.read.auto.kinds
-
-pub shape_of-faces-in-Plain : goal.shape_of-faces-in-Plain
-shape_of-faces-in-Plain c =
-    c.read.auto.faces
-
-pub shape_of-coords-in-Plain : goal.shape_of-coords-in-Plain
-shape_of-coords-in-Plain c =
-    c.read.auto.coords
-
-pub returns-in-Plain : goal.returns-in-Plain
+pub returns-in_err-read-in-Plain : goal.returns-in_err-read-in-Plain
 unfolding form_reading
-returns-in-Plain c =
+returns-in_err-read-in-Plain c =
     let told = c.read.ensures in
-    rw c.in-Plain.is (λ i. ((c.of_slip.ensures ∙ ap (λ q. of_slip q.0) told) i, (told i).1))
+    let p = err_from_is_err_and c.from_residual.result c.from_residual.ensures.1 in
+    rw (p.1, p.2, c.in-Plain.is) (λ i. ((ap of_slip (sym c.in_err-read-in-Plain.was) ∙ ap (λ q. of_slip q.0) told) i, (told i).1))
 
-pub shape_of-vertices-in-Groups : goal.shape_of-vertices-in-Groups
-shape_of-vertices-in-Groups c =
-    c.read_groups.auto.vertices
-
-pub shape_of-triangles-in-Groups : goal.shape_of-triangles-in-Groups
-shape_of-triangles-in-Groups c =
-    c.read_groups.auto.triangles
-
-pub shape_of-flags-in-Groups : goal.shape_of-flags-in-Groups
-shape_of-flags-in-Groups c =
-    c.read_groups.auto.flags
-
-pub shape_of-kinds-in-Groups : goal.shape_of-kinds-in-Groups
-shape_of-kinds-in-Groups c =
-    c.read_groups.auto.kinds
-
-pub shape_of-faces-in-Groups : goal.shape_of-faces-in-Groups
-shape_of-faces-in-Groups c =
-    c.read_groups.auto.faces
-
-pub shape_of-coords-in-Groups : goal.shape_of-coords-in-Groups
-shape_of-coords-in-Groups c =
-    c.read_groups.auto.coords
+pub returns-in_ok-read-in-Plain : goal.returns-in_ok-read-in-Plain
+unfolding form_reading
+returns-in_ok-read-in-Plain c =
+    let told = c.read.ensures in
+    rw c.in-Plain.is (λ i. ((ap of_slip (sym c.in_ok-read-in-Plain.was) ∙ ap (λ q. of_slip q.0) told) i, (told i).1))
 
 pub returns-in-Groups : goal.returns-in-Groups
 unfolding form_reading

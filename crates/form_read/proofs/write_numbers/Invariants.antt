@@ -4,7 +4,7 @@ use Rattle.groups.specs.Groups.{number_at}
 use Rattle.nat_laws.specs.Lists.{list_of}
 use Rattle.little_endian.specs.Bytes.{put_in_front}
 use lib.ListN.{length}
-use Prim.Native.Nat.{◌+◌, ◌-◌, ◌*◌, ◌≤◌}
+use Prim.Native.Nat.{◌+◌, ◌*◌, ◌≤◌}
 use mathlib.Core.Path.{◌≡◌}
 use Rattle.form_read.proofs.write_numbers.Given as goal
 
@@ -15,6 +15,3 @@ invariant-loop-k l =
     × (l.at ≤ l.i + 5 * l.k)
     × (l.at ≡ number_place l.s l.i l.k)
     × (l.to ≡ put_in_front (list_of l.k (λ j. value_read (number_at Groups l.s (number_place l.s l.i j)))) l.initial.to)
-
-abbrev pub decreases-loop-k : goal.decreases-loop-k
-decreases-loop-k l = l.n - l.k

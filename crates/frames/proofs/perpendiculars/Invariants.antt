@@ -1,4 +1,4 @@
-use Prim.Native.Nat.{◌≤◌, ◌-◌, ◌*◌}
+use Prim.Native.Nat.{◌*◌}
 use mathlib.Core.Path.{◌≡◌}
 use lib.ListN.{length}
 use Rattle.layout.specs.Layout.{reals_per_normal}
@@ -6,7 +6,4 @@ use Rattle.frames.specs.Stored.{with_rows, perpendicular_row}
 use Rattle.frames.proofs.perpendiculars.Given as goal
 
 abbrev pub invariant-loop-f : goal.invariant-loop-f
-invariant-loop-f l = (l.f ≤ l.faces) × ((length l.triangle_reals ≡ length l.initial.triangle_reals) × (l.triangle_reals ≡ with_rows reals_per_normal (perpendicular_row l.vertices l.triangles l.triangle_words l.edge_reals) (3 * l.f) l.initial.triangle_reals))
-
-abbrev pub decreases-loop-f : goal.decreases-loop-f
-decreases-loop-f l = l.faces - l.f
+invariant-loop-f l = (length l.triangle_reals ≡ length l.initial.triangle_reals) × (l.triangle_reals ≡ with_rows reals_per_normal (perpendicular_row l.vertices l.triangles l.triangle_words l.edge_reals) (3 * l.f) l.initial.triangle_reals)

@@ -1,8 +1,9 @@
 -- `insert_sources::insert_all` meets its contract. Assumes nothing.
-use Prim.Native.Nat.{◌*◌, ◌-◌, ◌<◌}
+use Prim.Native.Nat.{◌*◌, ◌<◌}
 use native.Mathlib.Omega.{arith}
 use mathlib.Core.Path.{◌∙◌, refl}
 use lib.ListN.{length}
+use Rattle.std.proofs.lemmas.Result.{err_from_is_err_and}
 use Rattle.insertion.specs.of_cut_lists.Buffers.{cut_buffers}
 use Rattle.insertion.specs.of_trim.Buffers.{slices}
 use Rattle.insertion.specs.of_face_entries.Buffers.{entry_buffers}
@@ -26,8 +27,8 @@ loop-j-init c =
     a.counts (slices a.edge_words.now a.words.now a.reals.now a.keys.now a.events.now a.vertex.now) (entry_buffers a.triangle_words.now a.entry_words.now)
     (cut_buffers a.pts.now a.out.now a.keep.now a.next.now) (3 * length a.kinds.now) c.requires.0
 
-pub insert_source-one-requires : goal.insert_source-one-requires
-insert_source-one-requires c =
+pub insert_source-requires : goal.insert_source-requires
+insert_source-requires c =
     let a = c.args in
     let l = c.loop-j in
     let k = (insertion_slices a.vertices.now a.vertex_words.now a.edge_reals.now a.triangle_reals.now a.round.now a.kinds.now a.faces.now a.coords.now a.piece_words.now a.piece_reals.now) in
@@ -46,85 +47,78 @@ insert_source-one-requires c =
       ),
     )
 
-pub shape_of-edge_words-in-Stopped : goal.shape_of-edge_words-in-Stopped
-shape_of-edge_words-in-Stopped c =
-    c.insert_source-one.auto.edge_words ∙ c.loop-j.invariant.same.trim.edges
+pub shape_of-edge_words-in_err-now : goal.shape_of-edge_words-in_err-now
+shape_of-edge_words-in_err-now c =
+    c.insert_source.auto.edge_words ∙ c.loop-j.invariant.same.trim.edges
 
-pub shape_of-words-in-Stopped : goal.shape_of-words-in-Stopped
-shape_of-words-in-Stopped c =
-    c.insert_source-one.auto.words ∙ c.loop-j.invariant.same.trim.words
+pub shape_of-words-in_err-now : goal.shape_of-words-in_err-now
+shape_of-words-in_err-now c =
+    c.insert_source.auto.words ∙ c.loop-j.invariant.same.trim.words
 
-pub shape_of-reals-in-Stopped : goal.shape_of-reals-in-Stopped
-shape_of-reals-in-Stopped c =
-    c.insert_source-one.auto.reals ∙ c.loop-j.invariant.same.trim.reals
+pub shape_of-reals-in_err-now : goal.shape_of-reals-in_err-now
+shape_of-reals-in_err-now c =
+    c.insert_source.auto.reals ∙ c.loop-j.invariant.same.trim.reals
 
-pub shape_of-keys-in-Stopped : goal.shape_of-keys-in-Stopped
-shape_of-keys-in-Stopped c =
-    c.insert_source-one.auto.keys ∙ c.loop-j.invariant.same.trim.keys
+pub shape_of-keys-in_err-now : goal.shape_of-keys-in_err-now
+shape_of-keys-in_err-now c =
+    c.insert_source.auto.keys ∙ c.loop-j.invariant.same.trim.keys
 
-pub shape_of-events-in-Stopped : goal.shape_of-events-in-Stopped
-shape_of-events-in-Stopped c =
-    c.insert_source-one.auto.events ∙ c.loop-j.invariant.same.trim.events
+pub shape_of-events-in_err-now : goal.shape_of-events-in_err-now
+shape_of-events-in_err-now c =
+    c.insert_source.auto.events ∙ c.loop-j.invariant.same.trim.events
 
-pub shape_of-vertex-in-Stopped : goal.shape_of-vertex-in-Stopped
-shape_of-vertex-in-Stopped c =
-    c.insert_source-one.auto.vertex ∙ c.loop-j.invariant.same.trim.vertex
+pub shape_of-vertex-in_err-now : goal.shape_of-vertex-in_err-now
+shape_of-vertex-in_err-now c =
+    c.insert_source.auto.vertex ∙ c.loop-j.invariant.same.trim.vertex
 
-pub shape_of-pts-in-Stopped : goal.shape_of-pts-in-Stopped
-shape_of-pts-in-Stopped c =
-    c.insert_source-one.auto.pts ∙ c.loop-j.invariant.same.trim.pts
+pub shape_of-pts-in_err-now : goal.shape_of-pts-in_err-now
+shape_of-pts-in_err-now c =
+    c.insert_source.auto.pts ∙ c.loop-j.invariant.same.trim.pts
 
-pub shape_of-out-in-Stopped : goal.shape_of-out-in-Stopped
-shape_of-out-in-Stopped c =
-    c.insert_source-one.auto.out ∙ c.loop-j.invariant.same.trim.out
+pub shape_of-out-in_err-now : goal.shape_of-out-in_err-now
+shape_of-out-in_err-now c =
+    c.insert_source.auto.out ∙ c.loop-j.invariant.same.trim.out
 
-pub shape_of-keep-in-Stopped : goal.shape_of-keep-in-Stopped
-shape_of-keep-in-Stopped c =
-    c.insert_source-one.auto.keep ∙ c.loop-j.invariant.same.trim.keep
+pub shape_of-keep-in_err-now : goal.shape_of-keep-in_err-now
+shape_of-keep-in_err-now c =
+    c.insert_source.auto.keep ∙ c.loop-j.invariant.same.trim.keep
 
-pub shape_of-next-in-Stopped : goal.shape_of-next-in-Stopped
-shape_of-next-in-Stopped c =
-    c.insert_source-one.auto.next ∙ c.loop-j.invariant.same.trim.next
+pub shape_of-next-in_err-now : goal.shape_of-next-in_err-now
+shape_of-next-in_err-now c =
+    c.insert_source.auto.next ∙ c.loop-j.invariant.same.trim.next
 
-pub shape_of-triangle_words-in-Stopped : goal.shape_of-triangle_words-in-Stopped
-shape_of-triangle_words-in-Stopped c =
-    c.insert_source-one.auto.triangle_words ∙ c.loop-j.invariant.same.triangles
+pub shape_of-triangle_words-in_err-now : goal.shape_of-triangle_words-in_err-now
+shape_of-triangle_words-in_err-now c =
+    c.insert_source.auto.triangle_words ∙ c.loop-j.invariant.same.triangles
 
-pub shape_of-entry_words-in-Stopped : goal.shape_of-entry_words-in-Stopped
-shape_of-entry_words-in-Stopped c =
-    c.insert_source-one.auto.entry_words ∙ c.loop-j.invariant.same.entries
+pub shape_of-entry_words-in_err-now : goal.shape_of-entry_words-in_err-now
+shape_of-entry_words-in_err-now c =
+    c.insert_source.auto.entry_words ∙ c.loop-j.invariant.same.entries
 
-pub returns-in-Stopped : goal.returns-in-Stopped
-returns-in-Stopped c =
+pub returns-in_err-now : goal.returns-in_err-now
+returns-in_err-now c =
     let a = c.args in
     let l = c.loop-j in
-    let r = c.insert_source-one in
+    let r = c.insert_source in
     let k = (insertion_slices a.vertices.now a.vertex_words.now a.edge_reals.now a.triangle_reals.now a.round.now a.kinds.now a.faces.now a.coords.now a.piece_words.now a.piece_reals.now) in
     let q : l.j < 3 * length a.kinds.now = omega (arith, c.loop-j-test.true) in
-    job_stopped a.limit k a.counts (slices a.edge_words.now a.words.now a.reals.now a.keys.now a.events.now a.vertex.now) (entry_buffers a.triangle_words.now a.entry_words.now)
+    let p = err_from_is_err_and c.from_residual.result c.from_residual.ensures.1 in
+    rw (p.1, p.2) (job_stopped a.limit k a.counts (slices a.edge_words.now a.words.now a.reals.now a.keys.now a.events.now a.vertex.now) (entry_buffers a.triangle_words.now a.entry_words.now)
     (cut_buffers a.pts.now a.out.now a.keep.now a.next.now)
     (slices l.edge_words l.words l.reals l.keys l.events l.vertex) (entry_buffers l.triangle_words l.entry_words) (cut_buffers l.pts l.out l.keep l.next) l.now l.j l.invariant q
-    (slices r.new.edge_words r.new.words r.new.reals r.new.keys r.new.events r.new.vertex) (entry_buffers r.new.triangle_words r.new.entry_words) c.in-Stopped.lack (rw c.in-Stopped.is at r.ensures)
-
-pub overflow_add-j : goal.overflow_add-j
-overflow_add-j c =
-    omega (arith, c.loop-j-test.true, c.requires.1.1)
-
-pub loop-j-smaller : goal.loop-j-smaller
-loop-j-smaller c =
-    omega (arith, c.loop-j-test.true)
+    (slices r.new.edge_words r.new.words r.new.reals r.new.keys r.new.events r.new.vertex) (entry_buffers r.new.triangle_words r.new.entry_words) c.in_err-now.field-0.0 c.in_err-now.ensures)
 
 pub loop-j-preserved : goal.loop-j-preserved
 loop-j-preserved c =
     let a = c.args in
     let l = c.loop-j in
-    let r = c.insert_source-one in
+    let r = c.insert_source in
     let k = (insertion_slices a.vertices.now a.vertex_words.now a.edge_reals.now a.triangle_reals.now a.round.now a.kinds.now a.faces.now a.coords.now a.piece_words.now a.piece_reals.now) in
     let q : l.j < 3 * length a.kinds.now = omega (arith, c.loop-j-test.true) in
     job_next a.limit k a.counts (slices a.edge_words.now a.words.now a.reals.now a.keys.now a.events.now a.vertex.now) (entry_buffers a.triangle_words.now a.entry_words.now)
     (cut_buffers a.pts.now a.out.now a.keep.now a.next.now)
     (slices l.edge_words l.words l.reals l.keys l.events l.vertex) (entry_buffers l.triangle_words l.entry_words) (cut_buffers l.pts l.out l.keep l.next) l.now l.j l.invariant q
-    (slices r.new.edge_words r.new.words r.new.reals r.new.keys r.new.events r.new.vertex) (entry_buffers r.new.triangle_words r.new.entry_words) c.in-Went.n
+    (slices r.new.edge_words r.new.words r.new.reals r.new.keys r.new.events r.new.vertex) (entry_buffers r.new.triangle_words r.new.entry_words) c.in_ok-now.now
     (cut_buffers r.new.pts r.new.out r.new.keep r.new.next)
     (record {
       trim = record {
@@ -141,7 +135,7 @@ loop-j-preserved c =
       };
       triangles = r.auto.triangle_words;
       entries = r.auto.entry_words;
-    }) (rw c.in-Went.is at r.ensures)
+    }) c.in_ok-now.ensures
 
 pub shape_of-edge_words : goal.shape_of-edge_words
 shape_of-edge_words c = c.loop-j.invariant.same.trim.edges

@@ -1,4 +1,4 @@
-use Prim.Native.Nat.{◌*◌, ◌-◌}
+use Prim.Native.Nat.{◌*◌}
 use lib.ListN.{length}
 use Rattle.insertion.specs.of_cut_lists.Buffers.{cut_buffers}
 use Rattle.insertion.specs.of_trim.Buffers.{slices}
@@ -14,7 +14,3 @@ invariant-loop-j l =
     (source_of l.limit (insertion_slices l.vertices l.vertex_words l.edge_reals l.triangle_reals l.round l.kinds l.faces l.coords l.piece_words l.piece_reals) l.initial.now (slices l.initial.edge_words l.initial.words l.initial.reals l.initial.keys l.initial.events l.initial.vertex) (entry_buffers l.initial.triangle_words l.initial.entry_words) (cut_buffers l.initial.pts l.initial.out l.initial.keep l.initial.next))
     l.initial.now (slices l.initial.edge_words l.initial.words l.initial.reals l.initial.keys l.initial.events l.initial.vertex) (entry_buffers l.initial.triangle_words l.initial.entry_words) (cut_buffers l.initial.pts l.initial.out l.initial.keep l.initial.next) (3 * length l.kinds)
     (slices l.edge_words l.words l.reals l.keys l.events l.vertex) (entry_buffers l.triangle_words l.entry_words) (cut_buffers l.pts l.out l.keep l.next) l.now l.j
-
-abbrev pub decreases-loop-j : goal.decreases-loop-j
-decreases-loop-j l =
-    3 * length l.kinds - l.j

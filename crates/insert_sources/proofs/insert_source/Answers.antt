@@ -1,7 +1,7 @@
 -- `insert_sources::insert_source` meets its contract. Assumes nothing.
-use Prim.Native.Nat.{◌-◌}
 use native.Mathlib.Omega.{arith}
 use mathlib.Core.Path.{◌∙◌}
+use Rattle.std.proofs.lemmas.Result.{err_from_is_err_and}
 use Rattle.insertion.specs.of_cut_lists.Buffers.{cut_buffers}
 use Rattle.insertion.specs.of_trim.Buffers.{slices}
 use Rattle.insertion.specs.of_face_entries.Buffers.{entry_buffers}
@@ -17,8 +17,8 @@ loop-i-init c =
     insert_start a.limit k (one_of k a.j) a.counts (slices a.edge_words.now a.words.now a.reals.now a.keys.now a.events.now a.vertex.now) (entry_buffers a.triangle_words.now a.entry_words.now)
     (cut_buffers a.pts.now a.out.now a.keep.now a.next.now) c.insert_count-count.result c.requires.0
 
-pub insert_number-one-requires : goal.insert_number-one-requires
-insert_number-one-requires c =
+pub insert_number-requires : goal.insert_number-requires
+insert_number-requires c =
     let a = c.args in
     let l = c.loop-i in
     let k = (insertion_slices a.vertices.now a.vertex_words.now a.edge_reals.now a.triangle_reals.now a.round.now a.kinds.now a.faces.now a.coords.now a.piece_words.now a.piece_reals.now) in
@@ -30,83 +30,76 @@ insert_number-one-requires c =
           c.requires.1.0,
     )
 
-pub shape_of-edge_words-in-Stopped : goal.shape_of-edge_words-in-Stopped
-shape_of-edge_words-in-Stopped c =
-    c.insert_number-one.auto.edge_words ∙ c.loop-i.invariant.same.trim.edges
+pub shape_of-edge_words-in_err-now : goal.shape_of-edge_words-in_err-now
+shape_of-edge_words-in_err-now c =
+    c.insert_number.auto.edge_words ∙ c.loop-i.invariant.same.trim.edges
 
-pub shape_of-words-in-Stopped : goal.shape_of-words-in-Stopped
-shape_of-words-in-Stopped c =
-    c.insert_number-one.auto.words ∙ c.loop-i.invariant.same.trim.words
+pub shape_of-words-in_err-now : goal.shape_of-words-in_err-now
+shape_of-words-in_err-now c =
+    c.insert_number.auto.words ∙ c.loop-i.invariant.same.trim.words
 
-pub shape_of-reals-in-Stopped : goal.shape_of-reals-in-Stopped
-shape_of-reals-in-Stopped c =
-    c.insert_number-one.auto.reals ∙ c.loop-i.invariant.same.trim.reals
+pub shape_of-reals-in_err-now : goal.shape_of-reals-in_err-now
+shape_of-reals-in_err-now c =
+    c.insert_number.auto.reals ∙ c.loop-i.invariant.same.trim.reals
 
-pub shape_of-keys-in-Stopped : goal.shape_of-keys-in-Stopped
-shape_of-keys-in-Stopped c =
-    c.insert_number-one.auto.keys ∙ c.loop-i.invariant.same.trim.keys
+pub shape_of-keys-in_err-now : goal.shape_of-keys-in_err-now
+shape_of-keys-in_err-now c =
+    c.insert_number.auto.keys ∙ c.loop-i.invariant.same.trim.keys
 
-pub shape_of-events-in-Stopped : goal.shape_of-events-in-Stopped
-shape_of-events-in-Stopped c =
-    c.insert_number-one.auto.events ∙ c.loop-i.invariant.same.trim.events
+pub shape_of-events-in_err-now : goal.shape_of-events-in_err-now
+shape_of-events-in_err-now c =
+    c.insert_number.auto.events ∙ c.loop-i.invariant.same.trim.events
 
-pub shape_of-vertex-in-Stopped : goal.shape_of-vertex-in-Stopped
-shape_of-vertex-in-Stopped c =
-    c.insert_number-one.auto.vertex ∙ c.loop-i.invariant.same.trim.vertex
+pub shape_of-vertex-in_err-now : goal.shape_of-vertex-in_err-now
+shape_of-vertex-in_err-now c =
+    c.insert_number.auto.vertex ∙ c.loop-i.invariant.same.trim.vertex
 
-pub shape_of-pts-in-Stopped : goal.shape_of-pts-in-Stopped
-shape_of-pts-in-Stopped c =
-    c.insert_number-one.auto.pts ∙ c.loop-i.invariant.same.trim.pts
+pub shape_of-pts-in_err-now : goal.shape_of-pts-in_err-now
+shape_of-pts-in_err-now c =
+    c.insert_number.auto.pts ∙ c.loop-i.invariant.same.trim.pts
 
-pub shape_of-out-in-Stopped : goal.shape_of-out-in-Stopped
-shape_of-out-in-Stopped c =
-    c.insert_number-one.auto.out ∙ c.loop-i.invariant.same.trim.out
+pub shape_of-out-in_err-now : goal.shape_of-out-in_err-now
+shape_of-out-in_err-now c =
+    c.insert_number.auto.out ∙ c.loop-i.invariant.same.trim.out
 
-pub shape_of-keep-in-Stopped : goal.shape_of-keep-in-Stopped
-shape_of-keep-in-Stopped c =
-    c.insert_number-one.auto.keep ∙ c.loop-i.invariant.same.trim.keep
+pub shape_of-keep-in_err-now : goal.shape_of-keep-in_err-now
+shape_of-keep-in_err-now c =
+    c.insert_number.auto.keep ∙ c.loop-i.invariant.same.trim.keep
 
-pub shape_of-next-in-Stopped : goal.shape_of-next-in-Stopped
-shape_of-next-in-Stopped c =
-    c.insert_number-one.auto.next ∙ c.loop-i.invariant.same.trim.next
+pub shape_of-next-in_err-now : goal.shape_of-next-in_err-now
+shape_of-next-in_err-now c =
+    c.insert_number.auto.next ∙ c.loop-i.invariant.same.trim.next
 
-pub shape_of-triangle_words-in-Stopped : goal.shape_of-triangle_words-in-Stopped
-shape_of-triangle_words-in-Stopped c =
-    c.insert_number-one.auto.triangle_words ∙ c.loop-i.invariant.same.triangles
+pub shape_of-triangle_words-in_err-now : goal.shape_of-triangle_words-in_err-now
+shape_of-triangle_words-in_err-now c =
+    c.insert_number.auto.triangle_words ∙ c.loop-i.invariant.same.triangles
 
-pub shape_of-entry_words-in-Stopped : goal.shape_of-entry_words-in-Stopped
-shape_of-entry_words-in-Stopped c =
-    c.insert_number-one.auto.entry_words ∙ c.loop-i.invariant.same.entries
+pub shape_of-entry_words-in_err-now : goal.shape_of-entry_words-in_err-now
+shape_of-entry_words-in_err-now c =
+    c.insert_number.auto.entry_words ∙ c.loop-i.invariant.same.entries
 
-pub returns-in-Stopped : goal.returns-in-Stopped
-returns-in-Stopped c =
+pub returns-in_err-now : goal.returns-in_err-now
+returns-in_err-now c =
     let a = c.args in
     let l = c.loop-i in
-    let r = c.insert_number-one in
+    let r = c.insert_number in
     let k = (insertion_slices a.vertices.now a.vertex_words.now a.edge_reals.now a.triangle_reals.now a.round.now a.kinds.now a.faces.now a.coords.now a.piece_words.now a.piece_reals.now) in
-    source_stopped a.limit k a.pieces c.requires.1.1.0 a.j c.requires.1.1.1 a.counts (slices a.edge_words.now a.words.now a.reals.now a.keys.now a.events.now a.vertex.now) (entry_buffers a.triangle_words.now a.entry_words.now)
+    let p = err_from_is_err_and c.from_residual.result c.from_residual.ensures.1 in
+    rw (p.1, p.2) (source_stopped a.limit k a.pieces c.requires.1.1.0 a.j c.requires.1.1.1 a.counts (slices a.edge_words.now a.words.now a.reals.now a.keys.now a.events.now a.vertex.now) (entry_buffers a.triangle_words.now a.entry_words.now)
     (cut_buffers a.pts.now a.out.now a.keep.now a.next.now) c.job_source-s.result c.job_source-s.ensures c.insert_count-count.result c.insert_count-count.ensures
     (slices l.edge_words l.words l.reals l.keys l.events l.vertex) (entry_buffers l.triangle_words l.entry_words) (cut_buffers l.pts l.out l.keep l.next) l.now l.i l.invariant c.loop-i-test.true
-    (slices r.new.edge_words r.new.words r.new.reals r.new.keys r.new.events r.new.vertex) (entry_buffers r.new.triangle_words r.new.entry_words) c.in-Stopped.lack (rw c.in-Stopped.is at r.ensures)
-
-pub overflow_add-i : goal.overflow_add-i
-overflow_add-i c =
-    omega (arith, c.loop-i-test.true, c.insert_count-count.type_inv)
-
-pub loop-i-smaller : goal.loop-i-smaller
-loop-i-smaller c =
-    omega (arith, c.loop-i-test.true)
+    (slices r.new.edge_words r.new.words r.new.reals r.new.keys r.new.events r.new.vertex) (entry_buffers r.new.triangle_words r.new.entry_words) c.in_err-now.field-0.0 c.in_err-now.ensures)
 
 pub loop-i-preserved : goal.loop-i-preserved
 loop-i-preserved c =
     let a = c.args in
     let l = c.loop-i in
-    let r = c.insert_number-one in
+    let r = c.insert_number in
     let k = (insertion_slices a.vertices.now a.vertex_words.now a.edge_reals.now a.triangle_reals.now a.round.now a.kinds.now a.faces.now a.coords.now a.piece_words.now a.piece_reals.now) in
     source_next a.limit k a.pieces c.requires.1.1.0 a.j c.requires.1.1.1 a.counts (slices a.edge_words.now a.words.now a.reals.now a.keys.now a.events.now a.vertex.now) (entry_buffers a.triangle_words.now a.entry_words.now)
     (cut_buffers a.pts.now a.out.now a.keep.now a.next.now) c.job_source-s.result c.job_source-s.ensures c.insert_count-count.result c.insert_count-count.ensures
     (slices l.edge_words l.words l.reals l.keys l.events l.vertex) (entry_buffers l.triangle_words l.entry_words) (cut_buffers l.pts l.out l.keep l.next) l.now l.i l.invariant c.loop-i-test.true
-    (slices r.new.edge_words r.new.words r.new.reals r.new.keys r.new.events r.new.vertex) (entry_buffers r.new.triangle_words r.new.entry_words) c.in-Went.n
+    (slices r.new.edge_words r.new.words r.new.reals r.new.keys r.new.events r.new.vertex) (entry_buffers r.new.triangle_words r.new.entry_words) c.in_ok-now.now
     (cut_buffers r.new.pts r.new.out r.new.keep r.new.next)
     (record {
       trim = record {
@@ -123,7 +116,7 @@ loop-i-preserved c =
       };
       triangles = r.auto.triangle_words;
       entries = r.auto.entry_words;
-    }) (rw c.in-Went.is at r.ensures)
+    }) c.in_ok-now.ensures
 
 pub shape_of-edge_words : goal.shape_of-edge_words
 shape_of-edge_words c = c.loop-i.invariant.same.trim.edges

@@ -38,36 +38,36 @@ pub shape_of-entry_words-then-refusal-ne0 : goal.shape_of-entry_words-then-refus
 shape_of-entry_words-then-refusal-ne0 c =
     c.insert_with_cuts-answer.auto.entry_words
 
-pub shape_of-edge_words-in-Stopped : goal.shape_of-edge_words-in-Stopped
-shape_of-edge_words-in-Stopped c =
+pub shape_of-edge_words-in-Err : goal.shape_of-edge_words-in-Err
+shape_of-edge_words-in-Err c =
     c.insert_with_cuts-answer.auto.edge_words
 
-pub shape_of-triangle_words-in-Stopped : goal.shape_of-triangle_words-in-Stopped
-shape_of-triangle_words-in-Stopped c =
+pub shape_of-triangle_words-in-Err : goal.shape_of-triangle_words-in-Err
+shape_of-triangle_words-in-Err c =
     c.insert_with_cuts-answer.auto.triangle_words
 
-pub shape_of-words-in-Stopped : goal.shape_of-words-in-Stopped
-shape_of-words-in-Stopped c =
+pub shape_of-words-in-Err : goal.shape_of-words-in-Err
+shape_of-words-in-Err c =
     c.insert_with_cuts-answer.auto.words
 
-pub shape_of-reals-in-Stopped : goal.shape_of-reals-in-Stopped
-shape_of-reals-in-Stopped c =
+pub shape_of-reals-in-Err : goal.shape_of-reals-in-Err
+shape_of-reals-in-Err c =
     c.insert_with_cuts-answer.auto.reals
 
-pub shape_of-keys-in-Stopped : goal.shape_of-keys-in-Stopped
-shape_of-keys-in-Stopped c =
+pub shape_of-keys-in-Err : goal.shape_of-keys-in-Err
+shape_of-keys-in-Err c =
     c.insert_with_cuts-answer.auto.keys
 
-pub shape_of-events-in-Stopped : goal.shape_of-events-in-Stopped
-shape_of-events-in-Stopped c =
+pub shape_of-events-in-Err : goal.shape_of-events-in-Err
+shape_of-events-in-Err c =
     c.insert_with_cuts-answer.auto.events
 
-pub shape_of-vertex-in-Stopped : goal.shape_of-vertex-in-Stopped
-shape_of-vertex-in-Stopped c =
+pub shape_of-vertex-in-Err : goal.shape_of-vertex-in-Err
+shape_of-vertex-in-Err c =
     c.insert_with_cuts-answer.auto.vertex
 
-pub shape_of-entry_words-in-Stopped : goal.shape_of-entry_words-in-Stopped
-shape_of-entry_words-in-Stopped c =
+pub shape_of-entry_words-in-Err : goal.shape_of-entry_words-in-Err
+shape_of-entry_words-in-Err c =
     c.insert_with_cuts-answer.auto.entry_words
 
 pub shape_of-edge_words-else-refusal-ne0 : goal.shape_of-edge_words-else-refusal-ne0

@@ -1,18 +1,14 @@
--- `job_checks::any_above_one` meets its contract. The loop's invariant: none was found so far. Assumes nothing.
-use mathlib.Core.Path.{sym}
-use Rattle.job_checks.proofs.Any.{none_yet, none_more, found, none_at_all}
-use Rattle.job_checks.proofs.Tests.{above_one_lem, not_above_one}
-use borrow.Author.Rules.{rules}
+-- `job_checks::any_above_one` meets its contract. Assumes nothing.
+use mathlib.Core.Path.{◌∙◌}
+use Rattle.std.proofs.Common.{rules, tests}
+use Rattle.std.proofs.lemmas.Iterator.{YieldsList-from_slice}
+use Rattle.std.proofs.lemmas.Iterator.Search.{any_from_yields_List}
+use lib.Dec.{ltb}
+use Rattle.job_checks.specs.Refusals.{above_one}
+use Rattle.job_checks.proofs.Any.{any_element}
 use Rattle.job_checks.proofs.any_above_one.Goals as goal
 
-pub loop-i-init : goal.loop-i-init
-loop-i-init c = (search rules, none_yet _)
-
-pub returns-then-bytes-i-gt1 : goal.returns-then-bytes-i-gt1
-returns-then-bytes-i-gt1 c = sym (found _ _ _ c.loop-i-test.true (above_one_lem _ _ c.if-bytes-i-gt1.true))
-
-pub loop-i-preserved : goal.loop-i-preserved
-loop-i-preserved c = (search rules, none_more _ _ c.loop-i.invariant.1 (not_above_one _ _ c.if-bytes-i-gt1.false))
-
 pub returns : goal.returns
-returns c = sym (none_at_all _ _ _ c.loop-i.invariant.0 c.loop-i-test.false c.loop-i.invariant.1)
+unfolding above_one
+returns c =
+    any_from_yields_List (λ x. ltb 1 x) _ _ _ c.any.ensures.ran (YieldsList-from_slice c.args.bytes.now cc) (λ x b q k. search (rules, tests)) ∙ any_element (λ x. ltb 1 x) c.args.bytes.now 0

@@ -1,18 +1,14 @@
--- `job_checks::any_missing` meets its contract. The loop's invariant: none was found so far. Assumes nothing.
-use mathlib.Core.Path.{sym}
-use Rattle.job_checks.proofs.Any.{none_yet, none_more, found, none_at_all}
-use Rattle.job_checks.proofs.Tests.{is_missing, not_missing}
-use borrow.Author.Rules.{rules}
+-- `job_checks::any_missing` meets its contract. Assumes nothing.
+use mathlib.Core.Path.{◌∙◌}
+use Rattle.std.proofs.Common.{rules, tests}
+use Rattle.std.proofs.lemmas.Iterator.{YieldsList-from_slice}
+use Rattle.std.proofs.lemmas.Iterator.Search.{any_from_yields_List}
+use lib.Dec.{leb}
+use Rattle.job_checks.specs.Refusals.{missing}
+use Rattle.job_checks.proofs.Any.{any_element}
 use Rattle.job_checks.proofs.any_missing.Goals as goal
 
-pub loop-i-init : goal.loop-i-init
-loop-i-init c = (search rules, none_yet _)
-
-pub returns-then-wide-count : goal.returns-then-wide-count
-returns-then-wide-count c = sym (found _ _ _ c.loop-i-test.true (is_missing _ _ _ (rw c.wide.ensures at c.if-wide-count.true)))
-
-pub loop-i-preserved : goal.loop-i-preserved
-loop-i-preserved c = (search rules, none_more _ _ c.loop-i.invariant.1 (not_missing _ _ _ (rw c.wide.ensures at c.if-wide-count.false)))
-
 pub returns : goal.returns
-returns c = sym (none_at_all _ _ _ c.loop-i.invariant.0 c.loop-i-test.false c.loop-i.invariant.1)
+unfolding missing
+returns c =
+    any_from_yields_List (λ x. leb c.args.count x) _ _ _ c.any.ensures.ran (YieldsList-from_slice c.args.numbers.now cc) (λ x b q k. search (rules, tests)) ∙ any_element (λ x. leb c.args.count x) c.args.numbers.now 0

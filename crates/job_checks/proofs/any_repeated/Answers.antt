@@ -1,17 +1,16 @@
 -- `job_checks::any_repeated` meets its contract. The loop's invariant: none was found so far. Assumes nothing.
 use mathlib.Core.Path.{sym, ◌∙◌}
 use Rattle.job_checks.proofs.Any.{none_yet, none_more, found, none_at_all}
-use borrow.Author.Rules.{rules}
 use Rattle.job_checks.proofs.any_repeated.Goals as goal
 
 pub loop-t-init : goal.loop-t-init
-loop-t-init c = (search rules, none_yet _)
+loop-t-init c = none_yet _
 
 pub returns-then-repeated : goal.returns-then-repeated
 returns-then-repeated c = sym (found _ _ _ c.loop-t-test.true (sym c.repeated.ensures ∙ c.if-repeated.true))
 
 pub loop-t-preserved : goal.loop-t-preserved
-loop-t-preserved c = (search rules, none_more _ _ c.loop-t.invariant.1 (sym c.repeated.ensures ∙ c.if-repeated.false))
+loop-t-preserved c = none_more _ _ c.loop-t.invariant (sym c.repeated.ensures ∙ c.if-repeated.false)
 
 pub returns : goal.returns
-returns c = sym (none_at_all _ _ _ c.loop-t.invariant.0 c.loop-t-test.false c.loop-t.invariant.1)
+returns c = sym (none_at_all _ _ _ c.loop-t.auto.t-end c.loop-t-test.false c.loop-t.invariant)

@@ -5,5 +5,5 @@ use Rattle.job_checks.proofs.lower_of.Goals as goal
 pub returns-then-a-b : goal.returns-then-a-b
 returns-then-a-b c = simp (lt-ltb _ _ c.if-a-b.true)
 
-pub returns : goal.returns
-returns c = simp (le-ltb _ _ c.if-a-b.false)
+pub returns-else-a-b : goal.returns-else-a-b
+returns-else-a-b c = simp (le-ltb _ _ c.if-a-b.false)

@@ -1,15 +1,8 @@
 -- `job_checks::out_of_range` meets its contract. Assumes nothing.
 use Rattle.job_checks.specs.Refusals.{out_of_range}
 use Rattle.job_checks.proofs.out_of_range.Goals as goal
-
-pub returns-then-x-2 : goal.returns-then-x-2
-unfolding out_of_range
-returns-then-x-2 c = rw (c.if-x.true, c.if-x-2.true)
-
-pub returns-then-x : goal.returns-then-x
-unfolding out_of_range
-returns-then-x c = rw (c.if-x.true, c.if-x-2.false)
+use Rattle.job_checks.proofs.out_of_range.Goals.{then-x, else-x}
 
 pub returns : goal.returns
 unfolding out_of_range
-returns c = rw c.if-x.false
+returns c = elim c.if-x.branch [ then-x w ↦ rw (w.result-is, w.if-x.true) | else-x w ↦ rw (w.result-is, w.if-x.false) ]

@@ -7,6 +7,3 @@ use Rattle.last_pass.proofs.lower_group.Given as goal
 abbrev pub invariant-loop-e : goal.invariant-loop-e
 invariant-loop-e l =
     ((l.from ≤ l.e) × (l.e ≤ l.end)) × (l.vertex ≡ lowered_from l.made l.edge_reals (links l.edge_words l.words) l.reals l.from (l.e - l.from) l.initial.vertex)
-
-abbrev pub decreases-loop-e : goal.decreases-loop-e
-decreases-loop-e l = l.end - l.e

@@ -1,4 +1,4 @@
-use Prim.Native.Nat.{◌+◌, ◌-◌, ◌*◌, ◌≤◌}
+use Prim.Native.Nat.{◌+◌, ◌*◌, ◌≤◌}
 use mathlib.Core.Path.{◌≡◌}
 use lib.ListN.{length}
 use Rattle.nat_laws.specs.Lists.{list_of}
@@ -7,6 +7,3 @@ use Rattle.little_endian.proofs.read_doubles.Given as goal
 
 abbrev pub invariant-loop-j : goal.invariant-loop-j
 invariant-loop-j l = (length l.to ≡ length l.initial.to) × ((l.j ≤ l.n) × (l.to ≡ put_in_front (list_of l.j (λ k. double_from l.s (l.i + 8 * k))) l.initial.to))
-
-abbrev pub decreases-loop-j : goal.decreases-loop-j
-decreases-loop-j l = l.n - l.j

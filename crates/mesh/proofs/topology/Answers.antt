@@ -23,58 +23,58 @@ complete-requires c =
         triangles_fit = omega (arith, fits.triangles_fit, build.auto.triangle_words);
         triangle_reals_fit = fits.triangle_reals_fit;
       },
-      few_edges _ _ build.ensures.answer _ c.in-Edges.is,
+      few_edges _ _ build.ensures.answer _ c.in-Ok.is,
     )
 
-pub shape_of-vertex_words-in-ThirdFace : goal.shape_of-vertex_words-in-ThirdFace
-shape_of-vertex_words-in-ThirdFace c =
+pub shape_of-vertex_words-in-Err : goal.shape_of-vertex_words-in-Err
+shape_of-vertex_words-in-Err c =
     c.zero_u32.auto.s
 
-pub shape_of-edge_words-in-ThirdFace : goal.shape_of-edge_words-in-ThirdFace
-shape_of-edge_words-in-ThirdFace c =
+pub shape_of-edge_words-in-Err : goal.shape_of-edge_words-in-Err
+shape_of-edge_words-in-Err c =
     c.build.auto.edge_words
 
-pub shape_of-edge_reals-in-ThirdFace : goal.shape_of-edge_reals-in-ThirdFace
-shape_of-edge_reals-in-ThirdFace c = c.zero_f64.auto.s
+pub shape_of-edge_reals-in-Err : goal.shape_of-edge_reals-in-Err
+shape_of-edge_reals-in-Err c = c.zero_f64.auto.s
 
-pub shape_of-round-in-ThirdFace : goal.shape_of-round-in-ThirdFace
-shape_of-round-in-ThirdFace c =
+pub shape_of-round-in-Err : goal.shape_of-round-in-Err
+shape_of-round-in-Err c =
     c.build.auto.heads
 
-pub shape_of-triangle_words-in-ThirdFace : goal.shape_of-triangle_words-in-ThirdFace
-shape_of-triangle_words-in-ThirdFace c =
+pub shape_of-triangle_words-in-Err : goal.shape_of-triangle_words-in-Err
+shape_of-triangle_words-in-Err c =
     c.build.auto.triangle_words
 
-pub shape_of-triangle_reals-in-ThirdFace : goal.shape_of-triangle_reals-in-ThirdFace
-shape_of-triangle_reals-in-ThirdFace c = c.zero_f64-in-ThirdFace.auto.s
+pub shape_of-triangle_reals-in-Err : goal.shape_of-triangle_reals-in-Err
+shape_of-triangle_reals-in-Err c = c.zero_f64-in-Err.auto.s
 
-pub returns-in-ThirdFace : goal.returns-in-ThirdFace
-returns-in-ThirdFace c =
-    made_third _ _ _ _ _ _ _ _ _ _ _ _ _ _ _ _ c.build.ensures c.in-ThirdFace.is c.zero_u32.ensures c.zero_f64.ensures
-    c.zero_f64-in-ThirdFace.ensures
+pub returns-in-Err : goal.returns-in-Err
+returns-in-Err c =
+    made_third _ _ _ _ _ _ _ _ _ _ _ _ _ _ _ _ c.build.ensures _ c.in-Err.is c.zero_u32.ensures c.zero_f64.ensures
+    c.zero_f64-in-Err.ensures
 
-pub shape_of-vertex_words-in-Edges : goal.shape_of-vertex_words-in-Edges
-shape_of-vertex_words-in-Edges c = c.complete.auto.vertex_words
+pub shape_of-vertex_words-in-Ok : goal.shape_of-vertex_words-in-Ok
+shape_of-vertex_words-in-Ok c = c.complete.auto.vertex_words
 
-pub shape_of-edge_words-in-Edges : goal.shape_of-edge_words-in-Edges
-shape_of-edge_words-in-Edges c =
+pub shape_of-edge_words-in-Ok : goal.shape_of-edge_words-in-Ok
+shape_of-edge_words-in-Ok c =
     c.build.auto.edge_words
 
-pub shape_of-edge_reals-in-Edges : goal.shape_of-edge_reals-in-Edges
-shape_of-edge_reals-in-Edges c = c.complete.auto.edge_reals
+pub shape_of-edge_reals-in-Ok : goal.shape_of-edge_reals-in-Ok
+shape_of-edge_reals-in-Ok c = c.complete.auto.edge_reals
 
-pub shape_of-round-in-Edges : goal.shape_of-round-in-Edges
-shape_of-round-in-Edges c =
+pub shape_of-round-in-Ok : goal.shape_of-round-in-Ok
+shape_of-round-in-Ok c =
     c.complete.auto.round ∙ c.build.auto.heads
 
-pub shape_of-triangle_words-in-Edges : goal.shape_of-triangle_words-in-Edges
-shape_of-triangle_words-in-Edges c =
+pub shape_of-triangle_words-in-Ok : goal.shape_of-triangle_words-in-Ok
+shape_of-triangle_words-in-Ok c =
     c.build.auto.triangle_words
 
-pub shape_of-triangle_reals-in-Edges : goal.shape_of-triangle_reals-in-Edges
-shape_of-triangle_reals-in-Edges c = c.complete.auto.triangle_reals
+pub shape_of-triangle_reals-in-Ok : goal.shape_of-triangle_reals-in-Ok
+shape_of-triangle_reals-in-Ok c = c.complete.auto.triangle_reals
 
-pub returns-in-Edges : goal.returns-in-Edges
-returns-in-Edges c =
+pub returns-in-Ok : goal.returns-in-Ok
+returns-in-Ok c =
     let build = c.build in
-    made_filled _ _ _ _ _ _ _ _ _ _ _ _ _ _ _ _ _ _ build.ensures c.in-Edges.is build.auto.heads c.complete.ensures
+    made_filled _ _ _ _ _ _ _ _ _ _ _ _ _ _ _ _ _ _ build.ensures c.in-Ok.is build.auto.heads c.complete.ensures

@@ -1,22 +1,27 @@
 -- `moves_c::tell` meets its contract. Assumes nothing.
+use Rattle.std.specs.Prelude.{Err}
 use Rattle.moves_c.specs.Exports.{told_length}
-use mathlib.Core.Path.{refl}
+use mathlib.Core.Path.{refl, ap, ◌∙◌}
 use Rattle.moves_c.proofs.tell.Goals as goal
 
-pub shape_of-told-in-Length : goal.shape_of-told-in-Length
-shape_of-told-in-Length c = c.set_first.auto.told
+pub shape_of-told-in-Ok : goal.shape_of-told-in-Ok
+shape_of-told-in-Ok c = c.set_first.auto.told
 
-pub returns-in-Length : goal.returns-in-Length
+pub returns-in-Ok : goal.returns-in-Ok
 unfolding told_length
-returns-in-Length c = rw c.in-Length.is (refl, c.set_first.ensures)
+returns-in-Ok c = rw c.in-Ok.is (refl, c.set_first.ensures)
 
-pub shape_of-told-in-NoRoom : goal.shape_of-told-in-NoRoom
-shape_of-told-in-NoRoom c = c.set_first-in-NoRoom.auto.told
+pub shape_of-told-in-Err-NoRoom : goal.shape_of-told-in-Err-NoRoom
+shape_of-told-in-Err-NoRoom c = c.set_first-in-Err-NoRoom.auto.told
 
-pub returns-in-NoRoom : goal.returns-in-NoRoom
+pub returns-in-Err-NoRoom : goal.returns-in-Err-NoRoom
 unfolding told_length
-returns-in-NoRoom c = rw c.in-NoRoom.is (refl, c.set_first-in-NoRoom.ensures)
+returns-in-Err-NoRoom c =
+    let why = rw c.in-Err-NoRoom.is at c.in-Err-NoRoom.field-0-is in
+    rw (c.in-Err-NoRoom.is ∙ ap Err why) (refl, c.set_first-in-Err-NoRoom.ensures)
 
-pub returns-in-Refused : goal.returns-in-Refused
+pub returns-in-Err-Slip : goal.returns-in-Err-Slip
 unfolding told_length
-returns-in-Refused c = rw c.in-Refused.is (c.refusal_number.ensures, refl)
+returns-in-Err-Slip c =
+    let why = rw c.in-Err-Slip.is at c.in-Err-Slip.field-0-is in
+    rw (c.in-Err-Slip.is ∙ ap Err why) (c.refusal_number.ensures, refl)

@@ -8,17 +8,17 @@ use Rattle.offers.proofs.offer.Goals as goal
 pub returns-then-slots-e : goal.returns-then-slots-e
 returns-then-slots-e c =
     let a = c.args in
-    offer_missing a.limit a.vertex_words.now a.edge_reals.now a.counts (slices a.edge_words.now a.words.now a.reals.now a.keys.now a.events.now a.vertex.now) (cut_buffers a.pts.now a.out.now a.keep.now a.next.now) a.o c.in-Window.e c.in-Window.w c.in-Window.is
+    offer_missing a.limit a.vertex_words.now a.edge_reals.now a.counts (slices a.edge_words.now a.words.now a.reals.now a.keys.now a.events.now a.vertex.now) (cut_buffers a.pts.now a.out.now a.keep.now a.next.now) a.o c.in-Some.offered c.in-Some.is
     (omega (arith, c.if-slots-e.true, c.slots.ensures)) c.requires.0
 
 pub add_to-requires : goal.add_to-requires
 add_to-requires c =
     (record { fits = c.requires.0; linked = omega arith; edge = omega (arith, c.if-slots-e.false, c.slots.ensures) }, c.requires.1)
 
-pub returns-in-Nothing : goal.returns-in-Nothing
-returns-in-Nothing c =
+pub returns-in-None : goal.returns-in-None
+returns-in-None c =
     let a = c.args in
-    offer_nothing a.limit a.vertex_words.now a.edge_reals.now a.counts (slices a.edge_words.now a.words.now a.reals.now a.keys.now a.events.now a.vertex.now) (cut_buffers a.pts.now a.out.now a.keep.now a.next.now) a.o c.in-Nothing.is c.requires.0
+    offer_nothing a.limit a.vertex_words.now a.edge_reals.now a.counts (slices a.edge_words.now a.words.now a.reals.now a.keys.now a.events.now a.vertex.now) (cut_buffers a.pts.now a.out.now a.keep.now a.next.now) a.o c.in-None.is c.requires.0
 
 pub shape_of-edge_words : goal.shape_of-edge_words
 shape_of-edge_words c =
@@ -64,6 +64,6 @@ pub returns-else-slots-e : goal.returns-else-slots-e
 returns-else-slots-e c =
     let a = c.args in
     let r = c.add_to in
-    offer_added a.limit a.vertex_words.now a.edge_reals.now a.counts (slices a.edge_words.now a.words.now a.reals.now a.keys.now a.events.now a.vertex.now) (cut_buffers a.pts.now a.out.now a.keep.now a.next.now) a.o c.in-Window.e c.in-Window.w c.in-Window.is (omega (arith, c.if-slots-e.false, c.slots.ensures)) r.result
+    offer_added a.limit a.vertex_words.now a.edge_reals.now a.counts (slices a.edge_words.now a.words.now a.reals.now a.keys.now a.events.now a.vertex.now) (cut_buffers a.pts.now a.out.now a.keep.now a.next.now) a.o c.in-Some.offered c.in-Some.is (omega (arith, c.if-slots-e.false, c.slots.ensures)) r.result
     (slices r.new.edge_words r.new.words r.new.reals r.new.keys r.new.events r.new.vertex)
     (cut_buffers r.new.pts r.new.out r.new.keep r.new.next) r.ensures

@@ -1,4 +1,4 @@
-use Prim.Native.Nat.{ℕ, ◌-◌, ◌≤◌}
+use Prim.Native.Nat.{ℕ, ◌≤◌}
 use mathlib.Core.Path.{◌≡◌}
 use lib.ListN.{length}
 use Rattle.layout.specs.Layout.{reals_per_piece}
@@ -9,6 +9,3 @@ use Rattle.piece_ends.proofs.directions.Given as goal
 abbrev pub invariant-loop-i : goal.invariant-loop-i
 invariant-loop-i l =
     (l.i ≤ length l.kinds) × ((length l.reals ≡ length l.initial.reals) × (l.reals ≡ with_rows reals_per_piece (λ (k : ℕ). row3 (direction_of l.kinds l.coords k)) l.i l.initial.reals))
-
-abbrev pub decreases-loop-i : goal.decreases-loop-i
-decreases-loop-i l = length l.kinds - l.i

@@ -2,10 +2,10 @@
 use Rattle.propagation.specs.Propagate.{propagate_of, after_ray}
 use Rattle.propagation.proofs.propagate.Goals as goal
 
-pub returns-in-Stopped : goal.returns-in-Stopped
+pub returns-in_err-xc : goal.returns-in_err-xc
 unfolding propagate_of after_ray
-returns-in-Stopped c = rw (← c.crossing.ensures, c.in-Stopped.is)
+returns-in_err-xc c = rw (c.from_residual.ensures, ← c.in_err-xc.ensures)
 
-pub returns-in-Crosses : goal.returns-in-Crosses
+pub returns : goal.returns
 unfolding propagate_of after_ray
-returns-in-Crosses c = rw (← c.crossing.ensures, c.in-Crosses.is, c.pass_on.ensures)
+returns c = rw (← c.in_ok-xc.ensures, c.pass_on.ensures)

@@ -6,7 +6,7 @@ use lib.Ieee.{Float}
 use Rattle.windows.specs.declared.Edge.{Edge}
 use Rattle.chains.specs.Chains.{links}
 use Rattle.edge_query.specs.EdgeDistance.{edge_distance_in}
-use Rattle.queries.specs.declared.EdgeDistance.TheVariants.{At}
+use Rattle.std.specs.declared.result.Result.TheVariants.{Ok}
 use Rattle.queries.proofs.Checked.{taken, left}
 use Rattle.queries.proofs.edge_answer_from.Goals as goal
 
@@ -33,6 +33,6 @@ returns c =
     let a = c.args in record {
       answer_value = left _ _ _ _ (lt-leb _ _ c.if-n-e.false)
           (left _ _ _ _ (ap (λ (l : Float). place_outside l a.x) (sym c.length.ensures) ∙ sym c.place_outside.ensures ∙ c.if-place_outside.false)
-          (ap At (c.distance_from-resumed.ensures.distance_value ∙ ap (λ (k : Edge). edge_distance_in a.vertex.now (links a.edge_words.now a.words.now) a.reals.now a.n.windows k a.x) c.edge-edge.ensures)));
+          (ap Ok (c.distance_from-resumed.ensures.distance_value ∙ ap (λ (k : Edge). edge_distance_in a.vertex.now (links a.edge_words.now a.words.now) a.reals.now a.n.windows k a.x) c.edge-edge.ensures)));
       resumes = c.distance_from-resumed.ensures.resumes;
     }

@@ -1,7 +1,7 @@
 use mathlib.Core.Path.{sym, ap, ◌∙◌}
 use borrow.Author.Tests.{le-leb, lt-leb}
 use Rattle.queries.specs.Queries.{face_answer}
-use Rattle.queries.specs.declared.FaceDistance.TheVariants.{At}
+use Rattle.std.specs.declared.result.Result.TheVariants.{Ok}
 use Rattle.queries.proofs.Checked.{taken, left}
 use Rattle.queries.proofs.face_answer.Goals as goal
 
@@ -16,4 +16,4 @@ returns-then-point_outside c = left _ _ _ _ (lt-leb _ _ c.if-n-f.false) (taken _
 pub returns : goal.returns
 unfolding face_answer
 returns c =
-    left _ _ _ _ (lt-leb _ _ c.if-n-f.false) (left _ _ _ _ (sym c.point_outside.ensures ∙ c.if-point_outside.false) (ap At c.distance_in_face-d.ensures))
+    left _ _ _ _ (lt-leb _ _ c.if-n-f.false) (left _ _ _ _ (sym c.point_outside.ensures ∙ c.if-point_outside.false) (ap Ok c.distance_in_face-d.ensures))

@@ -1,13 +1,9 @@
 use mathlib.Core.Path.{sym, ◌∙◌}
-use native.Mathlib.Omega.{arith}
 use Rattle.face_rows.proofs.laws_of_queries.Checked.{taken, left}
 use Rattle.query_rows.specs.Rows.{short_for, vertex_row}
 use Rattle.open_rows.proofs.Written.{row_count}
 use Rattle.query_rows.proofs.Elements.{row_is}
 use Rattle.query_rows.proofs.vertices_at.Goals as goal
-
-pub answer_vertices-requires : goal.answer_vertices-requires
-answer_vertices-requires c = omega (arith, c.slots-count.ensures)
 
 pub returns-in_default : goal.returns-in_default
 unfolding vertex_row

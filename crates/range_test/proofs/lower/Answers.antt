@@ -1,23 +1,24 @@
 -- `range_test::lower` meets its contract. Assumes nothing.
+use Rattle.std.proofs.lemmas.Option.{IfSome_then}
 use Rattle.range_test.specs.Range.{nearest_of}
 use Rattle.range_test.proofs.lower.Goals as goal
 
 pub returns-then-x-lo : goal.returns-then-x-lo
 unfolding nearest_of
-returns-then-x-lo c = rw (c.in-Point.is, c.if-x-lo.true) (λ k. (c.bounds.ensures k).from)
+returns-then-x-lo c = rw (c.in-Point.is, c.if-x-lo.true) (IfSome_then c.bounds.result c.bounds.ensures (λ e b. b.from))
 
 pub returns-then-hi-x : goal.returns-then-hi-x
 unfolding nearest_of
-returns-then-hi-x c = rw (c.in-Point.is, c.if-x-lo.false, c.if-hi-x.true) (λ k. (c.bounds-then-hi-x.ensures k).from)
+returns-then-hi-x c = rw (c.in-Point.is, c.if-x-lo.false, c.if-hi-x.true) (IfSome_then c.bounds-then-hi-x.result c.bounds-then-hi-x.ensures (λ e b. b.from))
 
 pub returns-then-ux : goal.returns-then-ux
 unfolding nearest_of
-returns-then-ux c = rw (c.in-Line.is, c.if-ux.true, ← c.edge.ensures) (λ k. (c.exact-then-ux.ensures k).1)
+returns-then-ux c = rw (c.in-Line.is, c.if-ux.true, ← c.edge.ensures) (IfSome_then c.exact-then-ux.result c.exact-then-ux.ensures (λ e b. b.1))
 
 pub returns-else-hi-x : goal.returns-else-hi-x
 unfolding nearest_of
-returns-else-hi-x c = rw (c.in-Point.is, c.if-x-lo.false, c.if-hi-x.false, ← c.abs.ensures) (λ k. (c.exact.ensures k).1)
+returns-else-hi-x c = rw (c.in-Point.is, c.if-x-lo.false, c.if-hi-x.false, ← c.abs.ensures) (IfSome_then c.exact.result c.exact.ensures (λ e b. b.1))
 
 pub returns-else-ux : goal.returns-else-ux
 unfolding nearest_of
-returns-else-ux c = rw (c.in-Line.is, c.if-ux.false, ← c.edge-in-Line.ensures) (λ k. (c.exact-in-Line.ensures k).1)
+returns-else-ux c = rw (c.in-Line.is, c.if-ux.false, ← c.edge-in-Line.ensures) (IfSome_then c.exact-in-Line.result c.exact-in-Line.ensures (λ e b. b.1))

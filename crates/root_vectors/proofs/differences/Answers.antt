@@ -12,7 +12,7 @@ use Rattle.root_vectors.proofs.differences.Goals.{then-not-holds, else-not-holds
 
 pub loop-k-init : goal.loop-k-init
 unfolding failing
-loop-k-init c = (omega arith, omega arith, refl)
+loop-k-init c = (omega arith, refl)
 
 pub holds-requires : goal.holds-requires
 holds-requires c =
@@ -21,18 +21,12 @@ holds-requires c =
 pub overflow_add-count : goal.overflow_add-count
 overflow_add-count c = omega arith
 
-pub overflow_add-k : goal.overflow_add-k
-overflow_add-k c = omega arith
-
-pub loop-k-smaller : goal.loop-k-smaller
-loop-k-smaller c = omega arith
-
 pub loop-k-preserved : goal.loop-k-preserved
 loop-k-preserved c =
     let h = c.holds.ensures in
     elim c.if-not-holds.branch [
-      | then-not-holds w ↦ (omega arith, omega arith, w.count-is ∙ one_more _ _ _ c.loop-k.invariant.2 (sym h ∙ w.if-not-holds.true))
-      | else-not-holds w ↦ (omega arith, omega arith, w.count-is ∙ same_count _ _ _ c.loop-k.invariant.2 (sym h ∙ w.if-not-holds.false))
+      | then-not-holds w ↦ (omega arith, w.count-is ∙ one_more _ _ _ c.loop-k.invariant.1 (sym h ∙ w.if-not-holds.true))
+      | else-not-holds w ↦ (omega arith, w.count-is ∙ same_count _ _ _ c.loop-k.invariant.1 (sym h ∙ w.if-not-holds.false))
     ]
 
 few : (a n l : ℕ) → 8 * ((a + 1) * n) ≤ l → n ≤ l
@@ -41,4 +35,4 @@ few a n l h = omega (arith, simp (add-mul, one-mul) at h)
 pub returns : goal.returns
 returns c =
     let e : c.loop-k.k ≡ records_in c.args.f c.args.s.now = omega (arith, c.records-n.ensures.0) in
-    (rw e at c.loop-k.invariant.2, omega (arith, few (arity c.args.f) c.records-n.result _ c.records-n.ensures.1))
+    (rw e at c.loop-k.invariant.1, omega (arith, few (arity c.args.f) c.records-n.result _ c.records-n.ensures.1))

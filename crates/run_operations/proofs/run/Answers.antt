@@ -14,8 +14,8 @@ run_parts-r-requires c =
       (c.cut_count-x.ensures, (c.count-n.ensures, heads_zero zero-u32.new.s (zeros_stay a.edges.now zero-u32.new.s zero-u32.ensures))),
     )
 
-pub returns-in-Done : goal.returns-in-Done
-returns-in-Done c =
+pub returns-in-Ok : goal.returns-in-Ok
+returns-in-Ok c =
     let forget = c.forget in
     let zero-cuts = c.zero_cuts in
     let run-parts = c.run_parts-r in
@@ -38,7 +38,7 @@ returns-in-Done c =
           = run-parts.auto.keep;
       next = run-parts.auto.next;
     }) zero-cuts.ensures
-    c.in-Done.made c.in-Done.queued c.in-Done.is
+    c.in-Ok.counts c.in-Ok.is
     (record {
       edges = run-parts.auto.edges ∙ zero-u32.auto.s;
       words = run-parts.auto.words ∙ zero-u322.auto.s;
@@ -50,8 +50,8 @@ returns-in-Done c =
       vertex = run-parts.auto.vertex;
     }) forget.new.edges forget.ensures
 
-pub returns-in-Ended : goal.returns-in-Ended
-returns-in-Ended c =
+pub returns-in-Err : goal.returns-in-Err
+returns-in-Err c =
     let zero-slices = c.zero_slices in
     let zero-cuts = c.zero_cuts in
     let run-parts = c.run_parts-r in
@@ -74,7 +74,7 @@ returns-in-Ended c =
           = run-parts.auto.keep;
       next = run-parts.auto.next;
     }) zero-cuts.ensures
-    c.in-Ended.at c.in-Ended.number c.in-Ended.is (slices zero-slices.new.edges zero-slices.new.words zero-slices.new.reals zero-slices.new.keys
+    c.in-Err.ended c.in-Err.is (slices zero-slices.new.edges zero-slices.new.words zero-slices.new.reals zero-slices.new.keys
     zero-slices.new.events zero-slices.new.vertex)
     (record {
       edges = run-parts.auto.edges ∙ zero-u32.auto.s;

@@ -21,28 +21,21 @@ operate-step-requires c =
     let a = c.args in
     inv_ready a.limit a.vertex_words.now a.ends.now a.lens.now a.m a.ops.now a.args.now a.n
     (slices a.edges.now a.words.now a.reals.now a.keys.now a.events.now a.vertex.now) (cut_buffers a.pts.now a.out.now a.keep.now a.next.now)
-    c.requires.0 loop.k loop.made loop.queued (slices loop.edges loop.words loop.reals loop.keys loop.events loop.vertex)
+    c.requires.0 loop.k loop.counts.made loop.counts.queued (slices loop.edges loop.words loop.reals loop.keys loop.events loop.vertex)
     (cut_buffers loop.pts loop.out loop.keep loop.next) loop.invariant
 
-pub returns-in-Stopped : goal.returns-in-Stopped
-returns-in-Stopped c =
+pub returns-in-Err : goal.returns-in-Err
+returns-in-Err c =
     let operate = c.operate-step in
     let operation-at = c.operation_at-op in
     let loop = c.loop-k in
     let a = c.args in
     inv_stopped a.limit a.vertex_words.now a.ends.now a.lens.now a.m a.ops.now a.args.now a.n
     (slices a.edges.now a.words.now a.reals.now a.keys.now a.events.now a.vertex.now) (cut_buffers a.pts.now a.out.now a.keep.now a.next.now)
-    c.requires.0 loop.k loop.made loop.queued (slices loop.edges loop.words loop.reals loop.keys loop.events loop.vertex)
+    c.requires.0 loop.k loop.counts.made loop.counts.queued (slices loop.edges loop.words loop.reals loop.keys loop.events loop.vertex)
     (cut_buffers loop.pts loop.out loop.keep loop.next) loop.invariant c.loop-k-test.true operation-at.result operation-at.ensures operate.result
     (slices operate.new.edges operate.new.words operate.new.reals operate.new.keys
-    operate.new.events operate.new.vertex) operate.ensures c.in-Stopped.number c.in-Stopped.is
-
-pub overflow_add-k : goal.overflow_add-k
-overflow_add-k c =
-    omega (arith, c.loop-k-test.true, c.ranges.n)
-
-pub loop-k-smaller : goal.loop-k-smaller
-loop-k-smaller c = omega (arith, c.loop-k-test.true)
+    operate.new.events operate.new.vertex) operate.ensures c.in-Err.refusal c.in-Err.is
 
 pub loop-k-preserved : goal.loop-k-preserved
 loop-k-preserved c =
@@ -52,11 +45,11 @@ loop-k-preserved c =
     let a = c.args in
     inv_next a.limit a.vertex_words.now a.ends.now a.lens.now a.m a.ops.now a.args.now a.n
     (slices a.edges.now a.words.now a.reals.now a.keys.now a.events.now a.vertex.now) (cut_buffers a.pts.now a.out.now a.keep.now a.next.now)
-    c.requires.0 loop.k loop.made loop.queued (slices loop.edges loop.words loop.reals loop.keys loop.events loop.vertex)
+    c.requires.0 loop.k loop.counts.made loop.counts.queued (slices loop.edges loop.words loop.reals loop.keys loop.events loop.vertex)
     (cut_buffers loop.pts loop.out loop.keep loop.next) loop.invariant c.loop-k-test.true operation-at.result operation-at.ensures operate.result
     (slices operate.new.edges operate.new.words operate.new.reals operate.new.keys
-    operate.new.events operate.new.vertex) operate.ensures c.in-Went.a c.in-Went.b (loop.k + 1)
-    (omega arith) c.in-Went.is (cut_buffers operate.new.pts operate.new.out
+    operate.new.events operate.new.vertex) operate.ensures c.in-Ok.now (loop.k + 1)
+    (omega arith) c.in-Ok.is (cut_buffers operate.new.pts operate.new.out
     operate.new.keep operate.new.next)
     (record {
       edges = operate.auto.edges ∙ loop.invariant.same.edges;
@@ -83,5 +76,5 @@ returns c =
     let a = c.args in
     inv_done a.limit a.vertex_words.now a.ends.now a.lens.now a.m a.ops.now a.args.now a.n
     (slices a.edges.now a.words.now a.reals.now a.keys.now a.events.now a.vertex.now) (cut_buffers a.pts.now a.out.now a.keep.now a.next.now)
-    c.requires.0 loop.k loop.made loop.queued (slices loop.edges loop.words loop.reals loop.keys loop.events loop.vertex)
+    c.requires.0 loop.k loop.counts.made loop.counts.queued (slices loop.edges loop.words loop.reals loop.keys loop.events loop.vertex)
     (cut_buffers loop.pts loop.out loop.keep loop.next) loop.invariant c.loop-k-test.false

@@ -1,20 +1,22 @@
+use Rattle.std.proofs.lemmas.Result.{err_from_is_err_and}
 use native.Mathlib.Omega.{arith}
 use Rattle.run_operations.proofs.Steps.{touch_missing, touch_full, touch_queued}
 use Rattle.run_operations.proofs.touch.Goals as goal
 
 pub returns-then-slots-v : goal.returns-then-slots-v
-returns-then-slots-v c = let a = c.args in touch_missing a.v.0 a.d a.limit a.vertex_words.now a.made a.queued a.keys.now a.events.now a.vertex.now (omega (arith, c.if-slots-v.true, c.slots.ensures))
+returns-then-slots-v c = let a = c.args in touch_missing a.v.0 a.d a.limit a.vertex_words.now a.counts.made a.counts.queued a.keys.now a.events.now a.vertex.now (omega (arith, c.if-slots-v.true, c.slots.ensures))
 
-pub returns-in-Full : goal.returns-in-Full
-returns-in-Full c =
+pub returns-in_err-queued : goal.returns-in_err-queued
+returns-in_err-queued c =
     let a = c.args in
-    touch_full a.v.0 a.d a.limit a.vertex_words.now a.made a.queued a.keys.now a.events.now a.vertex.now
-    (omega (arith, c.if-slots-v.false, c.slots.ensures)) c.touch-touched.new.keys c.touch-touched.new.events c.touch-touched.new.vertex
-    (rw c.in-Full.is at c.touch-touched.ensures)
+    let p = err_from_is_err_and c.from_residual.result c.from_residual.ensures.1 in
+    rw (p.1, p.2) (touch_full a.v.0 a.d a.limit a.vertex_words.now a.counts.made a.counts.queued a.keys.now a.events.now a.vertex.now
+    (omega (arith, c.if-slots-v.false, c.slots.ensures)) c.touch.new.keys c.touch.new.events c.touch.new.vertex
+    c.in_err-queued.field-0.0 c.in_err-queued.ensures)
 
-pub returns-in-Queued : goal.returns-in-Queued
-returns-in-Queued c =
+pub returns : goal.returns
+returns c =
     let a = c.args in
-    touch_queued a.v.0 a.d a.limit a.vertex_words.now a.made a.queued a.keys.now a.events.now a.vertex.now
-    (omega (arith, c.if-slots-v.false, c.slots.ensures)) c.touch-touched.new.keys c.touch-touched.new.events c.touch-touched.new.vertex c.in-Queued.n
-    (rw c.in-Queued.is at c.touch-touched.ensures)
+    touch_queued a.v.0 a.d a.limit a.vertex_words.now a.counts.made a.counts.queued a.keys.now a.events.now a.vertex.now
+    (omega (arith, c.if-slots-v.false, c.slots.ensures)) c.touch.new.keys c.touch.new.events c.touch.new.vertex c.in_ok-queued.queued
+    c.in_ok-queued.ensures

@@ -1,9 +1,8 @@
 -- `slip_moves::move_bytes` meets its contract. Assumes nothing.
-use Rattle.slip_moves.proofs.Parts.{moves_put, moves_stop}
+use Rattle.slip_moves.proofs.Parts.{moves_put, moves_stop, behind_as}
 use Rattle.slip_moves.proofs.Ways.{bytes_short, bytes_there}
-use Rattle.slip_moves.specs.declared.Step.TheVariants.{Went}
 use Prim.Native.Nat.{◌+◌, ◌-◌}
-use mathlib.Core.Path.{◌≡◌, refl, ap}
+use mathlib.Core.Path.{◌≡◌, refl}
 use native.Mathlib.Omega.{arith}
 use Rattle.slip_moves.proofs.move_bytes.Goals as goal
 
@@ -14,4 +13,4 @@ pub returns : goal.returns
 returns c =
     let put = c.put_text-p.ensures in
     let size : c.args.i + c.args.n - c.args.i ≡ c.args.n = omega arith in
-    moves_put (bytes_there _ _ _ c.if-s-end.false) (rw size at (ap (Went (c.args.i + c.args.n)) put.ends)) (rw size at put.holds)
+    moves_put (bytes_there _ _ _ c.if-s-end.false) (rw size at (behind_as (c.args.i + c.args.n) put.ends)) (rw size at put.holds)

@@ -1,21 +1,16 @@
 -- `slip_moves::move_number` meets its contract. Assumes nothing.
-use Rattle.slip_moves.proofs.Parts.{moves_put, moves_stop}
-use Rattle.slip_moves.proofs.Ways.{number_short, number_over, number_is}
-use Rattle.slip_moves.specs.declared.Step.TheVariants.{Went}
-use mathlib.Core.Path.{refl, ap}
-use native.Mathlib.Omega.{arith}
+use Rattle.slip_moves.proofs.Parts.{moves_put, moves_stop, behind_as}
+use Rattle.slip_moves.proofs.Ways.{number_refused, number_is}
+use mathlib.Core.Path.{refl}
+use Rattle.std.proofs.lemmas.Result.{err_from_is_err_and}
 use Rattle.slip_moves.proofs.move_number.Goals as goal
 
-pub put_number-p-requires : goal.put_number-p-requires
-put_number-p-requires c = (omega arith, (c.read_number.ensures.small _ _ c.in-Is.is).0)
+pub returns-in_err-n : goal.returns-in_err-n
+returns-in_err-n c =
+    let p = err_from_is_err_and c.from_residual.result c.from_residual.ensures.1 in
+    rw (p.1, p.2) (moves_stop (number_refused _ _ _ _ c.read_number.ensures _ c.in_err-n.was) refl)
 
-pub returns-in-Short : goal.returns-in-Short
-returns-in-Short c = moves_stop (number_short _ _ _ _ c.read_number.ensures c.in-Short.is) refl
-
-pub returns-in-Over : goal.returns-in-Over
-returns-in-Over c = moves_stop (number_over _ _ _ _ c.read_number.ensures c.in-Over.is) refl
-
-pub returns-in-Is : goal.returns-in-Is
-returns-in-Is c =
+pub returns : goal.returns
+returns c =
     let put = c.put_number-p.ensures.0 in
-    moves_put (number_is _ _ _ _ c.read_number.ensures c.in-Is.is) (ap (Went c.in-Is.next) put.ends) put.holds
+    moves_put (number_is _ _ _ _ c.read_number.ensures c.in_ok-n.was) (behind_as c.in_ok-n.next put.ends) put.holds

@@ -3,37 +3,42 @@ use Rattle.slip_moves.specs.Moves.{number_moved, numbers_moved}
 use Rattle.slip_moves.proofs.Parts.{far_none, far_is, far_stop, far_step, far_end}
 use Rattle.slip_moves.proofs.Reach.{reach_number, stepped}
 use Rattle.slip_moves.proofs.Ways.{numbers_next, no_numbers}
-use Prim.Native.Nat.{◌-◌}
-use mathlib.Core.Path.{refl, ◌∙◌}
+use Prim.Native.Nat.{◌+◌, ◌-◌}
+use mathlib.Core.Path.{◌≡◌, refl, ◌∙◌}
 use native.Mathlib.Omega.{arith}
+use Rattle.std.proofs.lemmas.Result.{err_from_is_err_and}
 use Rattle.slip_moves.proofs.move_numbers.Goals as goal
 
-pub loop-more-init : goal.loop-more-init
-loop-more-init c = (omega arith, omega arith, omega arith, refl, far_none _)
+pub loop-init : goal.loop-init
+loop-init c =
+    let all : c.args.n - 0 ≡ c.args.n = omega arith in
+    (omega arith, omega arith, refl, rw all (far_none _))
 
-pub move_number-requires : goal.move_number-requires
-move_number-requires c = (omega arith, omega arith)
-
-pub returns-in-Stopped : goal.returns-in-Stopped
-returns-in-Stopped c =
+pub returns-in_err-at : goal.returns-in_err-at
+returns-in_err-at c =
     let a = c.args in
-    far_stop (number_moved a.from a.to a.s.now c.loop-more.at) (numbers_moved a.from a.to a.s.now (c.loop-more.more - 1))
-    (far_is (numbers_next a.from a.to a.s.now c.loop-more.at c.loop-more.more c.loop-more-test.true) c.loop-more.invariant.4) c.move_number.ensures c.in-Stopped.is
+    let left = a.n - c.loop.counter in
+    let p = err_from_is_err_and c.from_residual.result c.from_residual.ensures.1 in
+    rw (p.1, p.2)
+    (far_stop (number_moved a.from a.to a.s.now c.loop.at) (numbers_moved a.from a.to a.s.now (left - 1))
+    (far_is (numbers_next a.from a.to a.s.now c.loop.at left (omega arith)) c.loop.invariant.3) c.move_number.ensures c.in_err-at.was)
 
-pub loop-more-preserved : goal.loop-more-preserved
-loop-more-preserved c =
+pub loop-preserved : goal.loop-preserved
+loop-preserved c =
     let a = c.args in
-    let x = number_moved a.from a.to a.s.now c.loop-more.at in
-    let near = stepped c.loop-more.at 5 x (reach_number a.from a.to a.s.now c.loop-more.at) c.move_number.ensures c.in-Went.is in (
-      omega arith,
-      omega (arith, near.0, c.loop-more.invariant.1, c.loop-more-test.true),
-      omega (arith, near.1, c.loop-more.invariant.2, c.loop-more-test.true),
-      c.move_number.auto.out ∙ c.loop-more.invariant.3,
-      far_step x (numbers_moved a.from a.to a.s.now (c.loop-more.more - 1))
-          (far_is (numbers_next a.from a.to a.s.now c.loop-more.at c.loop-more.more c.loop-more-test.true) c.loop-more.invariant.4) c.move_number.ensures c.in-Went.is,
+    let left = a.n - c.loop.counter in
+    let x = number_moved a.from a.to a.s.now c.loop.at in
+    let near = stepped c.loop.at 5 x (reach_number a.from a.to a.s.now c.loop.at) c.move_number.ensures c.in_ok-at.was in
+    let less : a.n - (c.loop.counter + 1) ≡ left - 1 = omega arith in (
+      omega (arith, near.0, c.loop.invariant.0, c.loop-test.true),
+      omega (arith, near.1, c.loop.invariant.1, c.loop-test.true),
+      c.move_number.auto.out ∙ c.loop.invariant.2,
+      rw less
+          (far_step x (numbers_moved a.from a.to a.s.now (left - 1))
+          (far_is (numbers_next a.from a.to a.s.now c.loop.at left (omega arith)) c.loop.invariant.3) c.move_number.ensures c.in_ok-at.was),
     )
 
 pub returns : goal.returns
 returns c =
     let a = c.args in
-    far_end (far_is (no_numbers a.from a.to a.s.now c.loop-more.at c.loop-more.more c.loop-more-test.false) c.loop-more.invariant.4)
+    far_end (far_is (no_numbers a.from a.to a.s.now c.loop.at (a.n - c.loop.counter) (omega arith)) c.loop.invariant.3)

@@ -8,20 +8,18 @@ use native.Mathlib.Omega.{arith}
 use native.Mathlib.Numerals.{add-one}
 use Rattle.slip_write.proofs.put_numbers.Goals as goal
 
-pub loop-k-init : goal.loop-k-init
+pub loop-x-init : goal.loop-x-init
 unfolding numbers_bytes
-loop-k-init c = (omega arith, (omega arith, (refl, puts_none _ _)))
+loop-x-init c = (omega arith, (refl, puts_none _ _))
 
-pub loop-k-preserved : goal.loop-k-preserved
+pub loop-x-preserved : goal.loop-x-preserved
 unfolding numbers_bytes
-loop-k-preserved c =
+loop-x-preserved c =
     let a = c.args in
-    let put = c.put_number-at.ensures in (
-      omega arith,
-      (omega (arith, put.ends, length_number (get_or a.xs.now c.loop-k.k 0), c.loop-k.invariant.1.0), (puts_length put ∙ c.loop-k.invariant.1.1.0, rw add-one (puts_then c.loop-k.invariant.1.1.1 put))),
-    )
+    let put = c.put_number-at.ensures in
+    (omega (arith, put.ends, length_number (get_or a.xs.now c.loop-x.x-index 0), c.loop-x.invariant.0), (puts_length put ∙ c.loop-x.invariant.1.0, rw add-one (puts_then c.loop-x.invariant.1.1 put)))
 
 pub returns : goal.returns
 returns c =
     let a = c.args in
-    let e : c.loop-k.k ≡ length a.xs.now = omega (arith, c.loop-k-test.false, c.loop-k.invariant.0) in (rw e at c.loop-k.invariant.1.1.1, omega (arith, e, c.loop-k.invariant.1.0))
+    let e : c.loop-x.x-index ≡ length a.xs.now = omega (arith, c.loop-x-test.false) in (rw e at c.loop-x.invariant.1.1, omega (arith, e, c.loop-x.invariant.0))

@@ -1,9 +1,7 @@
 -- `source_bounds::limited` meets its contract. Assumes nothing.
-use mathlib.Core.Path.{refl}
+use mathlib.Core.Path.{refl, sym, subst}
+use lib.Dec.{T}
 use Rattle.source_bounds.proofs.limited.Goals as goal
 
-pub returns-else-hi : goal.returns-else-hi
-returns-else-hi c = (refl, refl, λ k. absurd k)
-
-pub returns-else-lo : goal.returns-else-lo
-returns-else-lo c = (refl, refl, λ k. absurd k)
+pub returns-then-hi : goal.returns-then-hi
+returns-then-hi c = (refl, refl, (subst T (sym c.if-lo.true) tt, subst T (sym c.if-hi.true) tt))

@@ -3,10 +3,10 @@ use mathlib.Core.Path.{refl}
 use Rattle.source_offers.specs.Offering.{offered}
 use Rattle.source_offers.proofs.offered.Goals as goal
 
-pub returns-in-Nothing : goal.returns-in-Nothing
+pub returns-in-None : goal.returns-in-None
 unfolding offered
-returns-in-Nothing c = rw c.in-Nothing.is refl
+returns-in-None c = rw c.in-None.is refl
 
-pub returns-in-Window : goal.returns-in-Window
+pub returns-in-Some : goal.returns-in-Some
 unfolding offered
-returns-in-Window c = rw c.in-Window.is refl
+returns-in-Some c = rw c.in-Some.is refl

@@ -14,7 +14,7 @@ use Rattle.source_vectors.proofs.differences.Goals.{then-not-holds, else-not-hol
 
 pub loop-k-init : goal.loop-k-init
 unfolding failing
-loop-k-init c = (omega arith, omega arith, refl)
+loop-k-init c = (omega arith, refl)
 
 pub overflow_mul-i : goal.overflow_mul-i
 overflow_mul-i c =
@@ -52,19 +52,13 @@ holds-requires c =
 pub overflow_add-count : goal.overflow_add-count
 overflow_add-count c = omega arith
 
-pub overflow_add-k : goal.overflow_add-k
-overflow_add-k c = omega arith
-
-pub loop-k-smaller : goal.loop-k-smaller
-loop-k-smaller c = omega arith
-
 pub loop-k-preserved : goal.loop-k-preserved
 loop-k-preserved c =
     let answered : c.holds.result ≡ holds_for c.args.f (record_at c.args.f c.args.s.now c.loop-k.k) = c.holds.ensures ∙ ap (holds_for _) (part_is _ _ _ _ c.size-z.ensures) in
     let h = answered in
-    elim c.if-not-holds.branch [ then-not-holds w ↦ (omega arith, omega arith, w.count-is ∙ one_more _ _ _ c.loop-k.invariant.2 (sym h ∙ w.if-not-holds.true)) | else-not-holds w ↦ (omega arith, omega arith, w.count-is ∙ same_count _ _ _ c.loop-k.invariant.2 (sym h ∙ w.if-not-holds.false)) ]
+    elim c.if-not-holds.branch [ then-not-holds w ↦ (omega arith, w.count-is ∙ one_more _ _ _ c.loop-k.invariant.1 (sym h ∙ w.if-not-holds.true)) | else-not-holds w ↦ (omega arith, w.count-is ∙ same_count _ _ _ c.loop-k.invariant.1 (sym h ∙ w.if-not-holds.false)) ]
 
 pub returns : goal.returns
 returns c =
     let e : c.loop-k.k ≡ leaf_records c.args.f c.args.s.now = omega (arith, c.records-n.ensures.0) in
-    rw e at c.loop-k.invariant.2
+    rw e at c.loop-k.invariant.1

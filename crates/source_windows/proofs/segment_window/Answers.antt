@@ -2,10 +2,10 @@
 use Rattle.source_windows.specs.Segment.{segment_window_of}
 use Rattle.source_windows.proofs.segment_window.Goals as goal
 
-pub returns-in-TooShort : goal.returns-in-TooShort
+pub returns-in_err-g : goal.returns-in_err-g
 unfolding segment_window_of
-returns-in-TooShort c = rw c.in-TooShort.is
+returns-in_err-g c = rw (c.from_residual.ensures, c.in_err-g.was)
 
-pub returns-in-Long : goal.returns-in-Long
+pub returns : goal.returns
 unfolding segment_window_of
-returns-in-Long c = rw (c.in-Long.is, c.side_window.ensures)
+returns c = rw (c.in_ok-g.was, c.side_window.ensures)

@@ -2,14 +2,10 @@
 use Rattle.source_windows.specs.Segment.{wave_of}
 use Rattle.source_windows.proofs.wave.Goals as goal
 
-pub returns-in_default : goal.returns-in_default
-unfolding wave_of
-returns-in_default c = rw c.in_default.is
-
 pub returns-then-too_narrow : goal.returns-then-too_narrow
 unfolding wave_of
-returns-then-too_narrow c = rw (c.in-Within.is, ← c.ahead-part.ensures, ← c.too_narrow.ensures, c.if-too_narrow.true)
+returns-then-too_narrow c = rw (← c.ahead-part.ensures, ← c.too_narrow.ensures, c.if-too_narrow.true)
 
 pub returns : goal.returns
 unfolding wave_of
-returns c = rw (c.in-Within.is, ← c.ahead-part.ensures, ← c.too_narrow.ensures, c.if-too_narrow.false)
+returns c = rw (← c.ahead-part.ensures, ← c.too_narrow.ensures, c.if-too_narrow.false)

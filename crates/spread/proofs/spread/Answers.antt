@@ -1,7 +1,7 @@
 -- `spread::spread` meets its contract. Assumes nothing.
-use Prim.Native.Nat.{◌-◌}
 use native.Mathlib.Omega.{arith}
 use mathlib.Core.Path.{refl, ◌∙◌}
+use Rattle.std.proofs.lemmas.Result.{err_from_is_err_and}
 use Rattle.spread_offers.specs.of_cut_lists.Buffers.{cut_buffers}
 use Rattle.spread_offers.specs.of_trim.Buffers.{slices}
 use Rattle.spread_offers.proofs.laws_of_offers.Walks.{sizes_same}
@@ -16,8 +16,8 @@ loop-i-init c =
     (slices a.edge_words.now a.words.now a.reals.now a.keys.now a.events.now a.vertex.now) (cut_buffers a.pts.now a.out.now a.keep.now a.next.now)
     c.requires.0
 
-pub offer-added-requires : goal.offer-added-requires
-offer-added-requires c =
+pub offer-requires : goal.offer-requires
+offer-requires c =
     let a = c.args in
     let l = c.loop-i in (
       loop_fits a.limit a.vertex_words.now (reads_spread a.vertices.now a.triangles.now a.edge_reals.now a.triangle_words.now a.triangle_reals.now a.vertex_words.now a.round.now a.s a.edge_words.now c.find_opposite-o.result) a.counts
@@ -28,68 +28,63 @@ offer-added-requires c =
           l.invariant.same c.requires.1,
     )
 
-pub shape_of-edge_words-in-Stopped : goal.shape_of-edge_words-in-Stopped
-shape_of-edge_words-in-Stopped c = let offered = c in offered.offer-added.auto.edge_words ∙ offered.loop-i.invariant.same.edges
+pub shape_of-edge_words-in_err-now : goal.shape_of-edge_words-in_err-now
+shape_of-edge_words-in_err-now c = let offered = c in offered.offer.auto.edge_words ∙ offered.loop-i.invariant.same.edges
 
-pub shape_of-words-in-Stopped : goal.shape_of-words-in-Stopped
-shape_of-words-in-Stopped c = let offered = c in offered.offer-added.auto.words ∙ offered.loop-i.invariant.same.words
+pub shape_of-words-in_err-now : goal.shape_of-words-in_err-now
+shape_of-words-in_err-now c = let offered = c in offered.offer.auto.words ∙ offered.loop-i.invariant.same.words
 
-pub shape_of-reals-in-Stopped : goal.shape_of-reals-in-Stopped
-shape_of-reals-in-Stopped c = let offered = c in offered.offer-added.auto.reals ∙ offered.loop-i.invariant.same.reals
+pub shape_of-reals-in_err-now : goal.shape_of-reals-in_err-now
+shape_of-reals-in_err-now c = let offered = c in offered.offer.auto.reals ∙ offered.loop-i.invariant.same.reals
 
-pub shape_of-keys-in-Stopped : goal.shape_of-keys-in-Stopped
-shape_of-keys-in-Stopped c = let offered = c in offered.offer-added.auto.keys ∙ offered.loop-i.invariant.same.keys
+pub shape_of-keys-in_err-now : goal.shape_of-keys-in_err-now
+shape_of-keys-in_err-now c = let offered = c in offered.offer.auto.keys ∙ offered.loop-i.invariant.same.keys
 
-pub shape_of-events-in-Stopped : goal.shape_of-events-in-Stopped
-shape_of-events-in-Stopped c = let offered = c in offered.offer-added.auto.events ∙ offered.loop-i.invariant.same.events
+pub shape_of-events-in_err-now : goal.shape_of-events-in_err-now
+shape_of-events-in_err-now c = let offered = c in offered.offer.auto.events ∙ offered.loop-i.invariant.same.events
 
-pub shape_of-vertex-in-Stopped : goal.shape_of-vertex-in-Stopped
-shape_of-vertex-in-Stopped c = let offered = c in offered.offer-added.auto.vertex ∙ offered.loop-i.invariant.same.vertex
+pub shape_of-vertex-in_err-now : goal.shape_of-vertex-in_err-now
+shape_of-vertex-in_err-now c = let offered = c in offered.offer.auto.vertex ∙ offered.loop-i.invariant.same.vertex
 
-pub shape_of-pts-in-Stopped : goal.shape_of-pts-in-Stopped
-shape_of-pts-in-Stopped c = let offered = c in offered.offer-added.auto.pts ∙ offered.loop-i.invariant.same.pts
+pub shape_of-pts-in_err-now : goal.shape_of-pts-in_err-now
+shape_of-pts-in_err-now c = let offered = c in offered.offer.auto.pts ∙ offered.loop-i.invariant.same.pts
 
-pub shape_of-out-in-Stopped : goal.shape_of-out-in-Stopped
-shape_of-out-in-Stopped c = let offered = c in offered.offer-added.auto.out ∙ offered.loop-i.invariant.same.out
+pub shape_of-out-in_err-now : goal.shape_of-out-in_err-now
+shape_of-out-in_err-now c = let offered = c in offered.offer.auto.out ∙ offered.loop-i.invariant.same.out
 
-pub shape_of-keep-in-Stopped : goal.shape_of-keep-in-Stopped
-shape_of-keep-in-Stopped c = let offered = c in offered.offer-added.auto.keep ∙ offered.loop-i.invariant.same.keep
+pub shape_of-keep-in_err-now : goal.shape_of-keep-in_err-now
+shape_of-keep-in_err-now c = let offered = c in offered.offer.auto.keep ∙ offered.loop-i.invariant.same.keep
 
-pub shape_of-next-in-Stopped : goal.shape_of-next-in-Stopped
-shape_of-next-in-Stopped c = let offered = c in offered.offer-added.auto.next ∙ offered.loop-i.invariant.same.next
+pub shape_of-next-in_err-now : goal.shape_of-next-in_err-now
+shape_of-next-in_err-now c = let offered = c in offered.offer.auto.next ∙ offered.loop-i.invariant.same.next
 
-pub returns-in-Stopped : goal.returns-in-Stopped
-returns-in-Stopped c =
+pub returns-in_err-now : goal.returns-in_err-now
+returns-in_err-now c =
     let a = c.args in
     let l = c.loop-i in
-    let r = c.offer-added in
-    read_first a.vertices.now a.triangles.now a.edge_reals.now a.triangle_words.now a.triangle_reals.now a.vertex_words.now a.round.now a.s a.edge_words.now c.find_opposite-o.result c.find_opposite-o.ensures a.limit a.counts
+    let r = c.offer in
+    let p = err_from_is_err_and c.from_residual.result c.from_residual.ensures.1 in
+    rw (p.1, p.2) (read_first a.vertices.now a.triangles.now a.edge_reals.now a.triangle_words.now a.triangle_reals.now a.vertex_words.now a.round.now a.s a.edge_words.now c.find_opposite-o.result c.find_opposite-o.ensures a.limit a.counts
     (slices a.edge_words.now a.words.now a.reals.now a.keys.now a.events.now a.vertex.now) refl (cut_buffers a.pts.now a.out.now a.keep.now a.next.now) _ _
     (loop_stopped a.limit a.vertex_words.now (reads_spread a.vertices.now a.triangles.now a.edge_reals.now a.triangle_words.now a.triangle_reals.now a.vertex_words.now a.round.now a.s a.edge_words.now c.find_opposite-o.result) a.counts
     (slices a.edge_words.now a.words.now a.reals.now a.keys.now a.events.now a.vertex.now) (cut_buffers a.pts.now a.out.now a.keep.now a.next.now)
     (slices l.edge_words l.words l.reals l.keys l.events l.vertex) (cut_buffers l.pts l.out l.keep l.next) l.now l.i l.invariant
-    (omega (arith, c.loop-i-test.true, c.spread_count-n.ensures)) c.spread_offer-x.result c.spread_offer-x.ensures c.in-Stopped.lack (slices r.new.edge_words r.new.words r.new.reals r.new.keys r.new.events r.new.vertex)
+    (omega (arith, c.loop-i-test.true, c.spread_count-n.ensures)) c.spread_offer-x.result c.spread_offer-x.ensures c.in_err-now.field-0.0 (slices r.new.edge_words r.new.words r.new.reals r.new.keys r.new.events r.new.vertex)
     (cut_buffers r.new.pts r.new.out r.new.keep r.new.next)
-    (rw c.in-Stopped.is at r.ensures))
-
-pub overflow_add-i : goal.overflow_add-i
-overflow_add-i c = let tested = c in omega (arith, tested.loop-i-test.true, tested.spread_count-n.type_inv)
-
-pub loop-i-smaller : goal.loop-i-smaller
-loop-i-smaller c = let tested = c in omega (arith, tested.loop-i-test.true, tested.spread_count-n.type_inv)
+    c.in_err-now.ensures))
 
 pub loop-i-preserved : goal.loop-i-preserved
 loop-i-preserved c =
     let a = c.args in
     let l = c.loop-i in
-    let r = c.offer-added in
+    let r = c.offer in
     loop_next a.limit a.vertex_words.now (reads_spread a.vertices.now a.triangles.now a.edge_reals.now a.triangle_words.now a.triangle_reals.now a.vertex_words.now a.round.now a.s a.edge_words.now c.find_opposite-o.result) a.counts
     (slices a.edge_words.now a.words.now a.reals.now a.keys.now a.events.now a.vertex.now) (cut_buffers a.pts.now a.out.now a.keep.now a.next.now)
     (slices l.edge_words l.words l.reals l.keys l.events l.vertex) (cut_buffers l.pts l.out l.keep l.next) l.now l.i l.invariant
-    (omega (arith, c.loop-i-test.true, c.spread_count-n.ensures)) c.spread_offer-x.result c.spread_offer-x.ensures c.in-Went.c (slices r.new.edge_words r.new.words r.new.reals r.new.keys r.new.events r.new.vertex)
+    (omega (arith, c.loop-i-test.true, c.spread_count-n.ensures)) c.spread_offer-x.result c.spread_offer-x.ensures c.in_ok-now.now (slices r.new.edge_words r.new.words r.new.reals r.new.keys r.new.events r.new.vertex)
     (cut_buffers r.new.pts r.new.out r.new.keep r.new.next)
     (record { edges = r.auto.edge_words; words = r.auto.words; reals = r.auto.reals; keys = r.auto.keys; events = r.auto.events; vertex = r.auto.vertex; pts = r.auto.pts; out = r.auto.out; keep = r.auto.keep; next = r.auto.next })
-    (rw c.in-Went.is at r.ensures)
+    c.in_ok-now.ensures
 
 pub shape_of-edge_words : goal.shape_of-edge_words
 shape_of-edge_words c = c.loop-i.invariant.same.edges

@@ -2,7 +2,8 @@
 use Prim.Native.Nat.{◌/◌}
 use native.Mathlib.Omega.{arith}
 use lib.ListN.{length}
-use Rattle.stl_format.specs.declared.Stl.TheVariants.{TooMany, ShortBuffer}
+use Rattle.std.specs.Prelude.{Err}
+use Rattle.stl_format.specs.declared.StlRefusal.TheVariants.{TooMany, ShortBuffer}
 use Rattle.stl_format.specs.Answers.{after_reading, mesh_lists}
 use Rattle.stl.proofs.Same.{Bytes}
 use Rattle.stl.proofs.Meshes.{answered, over_many, no_vertices, no_triangles, firsts_fit, there, findable, read_done}
@@ -15,7 +16,7 @@ returns-then-count-gt65535 c =
     -- the elements of the file are bytes
     let bytes : Bytes a.s.now = λ i. omega (arith, c.type_inv.s i) in
     let f = c.requires in
-    answered a.s.now (mesh_lists a.vertices.now a.triangles.now) TooMany (over_many a.s.now bytes a.n f c.build-count.result _ _ _ c.build-count.ensures (length a.vertices.now / 3) (length a.triangles.now / 3) c.if-count-gt65535.true)
+    answered a.s.now (mesh_lists a.vertices.now a.triangles.now) (Err TooMany) (over_many a.s.now bytes a.n f c.build-count.result _ _ _ c.build-count.ensures (length a.vertices.now / 3) (length a.triangles.now / 3) c.if-count-gt65535.true)
 
 pub returns-then-vertices-count : goal.returns-then-vertices-count
 unfolding after_reading
@@ -24,7 +25,7 @@ returns-then-vertices-count c =
     -- the elements of the file are bytes
     let bytes : Bytes a.s.now = λ i. omega (arith, c.type_inv.s i) in
     let f = c.requires in
-    answered a.s.now (mesh_lists a.vertices.now a.triangles.now) ShortBuffer (no_vertices a.s.now bytes a.n f c.build-count.result _ _ _ c.build-count.ensures c.if-count-gt65535.false (length a.vertices.now / 3) (length a.triangles.now / 3) c.if-vertices-count.true)
+    answered a.s.now (mesh_lists a.vertices.now a.triangles.now) (Err ShortBuffer) (no_vertices a.s.now bytes a.n f c.build-count.result _ _ _ c.build-count.ensures c.if-count-gt65535.false (length a.vertices.now / 3) (length a.triangles.now / 3) c.if-vertices-count.true)
 
 pub returns-then-triangles-n : goal.returns-then-triangles-n
 unfolding after_reading
@@ -33,7 +34,7 @@ returns-then-triangles-n c =
     -- the elements of the file are bytes
     let bytes : Bytes a.s.now = λ i. omega (arith, c.type_inv.s i) in
     let f = c.requires in
-    answered a.s.now (mesh_lists a.vertices.now a.triangles.now) ShortBuffer (no_triangles a.s.now bytes a.n f c.build-count.result _ _ _ c.build-count.ensures c.if-count-gt65535.false (length a.vertices.now / 3) (length a.triangles.now / 3) c.if-vertices-count.false c.if-triangles-n.true)
+    answered a.s.now (mesh_lists a.vertices.now a.triangles.now) (Err ShortBuffer) (no_triangles a.s.now bytes a.n f c.build-count.result _ _ _ c.build-count.ensures c.if-count-gt65535.false (length a.vertices.now / 3) (length a.triangles.now / 3) c.if-vertices-count.false c.if-triangles-n.true)
 
 pub write_vertices-requires : goal.write_vertices-requires
 write_vertices-requires c =

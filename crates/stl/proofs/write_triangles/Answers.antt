@@ -19,9 +19,6 @@ pub bounds-triangles-h : goal.bounds-triangles-h
 bounds-triangles-h c =
     omega (arith, c.loop-h-test.true, c.loop-h.invariant.0, c.requires.0)
 
-pub loop-h-smaller : goal.loop-h-smaller
-loop-h-smaller c = omega (arith, c.loop-h-test.true)
-
 pub loop-h-preserved : goal.loop-h-preserved
 loop-h-preserved c =
     let a = c.args in

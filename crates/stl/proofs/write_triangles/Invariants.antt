@@ -8,6 +8,3 @@ use Rattle.stl.proofs.write_triangles.Given as goal
 
 abbrev pub invariant-loop-h : goal.invariant-loop-h
 invariant-loop-h l = (length l.triangles ≡ length l.initial.triangles) × ((l.h ≤ l.n) × (l.triangles ≡ put_in_front (list_of l.h (λ k. found_at l.s l.heads l.links l.firsts k - 1)) l.initial.triangles))
-
-abbrev pub decreases-loop-h : goal.decreases-loop-h
-decreases-loop-h l = l.n - l.h

@@ -15,8 +15,8 @@ pub loop-j-init : goal.loop-j-init
 unfolding list_of
 loop-j-init c = (refl, (omega arith, front_none _))
 
-pub overflow_mul-n : goal.overflow_mul-n
-overflow_mul-n c = omega (arith, c.requires.1.0)
+pub overflow_mul-j-end : goal.overflow_mul-j-end
+overflow_mul-j-end c = omega (arith, c.requires.1.0)
 
 pub bounds-firsts-j : goal.bounds-firsts-j
 bounds-firsts-j c = omega (arith, c.loop-j-test.true, c.requires.0)
@@ -29,9 +29,6 @@ coordinate_at-requires c =
 pub bounds-vertices-j : goal.bounds-vertices-j
 bounds-vertices-j c =
     omega (arith, c.loop-j-test.true, c.loop-j.invariant.0, c.requires.1.0)
-
-pub loop-j-smaller : goal.loop-j-smaller
-loop-j-smaller c = omega (arith, c.loop-j-test.true)
 
 pub loop-j-preserved : goal.loop-j-preserved
 loop-j-preserved c =

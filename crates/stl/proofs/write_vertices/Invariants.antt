@@ -1,4 +1,4 @@
-use Prim.Native.Nat.{◌-◌, ◌*◌, ◌/◌, ◌%◌, ◌≤◌}
+use Prim.Native.Nat.{◌*◌, ◌/◌, ◌%◌, ◌≤◌}
 use mathlib.Core.Path.{◌≡◌}
 use lib.ListN.{length, get_or}
 use Rattle.nat_laws.specs.Lists.{list_of}
@@ -8,6 +8,3 @@ use Rattle.stl.proofs.write_vertices.Given as goal
 
 abbrev pub invariant-loop-j : goal.invariant-loop-j
 invariant-loop-j l = (length l.vertices ≡ length l.initial.vertices) × ((l.j ≤ 3 * l.n) × (l.vertices ≡ put_in_front (list_of l.j (λ k. coordinate l.s (get_or l.firsts (k / 3) 0) (k % 3))) l.initial.vertices))
-
-abbrev pub decreases-loop-j : goal.decreases-loop-j
-decreases-loop-j l = 3 * l.n - l.j

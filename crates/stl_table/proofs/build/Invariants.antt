@@ -1,4 +1,4 @@
-use Prim.Native.Nat.{◌-◌, ◌≤◌}
+use Prim.Native.Nat.{◌≤◌}
 use mathlib.Core.Path.{◌≡◌}
 use lib.ListN.{length, take}
 use Rattle.stl_format.specs.Format.{first_points}
@@ -12,6 +12,3 @@ invariant-loop-h l =
     × ((length l.heads ≡ length l.initial.heads)
     × ((length l.links ≡ length l.initial.links)
     × ((length l.firsts ≡ length l.initial.firsts) × ((l.count ≤ 65535) × (VertexTable l.s l.count l.heads l.links l.firsts × (take l.count l.firsts ≡ first_points (same_at l.s) l.h))))))
-
-abbrev pub decreases-loop-h : goal.decreases-loop-h
-decreases-loop-h l = l.points - l.h

@@ -4,6 +4,7 @@ use Prim.Native.Nat.{◌-◌}
 use mathlib.Core.Path.{refl, sym, ap, ◌∙◌}
 use native.Mathlib.Omega.{arith}
 use Rattle.stl_table.specs.Keys.{same_key}
+use Rattle.stl_table.proofs.Entering.{same_key_from}
 use Rattle.stl_table.proofs.Following.{found, next, missed}
 use Rattle.stl_table.proofs.seek.Invariants.{passes}
 use Rattle.stl_table.proofs.seek.Goals as goal
@@ -17,11 +18,11 @@ bounds-firsts-i c = omega (arith, c.requires.firsts_fit)
 pub key_at-requires : goal.key_at-requires
 key_at-requires c = c.requires.there (c.loop-at.at - 1) (omega arith)
 
-pub returns-then-same_key : goal.returns-then-same_key
-returns-then-same_key c =
+pub returns-then-eq : goal.returns-then-eq
+returns-then-eq c =
     let a = c.args in
     found (passes a.s.now a.firsts.now a.k) a.links.now a.head c.requires.falling c.loop-at.at c.loop-at-test.true c.loop-at.invariant.0 c.loop-at.invariant.1
-    (ap (λ z. same_key z a.k) (sym c.key_at.ensures) ∙ (sym c.same_key.ensures ∙ c.if-same_key.true))
+    (ap (λ z. same_key z a.k) (sym c.key_at.ensures) ∙ (same_key_from c.key_at.result a.k ∙ (sym c.eq.ensures ∙ c.if-eq.true)))
 
 pub bounds-links-i : goal.bounds-links-i
 bounds-links-i c = omega (arith, c.requires.links_fit)
@@ -35,7 +36,7 @@ loop-at-preserved c =
     let a = c.args in (
       omega (arith, c.requires.falling (c.loop-at.at - 1) (omega arith)),
       next (passes a.s.now a.firsts.now a.k) a.links.now a.head c.requires.falling c.loop-at.at c.loop-at-test.true c.loop-at.invariant.0 c.loop-at.invariant.1
-          (ap (λ z. same_key z a.k) (sym c.key_at.ensures) ∙ (sym c.same_key.ensures ∙ c.if-same_key.false)),
+          (ap (λ z. same_key z a.k) (sym c.key_at.ensures) ∙ (same_key_from c.key_at.result a.k ∙ (sym c.eq.ensures ∙ c.if-eq.false))),
     )
 
 pub returns : goal.returns

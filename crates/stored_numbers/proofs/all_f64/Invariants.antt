@@ -1,12 +1,9 @@
-use Prim.Native.Nat.{◌≤◌, ◌-◌}
+use Prim.Native.Nat.{◌≤◌}
 use mathlib.Core.Path.{◌≡◌}
-use lib.ListN.{length, drop}
+use lib.ListN.{drop}
 use lib.Ieee.{binary64, to_bits}
 use Rattle.stored_numbers.specs.Numbers.{each_is}
 use Rattle.stored_numbers.proofs.all_f64.Given as goal
 
 abbrev pub invariant-loop-i : goal.invariant-loop-i
 invariant-loop-i l = (l.n ≤ l.i) × (each_is (to_bits binary64) (to_bits binary64 l.x) (drop l.n l.s) ≡ each_is (to_bits binary64) (to_bits binary64 l.x) (drop l.i l.s))
-
-abbrev pub decreases-loop-i : goal.decreases-loop-i
-decreases-loop-i l = length l.s - l.i

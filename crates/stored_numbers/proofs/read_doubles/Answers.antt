@@ -9,10 +9,7 @@ use Rattle.stored_numbers.proofs.Rows.{written_next, written_all}
 use Rattle.stored_numbers.proofs.read_doubles.Goals as goal
 
 pub loop-i-init : goal.loop-i-init
-loop-i-init c = (refl, (omega arith, λ j h. absurd (omega (arith, h))))
-
-pub loop-i-smaller : goal.loop-i-smaller
-loop-i-smaller c = simp length-set (omega arith)
+loop-i-init c = (refl, λ j h. absurd (omega (arith, h)))
 
 pub loop-i-preserved : goal.loop-i-preserved
 loop-i-preserved c =
@@ -21,12 +18,9 @@ loop-i-preserved c =
     let loop = c.loop-i in
     let a = c.args in (
       length-set loop.to loop.i double.result ∙ loop.invariant.0,
-      (
-        omega (arith, loop-test.true, loop.invariant.0),
-        written_next nan (λ j. double_at a.s.now (a.k + 2 * j)) loop.i
-            loop.to double.result loop-test.true double.ensures loop.invariant.1.1,
-      ),
+      written_next nan (λ j. double_at a.s.now (a.k + 2 * j)) loop.i
+          loop.to double.result (omega (arith, loop-test.true, loop.invariant.0)) double.ensures loop.invariant.1,
     )
 
 pub returns : goal.returns
-returns c = let a = c.args in written_all nan (λ j. double_at a.s.now (a.k + 2 * j)) a.to.now c.loop-i.to c.loop-i.i c.loop-i.invariant.0 c.loop-i-test.false c.loop-i.invariant.1.1
+returns c = let a = c.args in written_all nan (λ j. double_at a.s.now (a.k + 2 * j)) a.to.now c.loop-i.to c.loop-i.i c.loop-i.invariant.0 (omega (arith, c.loop-i-test.false, c.loop-i.invariant.0)) c.loop-i.invariant.1

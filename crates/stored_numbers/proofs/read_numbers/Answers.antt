@@ -8,10 +8,7 @@ use Rattle.stored_numbers.proofs.Rows.{written_next, written_all}
 use Rattle.stored_numbers.proofs.read_numbers.Goals as goal
 
 pub loop-i-init : goal.loop-i-init
-loop-i-init c = (refl, (omega arith, λ j h. absurd (omega (arith, h))))
-
-pub loop-i-smaller : goal.loop-i-smaller
-loop-i-smaller c = simp length-set (omega arith)
+loop-i-init c = (refl, λ j h. absurd (omega (arith, h)))
 
 pub loop-i-preserved : goal.loop-i-preserved
 loop-i-preserved c =
@@ -20,12 +17,9 @@ loop-i-preserved c =
     let loop = c.loop-i in
     let a = c.args in (
       length-set loop.to loop.i number.result ∙ loop.invariant.0,
-      (
-        omega (arith, loop-test.true, loop.invariant.0),
-        written_next 0 (λ j. stored_number a.s.now (a.k + j)) loop.i
-            loop.to number.result loop-test.true number.ensures loop.invariant.1.1,
-      ),
+      written_next 0 (λ j. stored_number a.s.now (a.k + j)) loop.i
+          loop.to number.result (omega (arith, loop-test.true, loop.invariant.0)) number.ensures loop.invariant.1,
     )
 
 pub returns : goal.returns
-returns c = let a = c.args in written_all 0 (λ j. stored_number a.s.now (a.k + j)) a.to.now c.loop-i.to c.loop-i.i c.loop-i.invariant.0 c.loop-i-test.false c.loop-i.invariant.1.1
+returns c = let a = c.args in written_all 0 (λ j. stored_number a.s.now (a.k + j)) a.to.now c.loop-i.to c.loop-i.i c.loop-i.invariant.0 (omega (arith, c.loop-i-test.false, c.loop-i.invariant.0)) c.loop-i.invariant.1

@@ -1,4 +1,4 @@
-use Prim.Native.Nat.{◌+◌, ◌≤◌, ◌-◌}
+use Prim.Native.Nat.{◌+◌}
 use lib.ListN.{length}
 use mathlib.Core.Path.{◌≡◌}
 use Rattle.stored_numbers.specs.Numbers.{stored_number}
@@ -6,7 +6,4 @@ use Rattle.stored_numbers.proofs.Rows.{Written}
 use Rattle.stored_numbers.proofs.read_numbers.Given as goal
 
 abbrev pub invariant-loop-i : goal.invariant-loop-i
-invariant-loop-i l = (length l.to ≡ length l.initial.to) × ((l.i ≤ length l.initial.to) × Written 0 (λ j. stored_number l.s (l.k + j)) l.i l.to)
-
-abbrev pub decreases-loop-i : goal.decreases-loop-i
-decreases-loop-i l = length l.to - l.i
+invariant-loop-i l = (length l.to ≡ length l.initial.to) × Written 0 (λ j. stored_number l.s (l.k + j)) l.i l.to

@@ -8,17 +8,17 @@ use Prim.Native.Nat.{◌+◌}
 use Rattle.text_out.proofs.put_text.Goals as goal
 
 pub loop-k-init : goal.loop-k-init
-loop-k-init c = (omega arith, (refl, refl))
+loop-k-init c = (refl, refl)
 
 pub loop-k-preserved : goal.loop-k-preserved
 loop-k-preserved c =
     let a = c.args in (
-      omega arith,
-      (ap length c.put_byte.ensures ∙ length-set c.loop-k.out (a.i + c.loop-k.k) _ ∙ c.loop-k.invariant.1.0, c.put_byte.ensures ∙ puts_byte a.out.now c.loop-k.out a.text.now a.i c.loop-k.k c.loop-k-test.true c.loop-k.invariant.1.1),
+      ap length c.put_byte.ensures ∙ length-set c.loop-k.out (a.i + c.loop-k.k) _ ∙ c.loop-k.invariant.0,
+      c.put_byte.ensures ∙ puts_byte a.out.now c.loop-k.out a.text.now a.i c.loop-k.k (omega arith) c.loop-k.invariant.1,
     )
 
 pub returns : goal.returns
 returns c =
     let a = c.args in
-    let whole : take c.loop-k.k a.text.now ≡ a.text.now = take_all c.loop-k.k a.text.now c.loop-k-test.false in
-    record { holds = rw whole at c.loop-k.invariant.1.1; ends = omega (arith, c.loop-k-test.false, c.loop-k.invariant.0) }
+    let whole : take c.loop-k.k a.text.now ≡ a.text.now = take_all c.loop-k.k a.text.now (omega arith) in
+    record { holds = rw whole at c.loop-k.invariant.1; ends = omega arith }

@@ -1,11 +1,7 @@
 use lib.Seq.{sets}
 use lib.ListN.{length, take}
 use mathlib.Core.Path.{◌≡◌}
-use Prim.Native.Nat.{◌-◌, ◌≤◌}
 use Rattle.text_out.proofs.put_text.Given as goal
 
 abbrev pub invariant-loop-k : goal.invariant-loop-k
-invariant-loop-k l = (l.k ≤ length l.text) × ((length l.out ≡ length l.initial.out) × (l.out ≡ sets l.initial.out l.i (take l.k l.text)))
-
-abbrev pub decreases-loop-k : goal.decreases-loop-k
-decreases-loop-k l = length l.text - l.k
+invariant-loop-k l = (length l.out ≡ length l.initial.out) × (l.out ≡ sets l.initial.out l.i (take l.k l.text))

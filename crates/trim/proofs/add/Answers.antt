@@ -1,6 +1,7 @@
 -- `trim::add` meets its contract. Assumes nothing.
 use mathlib.Core.Path.{refl}
 use lib.ListN.{length}
+use Rattle.std.proofs.lemmas.Result.{err_from_is_err_and}
 use Rattle.buffers.specs.Lack.{lack_number}
 use Rattle.trim_visit.specs.of_trim_split.Running.{stopped, at}
 use Rattle.trim_visit.proofs.laws_of_trim_split.Loops.{window_slices, windows_of, snapshot_of}
@@ -37,11 +38,11 @@ returns-then-low-limit c =
           (cut_buffers a.pts.now a.out.now a.keep.now a.next.now);
     }
 
-pub admit-admitted-requires : goal.admit-admitted-requires
-admit-admitted-requires c = (c.requires.0, (c.requires.1, c.lowest-low.ensures))
+pub admit-requires : goal.admit-requires
+admit-requires c = (c.requires.0, (c.requires.1, c.lowest-low.ensures))
 
-pub returns-in-Stopped : goal.returns-in-Stopped
-returns-in-Stopped c =
+pub returns-in_err-made : goal.returns-in_err-made
+returns-in_err-made c =
     let if2 = c.if-low-limit in
     let lowest = c.lowest-low in
     let if1 = c.if-b1-b0 in
@@ -49,18 +50,19 @@ returns-in-Stopped c =
     let s = (window_slices a.edges.now a.words.now a.reals.now a.keys.now a.events.now) in
     let size = length a.pts.now in
     let p = snapshot_of s a.counts.made a.counts.queued 0 a.vertex.now in
-    let done = rw c.in-Stopped.is at c.admit-admitted.ensures.1 in
-    record {
+    let done = c.in_err-made.ensures.1 in
+    let gave = err_from_is_err_and c.from_residual.result c.from_residual.ensures.1 in
+    rw (gave.1, gave.2) (record {
       bounded = tt;
       adds = add_admitted size (windows_of s) a.limit a.vertex_words.now a.e a.w p lowest.result lowest.ensures if1.false if2.false
-          (stopped (lack_number c.in-Stopped.lack)) (done refl);
+          (stopped (lack_number c.in_err-made.field-0.0)) (done refl);
       skips = add_not_skipped size (windows_of s) a.limit a.vertex_words.now a.e a.w p
           lowest.result lowest.ensures if1.false if2.false _ _ _ _ _ _;
-    }
+    })
 
-pub returns-in-Went : goal.returns-in-Went
-returns-in-Went c =
-    let admit = c.admit-admitted in
+pub returns : goal.returns
+returns c =
+    let admit = c.admit in
     let if2 = c.if-low-limit in
     let lowest = c.lowest-low in
     let if1 = c.if-b1-b0 in
@@ -69,12 +71,12 @@ returns-in-Went c =
     let size = length a.pts.now in
     let p = snapshot_of s a.counts.made a.counts.queued 0 a.vertex.now in
     let s' = (window_slices admit.new.edges admit.new.words admit.new.reals admit.new.keys admit.new.events) in
-    let n = c.in-Went.c in
-    let last = c.in-Went.field-1 in
+    let n = c.in_ok-made.made.counts in
+    let last = c.in_ok-made.made.last in
     let vertex = admit.new.vertex in
-    let done = rw c.in-Went.is at admit.ensures.1 in
+    let done = c.in_ok-made.ensures.1 in
     record {
-      bounded = (rw c.in-Went.is at admit.ensures.0).0;
+      bounded = c.in_ok-made.ensures.0.0;
       adds = add_went size (windows_of s) a.limit a.vertex_words.now a.e a.w p n.made n.queued last
           s' vertex (add_admitted size (windows_of s) a.limit a.vertex_words.now a.e a.w p lowest.result lowest.ensures if1.false if2.false
           (at (snapshot_of s' n.made n.queued last vertex)) (done refl));

@@ -2,8 +2,8 @@
 use Rattle.trim_c.proofs.Told.{told_done, told_ended}
 use Rattle.trim_c.proofs.tell.Goals as goal
 
-pub returns-in-Done : goal.returns-in-Done
-returns-in-Done c = told_done _ _ _ c.in-Done.is c.write_u32.ensures c.write_u32-in-Done.ensures
+pub returns-in-Ok : goal.returns-in-Ok
+returns-in-Ok c = told_done _ _ _ c.in-Ok.is c.write_u32.ensures c.write_u32-in-Ok.ensures
 
-pub returns-in-Ended : goal.returns-in-Ended
-returns-in-Ended c = told_ended _ _ _ c.in-Ended.is c.write_u32-in-Ended.ensures c.write_u32-in-Ended-2.ensures
+pub returns-in-Err : goal.returns-in-Err
+returns-in-Err c = told_ended _ _ _ c.in-Err.is c.refusal_number.ensures c.write_u32-in-Err.ensures c.write_u32-in-Err-2.ensures

@@ -32,16 +32,13 @@ loop-e-init c =
     let a = c.args in
     (omega arith, none_yet (wedge_at a.vertices.now a.edge_words.now a.edge_reals.now a.triangle_words.now a.triangle_reals.now a.vertex_words.now a.triangles.now a.kinds.now a.faces.now a.coords.now a.words.now (length a.kinds.now)))
 
-pub overflow_mul-pieces : goal.overflow_mul-pieces
-overflow_mul-pieces c = record { fits = omega (arith, c.requires) }
+pub overflow_mul-e-end : goal.overflow_mul-e-end
+overflow_mul-e-end c = record { fits = omega (arith, c.requires) }
 
 pub returns-then-wedge_at : goal.returns-then-wedge_at
 returns-then-wedge_at c =
     let a = c.args in
     any_found a.vertices.now a.edge_words.now a.edge_reals.now a.triangle_words.now a.triangle_reals.now a.vertex_words.now a.triangles.now a.kinds.now a.faces.now a.coords.now a.words.now c.loop-e.e c.loop-e-test.true c.wedge_at.ensures c.if-wedge_at.true
-
-pub overflow_add-e : goal.overflow_add-e
-overflow_add-e c = omega (arith, c.requires)
 
 pub loop-e-preserved : goal.loop-e-preserved
 loop-e-preserved c =

@@ -1,4 +1,4 @@
-use Prim.Native.Nat.{◌-◌, ◌*◌, ◌≤◌}
+use Prim.Native.Nat.{◌*◌, ◌≤◌}
 use mathlib.Core.Path.{◌≡◌}
 use mathlib.Core.Bool.{false}
 use lib.ListN.{length}
@@ -9,7 +9,3 @@ use Rattle.wedge_refusal.proofs.any_wedge.Given as goal
 abbrev pub invariant-loop-e : goal.invariant-loop-e
 invariant-loop-e l =
     (l.e ≤ 2 * length l.kinds) × (any_below (wedge_at l.vertices l.edge_words l.edge_reals l.triangle_words l.triangle_reals l.vertex_words l.triangles l.kinds l.faces l.coords l.words (length l.kinds)) l.e ≡ false)
-
-abbrev pub decreases-loop-e : goal.decreases-loop-e
-decreases-loop-e l =
-    2 * length l.kinds - l.e

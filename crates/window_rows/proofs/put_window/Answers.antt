@@ -1,5 +1,5 @@
 use Rattle.window_rows.proofs.put_window.Goals as goal
 
-pub returns-in-Window : goal.returns-in-Window
-returns-in-Window c =
-    rw c.in-Window.is c.store.ensures
+pub returns-in-Ok : goal.returns-in-Ok
+returns-in-Ok c =
+    rw c.in-Ok.is c.store.ensures

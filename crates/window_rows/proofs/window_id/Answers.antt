@@ -1,4 +1,4 @@
 use Rattle.window_rows.proofs.window_id.Goals as goal
 
-pub returns-in-Window : goal.returns-in-Window
-returns-in-Window c = rw c.in-Window.is
+pub returns-in-Ok : goal.returns-in-Ok
+returns-in-Ok c = rw c.in-Ok.is

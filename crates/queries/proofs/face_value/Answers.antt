@@ -1,0 +1,6 @@
+use lib.Ieee.{of_bits}
+use Rattle.queries.proofs.face_value.Goals as goal
+
+pub returns : goal.returns
+unfolding of_bits
+returns c = c.unwrap_or.ensures
