@@ -30,7 +30,6 @@ def functions():
         for m in re.finditer(r"^ *(?:pub )?(?:extern \"C\" )?fn (\w+)(?:<[^(]*>)?\(", text, re.M):
             close = block(text, m.end() - 1)
             names = [it.split(":") for it in re.split(r",\s*(?![^<(\[]*[>)\]])", text[m.end():close]) if ":" in it]
-            start = re.compile(r"^ *\{ *$|\{ *$", re.M).search(text, close)
             # the body opens at the last brace that stands alone at the function's own depth
             at = close
             while True:

@@ -1,25 +1,26 @@
--- What holds of each record of a file, turn by turn.
-use Prim.Native.Nat.{ℕ, zero, suc, ◌+◌, ◌-◌, ◌<◌, ◌≤◌}
+-- The tally of a file's records, turn by turn: what the records that are left come to, with what those so far came to, is what all come to.
+use Prim.Native.Nat.{ℕ, ◌+◌, ◌<◌, ◌≤◌}
 use native.Mathlib.Omega.{arith}
+use mathlib.Core.Bool.{Bool, true, false}
 use mathlib.Core.List.{List}
 use mathlib.Core.Path.{◌≡◌}
-use Rattle.stored_numbers.specs.Records.{size_at, EachFrom}
+use Rattle.stored_numbers.specs.Records.{size_at, Tallied, over, replayed, differs}
 
-module _ (P : ℕ → Type 0) (s : List ℕ) (n at : ℕ) where
-  pub all_left : (most k : ℕ) → EachFrom (most - 0) n P s at k → EachFrom most n P s at k
-  all_left most k each = let e : most - 0 ≡ most = omega arith in rw e at each
+module _ (answers : ℕ → Bool → Type 0) (s : List ℕ) (n at : ℕ) where
+  abbrev pub Rest : ℕ → ℕ → ℕ → Type 0
+  Rest k cases differences = (c d : ℕ) → Tallied answers s n at k c d → Tallied answers s n at 0 (cases + c) (differences + d)
 
-  pub none_left : (more k : ℕ) → n ≤ k → EachFrom more n P s at k
-  unfolding EachFrom
-  none_left zero k h = tt
-  none_left (suc more) k h = λ below. absurd (omega (arith, h, below))
+  moved : {a b c d : ℕ} → a ≡ c → b ≡ d → Tallied answers s n at 0 a b → Tallied answers s n at 0 c d
+  moved p q t = rw (p, q) at t
 
-  one_more : (more k : ℕ) → P k → EachFrom more n P s at (k + size_at s (k + at)) → EachFrom (suc more) n P s at k
-  unfolding EachFrom
-  one_more more k p rest = λ below. (p, rest)
+  pub none_yet : Rest 0 0 0
+  none_yet c d t = moved (omega arith) (omega arith) t
 
-  -- the record at number k replays, and so does each that is left behind it
-  pub one_less : (most cases k size : ℕ) → cases < most → size ≡ size_at s (k + at) → P k → EachFrom (most - (cases + 1)) n P s at (k + size) → EachFrom (most - cases) n P s at k
-  one_less most cases k size h e p rest =
-      let left : most - cases ≡ suc (most - (cases + 1)) = omega (arith, h) in
-      rw left (one_more (most - (cases + 1)) k p (rw e at rest))
+  pub one_replayed : (k cases differences size : ℕ) → k < n → size ≡ size_at s (k + at) → answers k true → Rest k cases differences → Rest (k + size) (cases + 1) differences
+  one_replayed k cases differences size h e a rest c d t = moved (omega arith) (omega arith) (rest (c + 1) d (replayed h a (rw e at t)))
+
+  pub one_differs : (k cases differences size : ℕ) → k < n → size ≡ size_at s (k + at) → answers k false → Rest k cases differences → Rest (k + size) (cases + 1) (differences + 1)
+  one_differs k cases differences size h e a rest c d t = moved (omega arith) (omega arith) (rest (c + 1) (d + 1) (differs h a (rw e at t)))
+
+  pub all_told : (k cases differences : ℕ) → n ≤ k → Rest k cases differences → Tallied answers s n at 0 cases differences
+  all_told k cases differences h rest = moved (omega arith) (omega arith) (rest 0 0 (over h))

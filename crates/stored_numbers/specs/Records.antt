@@ -1,5 +1,5 @@
--- The records of a file, one behind another. Definitions only.
-use Rattle.std.specs.Prelude.{ℕ, zero, suc, ◌+◌, ◌/◌, ◌<◌, List, length, min, nat_eq, if◌then◌else◌, ⊤}
+-- The records of a file, one behind another, and what a replay of them all comes to. Definitions only.
+use Rattle.std.specs.Prelude.{ℕ, ◌+◌, ◌/◌, ◌<◌, ◌≤◌, Bool, true, false, List, length, min, nat_eq, if◌then◌else◌}
 use Rattle.stored_numbers.specs.Numbers.{stored_number}
 
 -- how many numbers of a file are read
@@ -10,10 +10,9 @@ numbers_in s = min (length s / 4) 400_000
 abbrev pub size_at : List ℕ → ℕ → ℕ
 size_at s k = if nat_eq (min (stored_number s k) 400_000) 0 then 400_000 else min (stored_number s k) 400_000
 
--- P holds of the number at which each record starts, from number k on, as far as n numbers; each record has a number at least, and so n records are enough
-unfoldable pub EachFrom : ℕ → ℕ → (ℕ → Type 0) → List ℕ → ℕ → ℕ → Type 0
-EachFrom zero n P s at k = ⊤
-EachFrom (suc more) n P s at k = k < n → P k × EachFrom more n P s at (k + size_at s (k + at))
-
-abbrev pub EachRecord : ℕ → (ℕ → Type 0) → List ℕ → ℕ → ℕ → Type 0
-EachRecord n = EachFrom n n
+-- From number k on, as far as n numbers, there are so many records, and so many of them do not replay. `answers j b`: the replay of the record at number j may answer b.
+-- A record's size stands at its number `at`.
+pub data Tallied (answers : ℕ → Bool → Type 0) (s : List ℕ) (n at : ℕ) : ℕ → ℕ → ℕ → Type 0 where
+  over : {k : ℕ} → n ≤ k → Tallied answers s n at k 0 0
+  replayed : {k cases differences : ℕ} → k < n → answers k true → Tallied answers s n at (k + size_at s (k + at)) cases differences → Tallied answers s n at k (cases + 1) differences
+  differs : {k cases differences : ℕ} → k < n → answers k false → Tallied answers s n at (k + size_at s (k + at)) cases differences → Tallied answers s n at k (cases + 1) (differences + 1)

@@ -1,12 +1,12 @@
 // Stored cases as rows of numbers of 4 bytes, the least significant first; a double is two, the low half first. For the programs that replay such files.
 #![tactic(auto)]
 
-ghost use Rattle.std.specs.Prelude.{ℕ, true, ◌+◌, ◌*◌, ◌%◌, ◌≤◌, ◌<◌, min, ◌≡◌, length, get_or, drop};
+ghost use Rattle.std.specs.Prelude.{ℕ, ◌+◌, ◌*◌, ◌%◌, ◌≤◌, ◌<◌, min, ◌≡◌, length, get_or, drop};
 ghost use Rattle.std.specs.Float.{binary64};
 ghost use Rattle.std.specs.Float.Ieee.{to_bits};
 ghost use Rattle.nat_laws.specs.Lists.{list_of};
 ghost use Rattle.stored_numbers.specs.Numbers.{stored_number, double_at, each_is};
-ghost use Rattle.stored_numbers.specs.Records.{size_at, numbers_in, EachRecord};
+ghost use Rattle.stored_numbers.specs.Records.{size_at, numbers_in, Tallied};
 
 use vectors::Tally;
 
@@ -123,7 +123,7 @@ pub fn record_size(s: &[u8], k: usize) -> usize
 // The records of s, one behind another: how many there are, and how many of them do not replay. The size of the record at number k stands at number k + at.
 pub fn replay_records<F: Fn(usize) -> bool>(s: &[u8], at: usize, replays: F) -> Tally
     requires { (at < 400_000) × ((k : ℕ) → k < 400_000 → F.pre replays k) }
-    ensures { result.differences ≡ 0 → EachRecord (numbers_in s.now) (λ k. F.post replays k true) s.now at 0 }
+    ensures { Tallied (F.post replays) s.now (numbers_in s.now) at 0 result.cases result.differences }
 {
     let end = at_most(s.len() / 4, 400_000);
     let mut cases: u64 = 0;
