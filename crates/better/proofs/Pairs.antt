@@ -3,7 +3,6 @@
 --     pairs_push     what the buffer holds after one more pair
 --     pairs_more, pairs_longer  what it holds after a stretch
 --     pairs_take     the first of them
---     pairs_front    those in front of a copy
 --     step           what a pair of neighbours adds to the stretches; stretches_cons, stretches_nil
 use Rattle.std.specs.Prelude.{if◌then◌else◌}
 use Prim.Native.Nat.{ℕ, zero, suc, ◌+◌, ◌*◌, ◌-◌, ◌≤◌, ◌<◌}
@@ -15,8 +14,7 @@ use mathlib.Core.Logic.{◌≢◌}
 use lib.Dec.{T}
 use mathlib.Core.Bool.{true, false}
 use mathlib.Core.List.{List, [], ◌∷◌, ◌++◌, append_assoc}
-use lib.ListN.{length, take, get_or, set, length-append, length-set, length-take, get_or-append}
-use Rattle.std.proofs.lemmas.List.{get_or-take}
+use lib.ListN.{length, take, get_or, set, length-append, length-set}
 use lib.Seq.{get_or-set_same, get_or-set_other, take-append-le, take_all}
 use lib.Ieee.{Float, nan, eq}
 use Rattle.better.specs.Stretches.{Interval, interval, joined, shorter_between, stretches}
@@ -34,13 +32,6 @@ pairs_take i (suc m) l h = elim (dec_le i m) [ yes k ↦ rw (take-append-le i (p
 pub pairs_set : (m : ℕ) (l : List Float) (i : ℕ) (v : Float) → m + m ≤ i → pairs m (set l i v) ≡ pairs m l
 pairs_set zero l i v h = refl
 pairs_set (suc m) l i v h = rw (pairs_set m l i v (omega arith), get_or-set_other l i (m + m) v nan (omega arith), get_or-set_other l i (suc (m + m)) v nan (omega arith))
-
-front : (k i : ℕ) (l r : List Float) → i < k → k ≤ length l → get_or (take k l ++ r) i nan ≡ get_or l i nan
-front k i l r h g = get_or-append (take k l) r nan i (rw length-take (omega arith)) ∙ get_or-take k l i nan h
-
-pub pairs_front : (m k : ℕ) (l r : List Float) → m + m ≤ k → k ≤ length l → pairs m (take k l ++ r) ≡ pairs m l
-pairs_front zero k l r h g = refl
-pairs_front (suc m) k l r h g = rw (pairs_front m k l r (omega arith) g, front k (m + m) l r (omega arith) g, front k (suc (m + m)) l r (omega arith) g)
 
 joined_last : (gs : List Interval) (g : Interval) (x0 x1 : Float) → joined (gs ++ (g ∷ [])) x0 x1 ≡ gs ++ joined (g ∷ []) x0 x1
 unfolding joined

@@ -1,24 +1,24 @@
 -- Intervals over the front of a buffer. Assumes nothing.
 --     stored_pairs   a buffer that holds m of them and is else as it was
 --     stored_short   those that it has no entries for are not written
---     copied, copied_full     a copy, and one that there are no entries for
+--     copied_next, copied_full     a copy of one more, and of one that there is no entry for
 --     short, answers, said    what `better` ensures; answers_of, spared: what follows
 use Rattle.std.specs.Prelude.{Option, Some, None}
 use Prim.Native.Nat.{ℕ, zero, suc, ◌+◌, ◌*◌, ◌≤◌, ◌<◌}
 use native.Mathlib.Omega.{arith}
+use native.Mathlib.Numerals.{add-one}
 use mathlib.Core.Path.{◌≡◌, refl, sym, ap, ◌∙◌, subst}
 use mathlib.Core.Bool.{Bool, true, false, cond, ◌&&◌}
 use mathlib.Core.Logic.{inl, inr}
 use mathlib.Core.List.{List, [], ◌∷◌, ◌++◌}
 use borrow.Author.Tests.{le-leb, lt-leb, leb-true, leb-false}
 use lib.Dec.{leb}
-use Rattle.std.proofs.lemmas.List.{length-take-le}
-use Rattle.std.proofs.lemmas.Slice.{drop-append-drop}
-use lib.ListN.{length, take, drop, get_or, length-append, length-drop, take-append-drop}
+use lib.ListN.{length, drop, get_or, set, take-append-drop}
+use lib.Seq.{drop-drop, drop-set-lt}
 use lib.Ieee.{Float, nan}
 use Rattle.better.specs.Stretches.{Interval, interval}
 use Rattle.better.specs.Buffers.{pairs, HoldsPairs, Answers, listed_number, stored, has_entries, bettering}
-use Rattle.better.proofs.Pairs.{pairs_length, pairs_take, pairs_front}
+use Rattle.better.proofs.Pairs.{pairs_length, pairs_take, pairs_push}
 
 pairs_cons : (m : ℕ) (a b : Float) (l : List Float) → pairs (suc m) (a ∷ b ∷ l) ≡ interval a b ∷ pairs m l
 pairs_cons zero a b l = refl
@@ -48,12 +48,21 @@ stored_short (g ∷ gs) hs [] h = refl
 stored_short (g ∷ gs) hs (a ∷ []) h = refl
 stored_short (g ∷ gs) hs (a ∷ b ∷ out) h = ap (λ (z : List Float). g.from ∷ g.to ∷ z) (stored_short gs hs out (omega arith))
 
--- k of those in front of `pts` are put over `out`
-pub copied : (k : ℕ) (pts out : List Float) → k + k ≤ length pts → k + k ≤ length out
-    → let after = take (2 * k) pts ++ drop (2 * k) out in (length after ≡ length out) × (pairs k after ≡ pairs k pts) × (drop (k + k) after ≡ drop (k + k) out)
-copied k pts out h g =
-    let taken : length (take (2 * k) pts) ≡ 2 * k = length-take-le (2 * k) pts (omega arith) in
-    (rw length-append (omega (arith, taken, length-drop (2 * k) out)), pairs_front k (2 * k) pts (drop (2 * k) out) (omega arith) (omega arith), drop-append-drop (2 * k) out (take (2 * k) pts) (k + k) (omega arith) taken)
+-- one more
+pub copied_next : (i e : ℕ) (from first after : List Float) → e ≡ 2 * i → e + 1 < length after → pairs i after ≡ pairs i from → drop (i + i) after ≡ drop (i + i) first
+    → let next = set (set after e (get_or from e nan)) (e + 1) (get_or from (e + 1) nan) in (pairs (i + 1) next ≡ pairs (i + 1) from) × (drop (i + 1 + (i + 1)) next ≡ drop (i + 1 + (i + 1)) first)
+copied_next i e from first after s h f d =
+    let t : e ≡ i + i = omega arith in
+    let u : i + 1 + (i + 1) ≡ i + i + 2 = omega arith in
+    let v : e + 1 ≡ suc (i + i) = omega arith in
+    let x0 = get_or from e nan in
+    let x1 = get_or from (e + 1) nan in (
+      pairs_push after x0 x1 i e t h ∙ rw (f, add-one i, t, add-one (i + i)),
+      drop-set-lt (i + 1 + (i + 1)) (set after e x0) (e + 1) x1 (omega arith)
+          ∙ drop-set-lt (i + 1 + (i + 1)) after e x0 (omega arith)
+          ∙ rw u
+          (sym (drop-drop 2 (i + i) after) ∙ ap (drop 2) d ∙ drop-drop 2 (i + i) first),
+    )
 
 -- i of the m in front of `from` were put over `first`, and there is no entry for one more
 pub copied_full : (m i : ℕ) (from first after : List Float) → i < m → length after ≡ length first → i + i ≤ length after → length after < suc (suc (i + i)) → pairs i after ≡ pairs i from → drop (i + i) after ≡ drop (i + i) first

@@ -2,19 +2,20 @@
 --     pushed_full, then_full  a list that outgrows a buffer does so with more behind it
 --     apart, left_full, inner_full, right_held  the ways out of `push_next`
 --     cuts_turn, next_turn, pieces_turn  a turn of a loop; cuts_full .., where it outgrows the buffer; cuts_done .., the loop's end
+--     copy_turn, copy_done  the same of `copy`
 use Rattle.std.specs.Prelude.{Option, None}
 use Prim.Native.Nat.{ℕ, suc, ◌+◌, ◌≤◌, ◌<◌}
 use native.Mathlib.Omega.{arith}
 use native.Mathlib.Numerals.{add-one}
-use mathlib.Core.Path.{◌≡◌, refl}
+use mathlib.Core.Path.{◌≡◌, refl, ◌∙◌}
 use mathlib.Core.Bool.{true, false}
 use mathlib.Core.List.{List, [], ◌∷◌, ◌++◌, append_assoc, append-nil}
-use lib.ListN.{length, drop, length-append}
-use lib.Ieee.{Float, lt, le}
+use lib.ListN.{length, drop, get_or, set, length-append}
+use lib.Ieee.{Float, nan, lt, le}
 use Rattle.float64.specs.Scalar.{min_of, max_of}
 use Rattle.better.specs.Stretches.{Interval, interval}
 use Rattle.better.specs.Buffers.{pairs, HoldsPairs}
-use Rattle.better.proofs.Pairs.{pairs_length}
+use Rattle.better.proofs.Pairs.{pairs_length, pairs_push}
 use Rattle.trim_model.specs.Intervals.{width, push_if, cuts_within, next_of, next, pieces}
 use Rattle.cut_lists.proofs.Entries.{entry, pairs_from, pairs_past}
 
@@ -116,3 +117,11 @@ module _ (b : List Float) (m i : ℕ) (gs : List Interval) where
 
   pub pieces_done : (tiny at b1 : Float) → m ≤ i → gs ++ pieces tiny at b1 (drop i (pairs m b)) ≡ gs ++ push_if (lt tiny (width at b1)) (interval at b1)
   pieces_done tiny at b1 h = rw (pairs_past b m i h, pieces_nil tiny at b1)
+
+-- ---- a copy, interval by interval
+module _ (from to : List Float) where
+  pub copy_turn : (i e : ℕ) → e ≡ i + i → e + 1 < length to → pairs i to ≡ pairs i from → pairs (i + 1) (set (set to e (get_or from e nan)) (e + 1) (get_or from (e + 1) nan)) ≡ pairs (i + 1) from
+  copy_turn i e p b h = pairs_push to (get_or from e nan) (get_or from (e + 1) nan) i e p b ∙ rw (h, add-one i, add-one e, p)
+
+  pub copy_done : (n i : ℕ) → i ≤ n → n ≤ i → pairs i to ≡ pairs i from → pairs n to ≡ pairs n from
+  copy_done n i a b h = let e : n ≡ i = omega arith in rw e h

@@ -32,7 +32,10 @@ pub fn copy(from: &[f64], n: usize, to: &mut [f64])
     requires { (n + n ≤ length from.now) × (n + n ≤ length to.old) }
     ensures { pairs n (left to) ≡ pairs n from.now }
 {
-    to[..2 * n].copy_from_slice(&from[..2 * n]);
+    for i in 0..n {
+        to[2 * i] = from[2 * i];
+        to[2 * i + 1] = from[2 * i + 1];
+    }
 }
 
 // One more interval behind the n in front of out.

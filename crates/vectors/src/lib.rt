@@ -118,7 +118,9 @@ pub fn report(rt: &impl Print, name: &str, cases: u64, differences: u64) -> io::
     println!(rt; "{name}: {cases} cases, {differences} differences")
 }
 
-// Reads the file of the name, as much as N bytes hold, replays it and prints its line.
+// Reads the file of the name, as much as N bytes hold, replays it and prints its line. It is not inlined: a program that calls it for several files then has one buffer
+// on the stack at a time.
+#[inline(never)]
 pub fn replay_file<const N: usize, F: FnOnce(&[u8]) -> Tally>(
     rt: &(impl Files + Print),
     name: &str,
